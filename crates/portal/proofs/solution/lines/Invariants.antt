@@ -1,0 +1,14 @@
+use Rattle.std.proofs.Common.{◌≡◌, ◌+◌, take, is_some, is_none}
+use Rattle.std.specs.List.{flat_map, zip, count_by}
+use Rattle.portal.specs.Solution.{assign_line}
+use Rattle.portal.proofs.solution.lines.Given as goal
+
+-- the lines of the students so far, and their counts
+pub record SoFar (l : goal.Live-loop-student) : Type 0 where
+  pub text : l.text.items ≡ flat_map (λ e. assign_line l.instance e.0 e.1) (take l.student (zip l.instance.student_keys l.matching))
+  pub assigned : l.assigned ≡ count_by is_some (take l.student l.matching)
+  pub unassigned : l.unassigned ≡ count_by is_none (take l.student l.matching)
+  pub all : l.assigned + l.unassigned ≡ l.student
+
+abbrev pub invariant-loop-student : goal.invariant-loop-student
+invariant-loop-student l = SoFar l

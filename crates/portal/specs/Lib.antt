@@ -1,0 +1,6 @@
+pub mod Told
+pub mod Refused
+pub mod Blocking
+pub mod Solution
+pub mod Answer
+pub mod Run

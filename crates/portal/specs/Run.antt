@@ -1,0 +1,10 @@
+-- What one run of the program does, over an input and an output that are known.
+use Rattle.std.specs.Prelude.{◌≡◌, ℕ, Option, IfSome}
+use Rattle.std.specs.Io.KnownBytes.{Appends}
+use Rattle.portal.specs.Told.{Text, Told}
+use Rattle.portal.specs.Answer.{IsAnswer}
+use Rattle.portal.specs.declared.answer.Task.{Task}
+
+-- an answer to the whole input was written, and its status is given
+abbrev pub Answers : Task → Option Text → ℕ → Option Text → Option Text → Type 0
+Answers task input status old new = IfSome input (λ bytes. (told : Told) × IsAnswer task bytes told × (status ≡ told.status) × Appends old new told.text)

@@ -1,0 +1,72 @@
+//! The answer to the bytes of an instance file.
+
+ghost use Rattle.std.specs.Prelude.{IfOk};
+ghost use Rattle.spa_model.specs.Spa.{IsMatching};
+ghost use Rattle.portal.specs.Answer.{IsAnswer, OfPairs, Tells};
+
+use crate::blocking::checked;
+use crate::solution::solved;
+use crate::told::{Told, plain, refused_file, refused_instance, refused_matching};
+use portal_rolls::read_instance;
+use spa_model::{Instance, Matching, PairLine};
+use std::alloc::{AllocError, Global};
+
+/// What is asked of a file.
+#[derive(Clone, Copy, Debug, PartialEq, Eq)]
+pub(crate) enum Task {
+    /// The pairs that block its matching.
+    Check,
+    /// The students' best stable matching of its instance.
+    Solve,
+}
+
+/// The most bytes of a file.
+pub(crate) const LIMIT: usize = 4_194_304;
+
+/// What is told of an instance and a matching.
+fn of_matching(
+    alloc: Global,
+    task: Task,
+    instance: &Instance,
+    matching: &Matching,
+) -> Result<Told, AllocError>
+    requires { IsMatching instance.now matching.now }
+    ensures { IfOk result (λ t. Tells task instance.now matching.now t) }
+{
+    match task {
+        Task::Check => checked(alloc, instance, matching),
+        Task::Solve => solved(alloc, instance),
+    }
+}
+
+/// What is told of an instance and the pairs of a matching.
+fn of_pairs(
+    alloc: Global,
+    task: Task,
+    instance: &Instance,
+    pairs: Vec<PairLine>,
+) -> Result<Told, AllocError>
+    ensures { IfOk result (λ t. OfPairs task instance.now pairs.items t) }
+{
+    match Matching::build(alloc, instance, pairs) {
+        Ok(matching) => of_matching(alloc, task, instance, &matching),
+        Err(bad) => refused_matching(alloc, bad),
+    }
+}
+
+/// What is told of the bytes of a file; `Err` where memory ran out.
+pub(crate) fn answer_to(alloc: Global, task: Task, bytes: &[u8]) -> Result<Told, AllocError>
+    ensures { IfOk result (λ t. IsAnswer task bytes.now t) }
+{
+    if bytes.len() > LIMIT {
+        return plain(alloc, "too_large");
+    }
+    let (rows, pairs) = match read_instance(alloc, bytes) {
+        Ok(parts) => parts,
+        Err(fault) => return refused_file(alloc, fault),
+    };
+    match Instance::build(alloc, rows) {
+        Ok(instance) => of_pairs(alloc, task, &instance, pairs),
+        Err(bad) => refused_instance(alloc, bad),
+    }
+}

@@ -1,0 +1,67 @@
+//! The lines of the matching that is best for the students.
+
+ghost use Rattle.std.specs.Prelude.{◌≡◌, ◌<◌, ◌++◌, IfOk, IfSome, OnOk, length, slice_index_or, []};
+ghost use Rattle.spa_model.specs.Spa.{IsMatching};
+ghost use Rattle.portal.specs.Solution.{assign_line, assignment, TellsBest};
+
+use crate::told::Told;
+use spa_model::{Instance, Matching};
+use spa_student::solve;
+use std::alloc::{AllocError, Global};
+
+/// Adds the line of a student.
+fn put_student(
+    text: &mut Vec<u8>,
+    instance: &Instance,
+    student: usize,
+    project: Option<usize>,
+) -> Result<(), AllocError>
+    requires student { student < length instance.now.choices }
+    requires project { IfSome project (λ p. p < length instance.now.lecturers) }
+    ensures { OnOk result (text.new.items ≡ text.old.items ++ assign_line instance.now (slice_index_or instance.now.student_keys student []) project) }
+{
+    let key = instance.student_key(student).as_bytes();
+    match project {
+        Some(p) => {
+            text.extend_from_slice(b"assign ")?;
+            text.extend_from_slice(key)?;
+            text.extend_from_slice(b" ")?;
+            text.extend_from_slice(instance.project_key(p).as_bytes())?;
+        }
+        None => {
+            text.extend_from_slice(b"none ")?;
+            text.extend_from_slice(key)?;
+        }
+    }
+    text.extend_from_slice(b"\n")?;
+    Ok(())
+}
+
+/// The lines of all students, and how many have a project.
+fn lines(alloc: Global, instance: &Instance, matching: &Matching) -> Result<Told, AllocError>
+    requires { IsMatching instance.now matching.now }
+    ensures { IfOk result (λ t. t ≡ assignment instance.now matching.now) }
+{
+    let mut text = Vec::new(alloc);
+    let mut assigned = 0usize;
+    let mut unassigned = 0usize;
+    for student in 0..instance.students() {
+        let project = instance.project_of(matching, student);
+        put_student(&mut text, instance, student, project)?;
+        match project {
+            Some(_) => assigned += 1,
+            None => unassigned += 1,
+        }
+    }
+    let last = format!(in alloc; "assigned {assigned} unassigned {unassigned}\n")?;
+    text.extend_from_slice(last.as_bytes())?;
+    Ok(Told { text, status: 0 })
+}
+
+/// The matching that is best for the students.
+pub(crate) fn solved(alloc: Global, instance: &Instance) -> Result<Told, AllocError>
+    ensures { IfOk result (λ t. TellsBest instance.now t) }
+{
+    let matching = solve(alloc, instance)?;
+    lines(alloc, instance, &matching)
+}

@@ -1,0 +1,134 @@
+-- Cutting a list field byte by byte, and adding a line at the end of its kind.
+use Rattle.std.proofs.Common.{Bor, add-one, ◌≡◌, ◌≢◌, ◌∙◌, ◌+◌, ◌*◌, ◌-◌, ◌^◌, ◌<◌, ◌≤◌, ℕ, zero, suc, Bool, true, false, cond, eqb, List, [], ◌∷◌, ◌++◌, length, take, drop, get_or, Option, Some, None, Result, Ok, Err, refl, sym, ap, ap₂, arith, append_assoc, map, inl, inr}
+use Rattle.std.specs.Prelude.{MatchResult, IsUtf8}
+use Rattle.std.specs.Result.{is_ok}
+use Rattle.std.specs.Str.{is_utf8}
+use Rattle.std.proofs.Math.Seq.{drop-cons}
+use Rattle.std.specs.Char.{is_ascii_digit}
+use Rattle.std.specs.List.{list_all}
+use Rattle.std.proofs.lemmas.Bool.Decides.{nat_tests}
+use Rattle.std.proofs.Math.Nat.{pow-suc}
+use Rattle.std.proofs.lemmas.Bool.{cases_Bool, eqb-true, le-leb}
+use Rattle.std.proofs.lemmas.Str.{IsUtf8-from_is_utf8, is_utf8-from_IsUtf8}
+use Rattle.std.proofs.lemmas.List.{append-nil, drop_all}
+use Rattle.std.proofs.lemmas.List.Elements.{filter_map-append}
+use Rattle.csv.specs.Records.{field_at}
+use Rattle.spa_rows.specs.Lines.{Text}
+use Rattle.portal_rolls.specs.declared.line.Line.{Line}
+use Rattle.portal_rolls.specs.declared.line.Line.TheVariants as variant
+use Rattle.portal_rolls.specs.Lines.{File, file_of, as_lecturer, as_project, as_student, as_pair, cut_at_blanks, with_front, four, Fields, list_of, capacity_of, digits_value}
+use Rattle.portal_rolls.specs.Records.{Record}
+
+-- these bytes before the first piece
+abbrev pub before : Text → List Text → List Text
+before text [] = text ∷ []
+before text (piece ∷ pieces) = (text ++ piece) ∷ pieces
+
+pub before_nil : (text : Text) → before [] (cut_at_blanks text) ≡ cut_at_blanks text
+before_nil [] = refl
+before_nil (b ∷ text) = go (eqb b 32) (cut_at_blanks text)
+  where
+    go : (blank : Bool) (cut : List Text) → before [] (cond blank ([] ∷ cut) (with_front b cut)) ≡ cond blank ([] ∷ cut) (with_front b cut)
+    go true cut = refl
+    go false [] = refl
+    go false (p ∷ ps) = refl
+
+-- a blank ends the piece
+pub before_blank : (piece : Text) (b : ℕ) (text : Text) → eqb b 32 ≡ true → before piece (cut_at_blanks (b ∷ text)) ≡ piece ∷ cut_at_blanks text
+before_blank piece b text e = rw e (rw (append-nil piece) refl)
+
+-- another byte joins it
+pub before_other : (piece : Text) (b : ℕ) (text : Text) → eqb b 32 ≡ false → before piece (cut_at_blanks (b ∷ text)) ≡ before (piece ++ b ∷ []) (cut_at_blanks text)
+before_other piece b text e = rw e (go (cut_at_blanks text))
+  where
+    go : (cut : List Text) → before piece (with_front b cut) ≡ before (piece ++ b ∷ []) cut
+    go [] = refl
+    go (p ∷ ps) = ap (λ (t : Text). t ∷ ps) (sym (append_assoc piece (b ∷ []) p))
+
+-- the four fields of a record that has four
+pub four_is : (r : Record) (a b c d : Text) → length r ≡ 4 → Some a ≡ field_at r 0 → Some b ≡ field_at r 1 → Some c ≡ field_at r 2 → Some d ≡ field_at r 3
+    → Some (record { kind = a; key = b; value = c; list = d }) ≡ four r
+unfolding field_at
+four_is [] a b c d len p q s t = absurd (omega arith)
+four_is (x ∷ []) a b c d len p q s t = absurd (omega arith)
+four_is (x ∷ y ∷ []) a b c d len p q s t = absurd (omega arith)
+four_is (x ∷ y ∷ z ∷ []) a b c d len p q s t = absurd (omega arith)
+four_is (x ∷ y ∷ z ∷ w ∷ []) a b c d len p q s t = cc
+four_is (x ∷ y ∷ z ∷ w ∷ v ∷ r) a b c d len p q s t = absurd (omega arith)
+
+-- a field that is not there
+pub field_there : (r : Record) (i : ℕ) → i < length r → None ≡ field_at r i → ⊥
+unfolding field_at
+field_there [] i lt e = omega arith
+field_there (x ∷ r) zero lt e = cc
+field_there (x ∷ r) (suc i) lt e = field_there r i (omega arith) e
+
+-- what `from_utf8(..).is_ok()` says
+pub text_test : {E : Type 0} (r : Result (Bor (List ℕ)) E) (X : E → Type 0) (bs : List ℕ) → MatchResult r (λ s. (s.now ≡ bs) × IsUtf8 bs) (λ e. (IsUtf8 bs → ⊥) × X e) → is_ok r ≡ is_utf8 bs
+text_test (Ok s) X bs h = sym (is_utf8-from_IsUtf8 bs h.1)
+text_test (Err e) X bs h = elim (cases_Bool (is_utf8 bs)) [
+  | inl is ↦ absurd (h.0 (IsUtf8-from_is_utf8 bs is))
+  | inr isnt ↦ sym isnt
+]
+
+-- the file with a line more
+abbrev pub put : File → Line → File
+put f (variant.Lecturer x) = record f { lecturers = f.lecturers ++ x ∷ [] }
+put f (variant.Project x) = record f { projects = f.projects ++ x ∷ [] }
+put f (variant.Student x) = record f { students = f.students ++ x ∷ [] }
+put f (variant.Pair x) = record f { pairs = f.pairs ++ x ∷ [] }
+
+pub put_last : (lines : List Line) (l : Line) → put (file_of lines) l ≡ file_of (lines ++ l ∷ [])
+put_last lines (variant.Lecturer x) = simp (filter_map-append, append-nil)
+put_last lines (variant.Project x) = simp (filter_map-append, append-nil)
+put_last lines (variant.Student x) = simp (filter_map-append, append-nil)
+put_last lines (variant.Pair x) = simp (filter_map-append, append-nil)
+
+-- the bound on the value of some digits
+pub ten_pow : (i : ℕ) → i ≤ 6 → 10 ^ i ≤ 1000000
+ten_pow zero h = omega arith
+ten_pow (suc zero) h = omega arith
+ten_pow (suc (suc zero)) h = omega arith
+ten_pow (suc (suc (suc zero))) h = omega arith
+ten_pow (suc (suc (suc (suc zero)))) h = omega arith
+ten_pow (suc (suc (suc (suc (suc zero))))) h = omega arith
+ten_pow (suc (suc (suc (suc (suc (suc zero)))))) h = omega arith
+ten_pow (suc (suc (suc (suc (suc (suc (suc i))))))) h = absurd (omega arith)
+
+pub ten_more : (i : ℕ) → 10 ^ (i + 1) ≡ 10 ^ i * 10
+ten_more i = ap (λ (k : ℕ). 10 ^ k) (add-one i) ∙ pow-suc 10 i
+
+module _ (front : List Text) (piece s : Text) (i : ℕ) (total : List Text) (lt : i < length s)
+    (so_far : front ++ before piece (cut_at_blanks (drop i s)) ≡ total) where
+  here : drop i s ≡ get_or s i 0 ∷ drop (i + 1) s
+  here = drop-cons s i 0 lt ∙ ap (λ (k : ℕ). get_or s i 0 ∷ drop k s) (sym (add-one i))
+
+  pub step_blank : get_or s i 0 ≡ 32 → (front ++ piece ∷ []) ++ before [] (cut_at_blanks (drop (i + 1) s)) ≡ total
+  step_blank is =
+      let blank : eqb (get_or s i 0) 32 ≡ true = ap (λ (b : ℕ). eqb b 32) is in
+      let next = ap (λ (t : Text). before piece (cut_at_blanks t)) here ∙ before_blank piece (get_or s i 0) (drop (i + 1) s) blank in
+      rw (before_nil (drop (i + 1) s), append_assoc front (piece ∷ []) (cut_at_blanks (drop (i + 1) s))) (ap (λ (ts : List Text). front ++ ts) (sym next) ∙ so_far)
+
+  pub step_other : get_or s i 0 ≢ 32 → front ++ before (piece ++ get_or s i 0 ∷ []) (cut_at_blanks (drop (i + 1) s)) ≡ total
+  step_other isnt =
+      let other : eqb (get_or s i 0) 32 ≡ false = elim (cases_Bool (eqb (get_or s i 0) 32)) [ inl t ↦ absurd (isnt (eqb-true _ _ t)) | inr f ↦ f ] in
+      let next = ap (λ (t : Text). before piece (cut_at_blanks t)) here ∙ before_other piece (get_or s i 0) (drop (i + 1) s) other in
+      ap (λ (ts : List Text). front ++ ts) (sym next) ∙ so_far
+
+-- at the end the last piece is whole
+pub last_piece : (front : List Text) (piece s : Text) (i : ℕ) (total : List Text) → length s ≤ i → front ++ before piece (cut_at_blanks (drop i s)) ≡ total → front ++ piece ∷ [] ≡ total
+last_piece front piece s i total le so_far =
+    let none : drop i s ≡ [] = drop_all i s le in
+    let e : before piece (cut_at_blanks (drop i s)) ≡ piece ∷ [] = rw none (rw (append-nil piece) refl) in
+    ap (λ (ts : List Text). front ++ ts) (sym e) ∙ so_far
+
+-- a field with a byte is cut
+pub list_is_cut : (s : Text) → eqb (length s) 0 ≡ false → cut_at_blanks s ≡ list_of s
+list_is_cut [] e = absurd cc
+list_is_cut (b ∷ s) e = refl
+
+-- what passes the three tests
+pub capacity_is : (s : Text) (n : ℕ) → eqb (length s) 0 ≡ false → length s ≤ 7 → list_all is_ascii_digit s ≡ true → n ≡ digits_value s → Some n ≡ capacity_of s
+capacity_is s n nonempty le digits e =
+    let one : 1 ≤ length s = grind (arith, nat_tests) in
+    rw (le-leb 1 (length s) one, le-leb (length s) 7 le, digits) (ap (λ (k : ℕ). Some k) e)

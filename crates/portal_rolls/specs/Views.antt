@@ -1,0 +1,24 @@
+-- The lines of the code without where they lie in memory.
+use Rattle.std.specs.Prelude.{ℕ, List, map, Vec}
+use Rattle.std.specs.Global.{Global}
+use Rattle.spa_rows.specs.Lines.{Text, Rows, Pair}
+use Rattle.portal_rolls.specs.Lines as spec
+use Rattle.portal_rolls.specs.declared.line.Line.{Line}
+use Rattle.portal_rolls.specs.declared.line.File.{File}
+use Rattle.portal_rolls.specs.declared.fields.Fields.{Fields}
+
+abbrev pub texts : {Z : Type 0} → List (Vec ℕ Z) → List Text
+texts vs = map (λ v. v.items) vs
+
+abbrev pub same : Line → Line
+same line = line
+
+abbrev pub file : File → spec.File
+file f = record { lecturers = f.lecturers.items; projects = f.projects.items; students = f.students.items; pairs = f.pairs.items }
+
+-- the rows of an instance and the pairs of a matching, as one file
+abbrev pub parts : Rows × Vec Pair Global → spec.File
+parts p = record { lecturers = p.0.lecturers; projects = p.0.projects; students = p.0.students; pairs = p.1.items }
+
+abbrev pub fields : Fields → spec.Fields
+fields f = record { kind = f.kind.now; key = f.key.now; value = f.value.now; list = f.list.now }

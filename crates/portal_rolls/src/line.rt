@@ -1,0 +1,76 @@
+//! The lines of an instance file.
+
+ghost use Rattle.std.specs.Prelude.{◌≡◌, ◌++◌, ◌∷◌, [], List, OnOk, IfErr};
+ghost use Rattle.portal_rolls.specs.Lines as spec;
+ghost use Rattle.portal_rolls.specs.Views as view;
+ghost use Rattle.portal_rolls.specs.declared.line.Line as declared;
+
+use crate::fault::RollFault;
+use spa_rows::{InstanceRows, LecturerLine, PairLine, ProjectLine, StudentLine};
+use std::alloc::Global;
+
+/// A line of any kind.
+#[derive(Drop)]
+pub(crate) enum Line {
+    Lecturer(LecturerLine),
+    Project(ProjectLine),
+    Student(StudentLine),
+    Pair(PairLine),
+}
+
+/// The lines of a file, each kind in its order.
+#[derive(Drop)]
+pub(crate) struct File {
+    lecturers: Vec<LecturerLine>,
+    projects: Vec<ProjectLine>,
+    students: Vec<StudentLine>,
+    pairs: Vec<PairLine>,
+}
+
+impl File {
+    /// A file with no line.
+    pub(crate) fn new(alloc: Global) -> File
+        ensures { view.file result ≡ spec.file_of [] }
+    {
+        File {
+            lecturers: Vec::new(alloc),
+            projects: Vec::new(alloc),
+            students: Vec::new(alloc),
+            pairs: Vec::new(alloc),
+        }
+    }
+
+    /// Adds a line at the end of its kind.
+    pub(crate) fn put(&mut self, line: Line) -> Result<(), RollFault>
+        ensures ok { OnOk result ((lines : List declared.Line) → view.file self.old ≡ spec.file_of lines → view.file self.new ≡ spec.file_of (lines ++ line ∷ [])) }
+        ensures fault { IfErr result (λ e. e ≡ RollFault.Memory) }
+    {
+        match line {
+            Line::Lecturer(x) => self.lecturers.push(x)?,
+            Line::Project(x) => self.projects.push(x)?,
+            Line::Student(x) => self.students.push(x)?,
+            Line::Pair(x) => self.pairs.push(x)?,
+        }
+        Ok(())
+    }
+
+    /// The rows of the instance, and the pairs of the matching.
+    pub(crate) fn into_parts(self) -> (InstanceRows, Vec<PairLine>)
+        ensures { view.parts result ≡ view.file self }
+    {
+        let File {
+            lecturers,
+            projects,
+            students,
+            pairs,
+        } = self;
+        (
+            InstanceRows {
+                lecturers,
+                projects,
+                students,
+            },
+            pairs,
+        )
+    }
+}

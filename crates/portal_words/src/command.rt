@@ -1,0 +1,83 @@
+//! The commands, and the words that ask for each.
+
+ghost use Rattle.std.specs.Prelude.{◌≡◌, ◌∷◌, [], codes, drop, map, IfOk, IfErr, Some, None};
+ghost use Rattle.clap.specs.Words.{Text, found_of, kind_of, rows_of, subcommand_rows_of};
+ghost use Rattle.portal_words.specs.Line.{AsksFile};
+
+use crate::build::portal;
+use clap::error::ErrorKind;
+use clap::{ArgMatches, Error};
+use std::alloc::{AllocError, Global};
+use std::convert::AsStr;
+
+/// What the program is to do.
+#[derive(Clone, Copy, Debug)]
+pub enum Command<'a> {
+    /// Print the blocking pairs of a file, or of the standard input.
+    Check(Option<&'a str>),
+    /// Print the students' best stable matching of a file, or of the standard input.
+    Solve(Option<&'a str>),
+}
+
+/// What the words ask for: a command, or a text and the status that goes with it.
+#[derive(Debug, Drop)]
+pub enum Asked<'a> {
+    Do(Command<'a>),
+    Show { text: String, status: u8 },
+}
+
+// The command of a subcommand's name and its own matches.
+fn named<'a>(name: &str, matches: &ArgMatches<'a>) -> Option<Command<'a>>
+    ensures check { name.now ≡ codes "check" → rows_of (found_of matches.now) ≡ [] → result ≡ Some (Command.Check None) }
+    ensures solve { name.now ≡ codes "solve" → rows_of (found_of matches.now) ≡ [] → result ≡ Some (Command.Solve None) }
+{
+    let file = matches.get_str("FILE");
+    match name {
+        "check" => Some(Command::Check(file)),
+        "solve" => Some(Command::Solve(file)),
+        _ => None,
+    }
+}
+
+// The command that was met.
+fn chosen<'a>(matches: &ArgMatches<'a>) -> Option<Command<'a>>
+    ensures check { subcommand_rows_of matches.now ≡ Some (codes "check", []) → result ≡ Some (Command.Check None) }
+    ensures solve { subcommand_rows_of matches.now ≡ Some (codes "solve", []) → result ≡ Some (Command.Solve None) }
+{
+    match matches.subcommand() {
+        Some((name, inner)) => named(name, inner),
+        None => None,
+    }
+}
+
+// The matches of the words.
+fn parsed<'a, S: AsStr>(alloc: Global, words: &'a [S]) -> Result<ArgMatches<'a>, Error>
+    ensures matches { (name : Text) → AsksFile (map S.text words.entry.now) name → IfOk result (λ m. subcommand_rows_of m ≡ Some (name, [])) }
+    ensures passes { (name : Text) → AsksFile (map S.text words.entry.now) name → IfErr result (λ e. kind_of e ≡ ErrorKind.OutOfMemory) }
+{
+    portal(alloc)?.try_get_matches_from(words)
+}
+
+/// What the words ask for. The first word is the program's name.
+pub fn command_of<'a, S: AsStr>(alloc: Global, words: &'a [S]) -> Result<Asked<'a>, AllocError>
+    ensures check { drop 1 (map S.text words.entry.now) ≡ codes "check" ∷ [] → IfOk result (λ a. a ≡ Asked.Do (Command.Check None)) }
+    ensures solve { drop 1 (map S.text words.entry.now) ≡ codes "solve" ∷ [] → IfOk result (λ a. a ≡ Asked.Do (Command.Solve None)) }
+{
+    match parsed(alloc, words) {
+        Ok(matches) => match chosen(&matches) {
+            Some(command) => Ok(Asked::Do(command)),
+            None => Ok(Asked::Show {
+                text: String::from_str(alloc, "error: no command\n")?,
+                status: 2,
+            }),
+        },
+        Err(e) => {
+            if e.kind() == ErrorKind::OutOfMemory {
+                return Err(AllocError);
+            }
+            let status = if e.exit_code() == 0 { 0 } else { 2 };
+            let text = e.to_string(alloc)?;
+            Ok(Asked::Show { text, status })
+        }
+    }
+}

@@ -1,0 +1,202 @@
+-- Groups of students, one student after the other.
+use Rattle.std.proofs.Common.{◌≡◌, ◌↔◌, ◌⊎◌, inl, inr, ℕ, ◌+◌, ◌<◌, max, false, List, length, take, set, get_or, replicate, Option, Some, None, refl, sym, ◌∙◌, ap, arith}
+use Rattle.std.proofs.lemmas.Bool.{cases_lt, cases_eq, eq-eqb, ne_eqb}
+use Rattle.std.proofs.lemmas.List.{length-set, get_or-set_same, get_or-set_other, get_or_past, length-replicate, get_or-replicate, take_all}
+use Rattle.std.proofs.lemmas.List.Sums.{count_by_more_yes, count_by_more_no}
+use Rattle.spa_model.specs.Spa.{Spa, IsWith, IsOn, IsBefore, IsLawful, IsMatching, SomeWorseAt, SomeWorseWith, place, ranking_of, lecturer_of, project_of, is_project, is_lecturer, at_project, at_lecturer}
+use Rattle.spa_check.specs.declared.groups.Group.{Group}
+use Rattle.spa_check.specs.Groups.{IsGroup, AreProjectGroups, AreLecturerGroups}
+
+-- nobody
+pub group_none : (list : List ℕ) (IsIn : ℕ → Type 0) (g : Group) → ((t : ℕ) → IsIn t → ⊥) → g.count ≡ 0 → g.depth ≡ 0 → IsGroup list IsIn 0 g
+group_none list IsIn g nobody count depth = record {
+  count = count;
+  none_deeper = λ t h. absurd (nobody t h);
+  reached = λ deep. absurd (omega arith);
+}
+
+-- the same students
+pub group_same : (list : List ℕ) (IsIn IsNow : ℕ → Type 0) (n k : ℕ) (g : Group) → ((t : ℕ) → IsIn t → IsNow t) → ((t : ℕ) → IsNow t → IsIn t) → k ≡ n → IsGroup list IsIn n g → IsGroup list IsNow k g
+group_same list IsIn IsNow n k g to from same group = record {
+  count = group.count ∙ sym same;
+  none_deeper = λ t h. group.none_deeper t (from t h);
+  reached = λ deep. let last = group.reached deep in (last.0, to last.0 last.1, last.2);
+}
+
+-- one more
+pub group_joined : (list : List ℕ) (IsIn IsNow : ℕ → Type 0) (n k s depth : ℕ) (g h : Group) → ((t : ℕ) → IsIn t → IsNow t) → ((t : ℕ) → IsNow t → IsIn t ⊎ (t ≡ s)) → IsNow s → k ≡ n + 1 → depth ≡ place list s + 1 → h.count ≡ g.count + 1 → h.depth ≡ max g.depth depth
+    → IsGroup list IsIn n g → IsGroup list IsNow k h
+group_joined list IsIn IsNow n k s depth g h to from new more deep count_is depth_is group = record {
+  count = omega (arith, group.count);
+  none_deeper = λ t there. elim (from t there) [
+    | inl before ↦ omega (arith, group.none_deeper t before)
+    | inr here ↦ omega (arith, ap (place list) here)
+  ];
+  reached = λ _. elim (cases_lt g.depth depth) [
+    | inl below ↦ (s, new, omega arith)
+    | inr above ↦ let last = group.reached (omega arith) in (last.0, to last.0 last.1, omega (arith, last.2))
+  ];
+}
+
+-- some member stands after s, where the group reaches further down
+pub worse_from_depth : (list : List ℕ) (IsIn : ℕ → Type 0) (n s depth : ℕ) (g : Group) → IsGroup list IsIn n g → ((t : ℕ) → IsIn t → IsOn list t) → depth ≡ place list s + 1 → depth < g.depth → (t : ℕ) × IsIn t × IsBefore list s t
+worse_from_depth list IsIn n s depth g group listed is deeper =
+    let last = group.reached (omega arith) in
+    (last.0, last.1, (omega (arith, last.2), listed last.0 last.1))
+
+pub depth_from_worse : (list : List ℕ) (IsIn : ℕ → Type 0) (n s depth t : ℕ) (g : Group) → IsGroup list IsIn n g → depth ≡ place list s + 1 → IsIn t → IsBefore list s t → depth < g.depth
+depth_from_worse list IsIn n s depth t g group is there before = omega (arith, group.none_deeper t there, before.0)
+
+-- who is at a project stands on its lecturer's list
+pub listed_at : (i : Spa) (m : List (Option ℕ)) (p : ℕ) → IsLawful i → IsMatching i m → (t : ℕ) → project_of m t ≡ Some p → IsOn (ranking_of i (lecturer_of i p)) t
+listed_at i m p lawful fits t e = lawful.ranked t p (fits.acceptable t p e)
+
+pub listed_with : (i : Spa) (m : List (Option ℕ)) (l : ℕ) → IsLawful i → IsMatching i m → (t : ℕ) → IsWith i m l t → IsOn (ranking_of i l) t
+listed_with i m l lawful fits t (q, e, same) = rw same at (lawful.ranked t q (fits.acceptable t q e))
+
+-- some student at p stands after s, by depth
+pub worse_at : (i : Spa) (m : List (Option ℕ)) (p s depth : ℕ) (g : Group) → IsLawful i → IsMatching i m → IsGroup (ranking_of i (lecturer_of i p)) (λ t. project_of m t ≡ Some p) (at_project m p) g → depth ≡ place (ranking_of i (lecturer_of i p)) s + 1 → (depth < g.depth) ↔ SomeWorseAt i m p s
+worse_at i m p s depth g lawful fits group is = (
+  λ deeper. worse_from_depth (ranking_of i (lecturer_of i p)) (λ t. project_of m t ≡ Some p) (at_project m p) s depth g group (listed_at i m p lawful fits) is deeper,
+  λ (t, there, before). depth_from_worse (ranking_of i (lecturer_of i p)) (λ t. project_of m t ≡ Some p) (at_project m p) s depth t g group is there before,
+)
+
+pub worse_with : (i : Spa) (m : List (Option ℕ)) (l s depth : ℕ) (g : Group) → IsLawful i → IsMatching i m → IsGroup (ranking_of i l) (IsWith i m l) (at_lecturer i m l) g → depth ≡ place (ranking_of i l) s + 1 → (depth < g.depth) ↔ SomeWorseWith i m l s
+worse_with i m l s depth g lawful fits group is = (
+  λ deeper. worse_from_depth (ranking_of i l) (IsWith i m l) (at_lecturer i m l) s depth g group (listed_with i m l lawful fits) is deeper,
+  λ (t, there, before). depth_from_worse (ranking_of i l) (IsWith i m l) (at_lecturer i m l) s depth t g group is there before,
+)
+
+-- the groups of the first n students
+abbrev pub IsAtBefore : List (Option ℕ) → ℕ → ℕ → ℕ → Type 0
+IsAtBefore m n p t = (t < n) × (project_of m t ≡ Some p)
+
+abbrev pub IsWithBefore : Spa → List (Option ℕ) → ℕ → ℕ → ℕ → Type 0
+IsWithBefore i m n l t = (t < n) × IsWith i m l t
+
+pub record AreProjectGroupsBefore (i : Spa) (m : List (Option ℕ)) (n : ℕ) (groups : List Group) : Type 0 where
+  pub size : length groups ≡ length i.lecturers
+  pub each : (p : ℕ) (d : Group) → p < length groups → IsGroup (ranking_of i (lecturer_of i p)) (IsAtBefore m n p) (at_project (take n m) p) (get_or groups p d)
+
+pub record AreLecturerGroupsBefore (i : Spa) (m : List (Option ℕ)) (n : ℕ) (groups : List Group) : Type 0 where
+  pub size : length groups ≡ length i.rankings
+  pub each : (l : ℕ) (d : Group) → l < length groups → IsGroup (ranking_of i l) (IsWithBefore i m n l) (at_lecturer i (take n m) l) (get_or groups l d)
+
+none : Group
+none = record { count = 0; depth = 0 }
+
+module _ (i : Spa) (m : List (Option ℕ)) where
+  pub project_groups_none : (empty : Group) (groups : List Group) → empty.count ≡ 0 → empty.depth ≡ 0 → groups ≡ replicate (length i.lecturers) empty → AreProjectGroupsBefore i m 0 groups
+  project_groups_none empty groups count depth is =
+      let size : length groups ≡ length i.lecturers = ap length is ∙ length-replicate (length i.lecturers) empty in
+      record {
+        size = size;
+        each = λ p d h.
+            let at : get_or groups p d ≡ empty = ap (λ gs. get_or gs p d) is ∙ get_or-replicate (length i.lecturers) p empty d (omega arith) in
+            rw at (group_none (ranking_of i (lecturer_of i p)) (IsAtBefore m 0 p) empty (λ t there. omega (arith, there.0)) count depth);
+      }
+
+  pub lecturer_groups_none : (empty : Group) (groups : List Group) → empty.count ≡ 0 → empty.depth ≡ 0 → groups ≡ replicate (length i.rankings) empty → AreLecturerGroupsBefore i m 0 groups
+  lecturer_groups_none empty groups count depth is =
+      let size : length groups ≡ length i.rankings = ap length is ∙ length-replicate (length i.rankings) empty in
+      record {
+        size = size;
+        each = λ l d h.
+            let at : get_or groups l d ≡ empty = ap (λ gs. get_or gs l d) is ∙ get_or-replicate (length i.rankings) l empty d (omega arith) in
+            rw at (group_none (ranking_of i l) (IsWithBefore i m 0 l) empty (λ t there. omega (arith, there.0)) count depth);
+      }
+
+  before_or_here : (n t : ℕ) → t < n + 1 → (t < n) ⊎ (t ≡ n)
+  before_or_here n t h = elim (cases_lt t n) [ inl k ↦ inl k | inr k ↦ inr (omega arith) ]
+
+  -- the student n has no project of these
+  other_at : (n p : ℕ) → (project_of m n ≡ Some p → ⊥) → (t : ℕ) → IsAtBefore m (n + 1) p t → IsAtBefore m n p t
+  other_at n p off t there = elim (before_or_here n t there.0) [ inl k ↦ (k, there.1) | inr k ↦ absurd (off (rw k at there.1)) ]
+
+  other_with : (n l : ℕ) → (IsWith i m l n → ⊥) → (t : ℕ) → IsWithBefore i m (n + 1) l t → IsWithBefore i m n l t
+  other_with n l off t there = elim (before_or_here n t there.0) [ inl k ↦ (k, there.1) | inr k ↦ absurd (off (rw k at there.1)) ]
+
+  off_project : (p : ℕ) (o : Option ℕ) → (o ≡ Some p → ⊥) → is_project p o ≡ false
+  off_project p None off = refl
+  off_project p (Some q) off = ne_eqb q p (λ e. off (ap Some e))
+
+  off_lecturer : (l : ℕ) (o : Option ℕ) → ((q : ℕ) → o ≡ Some q → lecturer_of i q ≡ l → ⊥) → is_lecturer i l o ≡ false
+  off_lecturer l None off = refl
+  off_lecturer l (Some q) off = ne_eqb (lecturer_of i q) l (off q refl)
+
+  pub project_groups_skip : (n : ℕ) (groups : List Group) → n < length m → project_of m n ≡ None → AreProjectGroupsBefore i m n groups → AreProjectGroupsBefore i m (n + 1) groups
+  project_groups_skip n groups h free so_far = record {
+    size = so_far.size;
+    each = λ p d k. group_same (ranking_of i (lecturer_of i p)) (IsAtBefore m n p) (IsAtBefore m (n + 1) p) (at_project (take n m) p) (at_project (take (n + 1) m) p) (get_or groups p d)
+        (λ t there. (omega (arith, there.0), there.1)) (other_at n p (λ e. absurd (cc))) (count_by_more_no (is_project p) m n None h (ap (is_project p) free)) (so_far.each p d k);
+  }
+
+  pub lecturer_groups_skip : (n : ℕ) (groups : List Group) → n < length m → project_of m n ≡ None → AreLecturerGroupsBefore i m n groups → AreLecturerGroupsBefore i m (n + 1) groups
+  lecturer_groups_skip n groups h free so_far = record {
+    size = so_far.size;
+    each = λ l d k. group_same (ranking_of i l) (IsWithBefore i m n l) (IsWithBefore i m (n + 1) l) (at_lecturer i (take n m) l) (at_lecturer i (take (n + 1) m) l) (get_or groups l d)
+        (λ t there. (omega (arith, there.0), there.1)) (other_with n l (λ (q, e, _). absurd (cc))) (count_by_more_no (is_lecturer i l) m n None h (ap (is_lecturer i l) free)) (so_far.each l d k);
+  }
+
+  pub project_groups_more : (n p depth : ℕ) (groups : List Group) (old new : Group) → n < length m → project_of m n ≡ Some p → p < length groups → old ≡ get_or groups p old → depth ≡ place (ranking_of i (lecturer_of i p)) n + 1 → new.count ≡ old.count + 1 → new.depth ≡ max old.depth depth
+      → AreProjectGroupsBefore i m n groups → AreProjectGroupsBefore i m (n + 1) (set groups p new)
+  project_groups_more n p depth groups old new h at in_range read deep count_is depth_is so_far =
+      let size : length (set groups p new) ≡ length groups = length-set groups p new in
+      record {
+        size = size ∙ so_far.size;
+        each = λ q d k. elim (cases_eq q p) [
+          | inl same ↦
+              let mine : get_or (set groups p new) q d ≡ new = ap (λ r. get_or (set groups p new) r d) same ∙ get_or-set_same groups p new d in_range in
+              rw (mine, same) (group_joined (ranking_of i (lecturer_of i p)) (IsAtBefore m n p) (IsAtBefore m (n + 1) p) (at_project (take n m) p) (at_project (take (n + 1) m) p) n depth old new
+              (λ t there. (omega (arith, there.0), there.1)) (λ t there. elim (before_or_here n t there.0) [ inl b ↦ inl (b, there.1) | inr b ↦ inr b ]) (omega arith, at)
+              (count_by_more_yes (is_project p) m n None h (ap (is_project p) at ∙ eq-eqb p p refl)) deep count_is depth_is
+              (let group = so_far.each p old in_range in rw (sym read) at group))
+          | inr other ↦
+              let off : project_of m n ≡ Some q → ⊥ = λ e. other (some_same (sym e ∙ at)) in
+              rw (get_or-set_other groups p q new d other) (group_same (ranking_of i (lecturer_of i q)) (IsAtBefore m n q) (IsAtBefore m (n + 1) q) (at_project (take n m) q) (at_project (take (n + 1) m) q) (get_or groups q d)
+              (λ t there. (omega (arith, there.0), there.1)) (other_at n q off) (count_by_more_no (is_project q) m n None h (off_project q (get_or m n None) off)) (so_far.each q d (omega arith)))
+        ];
+      }
+    where
+      some_same : {x y : ℕ} → Some x ≡ Some y → x ≡ y
+      some_same e = cc
+
+  pub lecturer_groups_more : (n p l depth : ℕ) (groups : List Group) (old new : Group) → n < length m → project_of m n ≡ Some p → l ≡ lecturer_of i p → l < length groups → old ≡ get_or groups l old → depth ≡ place (ranking_of i l) n + 1 → new.count ≡ old.count + 1 → new.depth ≡ max old.depth depth
+      → AreLecturerGroupsBefore i m n groups → AreLecturerGroupsBefore i m (n + 1) (set groups l new)
+  lecturer_groups_more n p l depth groups old new h at is in_range read deep count_is depth_is so_far =
+      let size : length (set groups l new) ≡ length groups = length-set groups l new in
+      record {
+        size = size ∙ so_far.size;
+        each = λ q d k. elim (cases_eq q l) [
+          | inl same ↦
+              let mine : get_or (set groups l new) q d ≡ new = ap (λ r. get_or (set groups l new) r d) same ∙ get_or-set_same groups l new d in_range in
+              rw (mine, same) (group_joined (ranking_of i l) (IsWithBefore i m n l) (IsWithBefore i m (n + 1) l) (at_lecturer i (take n m) l) (at_lecturer i (take (n + 1) m) l) n depth old new
+              (λ t there. (omega (arith, there.0), there.1)) (λ t there. elim (before_or_here n t there.0) [ inl b ↦ inl (b, there.1) | inr b ↦ inr b ]) (omega arith, (p, at, sym is))
+              (count_by_more_yes (is_lecturer i l) m n None h (ap (is_lecturer i l) at ∙ eq-eqb (lecturer_of i p) l (sym is))) deep count_is depth_is
+              (let group = so_far.each l old in_range in rw (sym read) at group))
+          | inr other ↦
+              let off : IsWith i m q n → ⊥ = λ (r, e, f). other (sym f ∙ ap (lecturer_of i) (some_same (sym e ∙ at)) ∙ sym is) in
+              rw (get_or-set_other groups l q new d other) (group_same (ranking_of i q) (IsWithBefore i m n q) (IsWithBefore i m (n + 1) q) (at_lecturer i (take n m) q) (at_lecturer i (take (n + 1) m) q) (get_or groups q d)
+              (λ t there. (omega (arith, there.0), there.1)) (other_with n q off) (count_by_more_no (is_lecturer i q) m n None h (off_lecturer q (get_or m n None) (λ r e f. off (r, e, f)))) (so_far.each q d (omega arith)))
+        ];
+      }
+    where
+      some_same : {x y : ℕ} → Some x ≡ Some y → x ≡ y
+      some_same e = cc
+
+  in_range_of : (t p : ℕ) → project_of m t ≡ Some p → t < length m
+  in_range_of t p e = elim (cases_lt t (length m)) [ inl h ↦ h | inr h ↦ let nothing : project_of m t ≡ None = get_or_past m t None h in absurd (cc) ]
+
+  pub project_groups_all : (n : ℕ) (groups : List Group) → n ≡ length m → AreProjectGroupsBefore i m n groups → AreProjectGroups i m groups
+  project_groups_all n groups done so_far = record {
+    size = so_far.size;
+    each = λ p d h. group_same (ranking_of i (lecturer_of i p)) (IsAtBefore m n p) (λ t. project_of m t ≡ Some p) (at_project (take n m) p) (at_project m p) (get_or groups p d)
+        (λ t there. there.1) (λ t e. (let below = in_range_of t p e in omega arith, e)) (ap (λ ms. at_project ms p) (sym (take_all n m (omega arith)))) (so_far.each p d h);
+  }
+
+  pub lecturer_groups_all : (n : ℕ) (groups : List Group) → n ≡ length m → AreLecturerGroupsBefore i m n groups → AreLecturerGroups i m groups
+  lecturer_groups_all n groups done so_far = record {
+    size = so_far.size;
+    each = λ l d h. group_same (ranking_of i l) (IsWithBefore i m n l) (IsWith i m l) (at_lecturer i (take n m) l) (at_lecturer i m l) (get_or groups l d)
+        (λ t there. there.1) (λ t (q, e, f). (let below = in_range_of t q e in omega arith, (q, e, f))) (ap (λ ms. at_lecturer i ms l) (sym (take_all n m (omega arith)))) (so_far.each l d h);
+  }

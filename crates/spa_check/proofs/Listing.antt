@@ -1,0 +1,129 @@
+-- The list of blocking pairs, pair by pair.
+use Rattle.std.proofs.Common.{◌≡◌, ℕ, ◌+◌, ◌<◌, ◌≤◌, ◌⊎◌, inl, inr, List, [], ◌∷◌, ◌++◌, length, Option, Some, None, refl, arith, MatchOption, is_some, false}
+use Rattle.std.proofs.lemmas.List.Elements.{All-nil, All-push, All-weaker, Contains-append_left, Contains-push}
+use Rattle.std.proofs.lemmas.List.Quantifiers.{all_pairs_push}
+use Rattle.std.proofs.lemmas.List.{get_or_past}
+use Rattle.std.proofs.lemmas.Bool.{cases_lt}
+use Rattle.spa_model.specs.declared.letter.Letter.{Letter}
+use Rattle.spa_model.specs.declared.letter.Letter.TheVariants.{A, B, C}
+use Rattle.spa_model.specs.Spa.{Spa, Blocks, Wants, IsWith, SomeWorseAt, SomeWorseWith, IsAcceptable, choices_of, lecturer_of, capacity_of, limit_of, at_project, at_lecturer}
+use Rattle.spa_check.specs.declared.block.Block.{Block}
+use Rattle.spa_check.specs.Listed.{IsEarlier, IsPassed, AreBlocksBefore, AreAllBlocks}
+
+-- one case at most
+pub one_letter : (i : Spa) (m : List (Option ℕ)) (s p : ℕ) (x y : Letter) → Blocks i m s p x → Blocks i m s p y → x ≡ y
+one_letter i m s p A A a b = refl
+one_letter i m s p B B a b = refl
+one_letter i m s p C C a b = refl
+one_letter i m s p A B a b = absurd (omega (arith, a.2, b.2))
+one_letter i m s p A C a b = absurd (omega (arith, a.1, b.1))
+one_letter i m s p B A a b = absurd (omega (arith, a.2, b.2))
+one_letter i m s p B C a b = absurd (omega (arith, a.1, b.1))
+one_letter i m s p C A a b = absurd (omega (arith, a.1, b.1))
+one_letter i m s p C B a b = absurd (omega (arith, a.1, b.1))
+
+-- a pair that blocks is wanted
+pub blocks_wants : (i : Spa) (m : List (Option ℕ)) (s p : ℕ) (x : Letter) → Blocks i m s p x → Wants i m s p
+blocks_wants i m s p A b = b.0
+blocks_wants i m s p B b = b.0
+blocks_wants i m s p C b = b.0
+
+-- room at the project, and a full lecturer who does not change: no case
+pub none_with_room : (i : Spa) (m : List (Option ℕ)) (s p : ℕ) → at_project m p < capacity_of i p → limit_of i (lecturer_of i p) ≤ at_lecturer i m (lecturer_of i p) → (IsWith i m (lecturer_of i p) s → ⊥) → (SomeWorseWith i m (lecturer_of i p) s → ⊥) → (x : Letter) → Blocks i m s p x → ⊥
+none_with_room i m s p room full own worse A b = omega (arith, b.2)
+none_with_room i m s p room full own worse B b = elim b.3 [ inl here ↦ own here | inr later ↦ worse later ]
+none_with_room i m s p room full own worse C b = omega (arith, b.1)
+
+-- a full project without a worse student: no case
+pub none_at_full : (i : Spa) (m : List (Option ℕ)) (s p : ℕ) → capacity_of i p ≤ at_project m p → (SomeWorseAt i m p s → ⊥) → (x : Letter) → Blocks i m s p x → ⊥
+none_at_full i m s p full worse A b = omega (arith, b.1)
+none_at_full i m s p full worse B b = omega (arith, b.1)
+none_at_full i m s p full worse C b = worse b.2
+
+-- nothing yet
+pub blocks_none : (i : Spa) (m : List (Option ℕ)) → AreBlocksBefore i m 0 0 []
+blocks_none i m = record {
+  sound = All-nil (λ b. Blocks i m b.student b.project b.letter);
+  complete = λ t q x before _. absurd (elim before [ inl h ↦ omega arith | inr h ↦ omega arith ]);
+  sorted = λ a b d h k. absurd (omega arith);
+  passed = All-nil (λ b. IsPassed 0 0 b.student b.project);
+}
+
+further : (s n p t q : ℕ) → n ≤ p → IsPassed s n t q → IsPassed s p t q
+further s n p t q h (inl k) = inl k
+further s n p t q h (inr k) = inr (k.0, omega (arith, k.1))
+
+last_or_before : (s p t q : ℕ) → IsPassed s (p + 1) t q → IsPassed s p t q ⊎ ((t ≡ s) × (q ≡ p))
+last_or_before s p t q (inl h) = inl (inl h)
+last_or_before s p t q (inr h) = elim (cases_lt q p) [ inl k ↦ inl (inr (h.0, k)) | inr k ↦ inr (h.0, omega arith) ]
+
+-- nothing from n to p is wanted
+pub blocks_jump : (i : Spa) (m : List (Option ℕ)) (blocks : List Block) (s n p : ℕ) → n ≤ p → ((q : ℕ) → Wants i m s q → (q < n) ⊎ (p ≤ q)) → AreBlocksBefore i m s n blocks → AreBlocksBefore i m s p blocks
+blocks_jump i m blocks s n p h apart listed = record {
+  sound = listed.sound;
+  complete = λ t q x before b. listed.complete t q x (below t q x before b) b;
+  sorted = listed.sorted;
+  passed = All-weaker (λ b. IsPassed s n b.student b.project) (λ b. IsPassed s p b.student b.project) (λ b. further s n p b.student b.project h) blocks listed.passed;
+} where
+  below : (t q : ℕ) (x : Letter) → IsPassed s p t q → Blocks i m t q x → IsPassed s n t q
+  below t q x (inl k) b = inl k
+  below t q x (inr k) b = elim (apart q (rw k.0 at (blocks_wants i m t q x b))) [ inl less ↦ inr (k.0, less) | inr past ↦ absurd (omega (arith, k.1)) ]
+
+-- the pair at p does not block
+pub blocks_skip : (i : Spa) (m : List (Option ℕ)) (blocks : List Block) (s p : ℕ) → ((x : Letter) → Blocks i m s p x → ⊥) → AreBlocksBefore i m s p blocks → AreBlocksBefore i m s (p + 1) blocks
+blocks_skip i m blocks s p none listed = record {
+  sound = listed.sound;
+  complete = λ t q x before b. elim (last_or_before s p t q before) [ inl h ↦ listed.complete t q x h b | inr h ↦ absurd (none x (rw (h.0, h.1) at b)) ];
+  sorted = listed.sorted;
+  passed = All-weaker (λ b. IsPassed s p b.student b.project) (λ b. IsPassed s (p + 1) b.student b.project) (λ b. further s p (p + 1) b.student b.project (omega arith)) blocks listed.passed;
+}
+
+-- it blocks, and is listed
+pub blocks_push : (i : Spa) (m : List (Option ℕ)) (blocks : List Block) (s p : ℕ) (x : Letter) → Blocks i m s p x → AreBlocksBefore i m s p blocks → AreBlocksBefore i m s (p + 1) (blocks ++ record { student = s; project = p; letter = x } ∷ [])
+blocks_push i m blocks s p x block listed =
+    let new : Block = record { student = s; project = p; letter = x } in
+    record {
+      sound = All-push (λ b. Blocks i m b.student b.project b.letter) blocks new listed.sound block;
+      complete = λ t q y before b. elim (last_or_before s p t q before) [
+        | inl h ↦ Contains-append_left blocks (new ∷ []) (record { student = t; project = q; letter = y }) (listed.complete t q y h b)
+        | inr h ↦
+            let same : y ≡ x = one_letter i m s p y x (rw (h.0, h.1) at b) block in
+            rw (h.0, h.1, same) (Contains-push blocks new)
+      ];
+      sorted = all_pairs_push IsEarlier blocks new listed.sorted (λ k d h. listed.passed k d h);
+      passed = All-push (λ b. IsPassed s (p + 1) b.student b.project) blocks new
+          (All-weaker (λ b. IsPassed s p b.student b.project) (λ b. IsPassed s (p + 1) b.student b.project) (λ b. further s p (p + 1) b.student b.project (omega arith)) blocks listed.passed)
+          (inr (refl, omega arith));
+    }
+
+-- the student is done
+pub blocks_row : (i : Spa) (m : List (Option ℕ)) (blocks : List Block) (s n : ℕ) → ((q : ℕ) → Wants i m s q → q < n) → AreBlocksBefore i m s n blocks → AreBlocksBefore i m (s + 1) 0 blocks
+blocks_row i m blocks s n below listed = record {
+  sound = listed.sound;
+  complete = λ t q x before b. listed.complete t q x (row t q x before b) b;
+  sorted = listed.sorted;
+  passed = All-weaker (λ b. IsPassed s n b.student b.project) (λ b. IsPassed (s + 1) 0 b.student b.project) (λ b h. elim h [ inl k ↦ inl (omega arith) | inr k ↦ inl (omega arith) ]) blocks listed.passed;
+} where
+  row : (t q : ℕ) (x : Letter) → IsPassed (s + 1) 0 t q → Blocks i m t q x → IsPassed s n t q
+  row t q x (inl h) b = elim (cases_lt t s) [ inl k ↦ inl k | inr k ↦ let same : t ≡ s = omega arith in inr (same, below q (rw same at (blocks_wants i m t q x b))) ]
+  row t q x (inr h) b = absurd (omega arith)
+
+-- who finds something acceptable is there
+pub student_there : (i : Spa) (t q : ℕ) → IsAcceptable i t q → t < length i.choices
+student_there i t q on = elim (cases_lt t (length i.choices)) [
+  | inl h ↦ h
+  | inr h ↦ let none : choices_of i t ≡ [] = get_or_past i.choices t [] h in absurd (omega (arith, rw none at on))
+]
+
+-- all students are done
+pub blocks_all : (i : Spa) (m : List (Option ℕ)) (blocks : List Block) → AreBlocksBefore i m (length i.choices) 0 blocks → AreAllBlocks i m blocks
+blocks_all i m blocks listed = record {
+  sound = listed.sound;
+  complete = λ t q x b. listed.complete t q x (inl (student_there i t q (blocks_wants i m t q x b).0)) b;
+  sorted = listed.sorted;
+}
+
+-- no case, by what a search for one answers
+pub none_blocks : (i : Spa) (m : List (Option ℕ)) (s p : ℕ) (o : Option Letter) → MatchOption o ((x : Letter) → Blocks i m s p x → ⊥) (λ x. Blocks i m s p x) → is_some o ≡ false → (x : Letter) → Blocks i m s p x → ⊥
+none_blocks i m s p (Some y) found e x b = absurd (cc)
+none_blocks i m s p None none e x b = none x b

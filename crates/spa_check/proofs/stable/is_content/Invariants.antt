@@ -1,0 +1,8 @@
+use Rattle.std.proofs.Common.{ℕ, ◌<◌, get_or}
+use Rattle.spa_model.specs.declared.letter.Letter.{Letter}
+use Rattle.spa_model.specs.Spa.{Blocks}
+use Rattle.spa_check.proofs.stable.is_content.Given as goal
+
+-- no pair so far blocks
+abbrev pub invariant-loop-p : goal.invariant-loop-p
+invariant-loop-p l = (k : ℕ) (x : Letter) → k < l.p-index → Blocks l.instance l.matching l.s (get_or l.p-items k 0) x → ⊥

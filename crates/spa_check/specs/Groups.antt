@@ -1,0 +1,20 @@
+-- The students of a project or of a lecturer: how many, and how far down the list they reach.
+use Rattle.std.specs.Prelude.{◌≡◌, ℕ, ◌+◌, ◌<◌, List, Option, Some, length, slice_index_or}
+use Rattle.spa_model.specs.Spa.{Spa, IsWith, place, ranking_of, lecturer_of, project_of, at_project, at_lecturer}
+use Rattle.spa_check.specs.declared.groups.Group.{Group}
+
+-- the group counts n; it reaches down to the last place on the list of those who are in it, counted from 1
+pub record IsGroup (list : List ℕ) (IsIn : ℕ → Type 0) (n : ℕ) (g : Group) : Type 0 where
+  pub count : g.count ≡ n
+  pub none_deeper : (t : ℕ) → IsIn t → place list t < g.depth
+  pub reached : 0 < g.depth → (t : ℕ) × IsIn t × (place list t + 1 ≡ g.depth)
+
+-- the students at each project
+pub record AreProjectGroups (i : Spa) (m : List (Option ℕ)) (groups : List Group) : Type 0 where
+  pub size : length groups ≡ length i.lecturers
+  pub each : (p : ℕ) (d : Group) → p < length groups → IsGroup (ranking_of i (lecturer_of i p)) (λ t. project_of m t ≡ Some p) (at_project m p) (slice_index_or groups p d)
+
+-- the students of each lecturer
+pub record AreLecturerGroups (i : Spa) (m : List (Option ℕ)) (groups : List Group) : Type 0 where
+  pub size : length groups ≡ length i.rankings
+  pub each : (l : ℕ) (d : Group) → l < length groups → IsGroup (ranking_of i l) (IsWith i m l) (at_lecturer i m l) (slice_index_or groups l d)

@@ -1,0 +1,11 @@
+//! A pair that blocks a matching.
+
+use spa_model::Letter;
+
+/// A student and a project that block a matching, and by which case.
+#[derive(Clone, Copy, Debug, PartialEq, Eq)]
+pub struct Block {
+    pub student: usize,
+    pub project: usize,
+    pub letter: Letter,
+}

@@ -1,0 +1,16 @@
+//! Which pairs block a matching.
+#![tactic(auto)]
+
+mod block;
+mod groups;
+mod list;
+mod stable;
+mod wants;
+
+pub use block::Block;
+pub use list::blocking_pairs;
+pub use spa_model::Letter;
+pub use stable::is_stable;
+
+#[cfg(test)]
+mod tests;

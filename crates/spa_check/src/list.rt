@@ -1,0 +1,99 @@
+//! All pairs that block a matching.
+
+ghost use Rattle.std.specs.Prelude.{◌≡◌, ◌+◌, ◌<◌, IfOk, OnOk, MatchOption, length};
+ghost use Rattle.spa_model.specs.declared.letter.Letter.{Letter};
+ghost use Rattle.spa_model.specs.Spa.{IsMatching, Blocks, Wants};
+ghost use Rattle.spa_check.specs.Listed.{AreAllBlocks, AreBlocksBefore};
+ghost use Rattle.spa_check.specs.Groups.{AreProjectGroups, AreLecturerGroups};
+
+use crate::block::Block;
+use crate::groups::{Group, depth_of, lecturer_groups, project_groups};
+use crate::stable::is_with;
+use crate::wants::{least_from, wanted};
+use spa_model::{Instance, Letter, Matching};
+use std::alloc::{AllocError, Global};
+
+/// The case by which a pair that the student wants blocks, if it does.
+fn letter_of(
+    instance: &Instance,
+    matching: &Matching,
+    projects: &[Group],
+    lecturers: &[Group],
+    s: usize,
+    p: usize,
+) -> Option<Letter>
+    requires fits { IsMatching instance.now matching.now }
+    requires projects { AreProjectGroups instance.now matching.now projects.now }
+    requires lecturers { AreLecturerGroups instance.now matching.now lecturers.now }
+    requires student { s < length instance.now.choices }
+    requires project { p < length instance.now.lecturers }
+    requires wants { Wants instance.now matching.now s p }
+    ensures { MatchOption result ((x : Letter) → Blocks instance.now matching.now s p x → ⊥) (λ x. Blocks instance.now matching.now s p x) }
+{
+    let _lawful = instance.students();
+    let l = instance.lecturer_of(p);
+    let depth = depth_of(instance, l, s);
+    if projects[p].count < instance.project_capacity(p) as usize {
+        if lecturers[l].count < instance.lecturer_capacity(l) as usize {
+            Some(Letter::A)
+        } else if is_with(instance, matching, l, s) || depth < lecturers[l].depth {
+            Some(Letter::B)
+        } else {
+            None
+        }
+    } else if depth < projects[p].depth {
+        Some(Letter::C)
+    } else {
+        None
+    }
+}
+
+/// Adds the pairs of this student that block, by project.
+fn add_blocks(
+    instance: &Instance,
+    matching: &Matching,
+    projects: &[Group],
+    lecturers: &[Group],
+    s: usize,
+    blocks: &mut Vec<Block>,
+) -> Result<(), AllocError>
+    requires fits { IsMatching instance.now matching.now }
+    requires projects { AreProjectGroups instance.now matching.now projects.now }
+    requires lecturers { AreLecturerGroups instance.now matching.now lecturers.now }
+    requires student { s < length instance.now.choices }
+    requires before { AreBlocksBefore instance.now matching.now s 0 blocks.old.items }
+    ensures { OnOk result (AreBlocksBefore instance.now matching.now (s + 1) 0 blocks.new.items) }
+{
+    let _lawful = instance.students();
+    let list = wanted(instance, matching, s);
+    let mut next = 0;
+    while let Some(p) = least_from(list, next) {
+        if let Some(letter) = letter_of(instance, matching, projects, lecturers, s, p) {
+            blocks.push(Block {
+                student: s,
+                project: p,
+                letter,
+            })?;
+        }
+        next = p + 1;
+    }
+    Ok(())
+}
+
+/// All pairs that block, by student, then by project.
+pub fn blocking_pairs(
+    alloc: Global,
+    instance: &Instance,
+    matching: &Matching,
+) -> Result<Vec<Block>, AllocError>
+    requires { IsMatching instance.now matching.now }
+    ensures { IfOk result (λ blocks. AreAllBlocks instance.now matching.now blocks.items) }
+{
+    let projects = project_groups(alloc, instance, matching)?;
+    let lecturers = lecturer_groups(alloc, instance, matching)?;
+    let mut blocks = Vec::new(alloc);
+    for s in 0..instance.students() {
+        add_blocks(instance, matching, &projects, &lecturers, s, &mut blocks)?;
+    }
+    Ok(blocks)
+}

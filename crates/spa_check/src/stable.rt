@@ -1,0 +1,152 @@
+//! Whether no pair blocks a matching, found without memory.
+
+ghost use Rattle.std.specs.Prelude.{◌≡◌, ◌<◌, ◌↔◌, ◌⊎◌, ℕ, IsTrue, MatchOption, length};
+ghost use Rattle.spa_model.specs.declared.letter.Letter.{Letter};
+ghost use Rattle.spa_model.specs.Spa.{IsMatching, Blocks, Wants, SomeWorseAt, SomeWorseWith, IsWith, IsStable, is_lecturer, at_project, at_lecturer, project_of, lecturer_of};
+
+use crate::wants::wanted;
+use spa_model::{Instance, Letter, Matching};
+
+/// How many students the project has.
+fn count_at(instance: &Instance, matching: &Matching, p: usize) -> usize
+    requires { IsMatching instance.now matching.now }
+    ensures { result ≡ at_project matching.now p }
+{
+    let mut count = 0;
+    for s in 0..instance.students() {
+        if instance.project_of(matching, s) == Some(p) {
+            count += 1;
+        }
+    }
+    count
+}
+
+/// Whether the student is at a project of the lecturer.
+pub(crate) fn is_with(instance: &Instance, matching: &Matching, l: usize, s: usize) -> bool
+    requires fits { IsMatching instance.now matching.now }
+    requires in_range { s < length instance.now.choices }
+    ensures counted { result ≡ is_lecturer instance.now l (project_of matching.now s) }
+    ensures cases { IsTrue result ↔ IsWith instance.now matching.now l s }
+{
+    match instance.project_of(matching, s) {
+        Some(q) => instance.lecturer_of(q) == l,
+        None => false,
+    }
+}
+
+/// How many students the lecturer has.
+fn count_with(instance: &Instance, matching: &Matching, l: usize) -> usize
+    requires { IsMatching instance.now matching.now }
+    ensures { result ≡ at_lecturer instance.now matching.now l }
+{
+    let mut count = 0;
+    for s in 0..instance.students() {
+        if is_with(instance, matching, l, s) {
+            count += 1;
+        }
+    }
+    count
+}
+
+/// Whether some student at the project stands after s on its lecturer's list.
+fn has_worse_at(instance: &Instance, matching: &Matching, p: usize, s: usize) -> bool
+    requires fits { IsMatching instance.now matching.now }
+    requires project { p < length instance.now.lecturers }
+    requires student { s < length instance.now.choices }
+    ensures { IsTrue result ↔ SomeWorseAt instance.now matching.now p s }
+{
+    let l = instance.lecturer_of(p);
+    for t in 0..instance.students() {
+        if let Some(q) = instance.project_of(matching, t) {
+            if q == p && instance.prefers(l, s, t) {
+                return true;
+            }
+        }
+    }
+    false
+}
+
+/// Whether some student of the lecturer stands after s on the list.
+fn has_worse_with(instance: &Instance, matching: &Matching, l: usize, s: usize) -> bool
+    requires fits { IsMatching instance.now matching.now }
+    requires lecturer { l < length instance.now.rankings }
+    requires student { s < length instance.now.choices }
+    ensures { IsTrue result ↔ SomeWorseWith instance.now matching.now l s }
+{
+    for t in 0..instance.students() {
+        if is_with(instance, matching, l, t) && instance.prefers(l, s, t) {
+            return true;
+        }
+    }
+    false
+}
+
+/// Whether s is with the lecturer, or some student there stands after s.
+fn may_replace(instance: &Instance, matching: &Matching, l: usize, s: usize) -> bool
+    requires fits { IsMatching instance.now matching.now }
+    requires lecturer { l < length instance.now.rankings }
+    requires student { s < length instance.now.choices }
+    ensures { IsTrue result ↔ (IsWith instance.now matching.now l s ⊎ SomeWorseWith instance.now matching.now l s) }
+{
+    if is_with(instance, matching, l, s) {
+        return true;
+    }
+    has_worse_with(instance, matching, l, s)
+}
+
+/// The case by which a pair that the student wants blocks, if it does.
+pub(crate) fn letter_of(
+    instance: &Instance,
+    matching: &Matching,
+    s: usize,
+    p: usize,
+) -> Option<Letter>
+    requires fits { IsMatching instance.now matching.now }
+    requires student { s < length instance.now.choices }
+    requires project { p < length instance.now.lecturers }
+    requires wants { Wants instance.now matching.now s p }
+    ensures { MatchOption result ((x : Letter) → Blocks instance.now matching.now s p x → ⊥) (λ x. Blocks instance.now matching.now s p x) }
+{
+    let l = instance.lecturer_of(p);
+    if count_at(instance, matching, p) < instance.project_capacity(p) as usize {
+        if count_with(instance, matching, l) < instance.lecturer_capacity(l) as usize {
+            Some(Letter::A)
+        } else if may_replace(instance, matching, l, s) {
+            Some(Letter::B)
+        } else {
+            None
+        }
+    } else if has_worse_at(instance, matching, p, s) {
+        Some(Letter::C)
+    } else {
+        None
+    }
+}
+
+/// Whether no pair of this student blocks.
+fn is_content(instance: &Instance, matching: &Matching, s: usize) -> bool
+    requires fits { IsMatching instance.now matching.now }
+    requires in_range { s < length instance.now.choices }
+    ensures { IsTrue result ↔ ((p : ℕ) (x : Letter) → Blocks instance.now matching.now s p x → ⊥) }
+{
+    let _lawful = instance.students();
+    for p in wanted(instance, matching, s) {
+        if letter_of(instance, matching, s, *p).is_some() {
+            return false;
+        }
+    }
+    true
+}
+
+/// Whether no pair blocks.
+pub fn is_stable(instance: &Instance, matching: &Matching) -> bool
+    requires { IsMatching instance.now matching.now }
+    ensures { IsTrue result ↔ IsStable instance.now matching.now }
+{
+    for s in 0..instance.students() {
+        if !is_content(instance, matching, s) {
+            return false;
+        }
+    }
+    true
+}

@@ -1,0 +1,3 @@
+//! Blocking pairs of small instances, and of a family of them by two ways.
+
+mod plain;

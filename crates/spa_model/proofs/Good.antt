@@ -1,0 +1,97 @@
+-- What the absence of faults says of lines.
+use Rattle.std.proofs.Common.{◌≡◌, ◌⊎◌, inl, inr, ℕ, ◌+◌, ◌<◌, ◌≤◌, Bool, true, false, List, length, get_or, map, take, All, Any, Ordering, Less, Equal, Greater, IsSortedByKey, refl, sym, ◌∙◌, ap, subst, arith}
+use Rattle.std.specs.Ordering.{nat_cmp, is_lt}
+use Rattle.std.specs.Cmp.Lexicographic.{slice_cmp}
+use Rattle.std.proofs.lemmas.Cmp.{nat_list_cmp_total}
+use Rattle.std.proofs.lemmas.Map.Lookups.{exact_bytes}
+use Rattle.std.proofs.lemmas.List.Sorted.{ranks_by, sorted_far}
+use Rattle.std.proofs.lemmas.Bool.{cases_lt}
+use Rattle.std.proofs.lemmas.List.{get_or_default, get_or-take, length-take, length-map}
+use Rattle.spa_rows.specs.Form.{is_key}
+use Rattle.spa_rows.specs.Lines.{Text, Rows}
+use Rattle.spa_rows.specs.Least.{BadAt}
+use Rattle.spa_rows.specs.Faults.{HasFault, HasNoneBefore, IsBadCapacity, IsKeyOf, NamesNone, Repeats}
+use Rattle.spa_rows.specs.declared.faults.InstanceFault.TheVariants.{TooMany, BadKey, KeyTwice, BadCapacity, NoSuchLecturer, NoSuchProject, RepeatInList, ListTooLong, NotApplicant, ApplicantMissing, Memory}
+use Rattle.spa_rows.proofs.Lists.{at_place, map_at}
+use Rattle.spa_model.specs.Spa.{Rise}
+use Rattle.spa_model.specs.Numbers.{student_keys, project_keys, lecturer_keys}
+
+-- lines that are not bad
+none_bad : {X : Type 0} (lines : List X) (row : X → ℕ) (Bad : ℕ → X → Type 0) → ((r : ℕ) → BadAt lines row Bad r → ⊥) → (k : ℕ) (d : X) → k < length lines → Bad k (get_or lines k d) → ⊥
+none_bad lines row Bad none k d h bad = none (row (get_or lines k d)) (k, get_or lines k d, h, h, get_or_default lines k (get_or lines k d) d h, refl, bad)
+
+-- sorted lines whose keys differ have keys that rise
+rise_from_sorted : {X : Type 0} (key : X → Text) (lines : List X) → IsSortedByKey key (slice_cmp nat_cmp) lines → ((k : ℕ) (d : X) → k < length lines → Any (λ y. key y ≡ key (get_or lines k d)) (take k lines) → ⊥) → Rise (map key lines)
+rise_from_sorted {X} key lines sorted apart i j d less h =
+    let low : j < length lines = omega (arith, length-map lines key) in
+    let x = at_place lines i (omega arith) in
+    let y = at_place lines j low in
+    let is_x : get_or (map key lines) i d ≡ key x.0 = map_at key lines i x.0 d (omega arith) x.1 in
+    let is_y : get_or (map key lines) j d ≡ key y.0 = map_at key lines j y.0 d low y.1 in
+    let far : is_lt (slice_cmp nat_cmp (key (get_or lines j y.0)) (key (get_or lines i y.0))) ≡ false = sorted_far (λ a b. is_lt (slice_cmp nat_cmp (key a) (key b))) (ranks_by nat_list_cmp_total key) lines sorted i j y.0 (omega arith) low in
+    let same_x : get_or lines i y.0 ≡ x.0 = get_or_default lines i y.0 x.0 (omega arith) ∙ x.1 in
+    let back : is_lt (slice_cmp nat_cmp (key y.0) (key x.0)) ≡ false = rw (y.1, same_x) at far in
+    let differ : key x.0 ≡ key y.0 → ⊥ = λ same. apart j y.0 low (i, x.0, omega (arith, length-take j lines), get_or-take j lines i x.0 less ∙ x.1, same ∙ ap key (sym y.1)) in
+    rw (is_x, is_y) (by_order (key x.0) (key y.0) (slice_cmp nat_cmp (key x.0) (key y.0)) refl back differ)
+  where
+    by_order : (a b : Text) (o : Ordering) → slice_cmp nat_cmp a b ≡ o → is_lt (slice_cmp nat_cmp b a) ≡ false → (a ≡ b → ⊥) → slice_cmp nat_cmp a b ≡ Less
+    by_order a b Less e back differ = e
+    by_order a b Equal e back differ = absurd (differ (exact_bytes a b e))
+    by_order a b Greater e back differ =
+        let turned : slice_cmp nat_cmp b a ≡ Less = rw (nat_list_cmp_total.antisymm b a, e) refl in
+        let wrong : is_lt Less ≡ false = rw turned at back in
+        cc
+
+is_form : (b : Bool) → (b ≡ false → ⊥) → b ≡ true
+is_form true h = refl
+is_form false h = absurd (h refl)
+
+in_range : (n : ℕ) → (IsBadCapacity n → ⊥) → (1 ≤ n) × (n ≤ 200)
+in_range n h = (low, high)
+  where
+    low : 1 ≤ n
+    low = elim (cases_lt n 1) [ inl less ↦ absurd (h (inl less)) | inr not ↦ not ]
+
+    high : n ≤ 200
+    high = elim (cases_lt 200 n) [ inl less ↦ absurd (h (inr less)) | inr not ↦ not ]
+
+pub record AreGood (rows : Rows) : Type 0 where
+  pub rise_students : Rise (student_keys rows.students)
+  pub rise_projects : Rise (project_keys rows.projects)
+  pub rise_lecturers : Rise (lecturer_keys rows.lecturers)
+  pub form_students : All (λ x. is_key x.key ≡ true) rows.students
+  pub form_projects : All (λ x. is_key x.key ≡ true) rows.projects
+  pub form_lecturers : All (λ x. is_key x.key ≡ true) rows.lecturers
+  pub known_projects : All (λ x. NamesNone rows.projects (λ y. y.key) x.list → ⊥) rows.students
+  pub known_lecturers : All (λ x. (IsKeyOf rows.lecturers (λ y. y.key) x.lecturer → ⊥) → ⊥) rows.projects
+  pub apart_students : All (λ x. Repeats x.list → ⊥) rows.students
+  pub apart_lecturers : All (λ x. Repeats x.list → ⊥) rows.lecturers
+  pub short : All (λ x. length x.list ≤ 20) rows.students
+  pub capacities : All (λ x. (1 ≤ x.capacity) × (x.capacity ≤ 200)) rows.projects
+  pub limits : All (λ x. (1 ≤ x.capacity) × (x.capacity ≤ 200)) rows.lecturers
+  pub few_students : length rows.students ≤ 2000
+  pub few_projects : length rows.projects ≤ 1000
+  pub few_lecturers : length rows.lecturers ≤ 300
+
+pub are_good : (rows : Rows) → IsSortedByKey (λ x. x.key) (slice_cmp nat_cmp) rows.lecturers → IsSortedByKey (λ x. x.key) (slice_cmp nat_cmp) rows.projects → IsSortedByKey (λ x. x.key) (slice_cmp nat_cmp) rows.students → HasNoneBefore rows NotApplicant → AreGood rows
+are_good rows lecturers projects students none = record {
+  rise_students = rise_from_sorted (λ x. x.key) rows.students students (none_bad rows.students (λ x. x.row) _ (λ r bad. none KeyTwice (omega arith) r (inr (inr bad))));
+  rise_projects = rise_from_sorted (λ x. x.key) rows.projects projects (none_bad rows.projects (λ x. x.row) _ (λ r bad. none KeyTwice (omega arith) r (inr (inl bad))));
+  rise_lecturers = rise_from_sorted (λ x. x.key) rows.lecturers lecturers (none_bad rows.lecturers (λ x. x.row) _ (λ r bad. none KeyTwice (omega arith) r (inl bad)));
+  form_students = λ k d h. is_form _ (none_bad rows.students (λ x. x.row) _ (λ r bad. none BadKey (omega arith) r (inr (inr bad))) k d h);
+  form_projects = λ k d h. is_form _ (none_bad rows.projects (λ x. x.row) _ (λ r bad. none BadKey (omega arith) r (inr (inl bad))) k d h);
+  form_lecturers = λ k d h. is_form _ (none_bad rows.lecturers (λ x. x.row) _ (λ r bad. none BadKey (omega arith) r (inl bad)) k d h);
+  known_projects = none_bad rows.students (λ x. x.row) _ (none NoSuchProject (omega arith));
+  known_lecturers = none_bad rows.projects (λ x. x.row) _ (none NoSuchLecturer (omega arith));
+  apart_students = none_bad rows.students (λ x. x.row) _ (λ r bad. none RepeatInList (omega arith) r (inr bad));
+  apart_lecturers = none_bad rows.lecturers (λ x. x.row) _ (λ r bad. none RepeatInList (omega arith) r (inl bad));
+  short = λ k d h. not_over _ (none_bad rows.students (λ x. x.row) _ (none ListTooLong (omega arith)) k d h);
+  capacities = λ k d h. in_range _ (none_bad rows.projects (λ x. x.row) _ (λ r bad. none BadCapacity (omega arith) r (inr bad)) k d h);
+  limits = λ k d h. in_range _ (none_bad rows.lecturers (λ x. x.row) _ (λ r bad. none BadCapacity (omega arith) r (inl bad)) k d h);
+  few_students = elim (cases_lt 2000 (length rows.students)) [ inl more ↦ absurd (none TooMany (omega arith) 0 (refl, inr (inr more))) | inr few ↦ few ];
+  few_projects = elim (cases_lt 1000 (length rows.projects)) [ inl more ↦ absurd (none TooMany (omega arith) 0 (refl, inr (inl more))) | inr few ↦ few ];
+  few_lecturers = elim (cases_lt 300 (length rows.lecturers)) [ inl more ↦ absurd (none TooMany (omega arith) 0 (refl, inl more)) | inr few ↦ few ];
+}
+  where
+    not_over : (n : ℕ) → (20 < n → ⊥) → n ≤ 20
+    not_over n h = elim (cases_lt 20 n) [ inl more ↦ absurd (h more) | inr few ↦ few ]

@@ -1,0 +1,56 @@
+-- Lemmas on keys that rise.
+use Rattle.std.proofs.Common.{◌≡◌, ◌≢◌, ◌⊎◌, inl, inr, ℕ, zero, suc, ◌+◌, ◌<◌, ◌≤◌, false, List, [], ◌∷◌, length, get_or, map, Ordering, Less, Equal, Greater, refl, sym, ◌∙◌, ap, arith, IsSortedByKey}
+use Rattle.std.specs.Ordering.{nat_cmp, is_lt}
+use Rattle.std.specs.Cmp.Lexicographic.{slice_cmp}
+use Rattle.std.specs.List.{AllPairs}
+use Rattle.std.proofs.lemmas.Cmp.{nat_list_cmp_total, tied_itself}
+use Rattle.std.proofs.lemmas.Bool.{cases_lt, cases_eq}
+use Rattle.std.proofs.lemmas.List.{get_or-map, length-map}
+use Rattle.spa_rows.specs.Lines.{Text}
+use Rattle.spa_rows.specs.Faults.{IsKeyOf}
+use Rattle.spa_rows.proofs.Lists.{at_place, map_at}
+use Rattle.spa_model.specs.Spa.{Rise}
+use Rattle.spa_model.specs.Built.{HasKey}
+
+not_less : (a b : Text) → slice_cmp nat_cmp a b ≡ Less → is_lt (slice_cmp nat_cmp b a) ≡ false
+not_less a b h = rw (nat_list_cmp_total.antisymm b a, h) refl
+
+-- lines whose keys rise are sorted by key
+pub sorted_from_rise : {X : Type 0} (key : X → Text) (lines : List X) → Rise (map key lines) → IsSortedByKey key (slice_cmp nat_cmp) lines
+sorted_from_rise key lines rise k d low h =
+    let long : length (map key lines) ≡ length lines = length-map lines key in
+    let less : slice_cmp nat_cmp (get_or (map key lines) k (key d)) (get_or (map key lines) (k + 1) (key d)) ≡ Less = rise k (k + 1) (key d) (omega arith) (omega arith) in
+    not_less (key (get_or lines k d)) (key (get_or lines (k + 1) d)) (rw (get_or-map key lines k d (key d) (omega arith), get_or-map key lines (k + 1) d (key d) (omega arith)) at less)
+
+-- the key at a place
+pub has_key : {X : Type 0} (key : X → Text) (lines : List X) (k : ℕ) (text : Text) → k < length lines → ((d : X) → key (get_or lines k d) ≡ text) → HasKey (map key lines) k text
+has_key key [] k text h at = absurd (omega arith)
+has_key key (x ∷ xs) k text h at = (rw (length-map (x ∷ xs) key) h, get_or-map key (x ∷ xs) k x [] h ∙ at x)
+
+-- a key has one number
+pub one_number : (keys : List Text) (m n : ℕ) (text : Text) → Rise keys → HasKey keys m text → HasKey keys n text → m ≡ n
+one_number keys m n text rise h k = elim (cases_lt m n) [
+  | inl less ↦ absurd (apart m n less k.0 h.1 k.1)
+  | inr not ↦ elim (cases_lt n m) [
+    | inl less ↦ absurd (apart n m less h.0 k.1 h.1)
+    | inr same ↦ omega arith
+  ]
+]
+  where
+    apart : (a b : ℕ) → a < b → b < length keys → get_or keys a [] ≡ text → get_or keys b [] ≡ text → ⊥
+    apart a b less l e f =
+        let below : slice_cmp nat_cmp (get_or keys a []) (get_or keys b []) ≡ Less = rise a b [] less l in
+        let tied : slice_cmp nat_cmp text text ≡ Equal = tied_itself nat_list_cmp_total text in
+        let wrong : slice_cmp nat_cmp text text ≡ Less = rw (e, f) at below in
+        cc
+
+-- a number's key is there
+pub is_key_of : {X : Type 0} (key : X → Text) (lines : List X) (n : ℕ) (text : Text) → HasKey (map key lines) n text → IsKeyOf lines key text
+is_key_of key lines n text h =
+    let long : n < length lines = omega (arith, length-map lines key, h.0) in
+    let found = at_place lines n long in
+    (n, found.0, long, found.1, sym (map_at key lines n found.0 [] long found.1) ∙ h.1)
+
+-- the key that is there has a number
+pub key_number : {X : Type 0} (key : X → Text) (lines : List X) (n : ℕ) (x : X) → n < length lines → get_or lines n x ≡ x → HasKey (map key lines) n (key x)
+key_number key lines n x h at = (omega (arith, length-map lines key), map_at key lines n x [] h at)

@@ -1,0 +1,51 @@
+-- The least row so far.
+use Rattle.std.proofs.Common.{◌≡◌, ◌⊎◌, inl, inr, ℕ, ◌+◌, ◌<◌, min, List, length, get_or, Option, Some, None, Bool, true, false, IsTrue, ◌↔◌, if◌then◌else◌, refl, sym, ◌∙◌, ap, subst, arith}
+use Rattle.std.proofs.lemmas.List.{get_or_default}
+use Rattle.std.proofs.lemmas.Bool.{cases_lt, false≢true}
+use Rattle.spa_rows.specs.Least.{IsLeastOf, BadAt, BadBelow, least_row}
+
+module _ {X : Type 0} (lines : List X) (row : X → ℕ) (Bad : ℕ → X → Type 0) where
+  pub none_bad : IsLeastOf (BadBelow lines row Bad 0) None
+  none_bad r bad = absurd (omega (arith, bad.2))
+
+  -- who stands at a place stands there alone
+  one_at : (n : ℕ) (x y : X) → n < length lines → get_or lines n x ≡ x → get_or lines n y ≡ y → y ≡ x
+  one_at n x y h e f = sym f ∙ get_or_default lines n y x h ∙ e
+
+  further : (n r : ℕ) → BadBelow lines row Bad n r → BadBelow lines row Bad (n + 1) r
+  further n r (j, x, below, h, e, at, bad) = (j, x, omega arith, h, e, at, bad)
+
+  last_or_before : (n r : ℕ) (x : X) → n < length lines → get_or lines n x ≡ x → BadBelow lines row Bad (n + 1) r → BadBelow lines row Bad n r ⊎ ((row x ≡ r) × Bad n x)
+  last_or_before n r x h e (j, y, below, k, f, at, bad) = elim (cases_lt j n) [
+    | inl before ↦ inl (j, y, before, k, f, at, bad)
+    | inr here ↦
+        let same : j ≡ n = omega arith in
+        let is_x : y ≡ x = one_at n x y h e (rw same at f) in
+        inr (ap row (sym is_x) ∙ at, rw (same, is_x) at bad)
+  ]
+
+  -- the line at n is not bad
+  pub least_skip : (n : ℕ) (x : X) (o : Option ℕ) → n < length lines → get_or lines n x ≡ x → (Bad n x → ⊥) → IsLeastOf (BadBelow lines row Bad n) o → IsLeastOf (BadBelow lines row Bad (n + 1)) o
+  least_skip n x None h e good none = λ r bad. elim (last_or_before n r x h e bad) [ inl before ↦ none r before | inr here ↦ good here.1 ]
+  least_skip n x (Some b) h e good found = (further n b found.0, λ r bad. elim (last_or_before n r x h e bad) [ inl before ↦ found.1 r before | inr here ↦ absurd (good here.1) ])
+
+  -- it is bad
+  pub least_take : (n : ℕ) (x : X) (o : Option ℕ) → n < length lines → get_or lines n x ≡ x → Bad n x → IsLeastOf (BadBelow lines row Bad n) o → IsLeastOf (BadBelow lines row Bad (n + 1)) (Some (least_row o (row x)))
+  least_take n x None h e bad none = ((n, x, omega arith, h, e, refl, bad), λ r b. elim (last_or_before n r x h e b) [ inl before ↦ absurd (none r before) | inr here ↦ omega (arith, here.0) ])
+  least_take n x (Some b) h e bad found = elim (cases_lt b (row x)) [
+    | inl less ↦
+        let is_b : min b (row x) ≡ b = omega arith in
+        rw is_b (further n b found.0, λ r c. elim (last_or_before n r x h e c) [ inl before ↦ found.1 r before | inr here ↦ omega (arith, here.0) ])
+    | inr no_less ↦
+        let is_row : min b (row x) ≡ row x = omega arith in
+        rw is_row ((n, x, omega arith, h, e, refl, bad), λ r c. elim (last_or_before n r x h e c) [ inl before ↦ omega (arith, found.1 r before) | inr here ↦ omega (arith, here.0) ])
+  ]
+
+  -- the step of a loop that asks of each line whether it is bad
+  pub least_step : (n : ℕ) (x : X) (o new : Option ℕ) (r : ℕ) (b : Bool) → new ≡ (if b then Some (least_row o r) else o) → r ≡ row x → n < length lines → get_or lines n x ≡ x → (IsTrue b ↔ Bad n x) → IsLeastOf (BadBelow lines row Bad n) o → IsLeastOf (BadBelow lines row Bad (n + 1)) new
+  least_step n x o new r true is at h e iff best = rw (is, at) (least_take n x o h e (iff.0 refl) best)
+  least_step n x o new r false is at h e iff best = rw is (least_skip n x o h e (λ bad. absurd (false≢true (iff.1 bad))) best)
+
+  -- all lines are looked at
+  pub least_all : (n : ℕ) (o : Option ℕ) → n ≡ length lines → IsLeastOf (BadBelow lines row Bad n) o → IsLeastOf (BadAt lines row Bad) o
+  least_all n o e h = let P : ℕ → Type 0 = λ m. IsLeastOf (BadBelow lines row Bad m) o in subst P e h

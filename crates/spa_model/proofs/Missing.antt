@@ -1,0 +1,116 @@
+-- Numbered lecturers and the lines that they come from say the same of who is missing on a list.
+use Rattle.std.proofs.Common.{◌≡◌, ◌⊎◌, inl, inr, ℕ, ◌+◌, ◌<◌, ◌≤◌, Bool, true, false, ltb, List, [], ◌∷◌, length, get_or, map, Option, Some, None, Any, refl, sym, ◌∙◌, ap, subst, arith}
+use Rattle.std.specs.List.{AllZip}
+use Rattle.std.proofs.lemmas.Bool.{cases_lt}
+use Rattle.std.proofs.lemmas.Bool.Decides.{nat_tests}
+use Rattle.std.proofs.lemmas.List.{get_or_default, length-map}
+use Rattle.spa_rows.specs.Lines
+use Rattle.spa_rows.specs.Lines.{Text, Rows}
+use Rattle.spa_rows.specs.Faults.{HasFault}
+use Rattle.spa_rows.specs.declared.faults.InstanceFault.TheVariants.{ApplicantMissing}
+use Rattle.spa_rows.proofs.Lists.{at_place, map_at}
+use Rattle.spa_model.specs.declared.instance.Student.{Student}
+use Rattle.spa_model.specs.declared.instance.Project.{Project}
+use Rattle.spa_model.specs.declared.instance.Lecturer.{Lecturer}
+use Rattle.spa_model.specs.Spa.{place, rank_in, IsOn}
+use Rattle.spa_model.specs.Built.{HasKey}
+use Rattle.spa_model.specs.Numbers.{student_keys, project_keys, lecturer_keys, AreNumbers, IsLecturerOf, choices_at, lecturer_at, row_at, rank_at, Finds, MissesBelow}
+use Rattle.spa_model.proofs.Places.{get_or-place, place-get_or-le}
+use Rattle.spa_model.proofs.Keys.{one_number, key_number}
+use Rattle.spa_model.proofs.Zips.{zip_at, zip_length}
+use Rattle.spa_model.proofs.Applicants.{row_here, rank_here}
+use Rattle.spa_model.proofs.Numbered.{AreNumbered}
+use Rattle.spa_model.proofs.Numbered
+
+-- who is on a list has a rank
+pub ranked : (list : List ℕ) (s : ℕ) → IsOn list s → rank_in list s ≡ None → ⊥
+ranked list s on none = let test : ltb (place list s) (length list) ≡ true = grind (arith, nat_tests) in let some : rank_in list s ≡ Some (place list s) = rw test refl in cc
+
+pub unranked : (list : List ℕ) (s : ℕ) → (IsOn list s → ⊥) → rank_in list s ≡ None
+unranked list s off = elim (cases_lt (place list s) (length list)) [
+  | inl on ↦ absurd (off on)
+  | inr past ↦ let test : ltb (place list s) (length list) ≡ false = grind (arith, nat_tests) in rw test refl
+]
+
+module _ (rows : Rows) (students : List Student) (projects : List Project) (lecturers : List Lecturer) (so : AreNumbered rows students projects) (lists : AllZip (IsLecturerOf (student_keys rows.students)) rows.lecturers lecturers) where
+  pub lecturer_count : length lecturers ≡ length rows.lecturers
+  lecturer_count = zip_length (IsLecturerOf (student_keys rows.students)) rows.lecturers lecturers lists
+
+  -- the row of a lecturer
+  pub row_of : (l : ℕ) (y : Lines.Lecturer) → l < length rows.lecturers → get_or rows.lecturers l y ≡ y → (z : Lecturer) × (get_or lecturers l z ≡ z) × IsLecturerOf (student_keys rows.students) y z
+  row_of l y h at =
+      let row = at_place lecturers l (omega (arith, lecturer_count)) in
+      let both : IsLecturerOf (student_keys rows.students) (get_or rows.lecturers l y) (get_or lecturers l row.0) = zip_at (IsLecturerOf (student_keys rows.students)) rows.lecturers lecturers l y row.0 h lists in
+      (row.0, row.1, rw (at, row.1) at both)
+
+  module _ (y : Lines.Lecturer) (z : Lecturer) (is_z : IsLecturerOf (student_keys rows.students) y z) (s : ℕ) (x : Lines.Student) (low : s < length rows.students) (is_x : get_or rows.students s x ≡ x) where
+    key_x : HasKey (student_keys rows.students) s x.key
+    key_x = key_number (λ q. q.key) rows.students s x low is_x
+
+    long : length z.ranking.items ≡ length y.list
+    long = zip_length (λ t n. HasKey (student_keys rows.students) n t) y.list z.ranking.items is_z.ranking
+
+    -- on the list of texts, on the list of numbers
+    pub on_number : Any (λ text. text ≡ x.key) y.list → IsOn z.ranking.items s
+    on_number (i, text, under, is_text, same) =
+        let mine : HasKey (student_keys rows.students) (get_or z.ranking.items i 0) (get_or y.list i text) = zip_at (λ t n. HasKey (student_keys rows.students) n t) y.list z.ranking.items i text 0 under is_z.ranking in
+        let is_s : get_or z.ranking.items i 0 ≡ s = one_number (student_keys rows.students) (get_or z.ranking.items i 0) s x.key so.rise_students (mine.0, mine.1 ∙ is_text ∙ same) key_x in
+        let here : place z.ranking.items (get_or z.ranking.items i 0) ≤ i = place-get_or-le z.ranking.items i 0 (omega (arith, long)) in
+        omega (arith, long, ap (place z.ranking.items) is_s)
+
+    pub on_text : IsOn z.ranking.items s → Any (λ text. text ≡ x.key) y.list
+    on_text on =
+        let i : ℕ = place z.ranking.items s in
+        let text = at_place y.list i (omega (arith, long)) in
+        let mine : HasKey (student_keys rows.students) (get_or z.ranking.items i 0) (get_or y.list i text.0) = zip_at (λ t n. HasKey (student_keys rows.students) n t) y.list z.ranking.items i text.0 0 (omega (arith, long)) is_z.ranking in
+        let is_s : get_or z.ranking.items i 0 ≡ s = get_or-place z.ranking.items s 0 on in
+        (i, text.0, omega (arith, long), text.1, sym text.1 ∙ sym mine.1 ∙ ap (λ n. get_or (student_keys rows.students) n []) is_s ∙ key_x.1)
+
+  -- the table's entry
+  pub rank_is : (l : ℕ) (y : Lines.Lecturer) (z : Lecturer) (s : ℕ) → l < length rows.lecturers → get_or lecturers l z ≡ z → IsLecturerOf (student_keys rows.students) y z → s < length rows.students → rank_at lecturers l s ≡ rank_in z.ranking.items s
+  rank_is l y z s h at is_z low = rank_here lecturers l s z (omega (arith, lecturer_count)) (sym at) ∙ is_z.ranks.each s (omega (arith, length-map rows.students (λ q. q.key)))
+
+  -- the fault ApplicantMissing, by number
+  pub misses_fault : (r : ℕ) → MissesBelow rows.lecturers lecturers projects students (length students) r → HasFault rows ApplicantMissing r
+  misses_fault r (s, s_low, (k, p, under, short, is_p, row, none)) =
+      let low : s < length rows.students = omega (arith, Numbered.student_count rows students projects so) in
+      let x = at_place rows.students s low in
+      let zip : AreNumbers (project_keys rows.projects) x.0.list (choices_at students s) = Numbered.choices_numbered rows students projects so s x.0 low x.1 in
+      let size : length (choices_at students s) ≡ length x.0.list = zip_length (λ t n. HasKey (project_keys rows.projects) n t) x.0.list (choices_at students s) zip in
+      let text = at_place x.0.list k (omega arith) in
+      let mine : HasKey (project_keys rows.projects) (get_or (choices_at students s) k p) (get_or x.0.list k text.0) = zip_at (λ t n. HasKey (project_keys rows.projects) n t) x.0.list (choices_at students s) k text.0 p (omega arith) zip in
+      let key_p : HasKey (project_keys rows.projects) p text.0 = rw (is_p, text.1) at mine in
+      let known : p < length rows.projects = omega (arith, key_p.0, length-map rows.projects (λ q. q.key)) in
+      let line = at_place rows.projects p known in
+      let l : ℕ = lecturer_at projects p in
+      let key_l : HasKey (lecturer_keys rows.lecturers) l line.0.lecturer = Numbered.lecturer_numbered rows students projects so p line.0 known line.1 in
+      let l_low : l < length rows.lecturers = omega (arith, key_l.0, length-map rows.lecturers (λ q. q.key)) in
+      let y = at_place rows.lecturers l l_low in
+      let z = row_of l y.0 l_low y.1 in
+      let off : IsOn z.0.ranking.items s → ⊥ = λ on. ranked z.0.ranking.items s on (sym (rank_is l y.0 z.0 s l_low z.1 z.2 low) ∙ none) in (
+        l,
+        y.0,
+        l_low,
+        l_low,
+        y.1,
+        sym (row_here rows.lecturers l y.0 l_low (sym y.1)) ∙ row,
+        (s, x.0, low, x.1, (Numbered.finds_text rows students projects so l y.0 l_low y.1 s x.0 low x.1 (k, p, under, is_p, refl), λ any. off (on_number y.0 z.0 z.2 s x.0 low x.1 any))),
+      )
+
+  pub fault_misses : (r : ℕ) → HasFault rows ApplicantMissing r → MissesBelow rows.lecturers lecturers projects students (length students) r
+  fault_misses r (l, y, a, l_low, is_y, row, (s, x, low, is_x, (finds, off))) =
+      let found : Finds projects (choices_at students s) l = Numbered.finds_number rows students projects so l y l_low is_y s x low is_x finds in
+      let z = row_of l y l_low is_y in
+      let none : rank_at lecturers l s ≡ None = rank_is l y z.0 s l_low z.1 z.2 low ∙ unranked z.0.ranking.items s (λ on. off (on_text y z.0 z.2 s x low is_x on)) in (
+        s,
+        omega (arith, Numbered.student_count rows students projects so),
+        (
+          found.0,
+          found.1,
+          found.2,
+          found.2,
+          found.3,
+          ap (row_at rows.lecturers) found.4 ∙ row_here rows.lecturers l y l_low (sym is_y) ∙ row,
+          ap (λ n. rank_at lecturers n s) found.4 ∙ none,
+        ),
+      )

@@ -1,0 +1,109 @@
+-- Numbered rows and the lines that they come from say the same of applicants.
+use Rattle.std.proofs.Common.{◌≡◌, ◌⊎◌, inl, inr, ◌↔◌, ℕ, ◌+◌, ◌<◌, ◌≤◌, Bool, true, false, List, [], ◌∷◌, length, get_or, map, Option, Some, None, Any, refl, sym, ◌∙◌, ap, subst, arith}
+use Rattle.std.specs.List.{AllZip}
+use Rattle.std.proofs.lemmas.Bool.{cases_lt}
+use Rattle.std.proofs.lemmas.Bool.Decides.{nat_tests}
+use Rattle.std.proofs.lemmas.List.{get_or_default, length-map}
+use Rattle.spa_rows.specs.Lines
+use Rattle.spa_rows.specs.Lines.{Text, Rows}
+use Rattle.spa_rows.specs.Least.{BadAt}
+use Rattle.spa_rows.specs.Faults.{FindsOne, IsOffered, IsApplicant, MissesOne, HasFault}
+use Rattle.spa_rows.specs.declared.faults.InstanceFault.TheVariants.{NotApplicant, ApplicantMissing}
+use Rattle.spa_rows.proofs.Lists.{at_place, map_at}
+use Rattle.spa_model.specs.declared.instance.Student.{Student}
+use Rattle.spa_model.specs.declared.instance.Project.{Project}
+use Rattle.spa_model.specs.declared.instance.Lecturer.{Lecturer}
+use Rattle.spa_model.specs.Spa.{Rise, place, rank_in, IsOn}
+use Rattle.spa_model.specs.Built.{HasKey}
+use Rattle.spa_model.specs.Inside.{AreRanks}
+use Rattle.spa_model.specs.Numbers.{student_keys, project_keys, lecturer_keys, AreNumbers, IsStudentOf, IsProjectOf, IsLecturerOf, choices_at, lecturer_at, row_at, rank_at, Finds, IsApplicantOf, Misses, MissesBelow}
+use Rattle.spa_model.proofs.Places.{get_or-place, place-get_or-le}
+use Rattle.spa_model.proofs.Keys.{one_number, is_key_of, key_number}
+use Rattle.spa_model.proofs.Zips.{zip_at, zip_length}
+use Rattle.spa_model.proofs.Applicants.{choices_here, lecturer_here, row_here, rank_here}
+
+-- students and projects by number
+pub record AreNumbered (rows : Rows) (students : List Student) (projects : List Project) : Type 0 where
+  pub rise_students : Rise (student_keys rows.students)
+  pub rise_projects : Rise (project_keys rows.projects)
+  pub rise_lecturers : Rise (lecturer_keys rows.lecturers)
+  pub choices : AllZip (IsStudentOf (project_keys rows.projects)) rows.students students
+  pub offers : AllZip (IsProjectOf (lecturer_keys rows.lecturers)) rows.projects projects
+
+module _ (rows : Rows) (students : List Student) (projects : List Project) (so : AreNumbered rows students projects) where
+  pub student_count : length students ≡ length rows.students
+  student_count = zip_length (IsStudentOf (project_keys rows.projects)) rows.students students so.choices
+
+  pub project_count : length projects ≡ length rows.projects
+  project_count = zip_length (IsProjectOf (lecturer_keys rows.lecturers)) rows.projects projects so.offers
+
+  -- the choices of a student have the texts of the line
+  pub choices_numbered : (s : ℕ) (x : Lines.Student) → s < length rows.students → get_or rows.students s x ≡ x → AreNumbers (project_keys rows.projects) x.list (choices_at students s)
+  choices_numbered s x h at =
+      let row = at_place students s (omega (arith, student_count)) in
+      let both : IsStudentOf (project_keys rows.projects) (get_or rows.students s x) (get_or students s row.0) = zip_at (IsStudentOf (project_keys rows.projects)) rows.students students s x row.0 h so.choices in
+      let here : choices_at students s ≡ row.0.choices.items = choices_here students s row.0 (omega (arith, student_count)) (sym row.1) in
+      let there : IsStudentOf (project_keys rows.projects) x row.0 = rw (at, row.1) at both in
+      rw here there.choices
+
+  -- the lecturer of a project has the text of the line
+  pub lecturer_numbered : (p : ℕ) (x : Lines.Project) → p < length rows.projects → get_or rows.projects p x ≡ x → HasKey (lecturer_keys rows.lecturers) (lecturer_at projects p) x.lecturer
+  lecturer_numbered p x h at =
+      let row = at_place projects p (omega (arith, project_count)) in
+      let both : IsProjectOf (lecturer_keys rows.lecturers) (get_or rows.projects p x) (get_or projects p row.0) = zip_at (IsProjectOf (lecturer_keys rows.lecturers)) rows.projects projects p x row.0 h so.offers in
+      let here : lecturer_at projects p ≡ row.0.lecturer = lecturer_here projects p row.0 (omega (arith, project_count)) (sym row.1) in
+      let there : IsProjectOf (lecturer_keys rows.lecturers) x row.0 = rw (at, row.1) at both in
+      rw here there.lecturer
+
+  module _ (l : ℕ) (y : Lines.Lecturer) (low : l < length rows.lecturers) (is_y : get_or rows.lecturers l y ≡ y) where
+    key_y : HasKey (lecturer_keys rows.lecturers) l y.key
+    key_y = key_number (λ x. x.key) rows.lecturers l y low is_y
+
+    -- a student lists a project of the lecturer
+    pub finds_number : (s : ℕ) (x : Lines.Student) → s < length rows.students → get_or rows.students s x ≡ x → FindsOne rows x y.key → Finds projects (choices_at students s) l
+    finds_number s x h at (k, text, under, is_text, (j, line, j_low, is_line, (key, offers))) =
+        let zip : AreNumbers (project_keys rows.projects) x.list (choices_at students s) = choices_numbered s x h at in
+        let long : length (choices_at students s) ≡ length x.list = zip_length (λ t n. HasKey (project_keys rows.projects) n t) x.list (choices_at students s) zip in
+        let p : ℕ = get_or (choices_at students s) k 0 in
+        let mine : HasKey (project_keys rows.projects) p (get_or x.list k text) = zip_at (λ t n. HasKey (project_keys rows.projects) n t) x.list (choices_at students s) k text 0 under zip in
+        let its : HasKey (project_keys rows.projects) j line.key = key_number (λ q. q.key) rows.projects j line j_low is_line in
+        let same : p ≡ j = one_number (project_keys rows.projects) p j text so.rise_projects (mine.0, mine.1 ∙ is_text) (its.0, its.1 ∙ key) in
+        let lecturer : HasKey (lecturer_keys rows.lecturers) (lecturer_at projects j) line.lecturer = lecturer_numbered j line j_low is_line in
+        let is_l : lecturer_at projects j ≡ l = one_number (lecturer_keys rows.lecturers) (lecturer_at projects j) l y.key so.rise_lecturers (lecturer.0, lecturer.1 ∙ offers) key_y in
+        (k, p, omega arith, get_or_default (choices_at students s) k p 0 (omega arith), ap (lecturer_at projects) same ∙ is_l)
+
+    pub finds_text : (s : ℕ) (x : Lines.Student) → s < length rows.students → get_or rows.students s x ≡ x → Finds projects (choices_at students s) l → FindsOne rows x y.key
+    finds_text s x h at (k, p, under, is_p, offers) =
+        let zip : AreNumbers (project_keys rows.projects) x.list (choices_at students s) = choices_numbered s x h at in
+        let long : length (choices_at students s) ≡ length x.list = zip_length (λ t n. HasKey (project_keys rows.projects) n t) x.list (choices_at students s) zip in
+        let text = at_place x.list k (omega arith) in
+        let mine : HasKey (project_keys rows.projects) (get_or (choices_at students s) k p) (get_or x.list k text.0) = zip_at (λ t n. HasKey (project_keys rows.projects) n t) x.list (choices_at students s) k text.0 p (omega arith) zip in
+        let key_p : HasKey (project_keys rows.projects) p text.0 = rw (is_p, text.1) at mine in
+        let known : p < length rows.projects = omega (arith, key_p.0, length-map rows.projects (λ q. q.key)) in
+        let line = at_place rows.projects p known in
+        let its : HasKey (project_keys rows.projects) p line.0.key = key_number (λ q. q.key) rows.projects p line.0 known line.1 in
+        let lecturer : HasKey (lecturer_keys rows.lecturers) (lecturer_at projects p) line.0.lecturer = lecturer_numbered p line.0 known line.1 in
+        (k, text.0, omega arith, text.1, (p, line.0, known, line.1, (sym its.1 ∙ key_p.1, sym lecturer.1 ∙ ap (λ n. get_or (lecturer_keys rows.lecturers) n []) offers ∙ key_y.1)))
+
+    -- the text is an applicant's
+    pub applicant_number : (text : Text) → IsApplicant rows y.key text → IsApplicantOf rows.students students projects l text
+    applicant_number text (s, x, h, at, (key, finds)) =
+        let its : HasKey (student_keys rows.students) s x.key = key_number (λ q. q.key) rows.students s x h at in
+        (s, (its.0, its.1 ∙ key), finds_number s x h at finds)
+
+    pub applicant_text : (text : Text) → IsApplicantOf rows.students students projects l text → IsApplicant rows y.key text
+    applicant_text text (s, key, finds) =
+        let known : s < length rows.students = omega (arith, key.0, length-map rows.students (λ q. q.key)) in
+        let x = at_place rows.students s known in
+        let its : HasKey (student_keys rows.students) s x.0.key = key_number (λ q. q.key) rows.students s x.0 known x.1 in
+        (s, x.0, known, x.1, (sym its.1 ∙ key.1, finds_text s x.0 known x.1 finds))
+
+  -- the fault NotApplicant, by number
+  abbrev pub OthersAt : ℕ → Type 0
+  OthersAt r = BadAt rows.lecturers (λ x. x.row) (λ l x. Any (λ text. IsApplicantOf rows.students students projects l text → ⊥) x.list) r
+
+  pub others_fault : (r : ℕ) → OthersAt r → HasFault rows NotApplicant r
+  others_fault r (l, y, a, low, at, row, (k, text, under, is_text, none)) = (l, y, a, low, at, row, (k, text, under, is_text, λ yes. none (applicant_number l y low at text yes)))
+
+  pub fault_others : (r : ℕ) → HasFault rows NotApplicant r → OthersAt r
+  fault_others r (l, y, a, low, at, row, (k, text, under, is_text, none)) = (l, y, a, low, at, row, (k, text, under, is_text, λ yes. none (applicant_text l y low at text yes)))

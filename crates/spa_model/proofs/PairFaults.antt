@@ -1,0 +1,157 @@
+-- The faults of pairs, among the first rows.
+use Rattle.std.proofs.Common.{◌≡◌, ◌↔◌, inl, inr, ℕ, ◌+◌, ◌<◌, ◌≤◌, Bool, true, false, cond, eqb, List, [], ◌∷◌, ◌++◌, map, replicate, length, take, set, get_or, Option, Some, refl, sym, ◌∙◌, ap, arith, Contains, Any}
+use Rattle.std.specs.List.{count_by}
+use Rattle.std.proofs.lemmas.Bool.{cases_lt, cases_eq, eq-eqb, ne_eqb}
+use Rattle.std.proofs.lemmas.List.{get_or-map, get_or_default, get_or-take, length-map, length-take-le, length-replicate, get_or-replicate, length-set, get_or-set_same, get_or-set_other, take_more, take-map}
+use Rattle.std.proofs.lemmas.List.Elements.{Contains-push, Contains-append_left, Contains-push_cases}
+use Rattle.std.proofs.lemmas.List.Sums.{count_by_more_yes, count_by_more_no, sum_by-cons}
+use Rattle.spa_rows.specs.Lines.{Pair}
+use Rattle.spa_rows.specs.Least.{IsLeastOf, BadBelow, least_row}
+use Rattle.spa_model.specs.declared.matching.MatchingFault.{MatchingFault}
+use Rattle.spa_model.specs.declared.matching.MatchingFault.TheVariants.{NoSuchStudent, NoSuchProject, NotAcceptable, StudentTwice, ProjectOver, LecturerOver, Memory}
+use Rattle.spa_model.specs.Spa.{Spa, IsLawful, IsAcceptable, lecturer_of, capacity_of, limit_of}
+use Rattle.spa_model.specs.Pairs.{number_in, student_in, project_in, lecturer_in}
+use Rattle.spa_model.specs.Assigned.{HasNone}
+use Rattle.spa_model.proofs.LeastRow.{least_skip, least_take}
+use Rattle.spa_model.proofs.Numbers.{number_known, known_number, number_is}
+
+-- the pair at j has the fault
+abbrev pub IsBadPair : Spa → List Pair → MatchingFault → ℕ → Pair → Type 0
+IsBadPair i lines NoSuchStudent j x = Contains i.student_keys x.student → ⊥
+IsBadPair i lines NoSuchProject j x = Contains i.project_keys x.project → ⊥
+IsBadPair i lines NotAcceptable j x = IsAcceptable i (student_in i x) (project_in i x) → ⊥
+IsBadPair i lines StudentTwice j x = Any (λ y. y.student ≡ x.student) (take j lines)
+IsBadPair i lines ProjectOver j x = capacity_of i (project_in i x) < count_by (λ y. eqb (project_in i y) (project_in i x)) (take (j + 1) lines)
+IsBadPair i lines LecturerOver j x = limit_of i (lecturer_in i x) < count_by (λ y. eqb (lecturer_in i y) (lecturer_in i x)) (take (j + 1) lines)
+IsBadPair i lines Memory j x = ⊥
+
+-- some row among the first n has the fault
+abbrev pub FaultBelow : Spa → List Pair → MatchingFault → ℕ → ℕ → Type 0
+FaultBelow i lines fault n r = BadBelow lines (λ x. x.row) (IsBadPair i lines fault) n r
+
+-- the pair at n has the fault: it may be the least row
+pub pair_take : (i : Spa) (lines : List Pair) (fault : MatchingFault) (n row r : ℕ) (x : Pair) (best best' : Option ℕ) → n < length lines → get_or lines n x ≡ x → row ≡ x.row → best' ≡ Some r → r ≡ least_row best row → IsBadPair i lines fault n x → IsLeastOf (FaultBelow i lines fault n) best → IsLeastOf (FaultBelow i lines fault (n + 1)) best'
+pair_take i lines fault n row r x best best' h e same is least_is bad least = rw (is, least_is, same) (least_take lines (λ y. y.row) (IsBadPair i lines fault) n x best h e bad least)
+
+-- it has not
+pub pair_skip : (i : Spa) (lines : List Pair) (fault : MatchingFault) (n : ℕ) (x : Pair) (best best' : Option ℕ) → n < length lines → get_or lines n x ≡ x → best' ≡ best → (IsBadPair i lines fault n x → ⊥) → IsLeastOf (FaultBelow i lines fault n) best → IsLeastOf (FaultBelow i lines fault (n + 1)) best'
+pair_skip i lines fault n x best best' h e is good least = rw is (least_skip lines (λ y. y.row) (IsBadPair i lines fault) n x best h e good least)
+
+-- the number of the pair at n
+pub number_at : (f : Pair → ℕ) (lines : List Pair) (numbers : List ℕ) (n : ℕ) (x : Pair) → numbers ≡ map f lines → n < length lines → get_or lines n x ≡ x → get_or numbers n 0 ≡ f x
+number_at f lines numbers n x is h e = ap (λ ns. get_or ns n 0) is ∙ get_or-map f lines n x 0 h ∙ ap f e
+
+pub unknown_student : (i : Spa) (x : Pair) → IsLawful i → length i.choices ≤ student_in i x → Contains i.student_keys x.student → ⊥
+unknown_student i x lawful past has = omega (arith, number_known i.student_keys x.student has, lawful.student_rows)
+
+pub student_known : (i : Spa) (x : Pair) → IsLawful i → student_in i x < length i.choices → (Contains i.student_keys x.student → ⊥) → ⊥
+student_known i x lawful h none = none (known_number i.student_keys x.student (omega (arith, lawful.student_rows)))
+
+pub unknown_project : (i : Spa) (x : Pair) → IsLawful i → length i.lecturers ≤ project_in i x → Contains i.project_keys x.project → ⊥
+unknown_project i x lawful past has = omega (arith, number_known i.project_keys x.project has, lawful.project_key_rows)
+
+pub project_known : (i : Spa) (x : Pair) → IsLawful i → project_in i x < length i.lecturers → (Contains i.project_keys x.project → ⊥) → ⊥
+project_known i x lawful h none = none (known_number i.project_keys x.project (omega (arith, lawful.project_key_rows)))
+
+-- where no row has the fault, no pair has
+pub good_pair : (i : Spa) (lines : List Pair) (fault : MatchingFault) → ((r : ℕ) → FaultBelow i lines fault (length lines) r → ⊥) → (n : ℕ) (x : Pair) → n < length lines → get_or lines n x ≡ x → IsBadPair i lines fault n x → ⊥
+good_pair i lines fault none n x h e bad = none x.row (n, x, h, h, e, refl, bad)
+
+-- where each text is a key, its number is that of a student
+pub student_there : (i : Spa) (lines : List Pair) → IsLawful i → HasNone i lines NoSuchStudent → (n : ℕ) (x : Pair) → n < length lines → get_or lines n x ≡ x → student_in i x < length i.choices
+student_there i lines lawful none n x h e = elim (cases_lt (student_in i x) (length i.choices)) [
+  | inl less ↦ less
+  | inr past ↦ absurd (good_pair i lines NoSuchStudent none n x h e (unknown_student i x lawful past))
+]
+
+pub project_there : (i : Spa) (lines : List Pair) → IsLawful i → HasNone i lines NoSuchProject → (n : ℕ) (x : Pair) → n < length lines → get_or lines n x ≡ x → project_in i x < length i.lecturers
+project_there i lines lawful none n x h e = elim (cases_lt (project_in i x) (length i.lecturers)) [
+  | inl less ↦ less
+  | inr past ↦ absurd (good_pair i lines NoSuchProject none n x h e (unknown_project i x lawful past))
+]
+
+-- who has the same number has the same key
+pub same_student : (i : Spa) (x y : Pair) → IsLawful i → student_in i x < length i.choices → student_in i y ≡ student_in i x → y.student ≡ x.student
+same_student i x y lawful h e =
+    let below : student_in i x < length i.student_keys = omega (arith, lawful.student_rows) in
+    let here : get_or i.student_keys (student_in i x) [] ≡ x.student = number_is i.student_keys x.student below in
+    let there : get_or i.student_keys (student_in i y) [] ≡ y.student = number_is i.student_keys y.student (rw e below) in
+    sym there ∙ ap (λ n. get_or i.student_keys n []) e ∙ here
+
+-- a student of an earlier pair, by the text and by the number
+pub stands_before : (i : Spa) (lines : List Pair) (numbers : List ℕ) (n : ℕ) (x : Pair) → numbers ≡ map (student_in i) lines → n < length lines → Any (λ y. y.student ≡ x.student) (take n lines) → Contains (take n numbers) (student_in i x)
+stands_before i lines numbers n x is h (k, y, below, at, same) =
+    let size : length (take n lines) ≡ n = length-take-le n lines (omega arith) in
+    let there : get_or lines k y ≡ y = sym (get_or-take n lines k y (omega arith)) ∙ at in
+    let long : length numbers ≡ length lines = ap length is ∙ length-map lines (student_in i) in
+    let size' : length (take n numbers) ≡ n = length-take-le n numbers (omega arith) in
+    let number : get_or numbers k 0 ≡ student_in i y = number_at (student_in i) lines numbers k y is (omega arith) there in
+    (k, omega arith, get_or-take n numbers k (student_in i x) (omega arith) ∙ get_or_default numbers k (student_in i x) 0 (omega arith) ∙ number ∙ ap (number_in i.student_keys) same)
+
+pub stood_before : (i : Spa) (lines : List Pair) (numbers : List ℕ) (n : ℕ) (x : Pair) → IsLawful i → numbers ≡ map (student_in i) lines → n < length lines → student_in i x < length i.choices → Contains (take n numbers) (student_in i x) → Any (λ y. y.student ≡ x.student) (take n lines)
+stood_before i lines numbers n x lawful is h known (k, below, at) =
+    let long : length numbers ≡ length lines = ap length is ∙ length-map lines (student_in i) in
+    let size : length (take n lines) ≡ n = length-take-le n lines (omega arith) in
+    let size' : length (take n numbers) ≡ n = length-take-le n numbers (omega arith) in
+    let y : Pair = get_or lines k x in
+    let there : get_or lines k y ≡ y = get_or_default lines k y x (omega arith) in
+    let number : get_or numbers k 0 ≡ student_in i y = number_at (student_in i) lines numbers k y is (omega arith) there in
+    let same : student_in i y ≡ student_in i x = sym number ∙ get_or_default numbers k 0 (student_in i x) (omega arith) ∙ sym (get_or-take n numbers k (student_in i x) (omega arith)) ∙ at in
+    (k, y, omega arith, get_or-take n lines k y (omega arith) ∙ there, same_student i x y lawful known same)
+
+-- the marks of those who stand among the first n
+abbrev pub AreMarks : List Bool → List ℕ → ℕ → Type 0
+AreMarks seen numbers n = (s : ℕ) → s < length seen → (get_or seen s false ≡ true) ↔ Contains (take n numbers) s
+
+pub marks_none : (n : ℕ) (numbers : List ℕ) → AreMarks (replicate n false) numbers 0
+marks_none n numbers s h =
+    let size : length (replicate n false) ≡ n = length-replicate n false in
+    (λ e. let f : get_or (replicate n false) s false ≡ false = get_or-replicate n s false false (omega arith) in absurd (cc), λ (k, below, at). absurd (omega arith))
+
+pub marks_more : (seen : List Bool) (numbers : List ℕ) (n t : ℕ) → n < length numbers → get_or numbers n 0 ≡ t → t < length seen → AreMarks seen numbers n → AreMarks (set seen t true) numbers (n + 1)
+marks_more seen numbers n t h e below marks s k =
+    let more : take (n + 1) numbers ≡ take n numbers ++ t ∷ [] = take_more numbers n 0 h ∙ ap (λ x. take n numbers ++ x ∷ []) e in
+    let size : length (set seen t true) ≡ length seen = length-set seen t true in
+    let old = marks s (omega arith) in
+    rw more (elim (cases_eq s t) [
+      | inl same ↦ rw same (λ _. Contains-push (take n numbers) t, λ _. get_or-set_same seen t true false below)
+      | inr other ↦ (
+        λ now. Contains-append_left (take n numbers) (t ∷ []) s (old.0 (rw (get_or-set_other seen t s true false other) at now)),
+        λ has. elim (Contains-push_cases (take n numbers) t s has) [
+          | inl before ↦ rw (get_or-set_other seen t s true false other) (old.1 before)
+          | inr here ↦ absurd (other (sym here))
+        ],
+      )
+    ])
+
+-- the counts of each number among the first n
+abbrev pub AreCounts : List ℕ → List ℕ → ℕ → Type 0
+AreCounts counts numbers n = (q : ℕ) → q < length counts → get_or counts q 0 ≡ count_by (λ k. eqb k q) (take n numbers)
+
+pub counts_none : (n : ℕ) (numbers : List ℕ) → AreCounts (replicate n 0) numbers 0
+counts_none n numbers q h = let size : length (replicate {A = ℕ} n 0) ≡ n = length-replicate {A = ℕ} n 0 in get_or-replicate n q 0 0 (omega arith)
+
+pub counts_more : (counts numbers : List ℕ) (n t : ℕ) → n < length numbers → get_or numbers n 0 ≡ t → t < length counts → AreCounts counts numbers n → AreCounts (set counts t (get_or counts t 0 + 1)) numbers (n + 1)
+counts_more counts numbers n t h e below are q k =
+    let size : length (set counts t (get_or counts t 0 + 1)) ≡ length counts = length-set counts t (get_or counts t 0 + 1) in
+    elim (cases_eq q t) [
+      | inl same ↦ rw same (get_or-set_same counts t (get_or counts t 0 + 1) 0 below ∙ ap (λ x. x + 1) (are t below) ∙ sym (count_by_more_yes (λ x. eqb x t) numbers n 0 h (eq-eqb (get_or numbers n 0) t e)))
+      | inr other ↦ get_or-set_other counts t q (get_or counts t 0 + 1) 0 other ∙ are q (omega arith) ∙ sym (count_by_more_no (λ x. eqb x q) numbers n 0 h (ne_eqb (get_or numbers n 0) q (λ f. other (sym f ∙ e))))
+    ]
+
+-- a count over a mapped list
+pub count_by-map : {X Y : Type 0} (p : Y → Bool) (f : X → Y) (xs : List X) → count_by p (map f xs) ≡ count_by (λ x. p (f x)) xs
+count_by-map p f [] = refl
+count_by-map p f (x ∷ xs) = sum_by-cons (λ y. cond (p y) 1 0) (f x) (map f xs) ∙ ap (λ n. cond (p (f x)) 1 0 + n) (count_by-map p f xs) ∙ sym (sum_by-cons (λ y. cond (p (f y)) 1 0) x xs)
+
+-- a count of the first pairs, by their numbers
+pub count_pairs : (f : Pair → ℕ) (lines : List Pair) (numbers : List ℕ) (n q : ℕ) → numbers ≡ map f lines → count_by (λ k. eqb k q) (take n numbers) ≡ count_by (λ y. eqb (f y) q) (take n lines)
+count_pairs f lines numbers n q is = ap (λ ns. count_by (λ k. eqb k q) (take n ns)) is ∙ ap (count_by (λ k. eqb k q)) (take-map f n lines) ∙ count_by-map (λ k. eqb k q) f (take n lines)
+
+-- the lecturers of the pairs' projects
+pub lecturers_are : (i : Spa) (lines : List Pair) (projects : List ℕ) → projects ≡ map (project_in i) lines → map (lecturer_of i) projects ≡ map (lecturer_in i) lines
+lecturers_are i lines projects is = ap (map (lecturer_of i)) is ∙ twice lines
+  where
+    twice : (xs : List Pair) → map (lecturer_of i) (map (project_in i) xs) ≡ map (lecturer_in i) xs
+    twice [] = refl
+    twice (x ∷ xs) = ap (λ ys. lecturer_in i x ∷ ys) (twice xs)

@@ -1,0 +1,35 @@
+-- What is said of sorted rows holds of the rows.
+use Rattle.std.proofs.Common.{◌≡◌, ℕ, ◌<◌, List, length, IsPermutation, All, sym, ◌∙◌, arith}
+use Rattle.std.proofs.lemmas.List.Sorted.{All-permutation, IsPermutation-sym, length_permutation}
+use Rattle.spa_rows.specs.Lines.{Rows}
+use Rattle.spa_rows.specs.Faults.{HasNoneBefore, IsRefusal}
+use Rattle.spa_rows.specs.declared.faults.InstanceFault.{InstanceFault}
+use Rattle.spa_rows.specs.declared.faults.InstanceFault.TheVariants.{TooMany, BadKey, KeyTwice, BadCapacity, NoSuchLecturer, NoSuchProject, RepeatInList, ListTooLong, NotApplicant, ApplicantMissing, Memory}
+use Rattle.spa_rows.proofs.Carry.{SameLines, same_lines_sym, none_before_carry, first_fault_carry}
+use Rattle.spa_model.specs.Spa.{Spa}
+use Rattle.spa_model.specs.Built.{StandsFor, StandsStudent, StandsProject, StandsLecturer}
+
+-- the sorted rows are refused as the rows are
+pub refusal_of_rows : (rows sorted : Rows) → SameLines rows sorted → HasNoneBefore rows NoSuchLecturer → (fault : InstanceFault) (r : ℕ) → IsRefusal sorted fault r → IsRefusal rows fault r
+refusal_of_rows rows sorted same none TooMany r first = first_fault_carry sorted rows (same_lines_sym rows sorted same) TooMany (λ e. cc) r first
+refusal_of_rows rows sorted same none BadKey r first = first_fault_carry sorted rows (same_lines_sym rows sorted same) BadKey (λ e. cc) r first
+refusal_of_rows rows sorted same none KeyTwice r first = absurd (none_before_carry rows sorted same NoSuchLecturer none KeyTwice (omega arith) r first.here)
+refusal_of_rows rows sorted same none BadCapacity r first = first_fault_carry sorted rows (same_lines_sym rows sorted same) BadCapacity (λ e. cc) r first
+refusal_of_rows rows sorted same none NoSuchLecturer r first = first_fault_carry sorted rows (same_lines_sym rows sorted same) NoSuchLecturer (λ e. cc) r first
+refusal_of_rows rows sorted same none NoSuchProject r first = first_fault_carry sorted rows (same_lines_sym rows sorted same) NoSuchProject (λ e. cc) r first
+refusal_of_rows rows sorted same none RepeatInList r first = first_fault_carry sorted rows (same_lines_sym rows sorted same) RepeatInList (λ e. cc) r first
+refusal_of_rows rows sorted same none ListTooLong r first = first_fault_carry sorted rows (same_lines_sym rows sorted same) ListTooLong (λ e. cc) r first
+refusal_of_rows rows sorted same none NotApplicant r first = first_fault_carry sorted rows (same_lines_sym rows sorted same) NotApplicant (λ e. cc) r first
+refusal_of_rows rows sorted same none ApplicantMissing r first = first_fault_carry sorted rows (same_lines_sym rows sorted same) ApplicantMissing (λ e. cc) r first
+refusal_of_rows rows sorted same none Memory r first = first
+
+-- an instance stands for the rows as for the sorted ones
+pub stands_for_rows : (rows sorted : Rows) → SameLines rows sorted → (i : Spa) → StandsFor sorted i → StandsFor rows i
+stands_for_rows rows sorted same i for = record {
+  students = All-permutation (StandsStudent i) sorted.students rows.students (IsPermutation-sym rows.students sorted.students same.students) for.students;
+  student_count = for.student_count ∙ length_permutation rows.students sorted.students same.students;
+  projects = All-permutation (StandsProject i) sorted.projects rows.projects (IsPermutation-sym rows.projects sorted.projects same.projects) for.projects;
+  project_count = for.project_count ∙ length_permutation rows.projects sorted.projects same.projects;
+  lecturers = All-permutation (StandsLecturer i) sorted.lecturers rows.lecturers (IsPermutation-sym rows.lecturers sorted.lecturers same.lecturers) for.lecturers;
+  lecturer_count = for.lecturer_count ∙ length_permutation rows.lecturers sorted.lecturers same.lecturers;
+}

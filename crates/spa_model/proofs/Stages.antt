@@ -1,0 +1,68 @@
+-- What one stage of building hands to the next.
+use Rattle.std.proofs.Common.{◌≡◌, ℕ, ◌+◌, ◌<◌, ◌≤◌, List, length, get_or, map, Option, Some, None, All, refl, sym, ◌∙◌, ap, subst, arith}
+use Rattle.std.specs.List.{AllZip}
+use Rattle.std.proofs.lemmas.List.{get_or_default, length-map}
+use Rattle.spa_rows.specs.Lines
+use Rattle.spa_rows.specs.Lines.{Text, Rows}
+use Rattle.spa_rows.specs.Least.{IsLeastOf}
+use Rattle.spa_rows.specs.Faults.{HasFault, HasNoneBefore, NamesNone}
+use Rattle.spa_rows.specs.declared.faults.InstanceFault.TheVariants.{NotApplicant, ApplicantMissing}
+use Rattle.spa_model.specs.declared.instance.Student.{Student}
+use Rattle.spa_model.specs.declared.instance.Project.{Project}
+use Rattle.spa_model.specs.declared.instance.Lecturer.{Lecturer}
+use Rattle.spa_model.specs.Built.{HasKey}
+use Rattle.spa_model.specs.Numbers.{student_keys, project_keys, lecturer_keys, IsStudentOf, IsProjectOf, IsLecturerOf, MissesBelow}
+use Rattle.spa_model.proofs.Keys.{is_key_of}
+use Rattle.spa_model.proofs.Zips.{zip_all}
+use Rattle.spa_model.proofs.Ranks.{numbers_below}
+use Rattle.spa_model.proofs.Applicants.{least_same}
+use Rattle.spa_model.proofs.Good.{AreGood}
+use Rattle.spa_model.proofs.Numbered.{AreNumbered}
+use Rattle.spa_model.proofs.Numbered
+use Rattle.spa_model.proofs.Missing
+
+pub numbered : (rows : Rows) (students : List Student) (projects : List Project) → AreGood rows → AllZip (IsStudentOf (project_keys rows.projects)) rows.students students → AllZip (IsProjectOf (lecturer_keys rows.lecturers)) rows.projects projects → AreNumbered rows students projects
+numbered rows students projects good choices offers = record {
+  rise_students = good.rise_students;
+  rise_projects = good.rise_projects;
+  rise_lecturers = good.rise_lecturers;
+  choices = choices;
+  offers = offers;
+}
+
+module _ (rows : Rows) (students : List Student) (projects : List Project) (so : AreNumbered rows students projects) where
+  -- choices are projects
+  pub choices_below : All (λ s. All (λ p. p < length projects) s.choices.items) students
+  choices_below =
+      let count : length (project_keys rows.projects) ≡ length projects = length-map rows.projects (λ x. x.key) ∙ sym (Numbered.project_count rows students projects so) in
+      subst (λ n. All (λ s. All (λ p. p < n) s.choices.items) students) count
+      (zip_all (IsStudentOf (project_keys rows.projects)) (λ s. All (λ p. p < length (project_keys rows.projects)) s.choices.items) rows.students students (λ x s is. numbers_below (project_keys rows.projects) x.list s.choices.items is.choices) so.choices)
+
+  -- the least row of the fault NotApplicant
+  pub other_least : (o : Option ℕ) → IsLeastOf (Numbered.OthersAt rows students projects so) o → IsLeastOf (HasFault rows NotApplicant) o
+  other_least o least = least_same (Numbered.OthersAt rows students projects so) (HasFault rows NotApplicant) o (Numbered.others_fault rows students projects so) (Numbered.fault_others rows students projects so) least
+
+  -- lists name students where no list names another
+  pub lists_known : HasNoneBefore rows ApplicantMissing → All (λ y. NamesNone rows.students (λ x. x.key) y.list → ⊥) rows.lecturers
+  lists_known none k d h (i, text, under, at, unknown) =
+      let y : Lines.Lecturer = get_or rows.lecturers k d in
+      none NotApplicant (omega arith) y.row (Numbered.others_fault rows students projects so y.row (k, y, h, h, get_or_default rows.lecturers k y d h, refl, (i, text, under, at, λ found. unknown (is_key_of (λ x. x.key) rows.students found.0 text found.1))))
+
+  module _ (lecturers : List Lecturer) (lists : AllZip (IsLecturerOf (student_keys rows.students)) rows.lecturers lecturers) where
+    -- projects are offered by lecturers
+    pub offered_below : All (λ p. p.lecturer < length lecturers) projects
+    offered_below =
+        let count : length (lecturer_keys rows.lecturers) ≡ length lecturers = length-map rows.lecturers (λ x. x.key) ∙ sym (Missing.lecturer_count rows students projects lecturers so lists) in
+        subst (λ n. All (λ p. p.lecturer < n) projects) count
+        (zip_all (IsProjectOf (lecturer_keys rows.lecturers)) (λ p. p.lecturer < length (lecturer_keys rows.lecturers)) rows.projects projects (λ x p is. is.lecturer.0) so.offers)
+
+    -- a table has a place for each student
+    pub ranks_for_all : All (λ l. length l.ranks.items ≡ length students) lecturers
+    ranks_for_all =
+        let count : length (student_keys rows.students) ≡ length students = length-map rows.students (λ x. x.key) ∙ sym (Numbered.student_count rows students projects so) in
+        subst (λ n. All (λ l. length l.ranks.items ≡ n) lecturers) count
+        (zip_all (IsLecturerOf (student_keys rows.students)) (λ l. length l.ranks.items ≡ length (student_keys rows.students)) rows.lecturers lecturers (λ x l is. is.ranks.count) lists)
+
+    -- the least row of the fault ApplicantMissing
+    pub missing_least : (o : Option ℕ) → IsLeastOf (MissesBelow rows.lecturers lecturers projects students (length students)) o → IsLeastOf (HasFault rows ApplicantMissing) o
+    missing_least o least = least_same (MissesBelow rows.lecturers lecturers projects students (length students)) (HasFault rows ApplicantMissing) o (Missing.misses_fault rows students projects lecturers so lists) (Missing.fault_misses rows students projects lecturers so lists) least

@@ -1,0 +1,7 @@
+use Rattle.std.proofs.Common.{◌≡◌, ℕ, ◌<◌, get_or}
+use Rattle.spa_model.specs.Numbers.{lecturer_at}
+use Rattle.spa_model.proofs.build.applicants.finds.Given as goal
+
+-- none so far
+abbrev pub invariant-loop-choice : goal.invariant-loop-choice
+invariant-loop-choice l = (k p : ℕ) → k < l.choice-index → get_or l.choices k p ≡ p → lecturer_at l.projects p ≡ l.lecturer → ⊥

@@ -1,0 +1,15 @@
+use Rattle.std.proofs.Common.{subst}
+use Rattle.std.specs.List.{AllZip}
+use Rattle.spa_model.specs.Numbers.{lecturer_keys, IsProjectOf}
+use Rattle.spa_model.proofs.Zips.{zip_more, take_all}
+use Rattle.spa_model.proofs.build.numbers.number_projects.Goals as goal
+
+pub loop-line-preserved : goal.loop-line-preserved
+loop-line-preserved c =
+    rw c.in_ok-push.ensures.items (zip_more (IsProjectOf (lecturer_keys c.args.lecturers.now)) c.args.lines.now c.loop-line.projects.items c.loop-line.line-index c.line-item.result _ c.loop-line-test.true c.line-item.is c.loop-line.invariant c.in_ok-numbered_project.ensures)
+
+pub returns : goal.returns
+returns c = subst (λ lines. AllZip (IsProjectOf (lecturer_keys c.args.lecturers.now)) lines c.loop-line.projects.items) (take_all c.loop-line.line-index c.args.lines.now c.loop-line-test.false) c.loop-line.invariant
+
+pub numbered_project-requires-clause-known : goal.numbered_project-requires-clause-known
+numbered_project-requires-clause-known c = rw c.line-item.is (c.requires.known c.loop-line.line-index c.line-item.result c.loop-line-test.true)

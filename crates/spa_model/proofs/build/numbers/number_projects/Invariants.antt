@@ -1,0 +1,8 @@
+use Rattle.std.proofs.Common.{take}
+use Rattle.std.specs.List.{AllZip}
+use Rattle.spa_model.specs.Numbers.{lecturer_keys, IsProjectOf}
+use Rattle.spa_model.proofs.build.numbers.number_projects.Given as goal
+
+-- the rows so far
+abbrev pub invariant-loop-line : goal.invariant-loop-line
+invariant-loop-line l = AllZip (IsProjectOf (lecturer_keys l.lecturers)) (take l.line-index l.lines) l.projects.items

@@ -1,0 +1,24 @@
+use Rattle.std.proofs.Common.{◌≡◌, ◌++◌, ◌∷◌, [], take, ◌∙◌, subst, arith}
+use Rattle.std.specs.List.{AllZip}
+use Rattle.spa_rows.specs.Faults.{IsKeyOf}
+use Rattle.spa_model.specs.Built.{HasKey}
+use Rattle.spa_model.specs.Numbers.{project_keys}
+use Rattle.spa_model.proofs.Keys.{sorted_from_rise, has_key}
+use Rattle.spa_model.proofs.Zips.{zip_more, zip_map, any_map, take_all}
+use Rattle.spa_model.proofs.build.numbers.project_numbers.Goals as goal
+
+pub find_project-requires : goal.find_project-requires
+find_project-requires c = sorted_from_rise (λ x. x.key) c.args.lines.now c.requires.rise
+
+pub unreachable-requires : goal.unreachable-requires
+unreachable-requires c = c.requires.known (any_map (λ text. IsKeyOf c.args.lines.now (λ x. x.key) text → ⊥) (λ text. text.items) c.args.list.now c.loop-text.text-index c.text-item.result c.loop-text-test.true c.text-item.is (rw c.deref.ensures.value at c.in_default.ensures.none))
+
+pub loop-text-preserved : goal.loop-text-preserved
+loop-text-preserved c =
+    let key : HasKey (project_keys c.args.lines.now) c.in-Some.project c.text-item.result.items = has_key (λ x. x.key) c.args.lines.now c.in-Some.project c.text-item.result.items c.in-Some.ensures.found.0 (λ d. c.in-Some.ensures.found.1 d ∙ c.deref.ensures.value) in
+    rw c.in_ok-push.ensures.items (zip_more (λ text n. HasKey (project_keys c.args.lines.now) n text.items) c.args.list.now c.loop-text.choices.items c.loop-text.text-index c.text-item.result c.in-Some.project c.loop-text-test.true c.text-item.is c.loop-text.invariant key)
+
+pub returns : goal.returns
+returns c =
+    zip_map (λ text n. HasKey (project_keys c.args.lines.now) n text) (λ text. text.items) c.args.list.now c.loop-text.choices.items
+    (subst (λ texts. AllZip (λ text n. HasKey (project_keys c.args.lines.now) n text.items) texts c.loop-text.choices.items) (take_all c.loop-text.text-index c.args.list.now c.loop-text-test.false) c.loop-text.invariant)

@@ -1,0 +1,7 @@
+use Rattle.std.proofs.Common.{◌≡◌, ℕ, ◌<◌, Some}
+use Rattle.spa_model.specs.Spa.{project_of, IsAcceptable}
+use Rattle.spa_model.proofs.fits.are_acceptable.Given as goal
+
+-- acceptable so far
+abbrev pub invariant-loop-s : goal.invariant-loop-s
+invariant-loop-s l = (k p : ℕ) → k < l.s → project_of l.projects k ≡ Some p → IsAcceptable l.instance k p

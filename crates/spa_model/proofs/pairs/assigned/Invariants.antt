@@ -1,0 +1,7 @@
+use Rattle.std.proofs.Common.{length, take}
+use Rattle.spa_model.specs.Assigned.{AreAssigned}
+use Rattle.spa_model.proofs.pairs.assigned.Given as goal
+
+-- the pairs so far
+abbrev pub invariant-loop-j : goal.invariant-loop-j
+invariant-loop-j l = AreAssigned (length l.instance.choices) (take l.j l.students) (take l.j l.projects) l.own.items

@@ -1,0 +1,58 @@
+use Rattle.std.proofs.Common.{◌≡◌, ◌+◌, ◌<◌, eqb, map, set, get_or, sym, ap, subst, length, take, arith, ◌∙◌}
+use Rattle.std.proofs.lemmas.List.{get_or_default, get_or-map, length-map, length-set}
+use Rattle.std.specs.List.{count_by}
+use Rattle.spa_rows.specs.Least.{IsLeastOf}
+use Rattle.spa_model.specs.declared.matching.MatchingFault.TheVariants.{LecturerOver}
+use Rattle.std.proofs.lemmas.List.{length-take-le}
+use Rattle.std.proofs.lemmas.List.Sums.{count_by-le-length}
+use Rattle.spa_model.specs.Spa.{lecturer_of}
+use Rattle.spa_model.specs.Pairs.{project_in, lecturer_in}
+use Rattle.spa_model.proofs.PairFaults.{FaultBelow, AreCounts, pair_take, pair_skip, number_at, project_there, counts_more, count_pairs, lecturers_are}
+use Rattle.spa_model.proofs.pairs.lecturer_over.Goals as goal
+use Rattle.spa_model.proofs.pairs.lecturer_over.Goals.{then-index-lecturer_capacity, else-index-lecturer_capacity}
+
+pub lecturer_of-l-requires : goal.lecturer_of-l-requires
+lecturer_of-l-requires c =
+    let p : get_or c.args.projects.now c.loop-j.j 0 ≡ project_in c.args.instance.now c.index-lines-j.result = number_at (project_in c.args.instance.now) c.args.lines.now c.args.projects.now c.loop-j.j c.index-lines-j.result c.requires.projects c.loop-j-test.true (sym c.index-lines-j.is) in
+    let there = project_there c.args.instance.now c.args.lines.now c.students-lawful.ensures.lawful c.requires.known c.loop-j.j c.index-lines-j.result c.loop-j-test.true (sym c.index-lines-j.is) in
+    rw p there
+
+pub overflow_add-index_mut : goal.overflow_add-index_mut
+overflow_add-index_mut c =
+    let in_range : c.lecturer_of-l.result < length c.loop-j.counts.items = omega arith in
+    let old : c.index_mut.result.now ≡ get_or c.loop-j.counts.items c.lecturer_of-l.result 0 = c.index_mut.ensures.value ∙ get_or_default c.loop-j.counts.items c.lecturer_of-l.result c.index_mut.result.now 0 in_range in
+    let long : length c.args.projects.now ≡ length c.args.lines.now = ap length c.requires.projects ∙ length-map c.args.lines.now (project_in c.args.instance.now) in
+    let long_too : length (map (lecturer_of c.args.instance.now) c.args.projects.now) ≡ length c.args.projects.now = length-map c.args.projects.now (lecturer_of c.args.instance.now) in
+    let few = count_by-le-length (λ k. eqb k c.lecturer_of-l.result) (take c.loop-j.j (map (lecturer_of c.args.instance.now) c.args.projects.now)) in
+    let front : length (take c.loop-j.j (map (lecturer_of c.args.instance.now) c.args.projects.now)) ≡ c.loop-j.j = length-take-le c.loop-j.j (map (lecturer_of c.args.instance.now) c.args.projects.now) (omega arith) in
+    omega (arith, c.loop-j.invariant.counts c.lecturer_of-l.result in_range)
+
+pub loop-j-preserved : goal.loop-j-preserved
+loop-j-preserved c =
+    let p : get_or c.args.projects.now c.loop-j.j 0 ≡ project_in c.args.instance.now c.index-lines-j.result = number_at (project_in c.args.instance.now) c.args.lines.now c.args.projects.now c.loop-j.j c.index-lines-j.result c.requires.projects c.loop-j-test.true (sym c.index-lines-j.is) in
+    let there = project_there c.args.instance.now c.args.lines.now c.students-lawful.ensures.lawful c.requires.known c.loop-j.j c.index-lines-j.result c.loop-j-test.true (sym c.index-lines-j.is) in
+    let in_range : c.lecturer_of-l.result < length c.loop-j.counts.items = omega arith in
+    let old : c.index_mut.result.now ≡ get_or c.loop-j.counts.items c.lecturer_of-l.result 0 = c.index_mut.ensures.value ∙ get_or_default c.loop-j.counts.items c.lecturer_of-l.result c.index_mut.result.now 0 in_range in
+    let long : length c.args.projects.now ≡ length c.args.lines.now = ap length c.requires.projects ∙ length-map c.args.lines.now (project_in c.args.instance.now) in
+    let long_too : length (map (lecturer_of c.args.instance.now) c.args.projects.now) ≡ length c.args.projects.now = length-map c.args.projects.now (lecturer_of c.args.instance.now) in
+    let at : get_or (map (lecturer_of c.args.instance.now) c.args.projects.now) c.loop-j.j 0 ≡ c.lecturer_of-l.result = get_or-map (lecturer_of c.args.instance.now) c.args.projects.now c.loop-j.j 0 0 (omega arith) ∙ sym c.lecturer_of-l.ensures.gives in
+    let l : c.lecturer_of-l.result ≡ lecturer_in c.args.instance.now c.index-lines-j.result = c.lecturer_of-l.ensures.gives ∙ ap (lecturer_of c.args.instance.now) p in
+    let size = length-set c.loop-j.counts.items c.lecturer_of-l.result (c.index_mut.result.now + 1) in
+    let counts : AreCounts (set c.loop-j.counts.items c.lecturer_of-l.result (c.index_mut.result.now + 1)) (map (lecturer_of c.args.instance.now) c.args.projects.now) (c.loop-j.j + 1) =
+    rw old (counts_more c.loop-j.counts.items (map (lecturer_of c.args.instance.now) c.args.projects.now) c.loop-j.j c.lecturer_of-l.result (omega arith) at in_range c.loop-j.invariant.counts) in
+    let new : c.index.result.now ≡ count_by (λ k. eqb k c.lecturer_of-l.result) (take (c.loop-j.j + 1) (map (lecturer_of c.args.instance.now) c.args.projects.now)) =
+    c.index.ensures ∙ get_or_default (set c.loop-j.counts.items c.lecturer_of-l.result (c.index_mut.result.now + 1)) c.lecturer_of-l.result c.index.result.now 0 (omega arith) ∙ counts c.lecturer_of-l.result (omega arith) in
+    let pairs = count_pairs (lecturer_in c.args.instance.now) c.args.lines.now (map (lecturer_of c.args.instance.now) c.args.projects.now) (c.loop-j.j + 1) c.lecturer_of-l.result (lecturers_are c.args.instance.now c.args.lines.now c.args.projects.now c.requires.projects) in
+    record {
+      size = size ∙ c.loop-j.invariant.size;
+      counts = counts;
+      least = elim c.if-index-lecturer_capacity.branch [
+        | then-index-lecturer_capacity w ↦ pair_take c.args.instance.now c.args.lines.now LecturerOver c.loop-j.j c.line.inside.row w.least.result c.index-lines-j.result c.loop-j.best c.if-index-lecturer_capacity.best c.loop-j-test.true (sym c.index-lines-j.is) (ap (λ x. x.row) c.line.view_is) w.best-is w.least.ensures (rw (← l) (omega arith)) c.loop-j.invariant.least
+        | else-index-lecturer_capacity w ↦ pair_skip c.args.instance.now c.args.lines.now LecturerOver c.loop-j.j c.index-lines-j.result c.loop-j.best c.if-index-lecturer_capacity.best c.loop-j-test.true (sym c.index-lines-j.is) w.best-is (λ bad. let more = rw (← l) at bad in omega arith) c.loop-j.invariant.least
+      ];
+    }
+
+pub returns : goal.returns
+returns c =
+    let done : c.loop-j.j ≡ length c.args.lines.now = omega arith in
+    subst (λ n. IsLeastOf (FaultBelow c.args.instance.now c.args.lines.now LecturerOver n) c.loop-j.best) done c.loop-j.invariant.least

@@ -1,0 +1,71 @@
+//! From rows to an instance.
+
+mod applicants;
+mod numbers;
+#[cfg(test)]
+mod tests;
+
+ghost use Rattle.std.specs.Prelude.{IfErr, IfOk, OnOk, IsSortedByKey};
+ghost use Rattle.std.specs.Ordering.{nat_cmp};
+ghost use Rattle.std.specs.Cmp.Lexicographic.{slice_cmp};
+ghost use Rattle.spa_rows.specs.Faults.{HasNoneBefore, IsRefusal};
+ghost use Rattle.spa_rows.specs.declared.faults.InstanceFault.TheVariants.{NotApplicant, Memory};
+ghost use Rattle.spa_model.specs.Built.{StandsFor};
+ghost use Rattle.spa_model.specs.Numbers.{rows_of};
+
+use crate::instance::Instance;
+use applicants::{applicant_missing, not_applicant};
+use numbers::{number_lecturers, number_projects, number_students};
+use spa_rows::{
+    BadInstance, InstanceFault, InstanceRows, LecturerLine, ProjectLine, StudentLine, check_lines,
+    check_lists, refuse, sort_rows,
+};
+use std::alloc::Global;
+
+/// The instance of lines that are sorted, and have no fault of lines or lists.
+fn instance_of(
+    alloc: Global,
+    lecturers: &[LecturerLine],
+    projects: &[ProjectLine],
+    students: &[StudentLine],
+) -> Result<Instance, BadInstance>
+    requires lecturers { IsSortedByKey (λ x. x.key) (slice_cmp nat_cmp) lecturers.now }
+    requires projects { IsSortedByKey (λ x. x.key) (slice_cmp nat_cmp) projects.now }
+    requires students { IsSortedByKey (λ x. x.key) (slice_cmp nat_cmp) students.now }
+    requires faultless { HasNoneBefore (rows_of lecturers.now projects.now students.now) NotApplicant }
+    ensures ok { IfOk result (λ i. StandsFor (rows_of lecturers.now projects.now students.now) i) }
+    ensures sound { OnOk result (HasNoneBefore (rows_of lecturers.now projects.now students.now) Memory) }
+    ensures err { IfErr result (λ e. IsRefusal (rows_of lecturers.now projects.now students.now) e.fault e.row) }
+{
+    let student_rows = number_students(alloc, students, projects)?;
+    let project_rows = number_projects(alloc, projects, lecturers)?;
+    refuse(
+        InstanceFault::NotApplicant,
+        not_applicant(lecturers, students, &student_rows, &project_rows),
+    )?;
+    let lecturer_rows = number_lecturers(alloc, lecturers, students)?;
+    refuse(
+        InstanceFault::ApplicantMissing,
+        applicant_missing(lecturers, &lecturer_rows, &project_rows, &student_rows),
+    )?;
+    Ok(Instance {
+        students: student_rows,
+        projects: project_rows,
+        lecturers: lecturer_rows,
+    })
+}
+
+impl Instance {
+    /// The instance of these rows, or the least of their faults at the least row that has it.
+    pub fn build(alloc: Global, rows: InstanceRows) -> Result<Instance, BadInstance>
+        ensures ok { IfOk result (λ i. StandsFor rows i) }
+        ensures sound { OnOk result (HasNoneBefore rows Memory) }
+        ensures err { IfErr result (λ e. IsRefusal rows e.fault e.row) }
+    {
+        check_lines(alloc, &rows)?;
+        let mut sorted = rows;
+        sort_rows(&mut sorted)?;
+        check_lists(alloc, &sorted)?;
+        instance_of(alloc, &sorted.lecturers, &sorted.projects, &sorted.students)
+    }
+}

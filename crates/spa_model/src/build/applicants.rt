@@ -1,0 +1,132 @@
+//! The faults that speak of applicants: one function for each, over numbered rows.
+
+ghost use Rattle.std.specs.Prelude.{◌≡◌, ◌<◌, ◌↔◌, All, Any, IsTrue, None, length, map};
+ghost use Rattle.spa_rows.specs.Least.{IsLeastOf, BadAt};
+ghost use Rattle.spa_model.specs.Spa.{Rise};
+ghost use Rattle.spa_model.specs.Numbers.{student_keys, lecturer_at, rank_at, row_at, HaveChoicesBelow, Finds, IsApplicantOf, Misses, MissesBelow};
+
+use crate::instance::{Lecturer, Project, Student};
+use spa_rows::{LecturerLine, StudentLine, find_student, least_with};
+
+/// Whether one of the choices is a project of the lecturer.
+fn finds(projects: &[Project], choices: &[usize], lecturer: usize) -> bool
+    requires { All (λ p. p < length projects.now) choices.now }
+    ensures { IsTrue result ↔ Finds projects.now choices.now lecturer }
+{
+    for choice in choices {
+        let project = &projects[*choice];
+        if project.lecturer == lecturer {
+            return true;
+        }
+    }
+    false
+}
+
+/// Whether the text is the key of a student who lists a project of the lecturer.
+fn is_applicant(
+    lines: &[StudentLine],
+    students: &[Student],
+    projects: &[Project],
+    lecturer: usize,
+    text: &[u8],
+) -> bool
+    requires rise { Rise (student_keys lines.now) }
+    requires count { length students.now ≡ length lines.now }
+    requires choices { HaveChoicesBelow (length projects.now) students.now }
+    ensures { IsTrue result ↔ IsApplicantOf lines.now students.now projects.now lecturer text.now }
+{
+    match find_student(lines, text) {
+        Some(number) => {
+            let student = &students[number];
+            finds(projects, &student.choices, lecturer)
+        }
+        None => false,
+    }
+}
+
+/// Whether some text of the list is no applicant of the lecturer.
+fn lists_other(
+    lines: &[StudentLine],
+    students: &[Student],
+    projects: &[Project],
+    lecturer: usize,
+    list: &[Vec<u8>],
+) -> bool
+    requires rise { Rise (student_keys lines.now) }
+    requires count { length students.now ≡ length lines.now }
+    requires choices { HaveChoicesBelow (length projects.now) students.now }
+    ensures { IsTrue result ↔ Any (λ text. IsApplicantOf lines.now students.now projects.now lecturer text → ⊥) (map (λ text. text.items) list.now) }
+{
+    for text in list {
+        if !is_applicant(lines, students, projects, lecturer, text) {
+            return true;
+        }
+    }
+    false
+}
+
+/// The least row of a lecturer whose list names one who is no applicant.
+pub(crate) fn not_applicant(
+    lecturers: &[LecturerLine],
+    lines: &[StudentLine],
+    students: &[Student],
+    projects: &[Project],
+) -> Option<u32>
+    requires rise { Rise (student_keys lines.now) }
+    requires count { length students.now ≡ length lines.now }
+    requires choices { HaveChoicesBelow (length projects.now) students.now }
+    ensures { IsLeastOf (BadAt lecturers.now (λ x. x.row) (λ l x. Any (λ text. IsApplicantOf lines.now students.now projects.now l text → ⊥) x.list)) result }
+{
+    let mut best = None;
+    for (number, lecturer) in lecturers.iter().enumerate() {
+        let is_bad = lists_other(lines, students, projects, number, &lecturer.list);
+        best = least_with(best, lecturer.row, is_bad);
+    }
+    best
+}
+
+/// The least row of a lecturer of one of the choices who has no place for the student.
+fn misses(
+    lines: &[LecturerLine],
+    lecturers: &[Lecturer],
+    projects: &[Project],
+    choices: &[usize],
+    student: usize,
+) -> Option<u32>
+    requires choices { All (λ p. p < length projects.now) choices.now }
+    requires offered { All (λ p. p.lecturer < length lecturers.now) projects.now }
+    requires count { length lecturers.now ≡ length lines.now }
+    requires ranks { All (λ l. student < length l.ranks.items) lecturers.now }
+    ensures { IsLeastOf (Misses lines.now lecturers.now projects.now choices.now student) result }
+{
+    let mut best = None;
+    for choice in choices {
+        let project = &projects[*choice];
+        let lecturer = &lecturers[project.lecturer];
+        let line = &lines[project.lecturer];
+        best = least_with(best, line.row, lecturer.ranks[student].is_none());
+    }
+    best
+}
+
+/// The least row of a lecturer whose list lacks an applicant.
+pub(crate) fn applicant_missing(
+    lines: &[LecturerLine],
+    lecturers: &[Lecturer],
+    projects: &[Project],
+    students: &[Student],
+) -> Option<u32>
+    requires choices { HaveChoicesBelow (length projects.now) students.now }
+    requires offered { All (λ p. p.lecturer < length lecturers.now) projects.now }
+    requires count { length lecturers.now ≡ length lines.now }
+    requires ranks { All (λ l. length l.ranks.items ≡ length students.now) lecturers.now }
+    ensures { IsLeastOf (MissesBelow lines.now lecturers.now projects.now students.now (length students.now)) result }
+{
+    let mut best = None;
+    for (number, student) in students.iter().enumerate() {
+        if let Some(row) = misses(lines, lecturers, projects, &student.choices, number) {
+            best = least_with(best, row, true);
+        }
+    }
+    best
+}

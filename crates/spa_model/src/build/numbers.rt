@@ -1,0 +1,199 @@
+//! Lines as rows of numbers.
+
+ghost use Rattle.std.specs.Prelude.{◌≡◌, ◌<◌, ◌≤◌, All, IfOk, true, length, map};
+ghost use Rattle.spa_rows.specs.Form.{is_key};
+ghost use Rattle.spa_rows.specs.Faults.{IsKeyOf, NamesNone, Repeats};
+ghost use Rattle.spa_model.specs.Spa.{Rise, IsDistinct};
+ghost use Rattle.spa_model.specs.Inside.{AreRanks};
+ghost use Rattle.spa_model.specs.Numbers.{student_keys, project_keys, lecturer_keys, AreNumbers, IsStudentOf, IsProjectOf, IsLecturerOf};
+ghost use Rattle.std.specs.List.{AllZip};
+
+use crate::instance::{Lecturer, Project, Student};
+use spa_rows::{
+    Key, KeyFault, LecturerLine, ProjectLine, StudentLine, find_lecturer, find_project,
+    find_student,
+};
+use std::alloc::{AllocError, Global};
+
+/// The key of these bytes, which have the form of one.
+fn key_of(alloc: Global, bytes: &[u8]) -> Result<Key, AllocError>
+    requires { is_key bytes.now ≡ true }
+    ensures { IfOk result (λ key. key ≡ bytes.now) }
+{
+    match Key::parse(alloc, bytes) {
+        Ok(key) => Ok(key),
+        Err(KeyFault::Memory) => Err(AllocError),
+        Err(KeyFault::BadKey) => unreachable!(),
+    }
+}
+
+/// The number of each project on a list.
+fn project_numbers(
+    alloc: Global,
+    lines: &[ProjectLine],
+    list: &[Vec<u8>],
+) -> Result<Vec<usize>, AllocError>
+    requires rise { Rise (project_keys lines.now) }
+    requires known { NamesNone lines.now (λ x. x.key) (map (λ text. text.items) list.now) → ⊥ }
+    ensures { IfOk result (λ choices. AreNumbers (project_keys lines.now) (map (λ text. text.items) list.now) choices.items) }
+{
+    let mut choices = Vec::with_capacity(alloc, list.len())?;
+    for text in list {
+        let Some(project) = find_project(lines, text) else {
+            unreachable!()
+        };
+        choices.push(project)?;
+    }
+    Ok(choices)
+}
+
+/// The number of each student on a list.
+fn student_numbers(
+    alloc: Global,
+    lines: &[StudentLine],
+    list: &[Vec<u8>],
+) -> Result<Vec<usize>, AllocError>
+    requires rise { Rise (student_keys lines.now) }
+    requires known { NamesNone lines.now (λ x. x.key) (map (λ text. text.items) list.now) → ⊥ }
+    ensures { IfOk result (λ ranking. AreNumbers (student_keys lines.now) (map (λ text. text.items) list.now) ranking.items) }
+{
+    let mut ranking = Vec::with_capacity(alloc, list.len())?;
+    for text in list {
+        let Some(student) = find_student(lines, text) else {
+            unreachable!()
+        };
+        ranking.push(student)?;
+    }
+    Ok(ranking)
+}
+
+/// The place of each student on a ranking, if any.
+fn ranks_of(alloc: Global, count: usize, ranking: &[usize]) -> Result<Vec<Option<u32>>, AllocError>
+    requires count { count ≤ 2000 }
+    requires below { All (λ s. s < count) ranking.now }
+    requires distinct { IsDistinct ranking.now }
+    ensures { IfOk result (λ ranks. AreRanks count ranking.now ranks.items) }
+{
+    let mut ranks = vec![in alloc; None; count]?;
+    for (place, student) in ranking.iter().enumerate() {
+        ranks[*student] = Some(place as u32);
+    }
+    Ok(ranks)
+}
+
+/// The line with its texts as numbers.
+fn numbered_student(
+    alloc: Global,
+    line: &StudentLine,
+    projects: &[ProjectLine],
+) -> Result<Student, AllocError>
+    requires form { is_key line.now.key ≡ true }
+    requires rise { Rise (project_keys projects.now) }
+    requires known { NamesNone projects.now (λ x. x.key) line.now.list → ⊥ }
+    ensures { IfOk result (IsStudentOf (project_keys projects.now) line.now) }
+{
+    Ok(Student {
+        key: key_of(alloc, &line.key)?,
+        choices: project_numbers(alloc, projects, &line.list)?,
+    })
+}
+
+/// The line with its texts as numbers.
+fn numbered_project(
+    alloc: Global,
+    line: &ProjectLine,
+    lecturers: &[LecturerLine],
+) -> Result<Project, AllocError>
+    requires form { is_key line.now.key ≡ true }
+    requires rise { Rise (lecturer_keys lecturers.now) }
+    requires known { (IsKeyOf lecturers.now (λ x. x.key) line.now.lecturer → ⊥) → ⊥ }
+    ensures { IfOk result (IsProjectOf (lecturer_keys lecturers.now) line.now) }
+{
+    let Some(number) = find_lecturer(lecturers, &line.lecturer) else {
+        unreachable!()
+    };
+    Ok(Project {
+        key: key_of(alloc, &line.key)?,
+        capacity: line.capacity,
+        lecturer: number,
+    })
+}
+
+/// The line with its texts as numbers.
+fn numbered_lecturer(
+    alloc: Global,
+    line: &LecturerLine,
+    students: &[StudentLine],
+) -> Result<Lecturer, AllocError>
+    requires form { is_key line.now.key ≡ true }
+    requires rise { Rise (student_keys students.now) }
+    requires count { length students.now ≤ 2000 }
+    requires known { NamesNone students.now (λ x. x.key) line.now.list → ⊥ }
+    requires apart { Repeats line.now.list → ⊥ }
+    ensures { IfOk result (IsLecturerOf (student_keys students.now) line.now) }
+{
+    let ranking = student_numbers(alloc, students, &line.list)?;
+    let ranks = ranks_of(alloc, students.len(), &ranking)?;
+    Ok(Lecturer {
+        key: key_of(alloc, &line.key)?,
+        capacity: line.capacity,
+        ranking,
+        ranks,
+    })
+}
+
+/// Each student by number.
+pub(crate) fn number_students(
+    alloc: Global,
+    lines: &[StudentLine],
+    projects: &[ProjectLine],
+) -> Result<Vec<Student>, AllocError>
+    requires form { All (λ x. is_key x.key ≡ true) lines.now }
+    requires rise { Rise (project_keys projects.now) }
+    requires known { All (λ x. NamesNone projects.now (λ y. y.key) x.list → ⊥) lines.now }
+    ensures { IfOk result (λ students. AllZip (IsStudentOf (project_keys projects.now)) lines.now students.items) }
+{
+    let mut students = Vec::with_capacity(alloc, lines.len())?;
+    for line in lines {
+        students.push(numbered_student(alloc, line, projects)?)?;
+    }
+    Ok(students)
+}
+
+/// Each project by number.
+pub(crate) fn number_projects(
+    alloc: Global,
+    lines: &[ProjectLine],
+    lecturers: &[LecturerLine],
+) -> Result<Vec<Project>, AllocError>
+    requires form { All (λ x. is_key x.key ≡ true) lines.now }
+    requires rise { Rise (lecturer_keys lecturers.now) }
+    requires known { All (λ x. (IsKeyOf lecturers.now (λ y. y.key) x.lecturer → ⊥) → ⊥) lines.now }
+    ensures { IfOk result (λ projects. AllZip (IsProjectOf (lecturer_keys lecturers.now)) lines.now projects.items) }
+{
+    let mut projects = Vec::with_capacity(alloc, lines.len())?;
+    for line in lines {
+        projects.push(numbered_project(alloc, line, lecturers)?)?;
+    }
+    Ok(projects)
+}
+
+/// Each lecturer by number, with the places of the students.
+pub(crate) fn number_lecturers(
+    alloc: Global,
+    lines: &[LecturerLine],
+    students: &[StudentLine],
+) -> Result<Vec<Lecturer>, AllocError>
+    requires form { All (λ x. is_key x.key ≡ true) lines.now }
+    requires rise { Rise (student_keys students.now) }
+    requires count { length students.now ≤ 2000 }
+    requires known { All (λ x. NamesNone students.now (λ y. y.key) x.list → ⊥) lines.now }
+    requires apart { All (λ x. Repeats x.list → ⊥) lines.now }
+    ensures { IfOk result (λ lecturers. AllZip (IsLecturerOf (student_keys students.now)) lines.now lecturers.items) }
+{
+    let mut lecturers = Vec::with_capacity(alloc, lines.len())?;
+    for line in lines {
+        lecturers.push(numbered_lecturer(alloc, line, students)?)?;
+    }
+    Ok(lecturers)
+}

@@ -1,0 +1,218 @@
+//! Instances.
+
+ghost use Rattle.std.specs.Prelude.{◌≡◌, ◌<◌, ◌↔◌, [], IsTrue, IfSome, length, slice_index_or};
+ghost use Rattle.std.specs.Ordering.{nat_cmp};
+ghost use Rattle.std.specs.Cmp.Lexicographic.{slice_cmp};
+ghost use Rattle.spa_model.specs.Pairs.{number_in};
+ghost use Rattle.spa_model.specs.Spa.{choices_of, lecturer_of, capacity_of, ranking_of, limit_of, rank_in, IsBefore, IsLawful, IsMatching, IsAcceptable, project_of};
+
+use crate::fits::{are_acceptable, lecturers_fit, projects_fit};
+use crate::matching::Matching;
+use spa_rows::Key;
+use std::cmp::Ordering;
+use std::marker::Model;
+
+#[derive(Drop)]
+pub(crate) struct Student {
+    pub(crate) key: Key,
+    pub(crate) choices: Vec<usize>,
+}
+
+#[derive(Drop)]
+pub(crate) struct Project {
+    pub(crate) key: Key,
+    pub(crate) capacity: u32,
+    pub(crate) lecturer: usize,
+}
+
+#[derive(Drop)]
+pub(crate) struct Lecturer {
+    pub(crate) key: Key,
+    pub(crate) capacity: u32,
+    pub(crate) ranking: Vec<usize>,
+    pub(crate) ranks: Vec<Option<u32>>,
+}
+
+/// Students, projects and lecturers, each sorted by key, with their lists as numbers.
+#[derive(Drop)]
+pub struct Instance {
+    pub(crate) students: Vec<Student>,
+    pub(crate) projects: Vec<Project>,
+    pub(crate) lecturers: Vec<Lecturer>,
+}
+
+impl Model for Instance {
+    ghost use Rattle.spa_model.specs.Spa.{Spa};
+
+    ghost Value = { Spa };
+
+    ghost use Rattle.std.specs.Prelude.{length};
+    ghost use Rattle.spa_model.specs.Spa.{IsLawful};
+    ghost use Rattle.spa_model.specs.Inside.{spa_of, HaveRanks};
+
+    ghost view = { λ a. spa_of a.students.items a.projects.items a.lecturers.items };
+
+    ghost invariant = { λ a. IsLawful (spa_of a.students.items a.projects.items a.lecturers.items) × HaveRanks (length a.students.items) a.lecturers.items };
+}
+
+impl Instance {
+    /// How many students there are.
+    pub fn students(&self) -> usize
+        ensures count { result ≡ length self.now.choices }
+        ensures lawful { IsLawful self.now }
+    {
+        self.students.len()
+    }
+
+    /// How many projects there are.
+    pub fn projects(&self) -> usize
+        ensures { result ≡ length self.now.lecturers }
+    {
+        self.projects.len()
+    }
+
+    /// How many lecturers there are.
+    pub fn lecturers(&self) -> usize
+        ensures { result ≡ length self.now.rankings }
+    {
+        self.lecturers.len()
+    }
+
+    /// The key of a student.
+    pub fn student_key(&self, s: usize) -> &Key
+        requires { s < length self.now.choices }
+        ensures { result.now ≡ slice_index_or self.now.student_keys s [] }
+    {
+        &self.students[s].key
+    }
+
+    /// The key of a project.
+    pub fn project_key(&self, p: usize) -> &Key
+        requires { p < length self.now.lecturers }
+        ensures { result.now ≡ slice_index_or self.now.project_keys p [] }
+    {
+        &self.projects[p].key
+    }
+
+    /// The key of a lecturer.
+    pub fn lecturer_key(&self, l: usize) -> &Key
+        requires { l < length self.now.rankings }
+        ensures { result.now ≡ slice_index_or self.now.lecturer_keys l [] }
+    {
+        &self.lecturers[l].key
+    }
+
+    /// The lecturer who offers a project.
+    pub fn lecturer_of(&self, p: usize) -> usize
+        requires { p < length self.now.lecturers }
+        ensures gives { result ≡ lecturer_of self.now p }
+        ensures in_range { result < length self.now.rankings }
+    {
+        self.projects[p].lecturer
+    }
+
+    /// How many students a project takes.
+    pub fn project_capacity(&self, p: usize) -> u32
+        requires { p < length self.now.lecturers }
+        ensures { result ≡ capacity_of self.now p }
+    {
+        self.projects[p].capacity
+    }
+
+    /// How many students a lecturer takes over all projects.
+    pub fn lecturer_capacity(&self, l: usize) -> u32
+        requires { l < length self.now.rankings }
+        ensures { result ≡ limit_of self.now l }
+    {
+        self.lecturers[l].capacity
+    }
+
+    /// A student's list of projects, best first.
+    pub fn choices(&self, s: usize) -> &[usize]
+        requires { s < length self.now.choices }
+        ensures { result.now ≡ choices_of self.now s }
+    {
+        self.students[s].choices.as_slice()
+    }
+
+    /// A lecturer's list of students, best first.
+    pub fn ranking(&self, l: usize) -> &[usize]
+        requires { l < length self.now.rankings }
+        ensures { result.now ≡ ranking_of self.now l }
+    {
+        self.lecturers[l].ranking.as_slice()
+    }
+
+    /// The place of a student on a lecturer's list, counted from 0.
+    pub fn rank(&self, l: usize, s: usize) -> Option<u32>
+        requires lecturer { l < length self.now.rankings }
+        requires student { s < length self.now.choices }
+        ensures { result ≡ rank_in (ranking_of self.now l) s }
+    {
+        self.lecturers[l].ranks[s]
+    }
+
+    /// Whether both students stand on the lecturer's list, and a stands before b.
+    pub fn prefers(&self, l: usize, a: usize, b: usize) -> bool
+        requires lecturer { l < length self.now.rankings }
+        requires first { a < length self.now.choices }
+        requires second { b < length self.now.choices }
+        ensures { IsTrue result ↔ IsBefore (ranking_of self.now l) a b }
+    {
+        match (self.rank(l, a), self.rank(l, b)) {
+            (Some(first), Some(second)) => first < second,
+            _ => false,
+        }
+    }
+
+    /// The number of the student with this key; the count of students where there is none.
+    pub(crate) fn student_number(&self, text: &[u8]) -> usize
+        ensures { result ≡ number_in self.now.student_keys text.now }
+    {
+        match self.students.binary_search_by(
+            |student: &Student| -> Ordering
+                ensures { result ≡ slice_cmp nat_cmp student.now.key text.entry.now }
+            { student.key.as_bytes().cmp(text) },
+        ) {
+            Ok(s) => s,
+            Err(_) => self.students(),
+        }
+    }
+
+    /// The number of the project with this key; the count of projects where there is none.
+    pub(crate) fn project_number(&self, text: &[u8]) -> usize
+        ensures { result ≡ number_in self.now.project_keys text.now }
+    {
+        match self.projects.binary_search_by(
+            |project: &Project| -> Ordering
+                ensures { result ≡ slice_cmp nat_cmp project.now.key text.entry.now }
+            { project.key.as_bytes().cmp(text) },
+        ) {
+            Ok(p) => p,
+            Err(_) => self.projects(),
+        }
+    }
+
+    /// Whether the matching, of this or of any other instance, is one of this instance.
+    pub fn fits(&self, matching: &Matching) -> bool
+        ensures { IsTrue result ↔ IsMatching self.now matching.now }
+    {
+        let projects = matching.projects();
+        projects.len() == self.students()
+            && are_acceptable(self, projects)
+            && projects_fit(self, projects)
+            && lecturers_fit(self, projects)
+    }
+
+    /// The project of a student in a matching of this instance.
+    pub fn project_of(&self, matching: &Matching, student: usize) -> Option<usize>
+        requires fits { IsMatching self.now matching.now }
+        requires in_range { student < length self.now.choices }
+        ensures gives { result ≡ project_of matching.now student }
+        ensures acceptable { IfSome result (λ p. IsAcceptable self.now student p) }
+        ensures in_range { IfSome result (λ p. p < length self.now.lecturers) }
+    {
+        let _lawful = &self.students;
+        matching.project(student)
+    }
+}

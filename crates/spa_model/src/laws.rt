@@ -1,0 +1,15 @@
+//! Laws over the definitions alone.
+
+ghost use Rattle.std.specs.Prelude.{◌≡◌, ℕ, List, Option};
+ghost use Rattle.spa_model.specs.Spa.{Spa, Blocks, IsBest};
+ghost use Rattle.spa_model.specs.declared.letter.Letter.{Letter};
+
+/// A pair that blocks a matching blocks it by one letter alone.
+pub fn one_letter()
+    ensures { (i : Spa) (m : List (Option ℕ)) (s p : ℕ) (x y : Letter) → Blocks i m s p x → Blocks i m s p y → x ≡ y }
+{}
+
+/// Two matchings that are best for the students are one.
+pub fn best_is_one()
+    ensures { (i : Spa) (m n : List (Option ℕ)) → IsBest i m → IsBest i n → m ≡ n }
+{}

@@ -1,0 +1,29 @@
+//! The case by which a pair blocks a matching.
+
+use std::fmt;
+
+/// By which case a pair blocks.
+#[derive(Clone, Copy, Debug, PartialEq, Eq)]
+pub enum Letter {
+    /// The project and its lecturer have room.
+    A,
+    /// The project has room, and its full lecturer has the student already or a worse one.
+    B,
+    /// The full project has a worse student.
+    C,
+}
+
+impl fmt::Display for Letter {
+    ghost use Rattle.std.specs.Prelude.{Some};
+    ghost use Rattle.spa_model.specs.Shown.{text_of};
+
+    ghost output = { λ x. Some (text_of x) };
+
+    fn fmt<W: fmt::Write>(&self, f: &mut fmt::Formatter<W>) -> fmt::Result {
+        f.write_str(match self {
+            Letter::A => "a",
+            Letter::B => "b",
+            Letter::C => "c",
+        })
+    }
+}

@@ -1,0 +1,111 @@
+//! Matchings.
+
+ghost use Rattle.std.specs.Prelude.{◌≡◌, ◌<◌, IfErr, IfOk, OnOk, length};
+
+use crate::instance::Instance;
+use crate::pairs::{assigned, check_pairs, project_numbers, student_numbers};
+use spa_rows::PairLine;
+use std::alloc::{AllocError, Global};
+use std::marker::Model;
+
+/// What is wrong with the pairs of a matching; of several faults the first one here is told.
+#[derive(Clone, Copy, Debug, PartialEq, Eq)]
+pub enum MatchingFault {
+    /// The text is no student's key.
+    NoSuchStudent,
+    /// The text is no project's key.
+    NoSuchProject,
+    /// The project is not on the student's list.
+    NotAcceptable,
+    /// The student stands in an earlier row.
+    StudentTwice,
+    /// The project has more students than its capacity, from this row on.
+    ProjectOver,
+    /// The lecturer has more students than the capacity, from this row on.
+    LecturerOver,
+    /// There was not enough memory.
+    Memory,
+}
+
+/// A fault, and the least row that has it (0 for `Memory`).
+#[derive(Clone, Copy, Debug, PartialEq, Eq)]
+pub struct BadMatching {
+    pub fault: MatchingFault,
+    pub row: u32,
+}
+
+impl From<AllocError> for BadMatching {
+    ghost use Rattle.spa_model.specs.declared.matching.MatchingFault.{MatchingFault};
+
+    ghost from_gives = { λ _ e. (e.fault ≡ MatchingFault.Memory) × (e.row ≡ 0) };
+
+    fn from(_: AllocError) -> BadMatching {
+        BadMatching {
+            fault: MatchingFault::Memory,
+            row: 0,
+        }
+    }
+}
+
+/// The project of each student, if any.
+#[derive(Drop)]
+pub struct Matching {
+    projects: Vec<Option<usize>>,
+}
+
+impl Model for Matching {
+    ghost use Rattle.std.specs.Prelude.{List, ℕ, Option};
+
+    ghost Value = { List (Option ℕ) };
+
+    ghost view = { λ m. m.projects.items };
+}
+
+impl Matching {
+    ghost use Rattle.spa_model.specs.Spa.{project_of, IsMatching};
+    ghost use Rattle.spa_model.specs.Pairs.{HasPairs, IsPairRefusal};
+    ghost use Rattle.spa_model.specs.Assigned.{AreSound};
+
+    /// The matching of these pairs.
+    pub fn build(
+        alloc: Global,
+        instance: &Instance,
+        pairs: Vec<PairLine>,
+    ) -> Result<Matching, BadMatching>
+        ensures ok { IfOk result (λ m. HasPairs instance.now pairs.items m) }
+        ensures matching { IfOk result (λ m. IsMatching instance.now m) }
+        ensures sound { OnOk result (AreSound instance.now pairs.items) }
+        ensures err { IfErr result (λ e. IsPairRefusal instance.now pairs.items e.fault e.row) }
+    {
+        let _lawful = instance.students();
+        let lines = pairs.as_slice();
+        let students = student_numbers(alloc, instance, lines)?;
+        let projects = project_numbers(alloc, instance, lines)?;
+        check_pairs(alloc, instance, lines, &students, &projects)?;
+        let own = assigned(alloc, instance, &students, &projects)?;
+        Ok(Matching { projects: own })
+    }
+
+    /// The matching of these projects, one for each student.
+    pub fn of(instance: &Instance, projects: Vec<Option<usize>>) -> Matching
+        requires { IsMatching instance.now projects.items }
+        ensures { result ≡ projects.items }
+    {
+        let _ = instance;
+        Matching { projects }
+    }
+
+    /// The project of each student.
+    pub(crate) fn projects(&self) -> &[Option<usize>]
+        ensures { result.now ≡ self.now }
+    {
+        &self.projects
+    }
+
+    pub(crate) fn project(&self, student: usize) -> Option<usize>
+        requires { student < length self.now }
+        ensures { result ≡ project_of self.now student }
+    {
+        self.projects[student]
+    }
+}

@@ -1,0 +1,230 @@
+//! The pairs of a matching: one function for each fault, which answers the least row that has it.
+
+ghost use Rattle.std.specs.Prelude.{◌≡◌, ◌<◌, ◌≤◌, ◌↔◌, IfOk, IfErr, OnOk, All, IsTrue, length, map};
+ghost use Rattle.spa_rows.specs.Least.{IsLeastOf, least_row};
+ghost use Rattle.spa_model.specs.Spa.{IsDistinct};
+ghost use Rattle.spa_model.specs.Pairs.{HasPairFault, IsPairRefusal, student_in, project_in};
+ghost use Rattle.spa_model.specs.Assigned.{HasNone, AreSound, AreAssigned};
+
+use crate::fits::is_on;
+use crate::instance::Instance;
+use crate::matching::{BadMatching, MatchingFault};
+use spa_rows::PairLine;
+use std::alloc::{AllocError, Global};
+
+/// The number of each pair's student.
+pub(crate) fn student_numbers(
+    alloc: Global,
+    instance: &Instance,
+    lines: &[PairLine],
+) -> Result<Vec<usize>, AllocError>
+    ensures { IfOk result (λ numbers. numbers.items ≡ map (student_in instance.now) lines.now) }
+{
+    lines
+        .iter()
+        .map(|line| instance.student_number(&line.student))
+        .collect(alloc)
+}
+
+/// The number of each pair's project.
+pub(crate) fn project_numbers(
+    alloc: Global,
+    instance: &Instance,
+    lines: &[PairLine],
+) -> Result<Vec<usize>, AllocError>
+    ensures { IfOk result (λ numbers. numbers.items ≡ map (project_in instance.now) lines.now) }
+{
+    lines
+        .iter()
+        .map(|line| instance.project_number(&line.project))
+        .collect(alloc)
+}
+
+/// The lesser of the row and the least one so far.
+fn least(best: Option<u32>, row: u32) -> u32
+    ensures { result ≡ least_row best row }
+{
+    match best {
+        Some(other) => other.min(row),
+        None => row,
+    }
+}
+
+/// The least row whose text is no student's key.
+fn no_such_student(instance: &Instance, lines: &[PairLine], students: &[usize]) -> Option<u32>
+    requires { students.now ≡ map (student_in instance.now) lines.now }
+    ensures { IsLeastOf (HasPairFault instance.now lines.now MatchingFault.NoSuchStudent) result }
+{
+    let mut best = None;
+    for (j, line) in lines.iter().enumerate() {
+        if students[j] >= instance.students() {
+            best = Some(least(best, line.row));
+        }
+    }
+    best
+}
+
+/// The least row whose text is no project's key.
+fn no_such_project(instance: &Instance, lines: &[PairLine], projects: &[usize]) -> Option<u32>
+    requires { projects.now ≡ map (project_in instance.now) lines.now }
+    ensures { IsLeastOf (HasPairFault instance.now lines.now MatchingFault.NoSuchProject) result }
+{
+    let _lawful = instance.students();
+    let mut best = None;
+    for (j, line) in lines.iter().enumerate() {
+        if projects[j] >= instance.projects() {
+            best = Some(least(best, line.row));
+        }
+    }
+    best
+}
+
+/// The least row whose project is not on the student's list.
+fn not_acceptable(
+    instance: &Instance,
+    lines: &[PairLine],
+    students: &[usize],
+    projects: &[usize],
+) -> Option<u32>
+    requires students { students.now ≡ map (student_in instance.now) lines.now }
+    requires projects { projects.now ≡ map (project_in instance.now) lines.now }
+    requires known { HasNone instance.now lines.now MatchingFault.NoSuchStudent }
+    ensures { IsLeastOf (HasPairFault instance.now lines.now MatchingFault.NotAcceptable) result }
+{
+    let _lawful = instance.students();
+    let mut best = None;
+    for (j, line) in lines.iter().enumerate() {
+        if !is_on(instance.choices(students[j]), projects[j]) {
+            best = Some(least(best, line.row));
+        }
+    }
+    best
+}
+
+/// The least row whose student stands in an earlier one.
+fn student_twice(
+    alloc: Global,
+    instance: &Instance,
+    lines: &[PairLine],
+    students: &[usize],
+) -> Result<Option<u32>, AllocError>
+    requires students { students.now ≡ map (student_in instance.now) lines.now }
+    requires known { HasNone instance.now lines.now MatchingFault.NoSuchStudent }
+    ensures { IfOk result (IsLeastOf (HasPairFault instance.now lines.now MatchingFault.StudentTwice)) }
+{
+    let mut seen = vec![in alloc; false; instance.students()]?;
+    let mut best = None;
+    for (j, line) in lines.iter().enumerate() {
+        let s = students[j];
+        if seen[s] {
+            best = Some(least(best, line.row));
+        }
+        seen[s] = true;
+    }
+    Ok(best)
+}
+
+/// The least row at which a project has more students than its capacity.
+fn project_over(
+    alloc: Global,
+    instance: &Instance,
+    lines: &[PairLine],
+    projects: &[usize],
+) -> Result<Option<u32>, AllocError>
+    requires projects { projects.now ≡ map (project_in instance.now) lines.now }
+    requires known { HasNone instance.now lines.now MatchingFault.NoSuchProject }
+    ensures { IfOk result (IsLeastOf (HasPairFault instance.now lines.now MatchingFault.ProjectOver)) }
+{
+    let _lawful = instance.students();
+    let mut counts = vec![in alloc; 0; instance.projects()]?;
+    let mut best = None;
+    for (j, line) in lines.iter().enumerate() {
+        let p = projects[j];
+        counts[p] += 1;
+        if counts[p] > instance.project_capacity(p) as usize {
+            best = Some(least(best, line.row));
+        }
+    }
+    Ok(best)
+}
+
+/// The least row at which a lecturer has more students than the capacity.
+fn lecturer_over(
+    alloc: Global,
+    instance: &Instance,
+    lines: &[PairLine],
+    projects: &[usize],
+) -> Result<Option<u32>, AllocError>
+    requires projects { projects.now ≡ map (project_in instance.now) lines.now }
+    requires known { HasNone instance.now lines.now MatchingFault.NoSuchProject }
+    ensures { IfOk result (IsLeastOf (HasPairFault instance.now lines.now MatchingFault.LecturerOver)) }
+{
+    let _lawful = instance.students();
+    let mut counts = vec![in alloc; 0; instance.lecturers()]?;
+    let mut best = None;
+    for (j, line) in lines.iter().enumerate() {
+        let l = instance.lecturer_of(projects[j]);
+        counts[l] += 1;
+        if counts[l] > instance.lecturer_capacity(l) as usize {
+            best = Some(least(best, line.row));
+        }
+    }
+    Ok(best)
+}
+
+/// The fault, where some row has it.
+fn refused(fault: MatchingFault, row: Option<u32>) -> Result<(), BadMatching>
+    ensures ok { OnOk result (row ≡ None) }
+    ensures err { IfErr result (λ e. (e.fault ≡ fault) × (row ≡ Some e.row)) }
+{
+    match row {
+        Some(row) => Err(BadMatching { fault, row }),
+        None => Ok(()),
+    }
+}
+
+/// The first fault of the pairs, if they have one.
+pub(crate) fn check_pairs(
+    alloc: Global,
+    instance: &Instance,
+    lines: &[PairLine],
+    students: &[usize],
+    projects: &[usize],
+) -> Result<(), BadMatching>
+    requires students { students.now ≡ map (student_in instance.now) lines.now }
+    requires projects { projects.now ≡ map (project_in instance.now) lines.now }
+    ensures ok { OnOk result (AreSound instance.now lines.now) }
+    ensures err { IfErr result (λ e. IsPairRefusal instance.now lines.now e.fault e.row) }
+{
+    let unknown = no_such_student(instance, lines, students);
+    refused(MatchingFault::NoSuchStudent, unknown)?;
+    let unknown = no_such_project(instance, lines, projects);
+    refused(MatchingFault::NoSuchProject, unknown)?;
+    let unlisted = not_acceptable(instance, lines, students, projects);
+    refused(MatchingFault::NotAcceptable, unlisted)?;
+    let again = student_twice(alloc, instance, lines, students)?;
+    refused(MatchingFault::StudentTwice, again)?;
+    let over = project_over(alloc, instance, lines, projects)?;
+    refused(MatchingFault::ProjectOver, over)?;
+    let over = lecturer_over(alloc, instance, lines, projects)?;
+    refused(MatchingFault::LecturerOver, over)
+}
+
+/// The project of each student who is in a pair.
+pub(crate) fn assigned(
+    alloc: Global,
+    instance: &Instance,
+    students: &[usize],
+    projects: &[usize],
+) -> Result<Vec<Option<usize>>, AllocError>
+    requires size { length students.now ≡ length projects.now }
+    requires known { All (λ s. s < length instance.now.choices) students.now }
+    requires apart { IsDistinct students.now }
+    ensures { IfOk result (λ own. AreAssigned (length instance.now.choices) students.now projects.now own.items) }
+{
+    let mut own = vec![in alloc; None; instance.students()]?;
+    for (j, s) in students.iter().enumerate() {
+        own[*s] = Some(projects[j]);
+    }
+    Ok(own)
+}

@@ -1,0 +1,7 @@
+pub mod Texts
+pub mod LeastRow
+pub mod Deciding
+pub mod Lists
+pub mod Seen
+pub mod FirstFault
+pub mod Carry

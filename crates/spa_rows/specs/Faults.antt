@@ -1,0 +1,99 @@
+-- What can be wrong with the rows of an instance, fault by fault: `HasFault rows fault r` says that the row r has it.
+use Rattle.std.specs.Prelude.{◌≡◌, ◌⊎◌, ℕ, ◌<◌, ◌≤◌, false, List, Any, length, slice_index_or, take}
+use Rattle.spa_rows.specs.Form.{is_key}
+use Rattle.spa_rows.specs.Lines.{Text, Lecturer, Project, Student, Rows}
+use Rattle.spa_rows.specs.Least.{BadAt}
+use Rattle.spa_rows.specs.declared.faults.InstanceFault.{InstanceFault}
+use Rattle.spa_rows.specs.declared.faults.InstanceFault.TheVariants.{TooMany, BadKey, KeyTwice, BadCapacity, NoSuchLecturer, NoSuchProject, RepeatInList, ListTooLong, NotApplicant, ApplicantMissing, Memory}
+
+-- some lecturer's, project's or student's line in the row r is bad
+abbrev pub BadLecturer : Rows → (ℕ → Lecturer → Type 0) → ℕ → Type 0
+BadLecturer rows Bad r = BadAt rows.lecturers (λ x. x.row) Bad r
+
+abbrev pub BadProject : Rows → (ℕ → Project → Type 0) → ℕ → Type 0
+BadProject rows Bad r = BadAt rows.projects (λ x. x.row) Bad r
+
+abbrev pub BadStudent : Rows → (ℕ → Student → Type 0) → ℕ → Type 0
+BadStudent rows Bad r = BadAt rows.students (λ x. x.row) Bad r
+
+-- more of a kind than there may be
+abbrev pub AreTooMany : Rows → Type 0
+AreTooMany rows = (300 < length rows.lecturers) ⊎ ((1000 < length rows.projects) ⊎ (2000 < length rows.students))
+
+-- one of the first j lines has this key
+abbrev pub IsEarlierKey : {X : Type 0} → List X → (X → Text) → ℕ → Text → Type 0
+IsEarlierKey lines key j text = Any (λ y. key y ≡ text) (take j lines)
+
+-- a capacity is 1 to 200
+abbrev pub IsBadCapacity : ℕ → Type 0
+IsBadCapacity n = (n < 1) ⊎ (200 < n)
+
+-- a line of lines has this key
+abbrev pub IsKeyOf : {X : Type 0} → List X → (X → Text) → Text → Type 0
+IsKeyOf lines key text = Any (λ x. key x ≡ text) lines
+
+-- some text of the list is no key of these lines
+abbrev pub NamesNone : {X : Type 0} → List X → (X → Text) → List Text → Type 0
+NamesNone lines key list = Any (λ text. IsKeyOf lines key text → ⊥) list
+
+-- two places of the list have one text
+abbrev pub Repeats : List Text → Type 0
+Repeats list = (j : ℕ) × (text : Text) × (j < length list) × (slice_index_or list j text ≡ text) × Any (λ earlier. earlier ≡ text) (take j list)
+
+-- the project of this key is offered by the lecturer of this key
+abbrev pub IsOffered : Rows → Text → Text → Type 0
+IsOffered rows project lecturer = Any (λ p. (p.key ≡ project) × (p.lecturer ≡ lecturer)) rows.projects
+
+-- this student lists some project of the lecturer
+abbrev pub FindsOne : Rows → Student → Text → Type 0
+FindsOne rows student lecturer = Any (λ project. IsOffered rows project lecturer) student.list
+
+-- the text is the key of a student who lists some project of the lecturer
+abbrev pub IsApplicant : Rows → Text → Text → Type 0
+IsApplicant rows lecturer text = Any (λ s. (s.key ≡ text) × FindsOne rows s lecturer) rows.students
+
+-- some student lists a project of the lecturer and is not on the lecturer's list
+abbrev pub MissesOne : Rows → Lecturer → Type 0
+MissesOne rows x = Any (λ s. FindsOne rows s x.key × (Any (λ text. text ≡ s.key) x.list → ⊥)) rows.students
+
+-- the row r has the fault
+abbrev pub HasFault : Rows → InstanceFault → ℕ → Type 0
+HasFault rows TooMany r = (r ≡ 0) × AreTooMany rows
+HasFault rows BadKey r = BadLecturer rows (λ _ x. is_key x.key ≡ false) r ⊎ (BadProject rows (λ _ x. is_key x.key ≡ false) r ⊎ BadStudent rows (λ _ x. is_key x.key ≡ false) r)
+HasFault rows KeyTwice r = BadLecturer rows (λ j x. IsEarlierKey rows.lecturers (λ y. y.key) j x.key) r ⊎ (BadProject rows (λ j x. IsEarlierKey rows.projects (λ y. y.key) j x.key) r ⊎ BadStudent rows (λ j x. IsEarlierKey rows.students (λ y. y.key) j x.key) r)
+HasFault rows BadCapacity r = BadLecturer rows (λ _ x. IsBadCapacity x.capacity) r ⊎ BadProject rows (λ _ x. IsBadCapacity x.capacity) r
+HasFault rows NoSuchLecturer r = BadProject rows (λ _ x. IsKeyOf rows.lecturers (λ y. y.key) x.lecturer → ⊥) r
+HasFault rows NoSuchProject r = BadStudent rows (λ _ x. NamesNone rows.projects (λ y. y.key) x.list) r
+HasFault rows RepeatInList r = BadLecturer rows (λ _ x. Repeats x.list) r ⊎ BadStudent rows (λ _ x. Repeats x.list) r
+HasFault rows ListTooLong r = BadStudent rows (λ _ x. 20 < length x.list) r
+HasFault rows NotApplicant r = BadLecturer rows (λ _ x. Any (λ text. IsApplicant rows x.key text → ⊥) x.list) r
+HasFault rows ApplicantMissing r = BadLecturer rows (λ _ x. MissesOne rows x) r
+HasFault rows Memory r = ⊥
+
+-- the faults in their order
+abbrev pub number_of : InstanceFault → ℕ
+number_of TooMany = 1
+number_of BadKey = 2
+number_of KeyTwice = 3
+number_of BadCapacity = 4
+number_of NoSuchLecturer = 5
+number_of NoSuchProject = 6
+number_of RepeatInList = 7
+number_of ListTooLong = 8
+number_of NotApplicant = 9
+number_of ApplicantMissing = 10
+number_of Memory = 11
+
+-- no row has a fault of a lesser number
+abbrev pub HasNoneBefore : Rows → InstanceFault → Type 0
+HasNoneBefore rows fault = (f : InstanceFault) → number_of f < number_of fault → (q : ℕ) → HasFault rows f q → ⊥
+
+-- what is answered: the fault of the least number, at the least row that has it; memory needs no cause
+pub record IsFirstFault (rows : Rows) (fault : InstanceFault) (r : ℕ) : Type 0 where
+  pub here : HasFault rows fault r
+  pub least : (q : ℕ) → HasFault rows fault q → r ≤ q
+  pub none_before : HasNoneBefore rows fault
+
+abbrev pub IsRefusal : Rows → InstanceFault → ℕ → Type 0
+IsRefusal rows Memory r = r ≡ 0
+IsRefusal rows fault r = IsFirstFault rows fault r

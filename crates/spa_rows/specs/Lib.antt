@@ -1,0 +1,4 @@
+pub mod Form
+pub mod Lines
+pub mod Least
+pub mod Faults

@@ -1,0 +1,123 @@
+//! The faults of rows in their order, up to those that speak of applicants.
+
+ghost use Rattle.std.specs.Prelude.{◌≡◌, Err, IfErr, IfOk, IsOk, IsSortedByKey, MatchOption, OnOk};
+ghost use Rattle.std.specs.Ordering.{nat_cmp};
+ghost use Rattle.std.specs.Cmp.Lexicographic.{slice_cmp};
+ghost use Rattle.spa_rows.specs.Faults.{HasFault, HasNoneBefore, IsRefusal};
+ghost use Rattle.spa_rows.specs.Least.{IsLeastOf, lesser_row};
+
+use crate::faults::{BadInstance, InstanceFault};
+use crate::least::{
+    bad_capacity, bad_key, key_twice, least, list_too_long, no_such_lecturer, no_such_project,
+    repeat_in_list,
+};
+use crate::lines::InstanceRows;
+use std::alloc::{AllocError, Global};
+
+/// The lesser of two rows that may be there.
+fn lesser(a: Option<u32>, b: Option<u32>) -> Option<u32>
+    ensures { result ≡ lesser_row a b }
+{
+    match b {
+        Some(row) => Some(least(a, row)),
+        None => a,
+    }
+}
+
+fn too_many(rows: &InstanceRows) -> Option<u32>
+    ensures { IsLeastOf (HasFault rows.now InstanceFault.TooMany) result }
+{
+    if rows.lecturers.len() > 300 || rows.projects.len() > 1000 || rows.students.len() > 2000 {
+        return Some(0);
+    }
+    None
+}
+
+fn bad_keys(rows: &InstanceRows) -> Option<u32>
+    ensures { IsLeastOf (HasFault rows.now InstanceFault.BadKey) result }
+{
+    let lecturer = bad_key(&rows.lecturers);
+    let project = bad_key(&rows.projects);
+    let student = bad_key(&rows.students);
+    lesser(lecturer, lesser(project, student))
+}
+
+fn keys_twice(alloc: Global, rows: &InstanceRows) -> Result<Option<u32>, AllocError>
+    ensures { IfOk result (IsLeastOf (HasFault rows.now InstanceFault.KeyTwice)) }
+{
+    let lecturer = key_twice(alloc, &rows.lecturers)?;
+    let project = key_twice(alloc, &rows.projects)?;
+    let student = key_twice(alloc, &rows.students)?;
+    Ok(lesser(lecturer, lesser(project, student)))
+}
+
+fn bad_capacities(rows: &InstanceRows) -> Option<u32>
+    ensures { IsLeastOf (HasFault rows.now InstanceFault.BadCapacity) result }
+{
+    let lecturer = bad_capacity(&rows.lecturers);
+    let project = bad_capacity(&rows.projects);
+    lesser(lecturer, project)
+}
+
+fn lecturers_missing(rows: &InstanceRows) -> Option<u32>
+    requires { IsSortedByKey (λ x. x.key) (slice_cmp nat_cmp) rows.now.lecturers }
+    ensures { IsLeastOf (HasFault rows.now InstanceFault.NoSuchLecturer) result }
+{
+    no_such_lecturer(&rows.lecturers, &rows.projects)
+}
+
+fn projects_missing(rows: &InstanceRows) -> Option<u32>
+    requires { IsSortedByKey (λ x. x.key) (slice_cmp nat_cmp) rows.now.projects }
+    ensures { IsLeastOf (HasFault rows.now InstanceFault.NoSuchProject) result }
+{
+    no_such_project(&rows.projects, &rows.students)
+}
+
+fn repeats_in_lists(alloc: Global, rows: &InstanceRows) -> Result<Option<u32>, AllocError>
+    ensures { IfOk result (IsLeastOf (HasFault rows.now InstanceFault.RepeatInList)) }
+{
+    let lecturer = repeat_in_list(alloc, &rows.lecturers)?;
+    let student = repeat_in_list(alloc, &rows.students)?;
+    Ok(lesser(lecturer, student))
+}
+
+fn lists_too_long(rows: &InstanceRows) -> Option<u32>
+    ensures { IsLeastOf (HasFault rows.now InstanceFault.ListTooLong) result }
+{
+    list_too_long(&rows.students)
+}
+
+/// Refuses the fault at the row that has it, if there is one.
+pub fn refuse(fault: InstanceFault, row: Option<u32>) -> Result<(), BadInstance>
+    ensures { MatchOption row (IsOk result) (λ r. result ≡ Err (record { fault = fault; row = r })) }
+{
+    match row {
+        Some(row) => Err(BadInstance { fault, row }),
+        None => Ok(()),
+    }
+}
+
+/// Refuses rows that have too many lines, or a line whose key or capacity is bad.
+pub fn check_lines(alloc: Global, rows: &InstanceRows) -> Result<(), BadInstance>
+    ensures ok { OnOk result (HasNoneBefore rows.now InstanceFault.NoSuchLecturer) }
+    ensures err { IfErr result (λ e. IsRefusal rows.now e.fault e.row) }
+{
+    refuse(InstanceFault::TooMany, too_many(rows))?;
+    refuse(InstanceFault::BadKey, bad_keys(rows))?;
+    refuse(InstanceFault::KeyTwice, keys_twice(alloc, rows)?)?;
+    refuse(InstanceFault::BadCapacity, bad_capacities(rows))
+}
+
+/// Refuses rows in which a line names what has no line, or a list repeats a text or is too long.
+pub fn check_lists(alloc: Global, rows: &InstanceRows) -> Result<(), BadInstance>
+    requires lecturers { IsSortedByKey (λ x. x.key) (slice_cmp nat_cmp) rows.now.lecturers }
+    requires projects { IsSortedByKey (λ x. x.key) (slice_cmp nat_cmp) rows.now.projects }
+    requires lines { HasNoneBefore rows.now InstanceFault.NoSuchLecturer }
+    ensures ok { OnOk result (HasNoneBefore rows.now InstanceFault.NotApplicant) }
+    ensures err { IfErr result (λ e. IsRefusal rows.now e.fault e.row) }
+{
+    refuse(InstanceFault::NoSuchLecturer, lecturers_missing(rows))?;
+    refuse(InstanceFault::NoSuchProject, projects_missing(rows))?;
+    refuse(InstanceFault::RepeatInList, repeats_in_lists(alloc, rows)?)?;
+    refuse(InstanceFault::ListTooLong, lists_too_long(rows))
+}

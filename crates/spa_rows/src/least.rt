@@ -1,0 +1,150 @@
+//! One function for each fault of lines: the least row that has it.
+
+ghost use Rattle.std.specs.Prelude.{◌≡◌, ◌<◌, ◌↔◌, false, if◌then◌else◌, IfOk, IsSortedByKey, IsTrue, Some, length, map};
+ghost use Rattle.std.specs.Ordering.{nat_cmp};
+ghost use Rattle.std.specs.Cmp.Lexicographic.{slice_cmp};
+ghost use Rattle.spa_rows.specs.Faults.{IsBadCapacity, IsEarlierKey, IsKeyOf, NamesNone, Repeats};
+ghost use Rattle.spa_rows.specs.Form.{is_key};
+ghost use Rattle.spa_rows.specs.Least.{IsLeastOf, BadAt, least_row};
+
+use crate::key::is_key_text;
+use crate::kinds::{Limited, Line, Listing};
+use crate::lines::{LecturerLine, ProjectLine, StudentLine};
+use crate::order::is_key_of;
+use std::alloc::{AllocError, Global};
+use std::collections::BTreeSet;
+
+/// The lesser of the row and the least one so far.
+pub(crate) fn least(best: Option<u32>, row: u32) -> u32
+    ensures { result ≡ least_row best row }
+{
+    match best {
+        Some(other) => { if other < row { other } else { row } }
+        None => row,
+    }
+}
+
+/// The least row so far, once this row is known to be bad or not.
+pub fn least_with(best: Option<u32>, row: u32, is_bad: bool) -> Option<u32>
+    ensures { result ≡ (if is_bad then Some (least_row best row) else best) }
+{
+    if is_bad { Some(least(best, row)) } else { best }
+}
+
+fn is_bad_capacity(capacity: u32) -> bool
+    ensures { IsTrue result ↔ IsBadCapacity capacity }
+{
+    capacity < 1 || capacity > 200
+}
+
+/// The least row of a line whose key has not the form of one.
+pub(crate) fn bad_key<L: Line>(lines: &[L]) -> Option<u32>
+    ensures { IsLeastOf (BadAt lines.now L.row_of (λ _ x. is_key (L.key_of x) ≡ false)) result }
+{
+    let mut best = None;
+    for line in lines {
+        best = least_with(best, line.row(), !is_key_text(line.key()));
+    }
+    best
+}
+
+/// The least row of a line with the key of an earlier one.
+pub(crate) fn key_twice<L: Line>(alloc: Global, lines: &[L]) -> Result<Option<u32>, AllocError>
+    ensures { IfOk result (IsLeastOf (BadAt lines.now L.row_of (λ j x. IsEarlierKey lines.now L.key_of j (L.key_of x)))) }
+{
+    let mut seen = BTreeSet::new(alloc);
+    let mut best = None;
+    for line in lines {
+        let is_new = seen.insert(line.key())?;
+        best = least_with(best, line.row(), !is_new);
+    }
+    Ok(best)
+}
+
+/// The least row of a line whose capacity is not 1 to 200.
+pub(crate) fn bad_capacity<L: Limited>(lines: &[L]) -> Option<u32>
+    ensures { IsLeastOf (BadAt lines.now L.Line.row_of (λ _ x. IsBadCapacity (L.capacity_of x))) result }
+{
+    let mut best = None;
+    for line in lines {
+        best = least_with(best, line.row(), is_bad_capacity(line.capacity()));
+    }
+    best
+}
+
+/// The least row of a project whose lecturer has no line.
+pub(crate) fn no_such_lecturer(lecturers: &[LecturerLine], projects: &[ProjectLine]) -> Option<u32>
+    requires { IsSortedByKey (λ x. x.key) (slice_cmp nat_cmp) lecturers.now }
+    ensures { IsLeastOf (BadAt projects.now (λ x. x.row) (λ _ x. IsKeyOf lecturers.now (λ y. y.key) x.lecturer → ⊥)) result }
+{
+    let mut best = None;
+    for project in projects {
+        let is_known = is_key_of(lecturers, &project.lecturer);
+        best = least_with(best, project.row, !is_known);
+    }
+    best
+}
+
+/// Whether some text is the key of no project.
+fn names_none(projects: &[ProjectLine], list: &[Vec<u8>]) -> bool
+    requires { IsSortedByKey (λ x. x.key) (slice_cmp nat_cmp) projects.now }
+    ensures { IsTrue result ↔ NamesNone projects.now (λ x. x.key) (map (λ text. text.items) list.now) }
+{
+    for text in list {
+        if !is_key_of(projects, text) {
+            return true;
+        }
+    }
+    false
+}
+
+/// The least row of a student who lists what is no project.
+pub(crate) fn no_such_project(projects: &[ProjectLine], students: &[StudentLine]) -> Option<u32>
+    requires { IsSortedByKey (λ x. x.key) (slice_cmp nat_cmp) projects.now }
+    ensures { IsLeastOf (BadAt students.now (λ x. x.row) (λ _ x. NamesNone projects.now (λ y. y.key) x.list)) result }
+{
+    let mut best = None;
+    for student in students {
+        best = least_with(best, student.row, names_none(projects, student.list()));
+    }
+    best
+}
+
+/// Whether two places of the list have one text.
+fn repeats(alloc: Global, list: &[Vec<u8>]) -> Result<bool, AllocError>
+    ensures { IfOk result (λ yes. IsTrue yes ↔ Repeats (map (λ text. text.items) list.now)) }
+{
+    let mut seen = BTreeSet::new(alloc);
+    for text in list {
+        if !seen.insert(text.as_slice())? {
+            return Ok(true);
+        }
+    }
+    Ok(false)
+}
+
+/// The least row of a line whose list has one text twice.
+pub(crate) fn repeat_in_list<L: Listing>(
+    alloc: Global,
+    lines: &[L],
+) -> Result<Option<u32>, AllocError>
+    ensures { IfOk result (IsLeastOf (BadAt lines.now L.Line.row_of (λ _ x. Repeats (L.list_of x)))) }
+{
+    let mut best = None;
+    for line in lines {
+        let is_bad = repeats(alloc, line.list())?;
+        best = least_with(best, line.row(), is_bad);
+    }
+    Ok(best)
+}
+
+/// The least row of a student who lists more than 20 projects.
+pub(crate) fn list_too_long(students: &[StudentLine]) -> Option<u32>
+    ensures { IsLeastOf (BadAt students.now (λ x. x.row) (λ _ x. 20 < length x.list)) result }
+{
+    let mut best = None;
+    for student in students {
+        best = least_with(best, student.row, student.list().len() > 20);
+    }
+    best
+}

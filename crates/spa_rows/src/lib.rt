@@ -1,0 +1,19 @@
+//! The rows of an instance of student-project allocation, and what can be wrong with them.
+#![tactic(auto)]
+
+mod checks;
+mod faults;
+mod key;
+mod kinds;
+mod least;
+mod lines;
+mod order;
+#[cfg(test)]
+mod tests;
+
+pub use checks::{check_lines, check_lists, refuse};
+pub use faults::{BadInstance, InstanceFault};
+pub use key::{Key, KeyFault};
+pub use least::least_with;
+pub use lines::{InstanceRows, LecturerLine, PairLine, ProjectLine, StudentLine};
+pub use order::{find_lecturer, find_project, find_student, sort_rows};

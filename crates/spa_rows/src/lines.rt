@@ -1,0 +1,87 @@
+//! The lines of an instance, with texts as they were read.
+
+use std::marker::Model;
+
+/// A lecturer, with the students of the list, best first.
+#[derive(Drop)]
+pub struct LecturerLine {
+    pub row: u32,
+    pub key: Vec<u8>,
+    pub capacity: u32,
+    pub list: Vec<Vec<u8>>,
+}
+
+impl Model for LecturerLine {
+    ghost use Rattle.std.specs.Prelude.{map};
+    ghost use Rattle.spa_rows.specs.Lines.{Lecturer};
+
+    ghost Value = { Lecturer };
+
+    ghost view = { λ x. record { row = x.row; key = x.key.items; capacity = x.capacity; list = map (λ text. text.items) x.list.items } };
+}
+
+/// A project, and the lecturer who offers it.
+#[derive(Drop)]
+pub struct ProjectLine {
+    pub row: u32,
+    pub key: Vec<u8>,
+    pub capacity: u32,
+    pub lecturer: Vec<u8>,
+}
+
+impl Model for ProjectLine {
+    ghost use Rattle.spa_rows.specs.Lines.{Project};
+
+    ghost Value = { Project };
+
+    ghost view = { λ x. record { row = x.row; key = x.key.items; capacity = x.capacity; lecturer = x.lecturer.items } };
+}
+
+/// A student, with the projects of the list, best first.
+#[derive(Drop)]
+pub struct StudentLine {
+    pub row: u32,
+    pub key: Vec<u8>,
+    pub list: Vec<Vec<u8>>,
+}
+
+impl Model for StudentLine {
+    ghost use Rattle.std.specs.Prelude.{map};
+    ghost use Rattle.spa_rows.specs.Lines.{Student};
+
+    ghost Value = { Student };
+
+    ghost view = { λ x. record { row = x.row; key = x.key.items; list = map (λ text. text.items) x.list.items } };
+}
+
+/// A student at a project.
+#[derive(Drop)]
+pub struct PairLine {
+    pub row: u32,
+    pub student: Vec<u8>,
+    pub project: Vec<u8>,
+}
+
+impl Model for PairLine {
+    ghost use Rattle.spa_rows.specs.Lines.{Pair};
+
+    ghost Value = { Pair };
+
+    ghost view = { λ x. record { row = x.row; student = x.student.items; project = x.project.items } };
+}
+
+/// The lines of an instance, each kind in its order.
+#[derive(Drop)]
+pub struct InstanceRows {
+    pub lecturers: Vec<LecturerLine>,
+    pub projects: Vec<ProjectLine>,
+    pub students: Vec<StudentLine>,
+}
+
+impl Model for InstanceRows {
+    ghost use Rattle.spa_rows.specs.Lines.{Rows};
+
+    ghost Value = { Rows };
+
+    ghost view = { λ x. record { lecturers = x.lecturers.items; projects = x.projects.items; students = x.students.items } };
+}

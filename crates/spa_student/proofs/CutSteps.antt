@@ -1,0 +1,513 @@
+-- The steps over cursors and cuts.
+use Rattle.std.proofs.Common.{◌≡◌, ◌≢◌, ◌⊎◌, inl, inr, ℕ, suc, ◌+◌, ◌-◌, ◌<◌, ◌≤◌, eqb, List, [], ◌∷◌, length, get_or, set, replicate, sum, Vec, Global, Option, Some, None, refl, sym, ◌∙◌, ap, subst, arith, length-set}
+use Rattle.std.specs.List.{sum_by}
+use Rattle.std.proofs.lemmas.List.Sums.{sum_by-set, sum_by-cons}
+use Rattle.std.proofs.lemmas.List.{get_or-set_same, get_or-set_other, get_or_past, get_or-replicate, length-replicate}
+use Rattle.std.proofs.lemmas.Bool.{cases_lt, cases_eq}
+use Rattle.spa_model.specs.Spa.{Spa, place, is_project, is_lecturer, at_project, at_lecturer, project_of, choices_of, lecturer_of, ranking_of, capacity_of, limit_of, IsBefore, IsAcceptable, IsMatching, IsWith, IsLawful, IsBest}
+use Rattle.spa_model.proofs.Places.{place-injective, get_or-place, place-get_or, place-get_or-le}
+use Rattle.spa_model.proofs.Counts.{one_if, count_by-set}
+use Rattle.spa_student.specs.declared.cuts.Progress.{Progress}
+use Rattle.spa_student.specs.Machine.{rank_of, LecturerSpent, ProjectSpent, Holds}
+use Rattle.spa_student.specs.Cuts.{IsPastCut, IsCut, IsUncut, AreCounts, AreMarks, IsUnderWay, IsNextEntry, KeepsCuts, Puts, Leaves, IsSettled}
+use Rattle.spa_student.specs.Worst.{IsWorstAt, IsWorstWith}
+use Rattle.spa_student.proofs.Machine.{student_in_range, delete_holds, place_holds, swap_at_project_holds, swap_at_lecturer_holds, best_at_end, put_cases, put_at_project, put_at_lecturer, one_here, none_there}
+use Rattle.spa_student.proofs.Steps.{state_at_start, none_counted, none_there as none_there_yet}
+
+-- who finds a project acceptable is a student
+pub acceptable_in_range : (i : Spa) (s p : ℕ) → IsAcceptable i s p → s < length i.choices
+acceptable_in_range i s p on = elim (cases_lt s (length i.choices)) [
+  | inl h ↦ h
+  | inr h ↦ let none : choices_of i s ≡ [] = get_or_past i.choices s [] h in absurd (omega (arith, rw none at on))
+]
+
+-- what stands on a student's list is acceptable
+pub entry_acceptable : (i : Spa) (s k : ℕ) → k < length (choices_of i s) → IsAcceptable i s (get_or (choices_of i s) k 0)
+entry_acceptable i s k h = omega (arith, place-get_or-le (choices_of i s) k 0 h)
+
+-- who stands on a ranking is a student
+pub ranked_in_range : (i : Spa) → IsLawful i → (l k : ℕ) → k < length (ranking_of i l) → get_or (ranking_of i l) k 0 < length i.choices
+ranked_in_range i lawful l k h =
+    let why = lawful.applicants l (get_or (ranking_of i l) k 0) (omega (arith, place-get_or-le (ranking_of i l) k 0 h)) in
+    acceptable_in_range i (get_or (ranking_of i l) k 0) why.0 why.1
+
+-- where nobody else is later among those who are not cut, the student found is the worst
+pub found_worst_at : (i : Spa) → IsLawful i → (q : Progress) → AreMarks i q → IsUncut i q → (p k : ℕ) → k < length (ranking_of i (lecturer_of i p)) → project_of q.projects.items (get_or (ranking_of i (lecturer_of i p)) k 0) ≡ Some p
+    → ((j : ℕ) → k < j → j < get_or q.project_cuts.items p 0 → project_of q.projects.items (get_or (ranking_of i (lecturer_of i p)) j 0) ≡ Some p → ⊥) → IsWorstAt i q.projects.items p (get_or (ranking_of i (lecturer_of i p)) k 0)
+found_worst_at i lawful q marks uncut p k h at later = record {
+  at = at;
+  worst = λ x e.
+      let r : List ℕ = ranking_of i (lecturer_of i p) in
+      let on : place r x < length r = lawful.ranked x p (marks.assigned.acceptable x p e) in
+      let here : place r (get_or r k 0) ≡ k = place-get_or r k 0 (lawful.distinct (lecturer_of i p)) h in
+      let is_x : get_or r (place r x) 0 ≡ x = get_or-place r x 0 on in
+      elim (cases_lt (place r x) (get_or q.project_cuts.items p 0)) [
+        | inl within ↦ elim (cases_lt k (place r x)) [
+          | inl after ↦ absurd (later (place r x) after within (ap (project_of q.projects.items) is_x ∙ e))
+          | inr before ↦ omega arith
+        ]
+        | inr past ↦ absurd (uncut x p e (inl past))
+      ];
+}
+
+pub found_worst_with : (i : Spa) → IsLawful i → (q : Progress) → AreMarks i q → IsUncut i q → (l k : ℕ) → k < length (ranking_of i l) → IsWith i q.projects.items l (get_or (ranking_of i l) k 0)
+    → ((j : ℕ) → k < j → j < get_or q.lecturer_cuts.items l 0 → IsWith i q.projects.items l (get_or (ranking_of i l) j 0) → ⊥) → IsWorstWith i q.projects.items l (get_or (ranking_of i l) k 0)
+found_worst_with i lawful q marks uncut l k h at later = record {
+  with_l = at;
+  worst = λ x u e own.
+      let r : List ℕ = ranking_of i l in
+      let on : place r x < length r = rw own at (lawful.ranked x u (marks.assigned.acceptable x u e)) in
+      let here : place r (get_or r k 0) ≡ k = place-get_or r k 0 (lawful.distinct l) h in
+      let is_x : get_or r (place r x) 0 ≡ x = get_or-place r x 0 on in
+      elim (cases_lt (place r x) (get_or q.lecturer_cuts.items l 0)) [
+        | inl within ↦ elim (cases_lt k (place r x)) [
+          | inl after ↦ absurd (later (place r x) after within (u, ap (project_of q.projects.items) is_x ∙ e, own))
+          | inr before ↦ omega arith
+        ]
+        | inr past ↦ absurd (uncut x u e (inr (rw own past)))
+      ];
+}
+
+-- somebody is found
+pub found_at : (i : Spa) → IsLawful i → (q : Progress) → AreMarks i q → IsUncut i q → (p s : ℕ) → project_of q.projects.items s ≡ Some p
+    → ((j : ℕ) → j < get_or q.project_cuts.items p 0 → project_of q.projects.items (get_or (ranking_of i (lecturer_of i p)) j 0) ≡ Some p → ⊥) → ⊥
+found_at i lawful q marks uncut p s e none =
+    let r : List ℕ = ranking_of i (lecturer_of i p) in
+    let on : place r s < length r = lawful.ranked s p (marks.assigned.acceptable s p e) in
+    elim (cases_lt (place r s) (get_or q.project_cuts.items p 0)) [
+      | inl within ↦ none (place r s) within (ap (project_of q.projects.items) (get_or-place r s 0 on) ∙ e)
+      | inr past ↦ uncut s p e (inl past)
+    ]
+
+pub found_with : (i : Spa) → IsLawful i → (q : Progress) → AreMarks i q → IsUncut i q → (l s : ℕ) → IsWith i q.projects.items l s
+    → ((j : ℕ) → j < get_or q.lecturer_cuts.items l 0 → IsWith i q.projects.items l (get_or (ranking_of i l) j 0) → ⊥) → ⊥
+found_with i lawful q marks uncut l s with_l none =
+    let r : List ℕ = ranking_of i l in
+    let on : place r s < length r = rw with_l.2 at (lawful.ranked s with_l.0 (marks.assigned.acceptable s with_l.0 with_l.1)) in
+    elim (cases_lt (place r s) (get_or q.lecturer_cuts.items l 0)) [
+      | inl within ↦ none (place r s) within (with_l.0, ap (project_of q.projects.items) (get_or-place r s 0 on) ∙ with_l.1, with_l.2)
+      | inr past ↦ uncut s with_l.0 with_l.1 (inr (rw with_l.2 past))
+    ]
+
+-- the cuts that stay cut the same
+pub same_cut : (i : Spa) (q after : Progress) → KeepsCuts q after → (s p : ℕ) → IsPastCut i q s p → IsPastCut i after s p
+same_cut i q after cuts s p past = rw (cuts.project_cuts, cuts.lecturer_cuts) past
+
+was_cut : (i : Spa) (q after : Progress) → KeepsCuts q after → (s p : ℕ) → IsPastCut i after s p → IsPastCut i q s p
+was_cut i q after cuts s p past = rw (cuts.project_cuts, cuts.lecturer_cuts) at past
+
+-- nobody is cut at the own project
+held_uncut : (i : Spa) (m : List (Option ℕ)) (q : Progress) → Holds i m (IsCut i q) → (s p : ℕ) → project_of m s ≡ Some p → IsPastCut i q s p → ⊥
+held_uncut i m q holds s p e past = elim (holds.spent s p (holds.matching.acceptable s p e, past)) [
+  | inl lecturer ↦ omega (arith, lecturer.before s p e refl)
+  | inr project ↦ omega (arith, project.before s e)
+]
+
+-- the rank of who was found, and that it is below the cut
+pub rank_found : (i : Spa) → IsLawful i → (l k : ℕ) → k < length (ranking_of i l) → rank_of i l (get_or (ranking_of i l) k 0) ≡ k
+rank_found i lawful l k h = place-get_or (ranking_of i l) k 0 (lawful.distinct l) h
+
+pub rank_at_below : (i : Spa) (q : Progress) → IsUncut i q → (w p : ℕ) → project_of q.projects.items w ≡ Some p → rank_of i (lecturer_of i p) w < get_or q.project_cuts.items p 0
+rank_at_below i q uncut w p e = elim (cases_lt (rank_of i (lecturer_of i p) w) (get_or q.project_cuts.items p 0)) [ inl h ↦ h | inr h ↦ absurd (uncut w p e (inl h)) ]
+
+pub rank_with_below : (i : Spa) (q : Progress) → IsUncut i q → (w l : ℕ) → IsWith i q.projects.items l w → rank_of i l w < get_or q.lecturer_cuts.items l 0
+rank_with_below i q uncut w l with_l = elim (cases_lt (rank_of i l w) (get_or q.lecturer_cuts.items l 0)) [ inl h ↦ h | inr h ↦ absurd (uncut w with_l.0 with_l.1 (inr (rw with_l.2 h))) ]
+
+-- A STUDENT IS PUT
+module _ (i : Spa) (q after : Progress) (marks : AreMarks i q) (s p : ℕ) (next : IsNextEntry i q s p) (puts : Puts s p q after) (cuts : KeepsCuts q after) where
+  pub next_in_range : s < length q.projects.items
+  next_in_range = omega (arith, acceptable_in_range i s p next.acceptable, marks.assigned.students)
+
+  after_cases : (x u : ℕ) → project_of after.projects.items x ≡ Some u → ((x ≡ s) × (u ≡ p)) ⊎ (project_of q.projects.items x ≡ Some u)
+  after_cases x u e = put_cases i q.projects.items s p next_in_range next.free x u (rw puts.projects at e)
+
+  pub placed_marks : AreMarks i after
+  placed_marks = record {
+    assigned = record {
+      students = ap length puts.projects ∙ length-set q.projects.items s (Some p) ∙ marks.assigned.students;
+      acceptable = λ x u e. elim (after_cases x u e) [ inl new ↦ rw (new.0, new.1) next.acceptable | inr old ↦ marks.assigned.acceptable x u old ];
+    };
+    cursor_rows = ap length puts.cursors ∙ marks.cursor_rows;
+    project_rows = ap length cuts.project_cuts ∙ marks.project_rows;
+    lecturer_rows = ap length cuts.lecturer_cuts ∙ marks.lecturer_rows;
+    cursors = λ x. rw puts.cursors (marks.cursors x);
+    project_cuts = λ u. rw cuts.project_cuts (marks.project_cuts u);
+    lecturer_cuts = λ l. rw cuts.lecturer_cuts (marks.lecturer_cuts l);
+    passed = λ x u h. same_cut i q after cuts x u (marks.passed x u (rw puts.cursors at h));
+    at_cursor = λ x u e. rw puts.cursors (elim (after_cases x u e) [ inl new ↦ rw (new.0, new.1) next.at_cursor | inr old ↦ marks.at_cursor x u old ]);
+  }
+
+  pub placed_uncut : Holds i q.projects.items (IsCut i q) → IsUncut i after
+  placed_uncut holds x u e past = elim (after_cases x u e) [
+    | inl new ↦ next.uncut (rw (new.0, new.1) at (was_cut i q after cuts x u past))
+    | inr old ↦ held_uncut i q.projects.items q holds x u old (was_cut i q after cuts x u past)
+  ]
+
+  pub placed_counts : AreCounts i q → p < length i.lecturers → lecturer_of i p < length i.rankings
+      → after.project_counts.items ≡ set q.project_counts.items p (get_or q.project_counts.items p 0 + 1)
+      → after.lecturer_counts.items ≡ set q.lecturer_counts.items (lecturer_of i p) (get_or q.lecturer_counts.items (lecturer_of i p) 0 + 1) → AreCounts i after
+  placed_counts counts p_in l_in more more_l = record {
+    project_rows = ap length more ∙ length-set q.project_counts.items p (get_or q.project_counts.items p 0 + 1) ∙ counts.project_rows;
+    lecturer_rows = ap length more_l ∙ length-set q.lecturer_counts.items (lecturer_of i p) (get_or q.lecturer_counts.items (lecturer_of i p) 0 + 1) ∙ counts.lecturer_rows;
+    at_projects = λ u. rw (more, puts.projects) (elim (cases_eq p u) [
+      | inl same ↦ subst (λ k. get_or (set q.project_counts.items p (get_or q.project_counts.items p 0 + 1)) k 0 ≡ at_project (set q.projects.items s (Some p)) k) same
+          (omega (arith, get_or-set_same q.project_counts.items p (get_or q.project_counts.items p 0 + 1) 0 (omega (arith, counts.project_rows)), counts.at_projects p, put_at_project i q.projects.items s p next_in_range next.free p, one_here p))
+      | inr other ↦ omega (arith, get_or-set_other q.project_counts.items p u (get_or q.project_counts.items p 0 + 1) 0 (λ e. other (sym e)), counts.at_projects u, put_at_project i q.projects.items s p next_in_range next.free u, none_there p u other)
+    ]);
+    at_lecturers = λ l. rw (more_l, puts.projects) (elim (cases_eq (lecturer_of i p) l) [
+      | inl same ↦ subst (λ k. get_or (set q.lecturer_counts.items (lecturer_of i p) (get_or q.lecturer_counts.items (lecturer_of i p) 0 + 1)) k 0 ≡ at_lecturer i (set q.projects.items s (Some p)) k) same
+          (omega (arith, get_or-set_same q.lecturer_counts.items (lecturer_of i p) (get_or q.lecturer_counts.items (lecturer_of i p) 0 + 1) 0 (omega (arith, counts.lecturer_rows)), counts.at_lecturers (lecturer_of i p), put_at_lecturer i q.projects.items s p next_in_range next.free (lecturer_of i p), one_here (lecturer_of i p)))
+      | inr other ↦ omega (arith, get_or-set_other q.lecturer_counts.items (lecturer_of i p) l (get_or q.lecturer_counts.items (lecturer_of i p) 0 + 1) 0 (λ e. other (sym e)), counts.at_lecturers l, put_at_lecturer i q.projects.items s p next_in_range next.free l, none_there (lecturer_of i p) l other)
+    ]);
+  }
+
+-- A STUDENT who has a project
+module _ (i : Spa) (q : Progress) (marks : AreMarks i q) (w u : ℕ) (has : project_of q.projects.items w ≡ Some u) where
+  pub leaver_in_range : w < length q.projects.items
+  leaver_in_range = student_in_range i q.projects.items w u has
+
+  pub leaver_cursor : w < length q.cursors.items
+  leaver_cursor = omega (arith, leaver_in_range, marks.assigned.students, marks.cursor_rows)
+
+  pub leaver_has_entry : get_or q.cursors.items w 0 < length (choices_of i w)
+  leaver_has_entry = omega (arith, marks.at_cursor w u has, marks.assigned.acceptable w u has)
+
+  one_less : (v : ℕ) → at_project (set q.projects.items w None) v + one_if (eqb u v) ≡ at_project q.projects.items v
+  one_less v = omega (arith, count_by-set (is_project v) q.projects.items w None leaver_in_range, ap (λ o. one_if (is_project v o)) has)
+
+  one_less_with : (l : ℕ) → at_lecturer i (set q.projects.items w None) l + one_if (eqb (lecturer_of i u) l) ≡ at_lecturer i q.projects.items l
+  one_less_with l = omega (arith, count_by-set (is_lecturer i l) q.projects.items w None leaver_in_range, ap (λ o. one_if (is_lecturer i l o)) has)
+
+  pub some_at : 1 ≤ at_project q.projects.items u
+  some_at = omega (arith, one_less u, one_here u)
+
+  pub some_with : 1 ≤ at_lecturer i q.projects.items (lecturer_of i u)
+  some_with = omega (arith, one_less_with (lecturer_of i u), one_here (lecturer_of i u))
+
+-- A STUDENT LEAVES
+module _ (i : Spa) (q after : Progress) (marks : AreMarks i q) (w u : ℕ) (has : project_of q.projects.items w ≡ Some u) (leaves : Leaves w q after) where
+  stays : (x v : ℕ) → project_of after.projects.items x ≡ Some v → (x ≢ w) × (project_of q.projects.items x ≡ Some v)
+  stays x v e = elim (cases_eq x w) [
+    | inl same ↦ let now : None ≡ Some v = sym (get_or-set_same q.projects.items w None None (leaver_in_range i q marks w u has)) ∙ (rw (leaves.projects, same) at e) in absurd (cc)
+    | inr other ↦ (other, rw (get_or-set_other q.projects.items w x None None other) at (rw leaves.projects at e))
+  ]
+
+  moved_one : (x : ℕ) → (x ≡ w) × (get_or after.cursors.items x 0 ≡ get_or q.cursors.items w 0 + 1) ⊎ (x ≢ w) × (get_or after.cursors.items x 0 ≡ get_or q.cursors.items x 0)
+  moved_one x = elim (cases_eq x w) [
+    | inl same ↦ inl (same, rw (leaves.cursors, same) (get_or-set_same q.cursors.items w (get_or q.cursors.items w 0 + 1) 0 (leaver_cursor i q marks w u has)))
+    | inr other ↦ inr (other, rw leaves.cursors (get_or-set_other q.cursors.items w x (get_or q.cursors.items w 0 + 1) 0 other))
+  ]
+
+  pub left_marks : KeepsCuts q after → IsPastCut i q w u → AreMarks i after
+  left_marks cuts past = record {
+    assigned = record {
+      students = ap length leaves.projects ∙ length-set q.projects.items w None ∙ marks.assigned.students;
+      acceptable = λ x v e. marks.assigned.acceptable x v (stays x v e).1;
+    };
+    cursor_rows = ap length leaves.cursors ∙ length-set q.cursors.items w (get_or q.cursors.items w 0 + 1) ∙ marks.cursor_rows;
+    project_rows = ap length cuts.project_cuts ∙ marks.project_rows;
+    lecturer_rows = ap length cuts.lecturer_cuts ∙ marks.lecturer_rows;
+    cursors = λ x. elim (moved_one x) [ inl here ↦ rw (here.1, here.0) (omega (arith, leaver_has_entry i q marks w u has)) | inr there ↦ omega (arith, there.1, marks.cursors x) ];
+    project_cuts = λ v. rw cuts.project_cuts (marks.project_cuts v);
+    lecturer_cuts = λ l. rw cuts.lecturer_cuts (marks.lecturer_cuts l);
+    passed = λ x v h. same_cut i q after cuts x v (elim (moved_one x) [
+      | inl here ↦ rw here.0 (at_w v (rw (here.1, here.0) at h))
+      | inr there ↦ marks.passed x v (omega (arith, there.1))
+    ]);
+    at_cursor = λ x v e. let old = stays x v e in elim (moved_one x) [ inl here ↦ absurd (old.0 here.0) | inr there ↦ marks.at_cursor x v old.1 ∙ sym there.1 ];
+  } where
+    at_w : (v : ℕ) → place (choices_of i w) v < get_or q.cursors.items w 0 + 1 → IsPastCut i q w v
+    at_w v h = elim (cases_lt (place (choices_of i w) v) (get_or q.cursors.items w 0)) [
+      | inl before ↦ marks.passed w v before
+      | inr here ↦
+          let level : place (choices_of i w) u ≡ place (choices_of i w) v = omega (arith, marks.at_cursor w u has) in
+          subst (IsPastCut i q w) (place-injective (choices_of i w) u v (marks.assigned.acceptable w u has) level) past
+    ]
+
+  pub left_counts : AreCounts i q → u < length i.lecturers → lecturer_of i u < length i.rankings
+      → after.project_counts.items ≡ set q.project_counts.items u (get_or q.project_counts.items u 0 - 1)
+      → after.lecturer_counts.items ≡ set q.lecturer_counts.items (lecturer_of i u) (get_or q.lecturer_counts.items (lecturer_of i u) 0 - 1) → AreCounts i after
+  left_counts counts u_in l_in less less_l = record {
+    project_rows = ap length less ∙ length-set q.project_counts.items u (get_or q.project_counts.items u 0 - 1) ∙ counts.project_rows;
+    lecturer_rows = ap length less_l ∙ length-set q.lecturer_counts.items (lecturer_of i u) (get_or q.lecturer_counts.items (lecturer_of i u) 0 - 1) ∙ counts.lecturer_rows;
+    at_projects = λ v. rw (less, leaves.projects) (elim (cases_eq u v) [
+      | inl same ↦ subst (λ k. get_or (set q.project_counts.items u (get_or q.project_counts.items u 0 - 1)) k 0 ≡ at_project (set q.projects.items w None) k) same
+          (omega (arith, get_or-set_same q.project_counts.items u (get_or q.project_counts.items u 0 - 1) 0 (omega (arith, counts.project_rows)), counts.at_projects u, one_less i q marks w u has u, one_here u))
+      | inr other ↦ omega (arith, get_or-set_other q.project_counts.items u v (get_or q.project_counts.items u 0 - 1) 0 (λ e. other (sym e)), counts.at_projects v, one_less i q marks w u has v, none_there u v other)
+    ]);
+    at_lecturers = λ l. rw (less_l, leaves.projects) (elim (cases_eq (lecturer_of i u) l) [
+      | inl same ↦ subst (λ k. get_or (set q.lecturer_counts.items (lecturer_of i u) (get_or q.lecturer_counts.items (lecturer_of i u) 0 - 1)) k 0 ≡ at_lecturer i (set q.projects.items w None) k) same
+          (omega (arith, get_or-set_same q.lecturer_counts.items (lecturer_of i u) (get_or q.lecturer_counts.items (lecturer_of i u) 0 - 1) 0 (omega (arith, counts.lecturer_rows)), counts.at_lecturers (lecturer_of i u), one_less_with i q marks w u has (lecturer_of i u), one_here (lecturer_of i u)))
+      | inr other ↦ omega (arith, get_or-set_other q.lecturer_counts.items (lecturer_of i u) l (get_or q.lecturer_counts.items (lecturer_of i u) 0 - 1) 0 (λ e. other (sym e)), counts.at_lecturers l, one_less_with i q marks w u has l, none_there (lecturer_of i u) l other)
+    ]);
+  }
+
+-- A CUT FALLS
+falls : (xs : List ℕ) (p r : ℕ) → p < length xs → r ≤ get_or xs p 0 → (u : ℕ) → get_or (set xs p r) u 0 ≤ get_or xs u 0
+falls xs p r h le u = elim (cases_eq u p) [
+  | inl same ↦ rw same (rw (get_or-set_same xs p r 0 h) le)
+  | inr other ↦ omega (arith, get_or-set_other xs p u r 0 other)
+]
+
+module _ (i : Spa) (q after : Progress) (p r : ℕ) (p_in : p < length q.project_cuts.items) (less : r ≤ get_or q.project_cuts.items p 0) (now : after.project_cuts.items ≡ set q.project_cuts.items p r) (same : after.lecturer_cuts.items ≡ q.lecturer_cuts.items) where
+  pub project_cut_more : (x u : ℕ) → IsPastCut i q x u → IsPastCut i after x u
+  project_cut_more x u (inl past) = inl (rw now (omega (arith, falls q.project_cuts.items p r p_in less u)))
+  project_cut_more x u (inr past) = inr (rw same past)
+
+  pub project_cut_new : (x u : ℕ) → IsPastCut i after x u → IsPastCut i q x u ⊎ ((u ≡ p) × (r ≤ rank_of i (lecturer_of i p) x))
+  project_cut_new x u (inr past) = inl (inr (rw same at past))
+  project_cut_new x u (inl past) = elim (cases_eq u p) [
+    | inl here ↦ inr (here, (rw (now, here, get_or-set_same q.project_cuts.items p r 0 p_in) at past))
+    | inr other ↦ inl (inl (rw (now, get_or-set_other q.project_cuts.items p u r 0 other) at past))
+  ]
+
+module _ (i : Spa) (q after : Progress) (l r : ℕ) (l_in : l < length q.lecturer_cuts.items) (less : r ≤ get_or q.lecturer_cuts.items l 0) (now : after.lecturer_cuts.items ≡ set q.lecturer_cuts.items l r) (same : after.project_cuts.items ≡ q.project_cuts.items) where
+  pub lecturer_cut_more : (x u : ℕ) → IsPastCut i q x u → IsPastCut i after x u
+  lecturer_cut_more x u (inl past) = inl (rw same past)
+  lecturer_cut_more x u (inr past) = inr (rw now (omega (arith, falls q.lecturer_cuts.items l r l_in less (lecturer_of i u))))
+
+  pub lecturer_cut_new : (x u : ℕ) → IsPastCut i after x u → IsPastCut i q x u ⊎ ((lecturer_of i u ≡ l) × (r ≤ rank_of i l x))
+  lecturer_cut_new x u (inl past) = inl (inl (rw same at past))
+  lecturer_cut_new x u (inr past) = elim (cases_eq (lecturer_of i u) l) [
+    | inl here ↦ inr (here, (rw (now, here, get_or-set_same q.lecturer_cuts.items l r 0 l_in) at past))
+    | inr other ↦ inl (inr (rw (now, get_or-set_other q.lecturer_cuts.items l (lecturer_of i u) r 0 other) at past))
+  ]
+
+pub fallen_project_marks : (i : Spa) (q : Progress) → AreMarks i q → (p r : ℕ) (v : Vec ℕ Global) → p < length q.project_cuts.items → r ≤ get_or q.project_cuts.items p 0 → v.items ≡ set q.project_cuts.items p r → AreMarks i (record q { project_cuts = v })
+fallen_project_marks i q marks p r v p_in less now = record {
+  assigned = marks.assigned;
+  cursor_rows = marks.cursor_rows;
+  project_rows = ap length now ∙ length-set q.project_cuts.items p r ∙ marks.project_rows;
+  lecturer_rows = marks.lecturer_rows;
+  cursors = marks.cursors;
+  lecturer_cuts = marks.lecturer_cuts;
+  at_cursor = marks.at_cursor;
+  project_cuts = λ u. rw now (omega (arith, falls q.project_cuts.items p r p_in less u, marks.project_cuts u));
+  passed = λ x u h. project_cut_more i q (record q { project_cuts = v }) p r p_in less now refl x u (marks.passed x u h);
+}
+
+pub fallen_lecturer_marks : (i : Spa) (q : Progress) → AreMarks i q → (l r : ℕ) (v : Vec ℕ Global) → l < length q.lecturer_cuts.items → r ≤ get_or q.lecturer_cuts.items l 0 → v.items ≡ set q.lecturer_cuts.items l r → AreMarks i (record q { lecturer_cuts = v })
+fallen_lecturer_marks i q marks l r v l_in less now = record {
+  assigned = marks.assigned;
+  cursor_rows = marks.cursor_rows;
+  project_rows = marks.project_rows;
+  lecturer_rows = ap length now ∙ length-set q.lecturer_cuts.items l r ∙ marks.lecturer_rows;
+  cursors = marks.cursors;
+  project_cuts = marks.project_cuts;
+  at_cursor = marks.at_cursor;
+  lecturer_cuts = λ u. rw now (omega (arith, falls q.lecturer_cuts.items l r l_in less u, marks.lecturer_cuts u));
+  passed = λ x u h. lecturer_cut_more i q (record q { lecturer_cuts = v }) l r l_in less now refl x u (marks.passed x u h);
+}
+
+-- who stands no better than a student whose pair may be deleted may have it deleted too
+spent_below_project : (i : Spa) (m : List (Option ℕ)) (p w t : ℕ) → ProjectSpent i m p w → rank_of i (lecturer_of i p) w ≤ rank_of i (lecturer_of i p) t → ProjectSpent i m p t
+spent_below_project i m p w t spent le = record { full = spent.full; before = λ x e. omega (arith, spent.before x e) }
+
+spent_below_lecturer : (i : Spa) (m : List (Option ℕ)) (l w t : ℕ) → LecturerSpent i m l w → rank_of i l w ≤ rank_of i l t → LecturerSpent i m l t
+spent_below_lecturer i m l w t spent le = record { full = spent.full; before = λ x q e own. omega (arith, spent.before x q e own) }
+
+-- where the cuts are the same, the same pairs are deleted
+held_on : (i : Spa) (m : List (Option ℕ)) (q after : Progress) → KeepsCuts q after → Holds i m (IsCut i q) → Holds i m (IsCut i after)
+held_on i m q after cuts holds = record {
+  matching = holds.matching;
+  first = λ s p u e h. let gone = holds.first s p u e h in (gone.0, same_cut i q after cuts s p gone.1);
+  spent = λ t p gone. holds.spent t p (gone.0, was_cut i q after cuts t p gone.1);
+  hopeless = λ t p gone. holds.hopeless t p (gone.0, was_cut i q after cuts t p gone.1);
+}
+
+-- the entries before the next one are deleted
+earlier_cut : (i : Spa) (q : Progress) → AreMarks i q → (s p : ℕ) → IsNextEntry i q s p → (u : ℕ) → IsBefore (choices_of i s) u p → IsCut i q s u
+earlier_cut i q marks s p next u before = (omega (arith, before.0, before.1), marks.passed s u (omega (arith, before.0, next.at_cursor)))
+
+-- A TURN: s was put at p
+module _ (i : Spa) (lawful : IsLawful i) (q placed : Progress) (state : IsUnderWay i q) (s p : ℕ) (next : IsNextEntry i q s p) (puts : Puts s p q placed) (cuts : KeepsCuts q placed) (counts : AreCounts i placed) where
+  in_range : s < length q.projects.items
+  in_range = next_in_range i q placed state.marks s p next puts cuts
+
+  now_at : get_or placed.project_counts.items p 0 ≡ at_project q.projects.items p + 1
+  now_at = omega (arith, rw puts.projects at (counts.at_projects p), put_at_project i q.projects.items s p in_range next.free p, one_here p)
+
+  now_with : get_or placed.lecturer_counts.items (lecturer_of i p) 0 ≡ at_lecturer i q.projects.items (lecturer_of i p) + 1
+  now_with = omega (arith, rw puts.projects at (counts.at_lecturers (lecturer_of i p)), put_at_lecturer i q.projects.items s p in_range next.free (lecturer_of i p), one_here (lecturer_of i p))
+
+  -- nobody was let go
+  pub placed_state : AreMarks i placed → get_or placed.project_counts.items p 0 ≤ capacity_of i p → get_or placed.lecturer_counts.items (lecturer_of i p) 0 ≤ limit_of i (lecturer_of i p) → IsUnderWay i placed
+  placed_state marks room room_l = record {
+    marks = marks;
+    counts = counts;
+    holds = subst (λ m. Holds i m (IsCut i placed)) (sym puts.projects) (held_on i (set q.projects.items s (Some p)) q placed cuts
+        (place_holds i q.projects.items (IsCut i q) state.holds s p in_range next.free next.acceptable (earlier_cut i q state.marks s p next) (omega (arith, now_at)) (omega (arith, now_with))));
+  }
+
+  -- the worst student at the project was let go
+  pub project_state : (w : ℕ) (after : Progress) → capacity_of i p < get_or placed.project_counts.items p 0 → IsWorstAt i placed.projects.items p w → Leaves w placed after
+      → after.project_cuts.items ≡ set placed.project_cuts.items p (rank_of i (lecturer_of i p) w) → after.lecturer_cuts.items ≡ placed.lecturer_cuts.items → AreMarks i after → AreCounts i after → IsUnderWay i after
+  project_state w after over worst leaves cut same marks after_counts =
+      let worst_now : IsWorstAt i (set q.projects.items s (Some p)) p w = rw puts.projects at worst in
+      let done = swap_at_project_holds i q.projects.items (IsCut i q) lawful state.holds s p w in_range next.free next.acceptable (earlier_cut i q state.marks s p next) (omega (arith, now_at, state.holds.matching.projects p)) worst_now.at worst_now.worst in
+      record {
+        marks = marks;
+        counts = after_counts;
+        holds = subst (λ m. Holds i m (IsCut i after)) (sym (leaves.projects ∙ ap (λ k. set k w None) puts.projects)) (delete_holds i (set (set q.projects.items s (Some p)) w None) (IsCut i q) (IsCut i after) lawful done.0
+            (λ x u gone. (gone.0, project_cut_more i placed after p (rank_of i (lecturer_of i p) w) p_in less cut same x u (same_cut i q placed cuts x u gone.1)))
+            (λ x u gone. elim (project_cut_new i placed after p (rank_of i (lecturer_of i p) w) p_in less cut same x u gone.1) [
+              | inl old ↦ inl (gone.0, was_cut i q placed cuts x u old)
+              | inr new ↦ inr (inr (rw new.0 (spent_below_project i (set (set q.projects.items s (Some p)) w None) p w x done.1 new.1)))
+            ]));
+      }
+    where
+      p_in : p < length placed.project_cuts.items
+      p_in = omega (arith, lawful.known s p next.acceptable, ap length cuts.project_cuts, state.marks.project_rows)
+
+      less : rank_of i (lecturer_of i p) w ≤ get_or placed.project_cuts.items p 0
+      less = omega (arith, rank_at_below i placed (placed_uncut i q placed state.marks s p next puts cuts state.holds) w p worst.at)
+
+  -- the lecturer's worst student was let go
+  pub lecturer_state : (w : ℕ) (after : Progress) → get_or placed.project_counts.items p 0 ≤ capacity_of i p → limit_of i (lecturer_of i p) < get_or placed.lecturer_counts.items (lecturer_of i p) 0 → IsWorstWith i placed.projects.items (lecturer_of i p) w → Leaves w placed after
+      → after.project_cuts.items ≡ placed.project_cuts.items → after.lecturer_cuts.items ≡ set placed.lecturer_cuts.items (lecturer_of i p) (rank_of i (lecturer_of i p) w) → AreMarks i after → AreCounts i after → IsUnderWay i after
+  lecturer_state w after room over worst leaves same cut marks after_counts =
+      let worst_now : IsWorstWith i (set q.projects.items s (Some p)) (lecturer_of i p) w = rw puts.projects at worst in
+      let done = swap_at_lecturer_holds i q.projects.items (IsCut i q) lawful state.holds s p w worst_now.with_l.0 in_range next.free next.acceptable (earlier_cut i q state.marks s p next) (omega (arith, now_at)) (omega (arith, now_with, state.holds.matching.lecturers (lecturer_of i p))) worst_now.with_l.1 worst_now.with_l.2 worst_now.worst in
+      let spent : LecturerSpent i (set (set q.projects.items s (Some p)) w None) (lecturer_of i p) w = rw worst_now.with_l.2 at done.1 in
+      record {
+        marks = marks;
+        counts = after_counts;
+        holds = subst (λ m. Holds i m (IsCut i after)) (sym (leaves.projects ∙ ap (λ k. set k w None) puts.projects)) (delete_holds i (set (set q.projects.items s (Some p)) w None) (IsCut i q) (IsCut i after) lawful done.0
+            (λ x u gone. (gone.0, lecturer_cut_more i placed after (lecturer_of i p) (rank_of i (lecturer_of i p) w) l_in less cut same x u (same_cut i q placed cuts x u gone.1)))
+            (λ x u gone. elim (lecturer_cut_new i placed after (lecturer_of i p) (rank_of i (lecturer_of i p) w) l_in less cut same x u gone.1) [
+              | inl old ↦ inl (gone.0, was_cut i q placed cuts x u old)
+              | inr new ↦ inr (inl (rw new.0 (spent_below_lecturer i (set (set q.projects.items s (Some p)) w None) (lecturer_of i p) w x spent new.1)))
+            ]));
+      }
+    where
+      l_in : lecturer_of i p < length placed.lecturer_cuts.items
+      l_in = omega (arith, lawful.offered p (lawful.known s p next.acceptable), ap length cuts.lecturer_cuts, state.marks.lecturer_rows)
+
+      less : rank_of i (lecturer_of i p) w ≤ get_or placed.lecturer_cuts.items (lecturer_of i p) 0
+      less = omega (arith, rank_with_below i placed (placed_uncut i q placed state.marks s p next puts cuts state.holds) w (lecturer_of i p) worst.with_l)
+
+-- THE CURSOR MOVES over entries that are cut
+module _ (i : Spa) (q : Progress) (state : IsUnderWay i q) (s k : ℕ) (in_range : s < length i.choices) (free : project_of q.projects.items s ≡ None) (from : get_or q.cursors.items s 0 ≤ k) (to : k ≤ length (choices_of i s))
+    (cut : (j : ℕ) → get_or q.cursors.items s 0 ≤ j → j < k → IsPastCut i q s (get_or (choices_of i s) j 0)) where
+  -- each entry before the new place is cut
+  pub passed_cut : (u : ℕ) → place (choices_of i s) u < k → IsPastCut i q s u
+  passed_cut u h = elim (cases_lt (place (choices_of i s) u) (get_or q.cursors.items s 0)) [
+    | inl before ↦ state.marks.passed s u before
+    | inr after ↦ subst (IsPastCut i q s) (get_or-place (choices_of i s) u 0 (omega arith)) (cut (place (choices_of i s) u) after h)
+  ]
+
+  mover_in : s < length q.cursors.items
+  mover_in = omega (arith, state.marks.cursor_rows)
+
+  cursor_now : (x : ℕ) → (x ≡ s) × (get_or (set q.cursors.items s k) x 0 ≡ k) ⊎ (x ≢ s) × (get_or (set q.cursors.items s k) x 0 ≡ get_or q.cursors.items x 0)
+  cursor_now x = elim (cases_eq x s) [
+    | inl same ↦ inl (same, rw same (get_or-set_same q.cursors.items s k 0 mover_in))
+    | inr other ↦ inr (other, get_or-set_other q.cursors.items s x k 0 other)
+  ]
+
+  pub moved_state : (v : Vec ℕ Global) → v.items ≡ set q.cursors.items s k → IsUnderWay i (record q { cursors = v })
+  moved_state v now = record {
+    marks = record {
+      assigned = state.marks.assigned;
+      project_rows = state.marks.project_rows;
+      lecturer_rows = state.marks.lecturer_rows;
+      project_cuts = state.marks.project_cuts;
+      lecturer_cuts = state.marks.lecturer_cuts;
+      cursor_rows = ap length now ∙ length-set q.cursors.items s k ∙ state.marks.cursor_rows;
+      cursors = λ x. rw now (elim (cursor_now x) [ inl here ↦ rw (here.1, here.0) to | inr there ↦ rw there.1 (state.marks.cursors x) ]);
+      passed = λ x u h. elim (cursor_now x) [
+        | inl here ↦ rw here.0 (passed_cut u (rw (now, here.1, here.0) at h))
+        | inr there ↦ state.marks.passed x u (rw (now, there.1) at h)
+      ];
+      at_cursor = λ x u e. rw now (elim (cursor_now x) [
+        | inl here ↦ absurd (let none : project_of q.projects.items x ≡ None = rw here.0 free in cc)
+        | inr there ↦ state.marks.at_cursor x u e ∙ sym there.1
+      ]);
+    };
+    counts = record {
+      project_rows = state.counts.project_rows;
+      lecturer_rows = state.counts.lecturer_rows;
+      at_projects = state.counts.at_projects;
+      at_lecturers = state.counts.at_lecturers;
+    };
+    holds = state.holds;
+  }
+
+  pub moved_next : (v : Vec ℕ Global) → v.items ≡ set q.cursors.items s k → k < length (choices_of i s) → (IsPastCut i q s (get_or (choices_of i s) k 0) → ⊥) → IsNextEntry i (record q { cursors = v }) s (get_or (choices_of i s) k 0)
+  moved_next v now within uncut = record {
+    free = free;
+    acceptable = entry_acceptable i s k within;
+    at_cursor = rw (now, get_or-set_same q.cursors.items s k 0 mover_in) (elim (cases_lt (place (choices_of i s) (get_or (choices_of i s) k 0)) k) [
+      | inl before ↦ absurd (uncut (passed_cut (get_or (choices_of i s) k 0) before))
+      | inr there ↦ omega (arith, place-get_or-le (choices_of i s) k 0 within)
+    ]);
+    uncut = uncut;
+  }
+
+-- THE END: every student is settled
+pub best_when_settled : (i : Spa) (q : Progress) → IsUnderWay i q → ((s : ℕ) → s < length i.choices → IsSettled i q s) → IsBest i q.projects.items
+best_when_settled i q state settled = best_at_end i q.projects.items (IsCut i q) state.holds (λ s p free on. (on, state.marks.passed s p (omega (arith, settled s (acceptable_in_range i s p on) free))))
+
+-- the sum of the cursors is bounded
+sum_within : (xs : List ℕ) (rows : List (List ℕ)) → length xs ≡ length rows → ((k : ℕ) → get_or xs k 0 ≤ length (get_or rows k [])) → sum_by (λ x. x) xs ≤ sum_by length rows
+sum_within [] [] e h = omega arith
+sum_within [] (r ∷ rows) e h = omega arith
+sum_within (x ∷ xs) [] e h = absurd (omega arith)
+sum_within (x ∷ xs) (r ∷ rows) e h = omega (arith, sum_by-cons (λ y. y) x xs, sum_by-cons length r rows, h 0, sum_within xs rows (omega arith) (λ k. h (suc k)))
+
+pub cursors_within : (i : Spa) (q : Progress) → AreMarks i q → sum q.cursors.items ≤ sum_by length i.choices
+cursors_within i q marks = sum_within q.cursors.items i.choices marks.cursor_rows marks.cursors
+
+pub sum_moved : (xs : List ℕ) (s k w : ℕ) → s < length xs → get_or xs s 0 ≤ k → w < length xs → sum xs < sum (set (set xs s k) w (get_or (set xs s k) w 0 + 1))
+sum_moved xs s k w s_in from w_in = omega (arith, sum_by-set (λ x. x) xs s k 0 s_in, sum_by-set (λ x. x) (set xs s k) w (get_or (set xs s k) w 0 + 1) 0 (omega (arith, length-set xs s k)))
+
+-- THE START
+abbrev pub zeros : ℕ → List ℕ
+zeros n = replicate n 0
+
+zero_there : (n p : ℕ) → get_or (zeros n) p 0 ≡ 0
+zero_there n p = elim (cases_lt p n) [
+  | inl h ↦ get_or-replicate n p 0 0 h
+  | inr h ↦ get_or_past (zeros n) p 0 (let long : length (zeros n) ≡ n = length-replicate n 0 in omega arith)
+]
+
+pub state_at_first : (i : Spa) → IsLawful i → (q : Progress) → q.projects.items ≡ replicate (length i.choices) None → q.cursors.items ≡ zeros (length i.choices)
+    → q.project_counts.items ≡ zeros (length i.lecturers) → q.lecturer_counts.items ≡ zeros (length i.rankings)
+    → length q.project_cuts.items ≡ length i.lecturers → ((p : ℕ) → p < length i.lecturers → get_or q.project_cuts.items p 0 ≡ length (ranking_of i (lecturer_of i p)))
+    → length q.lecturer_cuts.items ≡ length i.rankings → ((l : ℕ) → l < length i.rankings → get_or q.lecturer_cuts.items l 0 ≡ length (ranking_of i l)) → IsUnderWay i q
+state_at_first i lawful q nobody start no_counts no_counts_l rows cuts rows_l cuts_l = record {
+  marks = record {
+    assigned = record { students = ap length nobody ∙ matching.students; acceptable = λ s p e. absurd (free s p e) };
+    cursor_rows = ap length start ∙ length-replicate (length i.choices) 0;
+    project_rows = rows;
+    lecturer_rows = rows_l;
+    cursors = λ s. rw (start, zero_there (length i.choices) s) (omega arith);
+    project_cuts = λ p. elim (cases_lt p (length i.lecturers)) [ inl h ↦ omega (arith, cuts p h) | inr h ↦ omega (arith, get_or_past q.project_cuts.items p 0 (omega arith)) ];
+    lecturer_cuts = λ l. elim (cases_lt l (length i.rankings)) [ inl h ↦ omega (arith, cuts_l l h) | inr h ↦ omega (arith, get_or_past q.lecturer_cuts.items l 0 (omega arith)) ];
+    passed = λ s p h. let none : place (choices_of i s) p < 0 = rw (start, zero_there (length i.choices) s) at h in absurd (omega arith);
+    at_cursor = λ s p e. absurd (free s p e);
+  };
+  counts = record {
+    project_rows = ap length no_counts ∙ length-replicate (length i.lecturers) 0;
+    lecturer_rows = ap length no_counts_l ∙ length-replicate (length i.rankings) 0;
+    at_projects = λ p. rw (no_counts, nobody, zero_there (length i.lecturers) p) (sym (none_counted (is_project p) (length i.choices) refl));
+    at_lecturers = λ l. rw (no_counts_l, nobody, zero_there (length i.rankings) l) (sym (none_counted (is_lecturer i l) (length i.choices) refl));
+  };
+  holds = record {
+    matching = rw nobody matching;
+    first = λ s p u e h. absurd (free s u e);
+    spent = λ t p gone. absurd (uncut t p gone);
+    hopeless = λ t p gone n stable e. uncut t p gone;
+  };
+} where
+  matching : IsMatching i (replicate (length i.choices) None)
+  matching = (state_at_start i).holds.matching
+
+  free : (s p : ℕ) → project_of q.projects.items s ≡ Some p → ⊥
+  free s p e = let none = none_there_yet (length i.choices) s in let now : project_of (replicate (length i.choices) None) s ≡ Some p = rw nobody at e in cc
+
+  uncut : (t p : ℕ) → IsCut i q t p → ⊥
+  uncut t p (on, past) =
+      let p_in : p < length i.lecturers = lawful.known t p on in
+      let ranked : rank_of i (lecturer_of i p) t < length (ranking_of i (lecturer_of i p)) = lawful.ranked t p on in
+      elim past [ inl h ↦ omega (arith, cuts p p_in) | inr h ↦ omega (arith, cuts_l (lecturer_of i p) (lawful.offered p p_in)) ]

@@ -1,0 +1,405 @@
+-- What the steps keep of the provisional matching and the deleted pairs, and what follows at the end.
+use Rattle.std.proofs.Common.{◌≡◌, ◌≢◌, ◌⊎◌, inl, inr, ℕ, ◌+◌, ◌<◌, ◌≤◌, true, false, eqb, List, length, refl, sym, ◌∙◌, ap, subst, arith, get_or, set, Option, Some, None, length-set}
+use Rattle.std.proofs.lemmas.List.{get_or-set_same, get_or-set_other, get_or_past}
+use Rattle.std.proofs.lemmas.Bool.{eqb-true, eq-eqb, ne_eqb, cases_Bool, cases_lt, cases_eq, cases_order}
+use Rattle.spa_model.specs.declared.Letter.{Letter}
+use Rattle.spa_model.specs.declared.Letter.TheVariants.{A, B, C}
+use Rattle.spa_model.specs.Spa.{Spa, place, is_project, is_lecturer, at_project, at_lecturer, project_of, choices_of, lecturer_of, ranking_of, capacity_of, limit_of, IsOn, IsBefore, IsAcceptable, IsLawful, Improves, Wants, Blocks, IsStable, IsAsGood, IsBest}
+use Rattle.spa_student.specs.Machine.{rank_of, LecturerSpent, ProjectSpent, IsSpent, Holds}
+use Rattle.spa_model.proofs.Places.{place-injective}
+use Rattle.spa_model.proofs.Counts.{one_if, count_by-set, count_by-le, sum_below, sum_below-lt, share, at_lecturer-sum}
+
+-- a student with a project is a student
+pub student_in_range : (i : Spa) (m : List (Option ℕ)) (s q : ℕ) → project_of m s ≡ Some q → s < length m
+student_in_range i m s q e = elim (cases_lt s (length m)) [
+  | inl h ↦ h
+  | inr h ↦ let past : project_of m s ≡ None = get_or_past m s None h in absurd (cc)
+]
+
+-- the counts at a student's project
+pub is_project-at : (p : ℕ) (o : Option ℕ) → o ≡ Some p → is_project p o ≡ true
+is_project-at p o e = ap (is_project p) e ∙ eq-eqb p p refl
+
+pub project_from_test : (p : ℕ) (o : Option ℕ) → is_project p o ≡ true → o ≡ Some p
+project_from_test p None e = absurd (cc)
+project_from_test p (Some q) e = ap Some (eqb-true q p e)
+
+-- a pair that would block, once its project has room or has a student who stands after s
+pub blocked : (i : Spa) (n : List (Option ℕ)) (stable : IsStable i n) (t p s u : ℕ) → project_of n t ≡ Some p → lecturer_of i u ≡ lecturer_of i p → IsBefore (ranking_of i (lecturer_of i u)) s t
+    → Wants i n s u → (u ≡ p) ⊎ (at_project n u < capacity_of i u) → ⊥
+blocked i n stable t p s u at same before wants room =
+    let l : ℕ = lecturer_of i u in
+    let fits : at_project n u ≤ capacity_of i u = stable.matching.projects u in
+    let fits_l : at_lecturer i n l ≤ limit_of i l = stable.matching.lecturers l in
+    elim (cases_lt (at_project n u) (capacity_of i u)) [
+      | inl under ↦ elim (cases_lt (at_lecturer i n l) (limit_of i l)) [
+        | inl under_l ↦ stable.unblocked s u A (wants, under, under_l)
+        | inr full_l ↦ stable.unblocked s u B (wants, under, omega arith, inr (t, (p, at, sym same), before))
+      ]
+      | inr full ↦ elim room [
+        | inl here ↦ stable.unblocked s u C (wants, omega arith, (t, at ∙ ap Some (sym here), before))
+        | inr under ↦ absurd (omega arith)
+      ]
+    ]
+
+-- s, who has u in m and stands before t, has u in each stable n in which t is at p, where u is p or has room in n
+kept : (i : Spa) (m n : List (Option ℕ)) (Deleted : ℕ → ℕ → Type 0) → Holds i m Deleted → (stable : IsStable i n) → IsLawful i → (t p s u : ℕ) → project_of n t ≡ Some p → project_of m s ≡ Some u
+    → lecturer_of i u ≡ lecturer_of i p → rank_of i (lecturer_of i u) s < rank_of i (lecturer_of i u) t → (u ≡ p) ⊎ (at_project n u < capacity_of i u)
+    → (o : Option ℕ) → project_of n s ≡ o → o ≡ Some u
+kept i m n Deleted holds stable lawful t p s u at has same less room None e =
+    let on_list : IsOn (ranking_of i (lecturer_of i u)) t = rw same (lawful.ranked t p (stable.matching.acceptable t p at)) in
+    absurd (blocked i n stable t p s u at same (less, on_list) (holds.matching.acceptable s u has, rw e tt) room)
+kept i m n Deleted holds stable lawful t p s u at has same less room (Some v) e =
+    let on_list : IsOn (ranking_of i (lecturer_of i u)) t = rw same (lawful.ranked t p (stable.matching.acceptable t p at)) in
+    let u_on : IsAcceptable i s u = holds.matching.acceptable s u has in
+    let v_on : IsAcceptable i s v = stable.matching.acceptable s v e in
+    elim (cases_order (place (choices_of i s) v) (place (choices_of i s) u)) [
+      | inl level ↦ ap Some (place-injective (choices_of i s) v u v_on level)
+      | inr apart ↦ elim apart [
+        | inl better ↦ absurd (holds.hopeless s v (holds.first s v u has (better, u_on)) n stable e)
+        | inr worse ↦ absurd (blocked i n stable t p s u at same (less, on_list) (u_on, rw e (worse, v_on)) room)
+      ]
+    ]
+
+-- a test that fails is false
+test_false : (p : ℕ) (o : Option ℕ) → (o ≡ Some p → ⊥) → is_project p o ≡ false
+test_false p None h = refl
+test_false p (Some q) h = ne_eqb q p (λ same. h (ap Some same))
+
+-- where n has at u each student whom m has there, m has no more
+no_more : (m n : List (Option ℕ)) (u : ℕ) → length m ≡ length n → ((s : ℕ) → project_of m s ≡ Some u → project_of n s ≡ Some u) → at_project m u ≤ at_project n u
+no_more m n u same keeps = count_by-le (is_project u) m n same (λ s h. is_project-at u (project_of n s) (keeps s (project_from_test u (project_of m s) h)))
+
+-- and fewer, where n has one more there
+fewer : (m n : List (Option ℕ)) (u t : ℕ) → length m ≡ length n → ((s : ℕ) → project_of m s ≡ Some u → project_of n s ≡ Some u) → t < length n → project_of n t ≡ Some u → (project_of m t ≡ Some u → ⊥) → at_project m u + 1 ≤ at_project n u
+fewer m n u t same keeps t_in at not_at =
+    let more : at_project (set m t (Some u)) u ≤ at_project n u = no_more (set m t (Some u)) n u (length-set m t (Some u) ∙ same) (λ s h. each s (cases_eq s t) h) in
+    omega (arith, more, count_by-set (is_project u) m t (Some u) (omega arith), ap one_if (test_false u (project_of m t) not_at), ap one_if (eq-eqb u u refl))
+  where
+    each : (s : ℕ) → (s ≡ t) ⊎ (s ≡ t → ⊥) → get_or (set m t (Some u)) s None ≡ Some u → project_of n s ≡ Some u
+    each s (inl here) h = rw here at
+    each s (inr other) h = keeps s (rw (get_or-set_other m t s (Some u) None other) at h)
+
+-- a pair that may be deleted is in no stable matching
+pub spent_is_hopeless : (i : Spa) (m n : List (Option ℕ)) (Deleted : ℕ → ℕ → Type 0) → Holds i m Deleted → IsLawful i → (t p : ℕ) → IsSpent i m t p → IsStable i n → project_of n t ≡ Some p → ⊥
+spent_is_hopeless i m n Deleted holds lawful t p (inr project) stable at =
+    let keeps : (s : ℕ) → project_of m s ≡ Some p → project_of n s ≡ Some p =
+    λ s has. kept i m n Deleted holds stable lawful t p s p at has refl (project.before s has) (inl refl) (project_of n s) refl in
+    let less : at_project m p + 1 ≤ at_project n p =
+    fewer m n p t (holds.matching.students ∙ sym stable.matching.students) keeps (student_in_range i n t p at) at (λ has. absurd (omega (arith, project.before t has))) in
+    omega (arith, less, project.full, stable.matching.projects p)
+spent_is_hopeless i m n Deleted holds lawful t p (inl lecturer) stable at =
+    let count : ℕ = length i.lecturers in
+    let l : ℕ = lecturer_of i p in
+    let same : length m ≡ length n = holds.matching.students ∙ sym stable.matching.students in
+    let sum_m : at_lecturer i m l ≡ sum_below (share i m l) count = at_lecturer-sum i l count m (λ s q e. lawful.known s q (holds.matching.acceptable s q e)) in
+    let sum_n : at_lecturer i n l ≡ sum_below (share i n l) count = at_lecturer-sum i l count n (λ s q e. lawful.known s q (stable.matching.acceptable s q e)) in
+    let keeps : (u : ℕ) → lecturer_of i u ≡ l → (u ≡ p) ⊎ (at_project n u < capacity_of i u) → (s : ℕ) → project_of m s ≡ Some u → project_of n s ≡ Some u =
+    λ u of_l room s has. kept i m n Deleted holds stable lawful t p s u at has of_l (rw of_l (lecturer.before s u has of_l)) room (project_of n s) refl in
+    let each : (u : ℕ) → lecturer_of i u ≡ l → at_project m u ≤ at_project n u =
+    λ u of_l. elim (cases_lt (at_project n u) (capacity_of i u)) [
+      | inl room ↦ no_more m n u same (keeps u of_l (inr room))
+      | inr full ↦ let fits : at_project m u ≤ capacity_of i u = holds.matching.projects u in omega arith
+    ] in
+    let here : at_project m p + 1 ≤ at_project n p =
+    fewer m n p t same (keeps p refl (inl refl)) (student_in_range i n t p at) at (λ has. absurd (omega (arith, lecturer.before t p has refl))) in
+    let less : sum_below (share i m l) count + 1 ≤ sum_below (share i n l) count =
+    sum_below-lt (share i m l) (share i n l) count p (λ u. share_le u (cases_Bool (eqb (lecturer_of i u) l)) (each u))
+    (lawful.known t p (stable.matching.acceptable t p at)) (rw (eq-eqb l l refl) here) in
+    omega (arith, sum_m, sum_n, less, lecturer.full, stable.matching.lecturers l)
+  where
+    share_le : (u : ℕ) → (eqb (lecturer_of i u) (lecturer_of i p) ≡ true) ⊎ (eqb (lecturer_of i u) (lecturer_of i p) ≡ false) → (lecturer_of i u ≡ lecturer_of i p → at_project m u ≤ at_project n u) → share i m (lecturer_of i p) u ≤ share i n (lecturer_of i p) u
+    share_le u (inl own) h = rw own (h (eqb-true _ _ own))
+    share_le u (inr other) h = rw other (omega arith)
+
+-- DELETE: pairs that may be deleted are deleted
+pub delete_holds : (i : Spa) (m : List (Option ℕ)) (Deleted More : ℕ → ℕ → Type 0) → IsLawful i → Holds i m Deleted → ((s p : ℕ) → Deleted s p → More s p) → ((s p : ℕ) → More s p → Deleted s p ⊎ IsSpent i m s p) → Holds i m More
+delete_holds i m Deleted More lawful holds keeps new = record {
+  matching = holds.matching;
+  first = λ s p q has better. keeps s p (holds.first s p q has better);
+  spent = λ t p gone. elim (new t p gone) [ inl old ↦ holds.spent t p old | inr now ↦ now ];
+  hopeless = λ t p gone n stable at. elim (new t p gone) [ inl old ↦ holds.hopeless t p old n stable at | inr now ↦ spent_is_hopeless i m n Deleted holds lawful t p now stable at ];
+}
+
+-- at the end: each free student has no pair left
+pub stable_at_end : (i : Spa) (m : List (Option ℕ)) (Deleted : ℕ → ℕ → Type 0) → Holds i m Deleted → ((s p : ℕ) → project_of m s ≡ None → IsAcceptable i s p → Deleted s p) → IsStable i m
+stable_at_end i m Deleted holds free = record {
+  matching = holds.matching;
+  unblocked = unblocked;
+} where
+  gone : (s p : ℕ) (o : Option ℕ) → project_of m s ≡ o → IsAcceptable i s p → Improves i s p o → Deleted s p
+  gone s p None e on better = free s p e on
+  gone s p (Some q) e on better = holds.first s p q e better
+
+  why : (s p : ℕ) → Wants i m s p → IsSpent i m s p
+  why s p wants = holds.spent s p (gone s p (project_of m s) refl wants.0 wants.1)
+
+  unblocked : (s p : ℕ) (x : Letter) → Blocks i m s p x → ⊥
+  unblocked s p A b = elim (why s p b.0) [
+    | inl lecturer ↦ absurd (omega (arith, lecturer.full, b.2))
+    | inr project ↦ absurd (omega (arith, project.full, b.1))
+  ]
+  unblocked s p B b = elim (why s p b.0) [
+    | inl lecturer ↦ elim b.3 [
+      | inl own ↦ absurd (omega (arith, lecturer.before s own.0 own.1 own.2))
+      | inr worse ↦ absurd (omega (arith, lecturer.before worse.0 worse.1.0 worse.1.1 worse.1.2, worse.2.0))
+    ]
+    | inr project ↦ absurd (omega (arith, project.full, b.1))
+  ]
+  unblocked s p C b = elim (why s p b.0) [
+    | inl lecturer ↦ absurd (omega (arith, lecturer.before b.2.0 p b.2.1 refl, b.2.2.0))
+    | inr project ↦ absurd (omega (arith, project.before b.2.0 b.2.1, b.2.2.0))
+  ]
+
+-- at the end: each student has the best of all stable matchings
+pub best_at_end : (i : Spa) (m : List (Option ℕ)) (Deleted : ℕ → ℕ → Type 0) → Holds i m Deleted → ((s p : ℕ) → project_of m s ≡ None → IsAcceptable i s p → Deleted s p) → IsBest i m
+best_at_end i m Deleted holds free = record {
+  stable = stable_at_end i m Deleted holds free;
+  best = λ n stable s. each n stable s (project_of m s) (project_of n s) refl refl;
+} where
+  each : (n : List (Option ℕ)) → IsStable i n → (s : ℕ) (mine other : Option ℕ) → project_of m s ≡ mine → project_of n s ≡ other → IsAsGood i s mine other
+  each n stable s mine None e f = tt
+  each n stable s None (Some q) e f = holds.hopeless s q (free s q e (stable.matching.acceptable s q f)) n stable f
+  each n stable s (Some p) (Some q) e f =
+      elim (cases_order (place (choices_of i s) p) (place (choices_of i s) q)) [
+        | inl level ↦ inl (place-injective (choices_of i s) p q (holds.matching.acceptable s p e) level)
+        | inr apart ↦ elim apart [
+          | inl better ↦ inr (better, stable.matching.acceptable s q f)
+          | inr worse ↦ absurd (holds.hopeless s q (holds.first s q p e (worse, holds.matching.acceptable s p e)) n stable f)
+        ]
+      ]
+
+-- what the students have after s is put at p, in a matching in which s was free
+module _ (i : Spa) (m : List (Option ℕ)) (s p : ℕ) (in_range : s < length m) (free : project_of m s ≡ None) where
+  pub put_same : project_of (set m s (Some p)) s ≡ Some p
+  put_same = get_or-set_same m s (Some p) None in_range
+
+  pub put_cases : (x q : ℕ) → project_of (set m s (Some p)) x ≡ Some q → ((x ≡ s) × (q ≡ p)) ⊎ (project_of m x ≡ Some q)
+  put_cases x q e = elim (cases_eq x s) [
+    | inl same ↦ let now : Some p ≡ Some q = sym put_same ∙ (rw same at e) in inl (same, cc)
+    | inr other ↦ inr (rw (get_or-set_other m s x (Some p) None other) at e)
+  ]
+
+  pub put_at_project : (q : ℕ) → at_project (set m s (Some p)) q ≡ at_project m q + one_if (eqb p q)
+  put_at_project q = omega (arith, count_by-set (is_project q) m s (Some p) in_range, ap (λ o. one_if (is_project q o)) free)
+
+  pub put_at_lecturer : (l : ℕ) → at_lecturer i (set m s (Some p)) l ≡ at_lecturer i m l + one_if (eqb (lecturer_of i p) l)
+  put_at_lecturer l = omega (arith, count_by-set (is_lecturer i l) m s (Some p) in_range, ap (λ o. one_if (is_lecturer i l o)) free)
+
+pub one_here : (p : ℕ) → one_if (eqb p p) ≡ 1
+one_here p = ap one_if (eq-eqb p p refl)
+
+pub none_there : (p q : ℕ) → (p ≡ q → ⊥) → one_if (eqb p q) ≡ 0
+none_there p q other = ap one_if (ne_eqb p q other)
+
+-- PLACE: a free student is put at the first project that is left, where it and its lecturer have room
+pub place_holds : (i : Spa) (m : List (Option ℕ)) (Deleted : ℕ → ℕ → Type 0) → Holds i m Deleted → (s p : ℕ) → s < length m → project_of m s ≡ None → IsAcceptable i s p → ((q : ℕ) → IsBefore (choices_of i s) q p → Deleted s q)
+    → at_project m p < capacity_of i p → at_lecturer i m (lecturer_of i p) < limit_of i (lecturer_of i p) → Holds i (set m s (Some p)) Deleted
+place_holds i m Deleted holds s p in_range free on first room room_l = record {
+  matching = record {
+    students = length-set m s (Some p) ∙ holds.matching.students;
+    acceptable = λ x q e. elim (cases x q e) [ inl new ↦ rw (new.0, new.1) on | inr old ↦ holds.matching.acceptable x q old ];
+    projects = λ q. elim (cases_eq p q) [
+      | inl same ↦ subst (λ k. at_project (set m s (Some p)) k ≤ capacity_of i k) same (omega (arith, count p, one_here p))
+      | inr other ↦ omega (arith, count q, none_there p q other, holds.matching.projects q)
+    ];
+    lecturers = λ l. elim (cases_eq (lecturer_of i p) l) [
+      | inl same ↦ subst (λ k. at_lecturer i (set m s (Some p)) k ≤ limit_of i k) same (omega (arith, count_l (lecturer_of i p), one_here (lecturer_of i p)))
+      | inr other ↦ omega (arith, count_l l, none_there (lecturer_of i p) l other, holds.matching.lecturers l)
+    ];
+  };
+  first = λ x better q e h. elim (cases x q e) [ inl new ↦ rw new.0 (first better (rw (new.0, new.1) at h)) | inr old ↦ holds.first x better q old h ];
+  spent = λ t u gone. elim (holds.spent t u gone) [
+    | inl lecturer ↦ elim (cases_eq (lecturer_of i p) (lecturer_of i u)) [
+      | inl same ↦ absurd (omega (arith, lecturer.full, rw same at room_l))
+      | inr other ↦ inl (record {
+        full = omega (arith, count_l (lecturer_of i u), none_there (lecturer_of i p) (lecturer_of i u) other, lecturer.full);
+        before = λ x q e own. elim (cases x q e) [ inl new ↦ absurd (other (rw new.1 at own)) | inr old ↦ lecturer.before x q old own ];
+      })
+    ]
+    | inr project ↦ elim (cases_eq p u) [
+      | inl same ↦ absurd (omega (arith, project.full, rw same at room))
+      | inr other ↦ inr (record {
+        full = omega (arith, count u, none_there p u other, project.full);
+        before = λ x e. elim (cases x u e) [ inl new ↦ absurd (other (sym new.1)) | inr old ↦ project.before x old ];
+      })
+    ]
+  ];
+  hopeless = holds.hopeless;
+} where
+  cases : (x q : ℕ) → project_of (set m s (Some p)) x ≡ Some q → ((x ≡ s) × (q ≡ p)) ⊎ (project_of m x ≡ Some q)
+  cases = put_cases i m s p in_range free
+
+  count : (q : ℕ) → at_project (set m s (Some p)) q ≡ at_project m q + one_if (eqb p q)
+  count = put_at_project i m s p in_range free
+
+  count_l : (l : ℕ) → at_lecturer i (set m s (Some p)) l ≡ at_lecturer i m l + one_if (eqb (lecturer_of i p) l)
+  count_l = put_at_lecturer i m s p in_range free
+
+-- s is put at p, and then w, who has u by then, is let go
+module _ (i : Spa) (m : List (Option ℕ)) (s p w u : ℕ) (in_range : s < length m) (free : project_of m s ≡ None) (has : project_of (set m s (Some p)) w ≡ Some u) where
+  w_in_range : w < length (set m s (Some p))
+  w_in_range = student_in_range i (set m s (Some p)) w u has
+
+  swap_cases : (x q : ℕ) → project_of (set (set m s (Some p)) w None) x ≡ Some q → (x ≢ w) × (project_of (set m s (Some p)) x ≡ Some q) × (((x ≡ s) × (q ≡ p)) ⊎ (project_of m x ≡ Some q))
+  swap_cases x q e = elim (cases_eq x w) [
+    | inl same ↦ let now : None ≡ Some q = sym (get_or-set_same (set m s (Some p)) w None None w_in_range) ∙ (rw same at e) in absurd (cc)
+    | inr other ↦ let old : project_of (set m s (Some p)) x ≡ Some q = rw (get_or-set_other (set m s (Some p)) w x None None other) at e in
+        (other, old, put_cases i m s p in_range free x q old)
+  ]
+
+  -- who is let go was there before, or is s
+  was : (w ≢ s) → project_of m w ≡ Some u
+  was other = rw (get_or-set_other m s w (Some p) None other) at has
+
+  swap_at_project : (q : ℕ) → at_project (set (set m s (Some p)) w None) q + one_if (eqb u q) ≡ at_project m q + one_if (eqb p q)
+  swap_at_project q = omega (arith, count_by-set (is_project q) (set m s (Some p)) w None w_in_range, ap (λ o. one_if (is_project q o)) has, put_at_project i m s p in_range free q)
+
+  swap_at_lecturer : (l : ℕ) → at_lecturer i (set (set m s (Some p)) w None) l + one_if (eqb (lecturer_of i u) l) ≡ at_lecturer i m l + one_if (eqb (lecturer_of i p) l)
+  swap_at_lecturer l = omega (arith, count_by-set (is_lecturer i l) (set m s (Some p)) w None w_in_range, ap (λ o. one_if (is_lecturer i l o)) has, put_at_lecturer i m s p in_range free l)
+
+  swap_length : length (set (set m s (Some p)) w None) ≡ length m
+  swap_length = length-set (set m s (Some p)) w None ∙ length-set m s (Some p)
+
+-- another student, who is on the list and not after w, stands before w
+stands_before : (xs : List ℕ) (x w : ℕ) → IsOn xs x → x ≢ w → place xs x ≤ place xs w → place xs x < place xs w
+stands_before xs x w on other le = elim (cases_eq (place xs x) (place xs w)) [ inl level ↦ absurd (other (place-injective xs x w on level)) | inr apart ↦ omega arith ]
+
+-- SWAP AT A PROJECT: a free student is put at the first project that is left, which was full, and the worst there is let go, whose pair may then be deleted
+pub swap_at_project_holds : (i : Spa) (m : List (Option ℕ)) (Deleted : ℕ → ℕ → Type 0) → IsLawful i → Holds i m Deleted → (s p w : ℕ) → s < length m → project_of m s ≡ None → IsAcceptable i s p → ((q : ℕ) → IsBefore (choices_of i s) q p → Deleted s q)
+    → at_project m p ≡ capacity_of i p → project_of (set m s (Some p)) w ≡ Some p
+    → ((x : ℕ) → project_of (set m s (Some p)) x ≡ Some p → rank_of i (lecturer_of i p) x ≤ rank_of i (lecturer_of i p) w)
+    → Holds i (set (set m s (Some p)) w None) Deleted × ProjectSpent i (set (set m s (Some p)) w None) p w
+swap_at_project_holds i m Deleted lawful holds s p w in_range free on first full has worst = (
+  record {
+    matching = record {
+      students = swap_length i m s p w p in_range free has ∙ holds.matching.students;
+      acceptable = λ x q e. acceptable x q (cases x q e).1;
+      projects = λ q. omega (arith, count q, holds.matching.projects q);
+      lecturers = λ l. omega (arith, count_l l, holds.matching.lecturers l);
+    };
+    first = λ x better q e h. elim ((cases x q e).2) [ inl new ↦ rw new.0 (first better (rw (new.0, new.1) at h)) | inr old ↦ holds.first x better q old h ];
+    spent = λ t u gone. elim (holds.spent t u gone) [
+      | inl lecturer ↦ inl (record {
+        full = omega (arith, count_l (lecturer_of i u), lecturer.full);
+        before = λ x q e own. elim ((cases x q e).2) [
+          | inl new ↦
+              let here : lecturer_of i p ≡ lecturer_of i u = rw new.1 at own in
+              let w_before : rank_of i (lecturer_of i u) w < rank_of i (lecturer_of i u) t = lecturer.before w p (w_was x p (cases x q e).0 new.0) here in
+              let s_before : rank_of i (lecturer_of i u) s ≤ rank_of i (lecturer_of i u) w = rw here at s_worst in
+              rw new.0 (omega arith)
+          | inr old ↦ lecturer.before x q old own
+        ];
+      })
+      | inr project ↦ inr (record {
+        full = omega (arith, count u, project.full);
+        before = λ x e. elim ((cases x u e).2) [
+          | inl new ↦
+              let w_before : rank_of i (lecturer_of i u) w < rank_of i (lecturer_of i u) t = project.before w (w_was x p (cases x u e).0 new.0 ∙ ap Some (sym new.1)) in
+              let s_before : rank_of i (lecturer_of i u) s ≤ rank_of i (lecturer_of i u) w = rw (sym new.1) at s_worst in
+              rw new.0 (omega arith)
+          | inr old ↦ project.before x old
+        ];
+      })
+    ];
+    hopeless = holds.hopeless;
+  },
+  record {
+    full = omega (arith, count p, full);
+    before = λ x e. let c = cases x p e in stands_before (ranking_of i (lecturer_of i p)) x w (lawful.ranked x p (acceptable x p c.1)) c.0 (worst x c.1);
+  },
+) where
+  after : List (Option ℕ)
+  after = set (set m s (Some p)) w None
+
+  cases : (x q : ℕ) → project_of (set (set m s (Some p)) w None) x ≡ Some q → (x ≢ w) × (project_of (set m s (Some p)) x ≡ Some q) × (((x ≡ s) × (q ≡ p)) ⊎ (project_of m x ≡ Some q))
+  cases = swap_cases i m s p w p in_range free has
+
+  count : (q : ℕ) → at_project (set (set m s (Some p)) w None) q ≡ at_project m q
+  count q = omega (arith, swap_at_project i m s p w p in_range free has q)
+
+  count_l : (l : ℕ) → at_lecturer i (set (set m s (Some p)) w None) l ≡ at_lecturer i m l
+  count_l l = omega (arith, swap_at_lecturer i m s p w p in_range free has l)
+
+  acceptable : (x q : ℕ) → project_of (set m s (Some p)) x ≡ Some q → IsAcceptable i x q
+  acceptable x q e = elim (put_cases i m s p in_range free x q e) [ inl new ↦ rw (new.0, new.1) on | inr old ↦ holds.matching.acceptable x q old ]
+
+  s_worst : rank_of i (lecturer_of i p) s ≤ rank_of i (lecturer_of i p) w
+  s_worst = worst s (put_same i m s p in_range free)
+
+  w_was : (x u : ℕ) → x ≢ w → x ≡ s → project_of m w ≡ Some p
+  w_was x u other same = was i m s p w p in_range free has (λ e. other (same ∙ sym e))
+
+-- SWAP AT A LECTURER: the project has room and its lecturer was full; the worst of the lecturer's students is let go
+pub swap_at_lecturer_holds : (i : Spa) (m : List (Option ℕ)) (Deleted : ℕ → ℕ → Type 0) → IsLawful i → Holds i m Deleted → (s p w u : ℕ) → s < length m → project_of m s ≡ None → IsAcceptable i s p → ((q : ℕ) → IsBefore (choices_of i s) q p → Deleted s q)
+    → at_project m p < capacity_of i p → at_lecturer i m (lecturer_of i p) ≡ limit_of i (lecturer_of i p)
+    → project_of (set m s (Some p)) w ≡ Some u → lecturer_of i u ≡ lecturer_of i p
+    → ((x q : ℕ) → project_of (set m s (Some p)) x ≡ Some q → lecturer_of i q ≡ lecturer_of i p → rank_of i (lecturer_of i p) x ≤ rank_of i (lecturer_of i p) w)
+    → Holds i (set (set m s (Some p)) w None) Deleted × LecturerSpent i (set (set m s (Some p)) w None) (lecturer_of i u) w
+swap_at_lecturer_holds i m Deleted lawful holds s p w u in_range free on first room full has own worst = (
+  record {
+    matching = record {
+      students = swap_length i m s p w u in_range free has ∙ holds.matching.students;
+      acceptable = λ x q e. acceptable x q (cases x q e).1;
+      projects = λ q. elim (cases_eq p q) [
+        | inl same ↦ subst (λ k. at_project (set (set m s (Some p)) w None) k ≤ capacity_of i k) same (omega (arith, swap_at_project i m s p w u in_range free has p, one_here p))
+        | inr other ↦ omega (arith, swap_at_project i m s p w u in_range free has q, none_there p q other, holds.matching.projects q)
+      ];
+      lecturers = λ l. omega (arith, count_l l, holds.matching.lecturers l);
+    };
+    first = λ x better q e h. elim ((cases x q e).2) [ inl new ↦ rw new.0 (first better (rw (new.0, new.1) at h)) | inr old ↦ holds.first x better q old h ];
+    spent = λ t v gone. elim (holds.spent t v gone) [
+      | inl lecturer ↦ inl (record {
+        full = omega (arith, count_l (lecturer_of i v), lecturer.full);
+        before = λ x q e there. elim ((cases x q e).2) [
+          | inl new ↦
+              let here : lecturer_of i p ≡ lecturer_of i v = rw new.1 at there in
+              let w_before : rank_of i (lecturer_of i v) w < rank_of i (lecturer_of i v) t = lecturer.before w u (w_was x (cases x q e).0 new.0) (own ∙ here) in
+              let s_before : rank_of i (lecturer_of i v) s ≤ rank_of i (lecturer_of i v) w = rw here at s_worst in
+              rw new.0 (omega arith)
+          | inr old ↦ lecturer.before x q old there
+        ];
+      })
+      | inr project ↦ elim (cases_eq p v) [
+        | inl same ↦ absurd (omega (arith, project.full, rw same at room))
+        | inr other ↦ elim (cases_eq u v) [
+          | inl left ↦
+              let w_had : project_of m w ≡ Some v = was i m s p w u in_range free has (λ e. let now : Some p ≡ Some u = sym (put_same i m s p in_range free) ∙ (rw e at has) in other (let same : p ≡ u = cc in same ∙ left)) ∙ ap Some left in
+              let w_before : rank_of i (lecturer_of i v) w < rank_of i (lecturer_of i v) t = project.before w w_had in
+              let of_v : lecturer_of i v ≡ lecturer_of i p = ap (lecturer_of i) (sym left) ∙ own in
+              inl (record {
+                full = omega (arith, count_l (lecturer_of i v), rw (sym of_v) at full);
+                before = λ x q e there.
+                    let no_worse : rank_of i (lecturer_of i v) x ≤ rank_of i (lecturer_of i v) w = rw of_v (worst x q (cases x q e).1 (there ∙ of_v)) in
+                    omega arith;
+              })
+          | inr apart ↦ inr (record {
+            full = omega (arith, swap_at_project i m s p w u in_range free has v, none_there p v other, none_there u v apart, project.full);
+            before = λ x e. elim ((cases x v e).2) [ inl new ↦ absurd (other (sym new.1)) | inr old ↦ project.before x old ];
+          })
+        ]
+      ]
+    ];
+    hopeless = holds.hopeless;
+  },
+  record {
+    full = omega (arith, count_l (lecturer_of i u), rw (sym own) at full);
+    before = λ x q e there. let c = cases x q e in
+        let mine : lecturer_of i q ≡ lecturer_of i p = there ∙ own in
+        rw own (stands_before (ranking_of i (lecturer_of i p)) x w (rw mine at (lawful.ranked x q (acceptable x q c.1))) c.0 (worst x q c.1 mine));
+  },
+) where
+  cases : (x q : ℕ) → project_of (set (set m s (Some p)) w None) x ≡ Some q → (x ≢ w) × (project_of (set m s (Some p)) x ≡ Some q) × (((x ≡ s) × (q ≡ p)) ⊎ (project_of m x ≡ Some q))
+  cases = swap_cases i m s p w u in_range free has
+
+  count_l : (l : ℕ) → at_lecturer i (set (set m s (Some p)) w None) l ≡ at_lecturer i m l
+  count_l l = omega (arith, swap_at_lecturer i m s p w u in_range free has l, ap (λ k. one_if (eqb k l)) own)
+
+  acceptable : (x q : ℕ) → project_of (set m s (Some p)) x ≡ Some q → IsAcceptable i x q
+  acceptable x q e = elim (put_cases i m s p in_range free x q e) [ inl new ↦ rw (new.0, new.1) on | inr old ↦ holds.matching.acceptable x q old ]
+
+  s_worst : rank_of i (lecturer_of i p) s ≤ rank_of i (lecturer_of i p) w
+  s_worst = worst s p (put_same i m s p in_range free) refl
+
+  w_was : (x : ℕ) → x ≢ w → x ≡ s → project_of m w ≡ Some u
+  w_was x other same = was i m s p w u in_range free has (λ e. other (same ∙ sym e))

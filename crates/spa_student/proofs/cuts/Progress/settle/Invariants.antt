@@ -1,0 +1,16 @@
+use Rattle.std.proofs.Common.{◌≡◌, ◌≢◌, ◌⊎◌, ℕ, ◌<◌, ◌-◌, None, length, sum, sum_by}
+use Rattle.spa_model.specs.Spa.{project_of}
+use Rattle.spa_student.specs.Cuts.{IsUnderWay, IsSettled}
+use Rattle.spa_student.proofs.cuts.Progress.settle.Given as goal
+
+-- all who were settled, and s, are settled, but for who is free now
+abbrev pub invariant-loop-w : goal.invariant-loop-w
+invariant-loop-w l = record {
+  state : IsUnderWay l.instance l.self;
+  in_range : l.free < length l.instance.choices;
+  free : project_of l.self.projects.items l.free ≡ None;
+  settled : (x : ℕ) → x ≢ l.free → (x ≡ l.s) ⊎ IsSettled l.instance l.initial.self x → IsSettled l.instance l.self x;
+}
+
+abbrev pub decreases-loop-w : goal.decreases-loop-w
+decreases-loop-w l = sum_by length l.instance.choices - sum l.self.cursors.items

@@ -1,0 +1,6 @@
+use Rattle.std.proofs.Common.{◌≡◌, map, take, length}
+use Rattle.spa_model.specs.Spa.{ranking_of}
+use Rattle.spa_student.proofs.cuts.first_project_cuts.Given as goal
+
+abbrev pub invariant-loop-p : goal.invariant-loop-p
+invariant-loop-p l = l.cuts.items ≡ map (λ k. length (ranking_of l.instance k)) (take l.p l.instance.lecturers)

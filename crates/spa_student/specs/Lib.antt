@@ -1,0 +1,4 @@
+pub mod Machine
+pub mod Worst
+pub mod Put
+pub mod Cuts

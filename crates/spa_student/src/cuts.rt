@@ -1,0 +1,322 @@
+//! Cursors into the lists, and cuts in the rankings: no list gets shorter.
+
+ghost use Rattle.std.specs.Prelude.{◌≡◌, ◌≢◌, ◌<◌, ◌≤◌, ◌+◌, ◌↔◌, ◌⊎◌, ℕ, IfOk, IfSome, MatchOption, IsTrue, Some, None, length, slice_set, slice_index, sum, map};
+ghost use Rattle.spa_model.specs.Spa.{IsBest, IsWith, IsAcceptable, choices_of, project_of, lecturer_of, ranking_of};
+ghost use Rattle.spa_student.specs.Cuts.{IsPastCut, IsUncut, IsUnderWay, AreCounts, AreMarks, IsNextEntry, KeepsCuts, Puts, Leaves, Exchanges, IsSettled};
+ghost use Rattle.spa_student.specs.Machine.{rank_of};
+ghost use Rattle.spa_student.specs.Worst.{IsWorstAt, IsWorstWith};
+
+use spa_model::{Instance, Matching};
+use std::alloc::{AllocError, Global};
+
+/// How far the search for the best matching has come.
+#[derive(Drop)]
+pub(crate) struct Progress {
+    /// By student: the place of the first entry that is not passed.
+    cursors: Vec<usize>,
+    /// By student: the project, if any.
+    projects: Vec<Option<usize>>,
+    /// By project: from which place on students of the lecturer's ranking are cut.
+    project_cuts: Vec<usize>,
+    /// By lecturer: the same, for all of the lecturer's projects.
+    lecturer_cuts: Vec<usize>,
+    /// By project: how many students it has.
+    project_counts: Vec<usize>,
+    /// By lecturer: how many students all the projects have.
+    lecturer_counts: Vec<usize>,
+}
+
+impl Progress {
+    /// Whether the student stands at or past the cut of the project, or of its lecturer.
+    fn is_past_cut(&self, instance: &Instance, s: usize, p: usize) -> bool
+        requires marks { AreMarks instance.now self.now }
+        requires acceptable { IsAcceptable instance.now s p }
+        ensures { IsTrue result ↔ IsPastCut instance.now self.now s p }
+    {
+        let _lawful = instance.students();
+        let l = instance.lecturer_of(p);
+        match instance.rank(l, s) {
+            Some(rank) => {
+                let rank = rank as usize;
+                self.project_cuts[p] <= rank || self.lecturer_cuts[l] <= rank
+            }
+            None => unreachable!(),
+        }
+    }
+
+    /// The place of the first entry that is neither passed nor cut; the list's length where there is
+    /// none.
+    fn next(&self, instance: &Instance, s: usize) -> usize
+        requires marks { AreMarks instance.now self.now }
+        requires in_range { s < length instance.now.choices }
+        ensures from { slice_index self.now.cursors.items s ≤ result }
+        ensures to { result ≤ length (choices_of instance.now s) }
+        ensures cut { (k : ℕ) → slice_index self.now.cursors.items s ≤ k → k < result → IsPastCut instance.now self.now s (slice_index (choices_of instance.now s) k) }
+        ensures uncut { result < length (choices_of instance.now s) → IsPastCut instance.now self.now s (slice_index (choices_of instance.now s) result) → ⊥ }
+    {
+        let list = instance.choices(s);
+        for k in self.cursors[s]..list.len() {
+            if !self.is_past_cut(instance, s, list[k]) {
+                return k;
+            }
+        }
+        list.len()
+    }
+
+    fn is_at(&self, s: usize, p: usize) -> bool
+        requires { s < length self.now.projects.items }
+        ensures { IsTrue result ↔ (project_of self.now.projects.items s ≡ Some p) }
+    {
+        match self.projects[s] {
+            Some(q) => q == p,
+            None => false,
+        }
+    }
+
+    fn is_with(&self, instance: &Instance, s: usize, l: usize) -> bool
+        requires marks { AreMarks instance.now self.now }
+        requires in_range { s < length self.now.projects.items }
+        ensures { IsTrue result ↔ IsWith instance.now self.now.projects.items l s }
+    {
+        let _lawful = instance.students();
+        match self.projects[s] {
+            Some(q) => instance.lecturer_of(q) == l,
+            None => false,
+        }
+    }
+
+    /// The place, on the lecturer's ranking, of the worst student at the project.
+    fn worst_at(&self, instance: &Instance, p: usize) -> usize
+        requires marks { AreMarks instance.now self.now }
+        requires uncut { IsUncut instance.now self.now }
+        requires in_range { p < length instance.now.lecturers }
+        requires some { (s : ℕ) × (project_of self.now.projects.items s ≡ Some p) }
+        ensures in_range { result < length (ranking_of instance.now (lecturer_of instance.now p)) }
+        ensures worst { IsWorstAt instance.now self.now.projects.items p (slice_index (ranking_of instance.now (lecturer_of instance.now p)) result) }
+    {
+        let _lawful = instance.students();
+        let ranking = instance.ranking(instance.lecturer_of(p));
+        for k in (0..self.project_cuts[p]).rev() {
+            if self.is_at(ranking[k], p) {
+                return k;
+            }
+        }
+        unreachable!()
+    }
+
+    /// The place, on the lecturer's ranking, of the worst student at any of the lecturer's projects.
+    fn worst_with(&self, instance: &Instance, l: usize) -> usize
+        requires marks { AreMarks instance.now self.now }
+        requires uncut { IsUncut instance.now self.now }
+        requires in_range { l < length instance.now.rankings }
+        requires some { (s : ℕ) × IsWith instance.now self.now.projects.items l s }
+        ensures in_range { result < length (ranking_of instance.now l) }
+        ensures worst { IsWorstWith instance.now self.now.projects.items l (slice_index (ranking_of instance.now l) result) }
+    {
+        let _lawful = instance.students();
+        let ranking = instance.ranking(l);
+        for k in (0..self.lecturer_cuts[l]).rev() {
+            if self.is_with(instance, ranking[k], l) {
+                return k;
+            }
+        }
+        unreachable!()
+    }
+
+    /// A student leaves the own project, and the cursor moves on.
+    fn leave(&mut self, instance: &Instance, w: usize, u: usize)
+        requires marks { AreMarks instance.now self.old }
+        requires counts { AreCounts instance.now self.old }
+        requires has { project_of self.old.projects.items w ≡ Some u }
+        requires past { IsPastCut instance.now self.old w u }
+        ensures leaves { Leaves w self.old self.new }
+        ensures cuts { KeepsCuts self.old self.new }
+        ensures marks { AreMarks instance.now self.new }
+        ensures counts { AreCounts instance.now self.new }
+    {
+        let _lawful = instance.students();
+        let entries = instance.choices(w).len();
+        prove!(self.cursors[w] < entries);
+        let l = instance.lecturer_of(u);
+        self.projects[w] = None;
+        self.cursors[w] += 1;
+        self.project_counts[u] -= 1;
+        self.lecturer_counts[l] -= 1;
+    }
+
+    /// The worst student at the project is let go; from there on, students are cut.
+    fn let_go_at(&mut self, instance: &Instance, p: usize) -> usize
+        requires marks { AreMarks instance.now self.old }
+        requires counts { AreCounts instance.now self.old }
+        requires uncut { IsUncut instance.now self.old }
+        requires in_range { p < length instance.now.lecturers }
+        requires some { (s : ℕ) × (project_of self.old.projects.items s ≡ Some p) }
+        ensures worst { IsWorstAt instance.now self.old.projects.items p result }
+        ensures leaves { Leaves result self.old self.new }
+        ensures project_cuts { self.new.project_cuts.items ≡ slice_set self.old.project_cuts.items p (rank_of instance.now (lecturer_of instance.now p) result) }
+        ensures lecturer_cuts { self.new.lecturer_cuts.items ≡ self.old.lecturer_cuts.items }
+        ensures marks { AreMarks instance.now self.new }
+        ensures counts { AreCounts instance.now self.new }
+    {
+        let _lawful = instance.students();
+        let rank = self.worst_at(instance, p);
+        let w = instance.ranking(instance.lecturer_of(p))[rank];
+        self.project_cuts[p] = rank;
+        self.leave(instance, w, p);
+        w
+    }
+
+    /// The lecturer's worst student is let go; from there on, students are cut.
+    fn let_go_with(&mut self, instance: &Instance, l: usize) -> usize
+        requires marks { AreMarks instance.now self.old }
+        requires counts { AreCounts instance.now self.old }
+        requires uncut { IsUncut instance.now self.old }
+        requires in_range { l < length instance.now.rankings }
+        requires some { (s : ℕ) × IsWith instance.now self.old.projects.items l s }
+        ensures worst { IsWorstWith instance.now self.old.projects.items l result }
+        ensures leaves { Leaves result self.old self.new }
+        ensures project_cuts { self.new.project_cuts.items ≡ self.old.project_cuts.items }
+        ensures lecturer_cuts { self.new.lecturer_cuts.items ≡ slice_set self.old.lecturer_cuts.items l (rank_of instance.now l result) }
+        ensures marks { AreMarks instance.now self.new }
+        ensures counts { AreCounts instance.now self.new }
+    {
+        let _lawful = instance.students();
+        let rank = self.worst_with(instance, l);
+        let w = instance.ranking(l)[rank];
+        let Some(u) = self.projects[w] else {
+            unreachable!()
+        };
+        self.lecturer_cuts[l] = rank;
+        self.leave(instance, w, u);
+        w
+    }
+
+    /// A free student is put at a project, and nobody is let go yet.
+    fn place(&mut self, instance: &Instance, s: usize, p: usize)
+        requires state { IsUnderWay instance.now self.old }
+        requires next { IsNextEntry instance.now self.old s p }
+        ensures puts { Puts s p self.old self.new }
+        ensures cuts { KeepsCuts self.old self.new }
+        ensures marks { AreMarks instance.now self.new }
+        ensures counts { AreCounts instance.now self.new }
+    {
+        let _lawful = instance.students();
+        let l = instance.lecturer_of(p);
+        self.projects[s] = Some(p);
+        self.project_counts[p] += 1;
+        self.lecturer_counts[l] += 1;
+    }
+
+    /// A free student is put at a project. Who is let go, if anybody: where the project is over
+    /// its capacity, the worst student there, else where its lecturer is, the lecturer's worst.
+    fn put(&mut self, instance: &Instance, s: usize, p: usize) -> Option<usize>
+        requires state { IsUnderWay instance.now self.old }
+        requires next { IsNextEntry instance.now self.old s p }
+        ensures state { IsUnderWay instance.now self.new }
+        ensures moves { MatchOption result (Puts s p self.old self.new) (λ w. Exchanges s p w self.old self.new) }
+    {
+        let _lawful = instance.students();
+        let l = instance.lecturer_of(p);
+        self.place(instance, s, p);
+        if self.project_counts[p] > instance.project_capacity(p) as usize {
+            return Some(self.let_go_at(instance, p));
+        }
+        if self.lecturer_counts[l] > instance.lecturer_capacity(l) as usize {
+            return Some(self.let_go_with(instance, l));
+        }
+        None
+    }
+
+    /// The cursor of a free student goes to the first entry that is not cut, and the student is put
+    /// there. Who is let go, if anybody.
+    fn turn(&mut self, instance: &Instance, s: usize) -> Option<usize>
+        requires state { IsUnderWay instance.now self.old }
+        requires in_range { s < length instance.now.choices }
+        requires free { project_of self.old.projects.items s ≡ None }
+        ensures state { IsUnderWay instance.now self.new }
+        ensures settled { (x : ℕ) → result ≢ Some x → (x ≡ s) ⊎ IsSettled instance.now self.old x → IsSettled instance.now self.new x }
+        ensures free { IfSome result (λ w. (w < length instance.now.choices) × (project_of self.new.projects.items w ≡ None)) }
+        ensures moves { IfSome result (λ w. sum self.old.cursors.items < sum self.new.cursors.items) }
+    {
+        let list = instance.choices(s);
+        let k = self.next(instance, s);
+        self.cursors[s] = k;
+        if k < list.len() {
+            self.put(instance, s, list[k])
+        } else {
+            None
+        }
+    }
+
+    /// A free student has turns, and then who is let go, until nobody is.
+    fn settle(&mut self, instance: &Instance, s: usize)
+        requires state { IsUnderWay instance.now self.old }
+        requires in_range { s < length instance.now.choices }
+        requires free { project_of self.old.projects.items s ≡ None }
+        ensures state { IsUnderWay instance.now self.new }
+        ensures settled { (x : ℕ) → (x ≡ s) ⊎ IsSettled instance.now self.old x → IsSettled instance.now self.new x }
+    {
+        let mut free = s;
+        while let Some(w) = self.turn(instance, free) {
+            free = w;
+        }
+    }
+
+    /// Every student who is free has turns, one after the other.
+    fn run(&mut self, instance: &Instance)
+        requires { IsUnderWay instance.now self.old }
+        ensures { IsBest instance.now self.new.projects.items }
+    {
+        for s in 0..instance.students() {
+            if self.projects[s].is_none() {
+                self.settle(instance, s);
+            }
+        }
+    }
+
+    /// Nobody has a project, and nobody is cut.
+    fn new(alloc: Global, instance: &Instance) -> Result<Progress, AllocError>
+        ensures { IfOk result (λ q. IsUnderWay instance.now q) }
+    {
+        let _lawful = instance.students();
+        Ok(Progress {
+            cursors: vec![in alloc; 0; instance.students()]?,
+            projects: vec![in alloc; None; instance.students()]?,
+            project_cuts: first_project_cuts(alloc, instance)?,
+            lecturer_cuts: first_lecturer_cuts(alloc, instance)?,
+            project_counts: vec![in alloc; 0; instance.projects()]?,
+            lecturer_counts: vec![in alloc; 0; instance.lecturers()]?,
+        })
+    }
+}
+
+/// For each project the length of its lecturer's ranking.
+fn first_project_cuts(alloc: Global, instance: &Instance) -> Result<Vec<usize>, AllocError>
+    ensures { IfOk result (λ cuts. cuts.items ≡ map (λ l. length (ranking_of instance.now l)) instance.now.lecturers) }
+{
+    let mut cuts = Vec::new(alloc);
+    for p in 0..instance.projects() {
+        cuts.push(instance.ranking(instance.lecturer_of(p)).len())?;
+    }
+    Ok(cuts)
+}
+
+/// For each lecturer the length of the ranking.
+fn first_lecturer_cuts(alloc: Global, instance: &Instance) -> Result<Vec<usize>, AllocError>
+    ensures { IfOk result (λ cuts. cuts.items ≡ map length instance.now.rankings) }
+{
+    let mut cuts = Vec::new(alloc);
+    for l in 0..instance.lecturers() {
+        cuts.push(instance.ranking(l).len())?;
+    }
+    Ok(cuts)
+}
+
+/// The best stable matching for the students.
+pub fn solve(alloc: Global, instance: &Instance) -> Result<Matching, AllocError>
+    ensures { IfOk result (λ m. IsBest instance.now m) }
+{
+    let mut progress = Progress::new(alloc, instance)?;
+    progress.run(instance);
+    Ok(Matching::of(instance, progress.projects))
+}
