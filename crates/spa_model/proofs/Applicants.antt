@@ -1,5 +1,5 @@
 -- Lemmas on the faults that speak of applicants, by number.
-use Rattle.std.proofs.Common.{◌≡◌, ◌⊎◌, inl, inr, ◌↔◌, IsTrue, ℕ, ◌+◌, ◌<◌, ◌≤◌, Bool, true, false, List, [], ◌∷◌, length, get_or, map, Option, Some, None, refl, sym, ◌∙◌, ap, subst, arith}
+use Rattle.std.proofs.Common.{◌≡◌, ◌⊎◌, inl, inr, ◌↔◌, IsTrue, ℕ, ◌+◌, ◌<◌, Bool, true, false, List, [], length, get_or, Option, Some, None, refl, sym, ◌∙◌, ap, subst, arith}
 use Rattle.std.specs.Prelude.{not}
 use Rattle.std.specs.Option.{is_some}
 use Rattle.std.proofs.lemmas.Bool.{cases_lt, false≢true}
@@ -9,14 +9,14 @@ use Rattle.spa_rows.specs.Lines.{Text}
 use Rattle.spa_rows.specs.Least.{IsLeastOf, lesser_row}
 use Rattle.spa_rows.specs.Faults.{IsKeyOf}
 use Rattle.spa_rows.proofs.LeastRow.{least_either}
-use Rattle.spa_rows.proofs.Lists.{at_place, map_at}
+use Rattle.spa_rows.proofs.Lists.{map_at}
 use Rattle.spa_model.specs.declared.instance.Student.{Student}
 use Rattle.spa_model.specs.declared.instance.Project.{Project}
 use Rattle.spa_model.specs.declared.instance.Lecturer.{Lecturer}
 use Rattle.spa_model.specs.Spa.{Rise}
 use Rattle.spa_model.specs.Built.{HasKey}
 use Rattle.spa_model.specs.Numbers.{student_keys, choices_at, lecturer_at, row_at, rank_at, Finds, IsApplicantOf, Misses, MissesBelow}
-use Rattle.spa_model.proofs.Keys.{has_key, one_number, is_key_of}
+use Rattle.spa_model.proofs.Keys.{one_number, is_key_of}
 
 -- rows at a place
 pub choices_here : (students : List Student) (s : ℕ) (x : Student) → s < length students → x ≡ get_or students s x → choices_at students s ≡ x.choices.items

@@ -1,5 +1,5 @@
 -- What the absence of faults says of lines.
-use Rattle.std.proofs.Common.{◌≡◌, ◌⊎◌, inl, inr, ℕ, ◌+◌, ◌<◌, ◌≤◌, Bool, true, false, List, length, get_or, map, take, All, Any, Ordering, Less, Equal, Greater, IsSortedByKey, refl, sym, ◌∙◌, ap, subst, arith}
+use Rattle.std.proofs.Common.{◌≡◌, inl, inr, ℕ, ◌<◌, ◌≤◌, Bool, true, false, List, length, get_or, map, take, All, Any, Ordering, Less, Equal, Greater, IsSortedByKey, refl, sym, ◌∙◌, ap, arith}
 use Rattle.std.specs.Ordering.{nat_cmp, is_lt}
 use Rattle.std.specs.Cmp.Lexicographic.{slice_cmp}
 use Rattle.std.proofs.lemmas.Cmp.{nat_list_cmp_total}
@@ -10,8 +10,8 @@ use Rattle.std.proofs.lemmas.List.{get_or_default, get_or-take, length-take, len
 use Rattle.spa_rows.specs.Form.{is_key}
 use Rattle.spa_rows.specs.Lines.{Text, Rows}
 use Rattle.spa_rows.specs.Least.{BadAt}
-use Rattle.spa_rows.specs.Faults.{HasFault, HasNoneBefore, IsBadCapacity, IsKeyOf, NamesNone, Repeats}
-use Rattle.spa_rows.specs.declared.faults.InstanceFault.TheVariants.{TooMany, BadKey, KeyTwice, BadCapacity, NoSuchLecturer, NoSuchProject, RepeatInList, ListTooLong, NotApplicant, ApplicantMissing, Memory}
+use Rattle.spa_rows.specs.Faults.{HasNoneBefore, IsBadCapacity, IsKeyOf, NamesNone, Repeats}
+use Rattle.spa_rows.specs.declared.faults.InstanceFault.TheVariants.{TooMany, BadKey, KeyTwice, BadCapacity, NoSuchLecturer, NoSuchProject, RepeatInList, ListTooLong, NotApplicant}
 use Rattle.spa_rows.proofs.Lists.{at_place, map_at}
 use Rattle.spa_model.specs.Spa.{Rise}
 use Rattle.spa_model.specs.Numbers.{student_keys, project_keys, lecturer_keys}

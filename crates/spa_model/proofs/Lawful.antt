@@ -1,6 +1,6 @@
 -- The numbered rows of good lines are a lawful instance, which stands for the lines.
-use Rattle.std.proofs.Common.{◌≡◌, ◌≢◌, ◌⊎◌, inl, inr, ℕ, ◌+◌, ◌<◌, ◌≤◌, Bool, true, false, eqb, List, [], ◌∷◌, length, get_or, map, Option, Some, None, All, Any, refl, sym, ◌∙◌, ap, subst, arith}
-use Rattle.std.specs.List.{AllZip, AllPairs, list_any}
+use Rattle.std.proofs.Common.{◌≡◌, ◌⊎◌, inl, inr, ℕ, ◌<◌, ◌≤◌, true, eqb, List, [], ◌∷◌, length, get_or, map, None, Any, refl, sym, ◌∙◌, ap, subst, arith}
+use Rattle.std.specs.List.{AllZip, list_any}
 use Rattle.std.proofs.lemmas.Bool.{cases_lt, cases_Bool, eqb-true, eq-eqb}
 use Rattle.std.proofs.lemmas.List.{get_or_default, get_or_past, length-map}
 use Rattle.std.proofs.lemmas.List.Folds.{Any-from_list_any, list_any-from_Any}
@@ -12,10 +12,10 @@ use Rattle.spa_rows.proofs.Lists.{at_place, map_at}
 use Rattle.spa_model.specs.declared.instance.Student.{Student}
 use Rattle.spa_model.specs.declared.instance.Project.{Project}
 use Rattle.spa_model.specs.declared.instance.Lecturer.{Lecturer}
-use Rattle.spa_model.specs.Spa.{Spa, place, IsOn, IsAcceptable, IsDistinct, IsLawful, choices_of, lecturer_of, capacity_of, ranking_of, limit_of}
+use Rattle.spa_model.specs.Spa.{Spa, place, IsOn, IsDistinct, IsLawful, capacity_of, limit_of}
 use Rattle.spa_model.specs.Built.{HasKey, keys_at, StandsFor, StandsStudent, StandsProject, StandsLecturer}
 use Rattle.spa_model.specs.Inside.{spa_of, AreRanks, HaveRanks}
-use Rattle.spa_model.specs.Numbers.{student_keys, project_keys, lecturer_keys, AreNumbers, IsStudentOf, IsProjectOf, IsLecturerOf, choices_at, lecturer_at, row_at, rank_at, Finds, IsApplicantOf, MissesBelow}
+use Rattle.spa_model.specs.Numbers.{student_keys, project_keys, lecturer_keys, AreNumbers, IsStudentOf, IsProjectOf, IsLecturerOf, choices_at, lecturer_at, row_at, rank_at, Finds, MissesBelow}
 use Rattle.spa_model.proofs.Places.{get_or-place, place-get_or-le}
 use Rattle.spa_model.proofs.Keys.{one_number, key_number}
 use Rattle.spa_model.proofs.Zips.{zip_at, zip_length, zip_maps, zip_weaker, zip_all}
@@ -116,18 +116,10 @@ module _ (rows : Rows) (students : List Student) (projects : List Project) (lect
     known s p on =
         let low : s < length rows.students = choices_there s p on in
         let x = at_place rows.students s low in
-        let zip : AreNumbers (project_keys rows.projects) x.0.list (choices_at students s) = Numbered.choices_numbered rows students projects so s x.0 low x.1 in
-        let key : (k : ℕ) (d : ℕ) → k < length (choices_at students s) → get_or (choices_at students s) k d < length (project_keys rows.projects) = zip_all (λ t n. HasKey (project_keys rows.projects) n t) (λ n. n < length (project_keys rows.projects)) x.0.list (choices_at students s) (λ t n h. h.0) zip in
-        omega (arith, key (place (choices_at students s) p) p on, on_at (choices_at students s) p on, length-map rows.projects (λ q. q.key))
+        Numbered.choice_known rows students projects so s (place (choices_at students s) p) p x.0 low x.1 on (on_at (choices_at students s) p on)
 
     offered : (p : ℕ) → p < length rows.projects → lecturer_at projects p < length rows.lecturers
-    offered p low =
-        let x = at_place rows.projects p low in
-        let key : HasKey (lecturer_keys rows.lecturers) (lecturer_at projects p) x.0.lecturer = Numbered.lecturer_numbered rows students projects so p x.0 low x.1 in
-        omega (arith, key.0, length-map rows.lecturers (λ q. q.key))
-
-    finds_on : (s p l : ℕ) → IsOn (choices_at students s) p → lecturer_at projects p ≡ l → Finds projects (choices_at students s) l
-    finds_on s p l on is_l = (place (choices_at students s) p, p, on, on_at (choices_at students s) p on, is_l)
+    offered p low = Numbered.lecturer_known rows students projects so p low
 
     ranks_there : (s p : ℕ) → IsOn (choices_at students s) p → IsOn (ranking_at (lecturer_at projects p)) s
     ranks_there s p on = elim (cases_lt (place (ranking_at (lecturer_at projects p)) s) (length (ranking_at (lecturer_at projects p)))) [

@@ -2,7 +2,6 @@ pub mod Places
 pub mod Counts
 pub mod Numbers
 pub mod Fitting
-pub mod LeastRow
 pub mod PairFaults
 pub mod AssignedPairs
 pub mod FirstFault

@@ -1,20 +1,20 @@
 -- Numbered lecturers and the lines that they come from say the same of who is missing on a list.
-use Rattle.std.proofs.Common.{◌≡◌, ◌⊎◌, inl, inr, ℕ, ◌+◌, ◌<◌, ◌≤◌, Bool, true, false, ltb, List, [], ◌∷◌, length, get_or, map, Option, Some, None, Any, refl, sym, ◌∙◌, ap, subst, arith}
+use Rattle.std.proofs.Common.{◌≡◌, inl, inr, ℕ, ◌<◌, ◌≤◌, true, false, ltb, List, [], length, get_or, Some, None, Any, refl, sym, ◌∙◌, ap, arith}
 use Rattle.std.specs.List.{AllZip}
 use Rattle.std.proofs.lemmas.Bool.{cases_lt}
 use Rattle.std.proofs.lemmas.Bool.Decides.{nat_tests}
-use Rattle.std.proofs.lemmas.List.{get_or_default, length-map}
+use Rattle.std.proofs.lemmas.List.{length-map}
 use Rattle.spa_rows.specs.Lines
 use Rattle.spa_rows.specs.Lines.{Text, Rows}
 use Rattle.spa_rows.specs.Faults.{HasFault}
 use Rattle.spa_rows.specs.declared.faults.InstanceFault.TheVariants.{ApplicantMissing}
-use Rattle.spa_rows.proofs.Lists.{at_place, map_at}
+use Rattle.spa_rows.proofs.Lists.{at_place}
 use Rattle.spa_model.specs.declared.instance.Student.{Student}
 use Rattle.spa_model.specs.declared.instance.Project.{Project}
 use Rattle.spa_model.specs.declared.instance.Lecturer.{Lecturer}
 use Rattle.spa_model.specs.Spa.{place, rank_in, IsOn}
 use Rattle.spa_model.specs.Built.{HasKey}
-use Rattle.spa_model.specs.Numbers.{student_keys, project_keys, lecturer_keys, AreNumbers, IsLecturerOf, choices_at, lecturer_at, row_at, rank_at, Finds, MissesBelow}
+use Rattle.spa_model.specs.Numbers.{student_keys, IsLecturerOf, choices_at, lecturer_at, row_at, rank_at, Finds, MissesBelow}
 use Rattle.spa_model.proofs.Places.{get_or-place, place-get_or-le}
 use Rattle.spa_model.proofs.Keys.{one_number, key_number}
 use Rattle.spa_model.proofs.Zips.{zip_at, zip_length}
@@ -70,32 +70,22 @@ module _ (rows : Rows) (students : List Student) (projects : List Project) (lect
   pub rank_is : (l : ℕ) (y : Lines.Lecturer) (z : Lecturer) (s : ℕ) → l < length rows.lecturers → get_or lecturers l z ≡ z → IsLecturerOf (student_keys rows.students) y z → s < length rows.students → rank_at lecturers l s ≡ rank_in z.ranking.items s
   rank_is l y z s h at is_z low = rank_here lecturers l s z (omega (arith, lecturer_count)) (sym at) ∙ is_z.ranks.each s (omega (arith, length-map rows.students (λ q. q.key)))
 
+  -- a student who finds a project of the lecturer and has no place there is missing
+  missed : (r s l : ℕ) (x : Lines.Student) (y : Lines.Lecturer) → s < length rows.students → get_or rows.students s x ≡ x → l < length rows.lecturers → get_or rows.lecturers l y ≡ y → Finds projects (choices_at students s) l → row_at rows.lecturers l ≡ r → rank_at lecturers l s ≡ None → HasFault rows ApplicantMissing r
+  missed r s l x y low is_x l_low is_y found row none =
+      let z = row_of l y l_low is_y in
+      let off : IsOn z.0.ranking.items s → ⊥ = λ on. ranked z.0.ranking.items s on (sym (rank_is l y z.0 s l_low z.1 z.2 low) ∙ none) in
+      (l, y, l_low, l_low, is_y, sym (row_here rows.lecturers l y l_low (sym is_y)) ∙ row, (s, x, low, is_x, (Numbered.finds_text rows students projects so l y l_low is_y s x low is_x found, λ any. off (on_number y z.0 z.2 s x low is_x any))))
+
   -- the fault ApplicantMissing, by number
   pub misses_fault : (r : ℕ) → MissesBelow rows.lecturers lecturers projects students (length students) r → HasFault rows ApplicantMissing r
   misses_fault r (s, s_low, (k, p, under, short, is_p, row, none)) =
       let low : s < length rows.students = omega (arith, Numbered.student_count rows students projects so) in
       let x = at_place rows.students s low in
-      let zip : AreNumbers (project_keys rows.projects) x.0.list (choices_at students s) = Numbered.choices_numbered rows students projects so s x.0 low x.1 in
-      let size : length (choices_at students s) ≡ length x.0.list = zip_length (λ t n. HasKey (project_keys rows.projects) n t) x.0.list (choices_at students s) zip in
-      let text = at_place x.0.list k (omega arith) in
-      let mine : HasKey (project_keys rows.projects) (get_or (choices_at students s) k p) (get_or x.0.list k text.0) = zip_at (λ t n. HasKey (project_keys rows.projects) n t) x.0.list (choices_at students s) k text.0 p (omega arith) zip in
-      let key_p : HasKey (project_keys rows.projects) p text.0 = rw (is_p, text.1) at mine in
-      let known : p < length rows.projects = omega (arith, key_p.0, length-map rows.projects (λ q. q.key)) in
-      let line = at_place rows.projects p known in
-      let l : ℕ = lecturer_at projects p in
-      let key_l : HasKey (lecturer_keys rows.lecturers) l line.0.lecturer = Numbered.lecturer_numbered rows students projects so p line.0 known line.1 in
-      let l_low : l < length rows.lecturers = omega (arith, key_l.0, length-map rows.lecturers (λ q. q.key)) in
-      let y = at_place rows.lecturers l l_low in
-      let z = row_of l y.0 l_low y.1 in
-      let off : IsOn z.0.ranking.items s → ⊥ = λ on. ranked z.0.ranking.items s on (sym (rank_is l y.0 z.0 s l_low z.1 z.2 low) ∙ none) in (
-        l,
-        y.0,
-        l_low,
-        l_low,
-        y.1,
-        sym (row_here rows.lecturers l y.0 l_low (sym y.1)) ∙ row,
-        (s, x.0, low, x.1, (Numbered.finds_text rows students projects so l y.0 l_low y.1 s x.0 low x.1 (k, p, under, is_p, refl), λ any. off (on_number y.0 z.0 z.2 s x.0 low x.1 any))),
-      )
+      let known : p < length rows.projects = Numbered.choice_known rows students projects so s k p x.0 low x.1 under is_p in
+      let l_low : lecturer_at projects p < length rows.lecturers = Numbered.lecturer_known rows students projects so p known in
+      let y = at_place rows.lecturers (lecturer_at projects p) l_low in
+      missed r s (lecturer_at projects p) x.0 y.0 low x.1 l_low y.1 (k, p, under, is_p, refl) row none
 
   pub fault_misses : (r : ℕ) → HasFault rows ApplicantMissing r → MissesBelow rows.lecturers lecturers projects students (length students) r
   fault_misses r (l, y, a, l_low, is_y, row, (s, x, low, is_x, (finds, off))) =

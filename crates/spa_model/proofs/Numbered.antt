@@ -1,26 +1,22 @@
 -- Numbered rows and the lines that they come from say the same of applicants.
-use Rattle.std.proofs.Common.{◌≡◌, ◌⊎◌, inl, inr, ◌↔◌, ℕ, ◌+◌, ◌<◌, ◌≤◌, Bool, true, false, List, [], ◌∷◌, length, get_or, map, Option, Some, None, Any, refl, sym, ◌∙◌, ap, subst, arith}
+use Rattle.std.proofs.Common.{◌≡◌, ℕ, ◌<◌, List, [], length, get_or, Any, sym, ◌∙◌, ap, arith}
 use Rattle.std.specs.List.{AllZip}
-use Rattle.std.proofs.lemmas.Bool.{cases_lt}
-use Rattle.std.proofs.lemmas.Bool.Decides.{nat_tests}
 use Rattle.std.proofs.lemmas.List.{get_or_default, length-map}
 use Rattle.spa_rows.specs.Lines
 use Rattle.spa_rows.specs.Lines.{Text, Rows}
 use Rattle.spa_rows.specs.Least.{BadAt}
-use Rattle.spa_rows.specs.Faults.{FindsOne, IsOffered, IsApplicant, MissesOne, HasFault}
-use Rattle.spa_rows.specs.declared.faults.InstanceFault.TheVariants.{NotApplicant, ApplicantMissing}
-use Rattle.spa_rows.proofs.Lists.{at_place, map_at}
+use Rattle.spa_rows.specs.Faults.{FindsOne, IsApplicant, HasFault}
+use Rattle.spa_rows.specs.declared.faults.InstanceFault.TheVariants.{NotApplicant}
+use Rattle.spa_rows.proofs.Lists.{at_place}
 use Rattle.spa_model.specs.declared.instance.Student.{Student}
 use Rattle.spa_model.specs.declared.instance.Project.{Project}
-use Rattle.spa_model.specs.declared.instance.Lecturer.{Lecturer}
-use Rattle.spa_model.specs.Spa.{Rise, place, rank_in, IsOn}
+use Rattle.spa_model.specs.Spa.{Rise}
 use Rattle.spa_model.specs.Built.{HasKey}
-use Rattle.spa_model.specs.Inside.{AreRanks}
-use Rattle.spa_model.specs.Numbers.{student_keys, project_keys, lecturer_keys, AreNumbers, IsStudentOf, IsProjectOf, IsLecturerOf, choices_at, lecturer_at, row_at, rank_at, Finds, IsApplicantOf, Misses, MissesBelow}
-use Rattle.spa_model.proofs.Places.{get_or-place, place-get_or-le}
-use Rattle.spa_model.proofs.Keys.{one_number, is_key_of, key_number}
+use Rattle.spa_model.specs.Numbers.{student_keys, project_keys, lecturer_keys, AreNumbers, IsStudentOf, IsProjectOf, choices_at, lecturer_at, Finds, IsApplicantOf}
+use Rattle.spa_model.proofs.Keys.{one_number, key_number}
+use Rattle.spa_model.proofs.Ranks.{numbers_below}
 use Rattle.spa_model.proofs.Zips.{zip_at, zip_length}
-use Rattle.spa_model.proofs.Applicants.{choices_here, lecturer_here, row_here, rank_here}
+use Rattle.spa_model.proofs.Applicants.{choices_here, lecturer_here}
 
 -- students and projects by number
 pub record AreNumbered (rows : Rows) (students : List Student) (projects : List Project) : Type 0 where
@@ -54,6 +50,19 @@ module _ (rows : Rows) (students : List Student) (projects : List Project) (so :
       let here : lecturer_at projects p ≡ row.0.lecturer = lecturer_here projects p row.0 (omega (arith, project_count)) (sym row.1) in
       let there : IsProjectOf (lecturer_keys rows.lecturers) x row.0 = rw (at, row.1) at both in
       rw here there.lecturer
+
+  -- a choice is a project
+  pub choice_known : (s k p : ℕ) (x : Lines.Student) → s < length rows.students → get_or rows.students s x ≡ x → k < length (choices_at students s) → get_or (choices_at students s) k p ≡ p → p < length rows.projects
+  choice_known s k p x h at under is_p =
+      let below : get_or (choices_at students s) k p < length (project_keys rows.projects) = numbers_below (project_keys rows.projects) x.list (choices_at students s) (choices_numbered s x h at) k p under in
+      omega (arith, is_p, length-map rows.projects (λ q. q.key))
+
+  -- who offers a project is a lecturer
+  pub lecturer_known : (p : ℕ) → p < length rows.projects → lecturer_at projects p < length rows.lecturers
+  lecturer_known p low =
+      let x = at_place rows.projects p low in
+      let key : HasKey (lecturer_keys rows.lecturers) (lecturer_at projects p) x.0.lecturer = lecturer_numbered p x.0 low x.1 in
+      omega (arith, key.0, length-map rows.lecturers (λ q. q.key))
 
   module _ (l : ℕ) (y : Lines.Lecturer) (low : l < length rows.lecturers) (is_y : get_or rows.lecturers l y ≡ y) where
     key_y : HasKey (lecturer_keys rows.lecturers) l y.key

@@ -12,7 +12,7 @@ use Rattle.spa_model.specs.declared.matching.MatchingFault.TheVariants.{NoSuchSt
 use Rattle.spa_model.specs.Spa.{Spa, IsLawful, IsAcceptable, lecturer_of, capacity_of, limit_of}
 use Rattle.spa_model.specs.Pairs.{number_in, student_in, project_in, lecturer_in}
 use Rattle.spa_model.specs.Assigned.{HasNone}
-use Rattle.spa_model.proofs.LeastRow.{least_skip, least_take}
+use Rattle.spa_rows.proofs.LeastRow.{least_skip, least_take}
 use Rattle.spa_model.proofs.Numbers.{number_known, known_number, number_is}
 
 -- the pair at j has the fault

@@ -1,7 +1,7 @@
 -- Lemmas on the table of places.
-use Rattle.std.proofs.Common.{◌≡◌, ◌≢◌, ◌⊎◌, inl, inr, ℕ, zero, suc, ◌+◌, ◌<◌, ◌≤◌, Bool, true, false, eqb, ltb, cond, List, [], ◌∷◌, length, length-set, get_or, set, take, Option, Some, None, All, Decides, refl, sym, ◌∙◌, ap, subst, arith}
-use Rattle.std.specs.List.{AllPairs, AllZip, Any, IsDistinct, list_any}
-use Rattle.std.proofs.lemmas.Bool.{cases_lt, cases_eq, eqb-true, eq-eqb, ne_eqb, eqb-false}
+use Rattle.std.proofs.Common.{◌≡◌, ◌≢◌, inl, inr, ℕ, ◌+◌, ◌<◌, ◌≤◌, true, false, eqb, ltb, List, [], length, length-set, get_or, set, Option, Some, None, All, refl, sym, ◌∙◌, ap, subst, arith}
+use Rattle.std.specs.List.{AllPairs, Any}
+use Rattle.std.proofs.lemmas.Bool.{cases_lt, cases_eq, eqb-true}
 use Rattle.std.proofs.lemmas.Bool.Decides.{nat_tests, Decides-eqb}
 use Rattle.std.proofs.lemmas.List.{get_or-set_same, get_or-set_other, get_or_default, get_or-take, length-take}
 use Rattle.std.proofs.lemmas.List.Folds.{Any-from_list_any}
@@ -13,7 +13,7 @@ use Rattle.spa_model.specs.Spa.{place, rank_in}
 use Rattle.spa_model.specs.Inside.{AreRanks}
 use Rattle.spa_model.specs.Built.{HasKey}
 use Rattle.spa_model.specs.Numbers.{AreNumbers}
-use Rattle.spa_model.proofs.Places.{place-injective, place-get_or, place-le-length}
+use Rattle.spa_model.proofs.Places.{place-injective, place-get_or}
 use Rattle.spa_model.proofs.Zips.{zip_at, zip_length, zip_all}
 
 -- the table, of the first i of the list

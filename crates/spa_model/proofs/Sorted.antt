@@ -1,5 +1,5 @@
 -- What is said of sorted rows holds of the rows.
-use Rattle.std.proofs.Common.{◌≡◌, ℕ, ◌<◌, List, length, IsPermutation, All, sym, ◌∙◌, arith}
+use Rattle.std.proofs.Common.{ℕ, ◌∙◌, arith}
 use Rattle.std.proofs.lemmas.List.Sorted.{All-permutation, IsPermutation-sym, length_permutation}
 use Rattle.spa_rows.specs.Lines.{Rows}
 use Rattle.spa_rows.specs.Faults.{HasNoneBefore, IsRefusal}

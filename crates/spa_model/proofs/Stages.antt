@@ -1,5 +1,5 @@
 -- What one stage of building hands to the next.
-use Rattle.std.proofs.Common.{◌≡◌, ℕ, ◌+◌, ◌<◌, ◌≤◌, List, length, get_or, map, Option, Some, None, All, refl, sym, ◌∙◌, ap, subst, arith}
+use Rattle.std.proofs.Common.{◌≡◌, ℕ, ◌<◌, List, length, get_or, Option, All, refl, sym, ◌∙◌, subst, arith}
 use Rattle.std.specs.List.{AllZip}
 use Rattle.std.proofs.lemmas.List.{get_or_default, length-map}
 use Rattle.spa_rows.specs.Lines
@@ -10,7 +10,6 @@ use Rattle.spa_rows.specs.declared.faults.InstanceFault.TheVariants.{NotApplican
 use Rattle.spa_model.specs.declared.instance.Student.{Student}
 use Rattle.spa_model.specs.declared.instance.Project.{Project}
 use Rattle.spa_model.specs.declared.instance.Lecturer.{Lecturer}
-use Rattle.spa_model.specs.Built.{HasKey}
 use Rattle.spa_model.specs.Numbers.{student_keys, project_keys, lecturer_keys, IsStudentOf, IsProjectOf, IsLecturerOf, MissesBelow}
 use Rattle.spa_model.proofs.Keys.{is_key_of}
 use Rattle.spa_model.proofs.Zips.{zip_all}

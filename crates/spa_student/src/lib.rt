@@ -6,5 +6,7 @@ mod counts;
 mod cuts;
 #[cfg(test)]
 mod lists;
+#[cfg(test)]
+mod tests;
 
 pub use cuts::solve;

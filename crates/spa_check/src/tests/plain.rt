@@ -1,4 +1,4 @@
-//! All blocking pairs found pair by pair, with counts made anew for each: the judge of the list made from groups.
+//! All blocking pairs found pair by pair, with counts made anew for each: the judge of the list.
 
 ghost use Rattle.std.specs.Prelude.{◌+◌, ◌<◌, ◌↔◌, IfOk, IsTrue, OnOk, length};
 ghost use Rattle.spa_model.specs.Spa.{IsMatching, Wants};

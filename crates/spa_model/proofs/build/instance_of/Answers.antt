@@ -1,11 +1,10 @@
-use Rattle.std.proofs.Common.{◌≡◌, ℕ, List, length, Ok, Err, refl}
-use Rattle.spa_rows.specs.Lines
+use Rattle.std.proofs.Common.{List, Ok, Err, refl}
 use Rattle.spa_rows.specs.Lines.{Rows}
 use Rattle.spa_rows.specs.Least.{IsLeastOf}
 use Rattle.spa_rows.specs.Faults.{HasNoneBefore, HasFault, IsRefusal}
 use Rattle.spa_rows.specs.declared.faults.InstanceFault.TheVariants.{NotApplicant, ApplicantMissing, Memory}
 use Rattle.spa_rows.proofs.FirstFault.{refuse_ok, refuse_err, handed_on}
-use Rattle.spa_model.specs.Numbers.{rows_of, MissesBelow}
+use Rattle.spa_model.specs.Numbers.{rows_of}
 use Rattle.spa_model.specs.declared.instance.Student.{Student}
 use Rattle.spa_model.specs.declared.instance.Project.{Project}
 use Rattle.spa_model.specs.declared.instance.Lecturer.{Lecturer}

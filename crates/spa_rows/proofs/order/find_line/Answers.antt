@@ -1,18 +1,13 @@
-use Rattle.std.proofs.Common.{◌≡◌, ℕ, inl, inr, refl, [], ◌∷◌, List, Equal, get_or, arith, rules}
+use Rattle.std.proofs.Common.{◌≡◌, inl, inr, Equal, get_or, arith, rules}
 use Rattle.std.specs.Ordering.{nat_cmp}
 use Rattle.std.specs.Cmp.Lexicographic.{slice_cmp}
 use Rattle.std.proofs.lemmas.Cmp.{nat_list_cmp_total}
 use Rattle.std.proofs.lemmas.Bool.{cases_lt}
-use Rattle.std.proofs.lemmas.Bool.Decides.{nat_tests}
 use Rattle.std.proofs.lemmas.Fn.{always_returns_same}
 use Rattle.std.proofs.lemmas.Map.Lookups.{exact_bytes}
 use Rattle.std.proofs.lemmas.List.Sorted.{searchable_from_sorted}
+use Rattle.spa_rows.proofs.Seen.{same_cmp}
 use Rattle.spa_rows.proofs.order.find_line.Goals as goal
-
--- a key compares with itself as equal
-same_cmp : (xs : List ℕ) → slice_cmp nat_cmp xs xs ≡ Equal
-same_cmp [] = refl
-same_cmp (x ∷ xs) = let here : nat_cmp x x ≡ Equal = grind (arith, nat_tests) in rw here (same_cmp xs)
 
 pub returns-in-Ok-clause-found : goal.returns-in-Ok-clause-found
 returns-in-Ok-clause-found g c =

@@ -1,4 +1,4 @@
-use Rattle.std.proofs.Common.{◌≡◌, ◌↔◌, IsTrue, ◌∙◌, length, arith}
+use Rattle.std.proofs.Common.{◌≡◌, ◌↔◌, IsTrue, arith}
 use Rattle.spa_model.specs.Built.{HasKey}
 use Rattle.spa_model.specs.Numbers.{student_keys, choices_at, Finds}
 use Rattle.spa_model.proofs.Keys.{sorted_from_rise, has_key}

@@ -1,4 +1,4 @@
-use Rattle.std.proofs.Common.{◌≡◌, ◌<◌, ℕ, length, sym, arith}
+use Rattle.std.proofs.Common.{arith}
 use Rattle.std.proofs.lemmas.Bool.{false≢true}
 use Rattle.spa_model.specs.Numbers.{IsApplicantOf}
 use Rattle.spa_model.proofs.Zips.{any_unmap}

@@ -1,5 +1,4 @@
-use Rattle.std.proofs.Common.{◌≡◌, ◌<◌, ◌≢◌, ◌∙◌, sym, ap, subst, length, map, All, arith}
-use Rattle.std.specs.List.{AllPairs}
+use Rattle.std.proofs.Common.{◌<◌, subst, All}
 use Rattle.std.proofs.lemmas.List.{length-map}
 use Rattle.spa_model.specs.Numbers.{AreNumbers, student_keys}
 use Rattle.spa_model.proofs.Ranks.{distinct_numbers, numbers_below}

@@ -1,5 +1,4 @@
-use Rattle.std.proofs.Common.{◌∙◌, sym, ap}
-use Rattle.spa_rows.specs.Faults.{IsKeyOf}
+use Rattle.std.proofs.Common.{◌∙◌, ap}
 use Rattle.spa_model.proofs.Keys.{sorted_from_rise, has_key}
 use Rattle.spa_model.proofs.build.numbers.numbered_project.Goals as goal
 

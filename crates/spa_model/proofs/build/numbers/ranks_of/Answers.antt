@@ -1,6 +1,6 @@
-use Rattle.std.proofs.Common.{◌<◌, ◌≤◌, length, ap, subst, get_or, ℕ, arith}
+use Rattle.std.proofs.Common.{◌≤◌, length, get_or, ℕ, arith}
 use Rattle.std.proofs.lemmas.List.{get_or_default}
-use Rattle.spa_model.proofs.Ranks.{AreRanksBelow, one_rank, all_ranks, at_most}
+use Rattle.spa_model.proofs.Ranks.{one_rank, at_most}
 use Rattle.spa_model.proofs.build.numbers.ranks_of.Goals as goal
 
 pub overflow_cast-place : goal.overflow_cast-place

@@ -1,4 +1,4 @@
-use Rattle.std.proofs.Common.{◌≡◌, ◌++◌, ◌∷◌, [], take, ◌∙◌, subst, arith}
+use Rattle.std.proofs.Common.{◌∙◌, subst}
 use Rattle.std.specs.List.{AllZip}
 use Rattle.spa_rows.specs.Faults.{IsKeyOf}
 use Rattle.spa_model.specs.Built.{HasKey}
