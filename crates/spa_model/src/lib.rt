@@ -16,3 +16,6 @@ pub use spa_rows::{
     BadInstance, InstanceFault, InstanceRows, Key, KeyFault, LecturerLine, PairLine, ProjectLine,
     StudentLine,
 };
+
+#[cfg(test)]
+mod tests;

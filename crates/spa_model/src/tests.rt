@@ -1,0 +1,3 @@
+//! Matchings of small instances.
+
+mod matching;
