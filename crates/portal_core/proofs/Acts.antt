@@ -1,0 +1,181 @@
+-- What each decision does, and what one change leaves of a caller.
+use Rattle.std.proofs.Common.{◌≡◌, Bool, true, false, cond, List, [], refl, sym, ◌∙◌, ap, subst}
+use Rattle.std.specs.Prelude.{map, Option, Some, None, option_map}
+use Rattle.std.specs.List.{find, filter_map}
+use Rattle.serde_json.specs.Data.{Data}
+use Rattle.portal_core.specs.Words.{Key, is}
+use Rattle.portal_core.specs.World as rows
+use Rattle.portal_core.specs.World.{World, is_choosing, is_ranking, is_published, is_from_ranking}
+use Rattle.portal_core.specs.Change.{Choices, Ranks, changed, with_choice, with_ranking}
+use Rattle.portal_core.specs.Sight.{OfficeSees}
+use Rattle.portal_core.specs.declared.view.View.{View as Sight}
+use Rattle.portal_core.specs.declared.view.View.TheVariants.{Nobody, Office, Lecturer, Student}
+use Rattle.portal_core.specs.View.{Caller, NoCaller, OfficeCaller, LecturerCaller, StudentCaller, caller_among, lecturer_with, student_with, caller, sight_of, view, name_in, listing_with, catalogue, student_sees, lecturer_sees, office_sees}
+use Rattle.portal_core.specs.Ask.{Ask}
+use Rattle.portal_core.specs.Answer.{Decision, Nothing, only, applies, decision, to_office, own, with_own, unless}
+use Rattle.portal_core.specs.Faults.{ListFault, choice_fault, ranking_fault}
+use Rattle.portal_core.specs.Bodies.{projects_body, students_body}
+use Rattle.portal_core.specs.Run.{Leaves, Calls}
+use Rattle.portal_core.specs.Heard.{is_move_or_add}
+use Rattle.portal_core.proofs.Keys.{is_own, find_map}
+
+-- a change of a list keeps the row
+
+pub choice_row : (k : Key) (list : List Key) (s : rows.Student) → (with_choice k list s).row ≡ s.row
+choice_row k list s = elim (is s.row.key k) as (λ b. (cond b (record s { choice = list }) s).row ≡ s.row) [ true ↦ refl | false ↦ refl ]
+
+pub ranking_row : (k : Key) (list : List Key) (l : rows.Lecturer) → (with_ranking k list l).row ≡ l.row
+ranking_row k list l = elim (is l.row.key k) as (λ b. (cond b (record l { ranking = Some list }) l).row ≡ l.row) [ true ↦ refl | false ↦ refl ]
+
+-- the caller after a change of a list
+
+abbrev pub re_chosen : Key → List Key → Caller → Caller
+re_chosen k list (StudentCaller s) = StudentCaller (with_choice k list s)
+re_chosen k list x = x
+
+abbrev pub re_ranked : Key → List Key → Caller → Caller
+re_ranked k list (LecturerCaller l) = LecturerCaller (with_ranking k list l)
+re_ranked k list x = x
+
+among_chosen : (k : Key) (list : List Key) (l : Option rows.Lecturer) (s : Option rows.Student) → caller_among l (option_map (with_choice k list) s) ≡ re_chosen k list (caller_among l s)
+among_chosen k list (Some l) s = refl
+among_chosen k list None (Some s) = refl
+among_chosen k list None None = refl
+
+among_ranked : (k : Key) (list : List Key) (l : Option rows.Lecturer) (s : Option rows.Student) → caller_among (option_map (with_ranking k list) l) s ≡ re_ranked k list (caller_among l s)
+among_ranked k list (Some l) s = refl
+among_ranked k list None (Some s) = refl
+among_ranked k list None None = refl
+
+if_chosen : (k : Key) (list : List Key) (b : Bool) (x : Caller) → cond b OfficeCaller (re_chosen k list x) ≡ re_chosen k list (cond b OfficeCaller x)
+if_chosen k list true x = refl
+if_chosen k list false x = refl
+
+if_ranked : (k : Key) (list : List Key) (b : Bool) (x : Caller) → cond b OfficeCaller (re_ranked k list x) ≡ re_ranked k list (cond b OfficeCaller x)
+if_ranked k list true x = refl
+if_ranked k list false x = refl
+
+pub caller_chosen : (w : World) (k : Key) (list : List Key) (c : Key) → caller (changed w (Choices k list)) c ≡ re_chosen k list (caller w c)
+caller_chosen w k list c =
+    let found : find (λ (s : rows.Student). is s.row.code c) (map (with_choice k list) w.students) ≡ option_map (with_choice k list) (student_with w c)
+    = find_map (with_choice k list) (λ s. is s.row.code c) (λ s. is s.row.code c) (λ s. ap (λ r. is r.code c) (choice_row k list s)) w.students in
+    ap (λ o. cond (is w.office c) OfficeCaller (caller_among (lecturer_with w c) o)) found
+    ∙ ap (cond (is w.office c) OfficeCaller) (among_chosen k list (lecturer_with w c) (student_with w c))
+    ∙ if_chosen k list (is w.office c) _
+
+pub caller_ranked : (w : World) (k : Key) (list : List Key) (c : Key) → caller (changed w (Ranks k list)) c ≡ re_ranked k list (caller w c)
+caller_ranked w k list c =
+    let found : find (λ (l : rows.Lecturer). is l.row.code c) (map (with_ranking k list) w.lecturers) ≡ option_map (with_ranking k list) (lecturer_with w c)
+    = find_map (with_ranking k list) (λ l. is l.row.code c) (λ l. is l.row.code c) (λ l. ap (λ r. is r.code c) (ranking_row k list l)) w.lecturers in
+    ap (λ o. cond (is w.office c) OfficeCaller (caller_among o (student_with w c))) found
+    ∙ ap (cond (is w.office c) OfficeCaller) (among_ranked k list (lecturer_with w c) (student_with w c))
+    ∙ if_ranked k list (is w.office c) _
+
+-- a ranking changes no name
+name_ranked : (k : Key) (list : List Key) (o : Option rows.Lecturer) → option_map (λ (l : rows.Lecturer). l.row.name) (option_map (with_ranking k list) o) ≡ option_map (λ (l : rows.Lecturer). l.row.name) o
+name_ranked k list None = refl
+name_ranked k list (Some l) = ap (λ r. Some r.name) (ranking_row k list l)
+
+pub names_ranked : (w : World) (k : Key) (list : List Key) (q : Key) → name_in (changed w (Ranks k list)).lecturers q ≡ name_in w.lecturers q
+names_ranked w k list q =
+    ap (option_map (λ (l : rows.Lecturer). l.row.name))
+    (find_map (with_ranking k list) (λ l. is l.row.key q) (λ l. is l.row.key q) (λ l. ap (λ r. is r.key q) (ranking_row k list l)) w.lecturers)
+    ∙ name_ranked k list (find (λ l. is l.row.key q) w.lecturers)
+
+pub catalogue_ranked : (w : World) (k : Key) (list : List Key) → catalogue (changed w (Ranks k list)) ≡ catalogue w
+catalogue_ranked w k list = λ i. filter_map (λ p. option_map (listing_with p) (names_ranked w k list p.lecturer i)) w.projects
+
+-- the caller's own list
+
+chosen_own : (list : List Key) (s : rows.Student) → with_choice s.row.key list s ≡ record s { choice = list }
+chosen_own list s = ap (λ b. cond b (record s { choice = list }) s) (is_own s.row.key)
+
+ranked_own : (list : List Key) (l : rows.Lecturer) → with_ranking l.row.key list l ≡ record l { ranking = Some list }
+ranked_own list l = ap (λ b. cond b (record l { ranking = Some list }) l) (is_own l.row.key)
+
+pub view_chosen : (w : World) (c : Key) (s : rows.Student) (list : List Key) → caller w c ≡ StudentCaller s → view (changed w (Choices s.row.key list)) c ≡ Student (record (student_sees w s) { choices = list })
+view_chosen w c s list e =
+    ap (sight_of (changed w (Choices s.row.key list))) (caller_chosen w s.row.key list c ∙ ap (re_chosen s.row.key list) e ∙ ap StudentCaller (chosen_own list s))
+
+pub view_ranked : (w : World) (c : Key) (l : rows.Lecturer) (list : List Key) → caller w c ≡ LecturerCaller l → view (changed w (Ranks l.row.key list)) c ≡ Lecturer (record (lecturer_sees w l) { ranking = Some list })
+view_ranked w c l list e =
+    ap (sight_of (changed w (Ranks l.row.key list))) (caller_ranked w l.row.key list c ∙ ap (re_ranked l.row.key list) e ∙ ap LecturerCaller (ranked_own list l))
+    ∙ λ i. Lecturer (record (lecturer_sees w l) { catalogue = catalogue_ranked w l.row.key list i; ranking = Some list })
+
+-- decisions that do nothing
+
+pub only_quiet : (b : Bool) (d : Decision) → d.act ≡ Nothing → (only b d).act ≡ Nothing
+only_quiet true d e = e
+only_quiet false d e = refl
+
+pub office_quiet : (v : OfficeSees) (ask : Ask) → is_move_or_add (Calls ask) ≡ false → (to_office v ask).act ≡ Nothing
+office_quiet v Ask.Me e = refl
+office_quiet v Ask.Catalogue e = refl
+office_quiet v Ask.Allocation e = only_quiet (is_published v.phase) _ refl
+office_quiet v Ask.Status e = refl
+office_quiet v Ask.ShowChoices e = refl
+office_quiet v (Ask.SetChoices list) e = refl
+office_quiet v Ask.Applicants e = refl
+office_quiet v Ask.ShowRanking e = refl
+office_quiet v (Ask.SetRanking list) e = refl
+office_quiet v Ask.Result e = refl
+office_quiet v (Ask.AddLecturers rs) e = cc
+office_quiet v (Ask.AddProjects rs) e = cc
+office_quiet v (Ask.AddStudents rs) e = cc
+office_quiet v (Ask.Move phase) e = cc
+
+pub with_own_nothing : (v : Sight) → with_own v Nothing ≡ v
+with_own_nothing Nobody = refl
+with_own_nothing (Office v) = refl
+with_own_nothing (Lecturer v) = refl
+with_own_nothing (Student v) = refl
+
+-- where nothing is done the view stays
+module _ (w w' : World) (c : Key) (x : Caller) (e : caller w c ≡ x) where
+  stays : w' ≡ w → view w' c ≡ sight_of w x
+  stays same = ap (λ u. view u c) same ∙ ap (sight_of w) e
+
+  quiet : (ask : Ask) → (decision (sight_of w x) ask).act ≡ Nothing → Leaves w (decision (sight_of w x) ask).act w' → view w' c ≡ own (sight_of w x) ask
+  quiet ask none left = stays (subst (λ a. Leaves w a w') none left) ∙ sym (with_own_nothing (sight_of w x)) ∙ ap (with_own (sight_of w x)) (sym none)
+
+chosen_kept : (w w' : World) (c : Key) (s : rows.Student) (e : caller w c ≡ StudentCaller s) (body : Data) (list : List Key) (b : Bool) (fault : Option ListFault)
+    → Leaves w (only b (unless fault (applies body (Choices s.row.key list)))).act w'
+    → view w' c ≡ with_own (Student (student_sees w s)) (only b (unless fault (applies body (Choices s.row.key list)))).act
+chosen_kept w w' c s e body list false fault left = stays w w' c (StudentCaller s) e left
+chosen_kept w w' c s e body list true (Some fault) left = stays w w' c (StudentCaller s) e left
+chosen_kept w w' c s e body list true None left = ap (λ u. view u c) left ∙ view_chosen w c s list e
+
+ranked_kept : (w w' : World) (c : Key) (l : rows.Lecturer) (e : caller w c ≡ LecturerCaller l) (body : Data) (list : List Key) (b : Bool) (fault : Option ListFault)
+    → Leaves w (only b (unless fault (applies body (Ranks l.row.key list)))).act w'
+    → view w' c ≡ with_own (Lecturer (lecturer_sees w l)) (only b (unless fault (applies body (Ranks l.row.key list)))).act
+ranked_kept w w' c l e body list false fault left = stays w w' c (LecturerCaller l) e left
+ranked_kept w w' c l e body list true (Some fault) left = stays w w' c (LecturerCaller l) e left
+ranked_kept w w' c l e body list true None left = ap (λ u. view u c) left ∙ view_ranked w c l list e
+
+-- after a call that is no Move and no Add, the caller sees what `own` says
+pub own_kept : (w w' : World) (c : Key) (x : Caller) (e : caller w c ≡ x) (ask : Ask) → is_move_or_add (Calls ask) ≡ false → Leaves w (decision (sight_of w x) ask).act w' → view w' c ≡ own (sight_of w x) ask
+own_kept w w' c NoCaller e ask calm left = stays w w' c NoCaller e left
+own_kept w w' c OfficeCaller e ask calm left = quiet w w' c OfficeCaller e ask (office_quiet (office_sees w) ask calm) left
+own_kept w w' c (LecturerCaller l) e (Ask.SetRanking list) calm left = ranked_kept w w' c l e (students_body (Some list)) list (is_ranking w.phase) (ranking_fault (lecturer_sees w l).applicants 1 [] list) left
+own_kept w w' c (LecturerCaller l) e Ask.Applicants calm left = quiet w w' c (LecturerCaller l) e Ask.Applicants (only_quiet _ _ refl) left
+own_kept w w' c (LecturerCaller l) e Ask.ShowRanking calm left = quiet w w' c (LecturerCaller l) e Ask.ShowRanking (only_quiet _ _ refl) left
+own_kept w w' c (LecturerCaller l) e Ask.Result calm left = quiet w w' c (LecturerCaller l) e Ask.Result (only_quiet _ _ refl) left
+own_kept w w' c (LecturerCaller l) e ask calm left = stays w w' c (LecturerCaller l) e left
+own_kept w w' c (StudentCaller s) e (Ask.SetChoices list) calm left = chosen_kept w w' c s e (projects_body list) list (is_choosing w.phase) (choice_fault (catalogue w) 1 [] list) left
+own_kept w w' c (StudentCaller s) e Ask.Result calm left = quiet w w' c (StudentCaller s) e Ask.Result (only_quiet _ _ refl) left
+own_kept w w' c (StudentCaller s) e ask calm left = stays w w' c (StudentCaller s) e left
+
+-- a Move and an Add call are no change of one's own list
+pub own_move : (v : Sight) (ask : Ask) → is_move_or_add (Calls ask) ≡ true → own v ask ≡ v
+own_move Nobody ask e = refl
+own_move (Office v) ask e = refl
+own_move (Lecturer v) (Ask.Move phase) e = refl
+own_move (Lecturer v) (Ask.AddLecturers rs) e = refl
+own_move (Lecturer v) (Ask.AddProjects rs) e = refl
+own_move (Lecturer v) (Ask.AddStudents rs) e = refl
+own_move (Lecturer v) _ e = cc
+own_move (Student v) (Ask.Move phase) e = refl
+own_move (Student v) (Ask.AddLecturers rs) e = refl
+own_move (Student v) (Ask.AddProjects rs) e = refl
+own_move (Student v) (Ask.AddStudents rs) e = refl
+own_move (Student v) _ e = cc

@@ -1,0 +1,179 @@
+-- Replies do not tell the order within students' lists before the result is open.
+use Rattle.std.proofs.Common.{◌≡◌, ◌≢◌, Bool, true, false, List, [], ◌∷◌, refl, sym, ◌∙◌, ap, subst, inl, inr}
+use Rattle.std.specs.Prelude.{◌⊎◌, Option, Some, None, not, if◌then◌else◌}
+use Rattle.std.specs.List.{AllZip}
+use Rattle.serde_json.specs.Data.{Data}
+use Rattle.portal_core.specs.Words.{Key, is_empty}
+use Rattle.portal_core.specs.World.{World, is_choosing, is_ranking, is_published, is_from_ranking}
+use Rattle.portal_core.specs.Change.{Change, Choices, Ranks, Lecturers, Projects, Students, changed}
+use Rattle.portal_core.specs.declared.phase.Phase.{Phase}
+use Rattle.portal_core.specs.declared.phase.Phase.TheVariants.{Setup, Choosing, Ranking, Published}
+use Rattle.portal_core.specs.declared.rows.Listing.{Listing}
+use Rattle.portal_core.specs.Sight.{StudentSees, OfficeSees}
+use Rattle.portal_core.specs.declared.view.View.{View as Sight}
+use Rattle.portal_core.specs.declared.view.View.TheVariants.{Nobody, Office, Lecturer, Student}
+use Rattle.portal_core.specs.View.{view}
+use Rattle.portal_core.specs.Ask.{Ask}
+use Rattle.portal_core.specs.Bodies.{projects_body, students_body}
+use Rattle.portal_core.specs.Faults.{ListFault, choice_fault, ranking_fault}
+use Rattle.portal_core.specs.Rolls.{Taken, Faulty, Took, take_rows, lecturer_roll, project_roll, student_roll}
+use Rattle.portal_core.specs.Answer.{Answer, Act, Nothing, Apply, Publish, only, unless, applies, answered, refuses, added, moves, decision, answer, to_student}
+use Rattle.portal_core.specs.Run.{Leaves, Step, Wish, Calls, Refused, Request, unavailable, Answers, Serves, Run, AllAnswered}
+use Rattle.portal_core.specs.Places.{Reordered, SameButPlaces, SameWish, equal, sets, SameRequest, has_places, opens_result, Unless, AlikeUntilPublished}
+use Rattle.portal_core.proofs.Acts.{only_quiet}
+use Rattle.portal_core.proofs.Reorder.{accepted_reordered, reordered_back}
+use Rattle.portal_core.proofs.Similar.{SameSight, same_view, both_choose, both_changed}
+
+unless_any : (b : Bool) (P : Type 0) → P → Unless b P
+unless_any true P p = tt
+unless_any false P p = p
+
+unless_map : (b : Bool) (P Q : Type 0) → (P → Q) → Unless b P → Unless b Q
+unless_map true P Q f p = tt
+unless_map false P Q f p = f p
+
+-- acts that differ at most in the order of a student's list
+data SameAct : Act → Act → Type 0 where
+  same_act : (a : Act) → SameAct a a
+  reorders : (k : Key) {ks ls : List Key} → Reordered ks ls → SameAct (Apply (Choices k ks)) (Apply (Choices k ls))
+
+-- one call of callers who see the same
+
+abbrev Decides : Sight → Sight → Ask → Type 0
+Decides x y ask = Unless (has_places (Calls ask)) (answer x ask ≡ answer y ask) × SameAct (decision x ask).act (decision y ask).act
+
+by_path : (x y : Sight) → x ≡ y → (ask : Ask) → Decides x y ask
+by_path x y e ask = subst (λ u. Decides x u ask) e (unless_any _ _ refl, same_act _)
+
+of_student : (v : StudentSees) (list : List Key) (ask : Ask) → Decides (Student v) (Student (record v { choices = list })) ask
+of_student v list Ask.ShowChoices = (tt, same_act Nothing)
+of_student v list (Ask.SetChoices ks) = (tt, same_act _)
+of_student v list _ = (refl, same_act _)
+
+same_ask : (x y : Sight) → SameSight x y → (ask : Ask) → Decides x y ask
+same_ask (Student v) (Student u) s ask = subst (λ z. Decides (Student v) (Student z) ask) s (of_student v u.choices ask)
+same_ask x y s ask = by_path x y s ask
+
+-- lists in another order are both taken or both refused
+
+set_acts : (catalogue : List Listing) (me : Key) (ks ls : List Key) → Reordered ks ls → (b : Bool) (e f : Option ListFault) → choice_fault catalogue 1 [] ks ≡ e → choice_fault catalogue 1 [] ls ≡ f → (c d : Data)
+    → SameAct (only b (unless e (applies c (Choices me ks)))).act (only b (unless f (applies d (Choices me ls)))).act
+set_acts catalogue me ks ls r false e f ee ef c d = same_act Nothing
+set_acts catalogue me ks ls r true None None ee ef c d = reorders me r
+set_acts catalogue me ks ls r true (Some x) (Some y) ee ef c d = same_act Nothing
+set_acts catalogue me ks ls r true None (Some y) ee ef c d = let e : None ≡ Some y = sym (accepted_reordered catalogue ks ls r ee) ∙ ef in cc
+set_acts catalogue me ks ls r true (Some x) None ee ef c d = let e : None ≡ Some x = sym (accepted_reordered catalogue ls ks (reordered_back ks ls r) ef) ∙ ee in cc
+
+same_sets : (x y : Sight) → SameSight x y → (ks ls : List Key) → Reordered ks ls → SameAct (decision x (Ask.SetChoices ks)).act (decision y (Ask.SetChoices ls)).act
+same_sets (Student v) (Student u) s ks ls r =
+    subst (λ z. SameAct (to_student v (Ask.SetChoices ks)).act (to_student z (Ask.SetChoices ls)).act) s
+    (set_acts v.catalogue v.me.key ks ls r (is_choosing v.phase) (choice_fault v.catalogue 1 [] ks) (choice_fault v.catalogue 1 [] ls) refl refl (projects_body ks) (projects_body ls))
+same_sets Nobody y s ks ls r = subst (λ z. SameAct Nothing (decision z (Ask.SetChoices ls)).act) s (same_act Nothing)
+same_sets (Office v) y s ks ls r = subst (λ z. SameAct Nothing (decision z (Ask.SetChoices ls)).act) s (same_act Nothing)
+same_sets (Lecturer v) y s ks ls r = subst (λ z. SameAct Nothing (decision z (Ask.SetChoices ls)).act) s (same_act Nothing)
+same_sets (Student v) Nobody s ks ls r = cc
+same_sets (Student v) (Office u) s ks ls r = cc
+same_sets (Student v) (Lecturer u) s ks ls r = cc
+
+-- what publishes is an accepted move to published
+
+abbrev pub is_publish : Act → Bool
+is_publish Publish = true
+is_publish _ = false
+
+pub quiet_set : (b : Bool) (fault : Option ListFault) (body : Data) (change : Change) → is_publish (only b (unless fault (applies body change))).act ≡ false
+quiet_set true None body change = refl
+quiet_set true (Some f) body change = refl
+quiet_set false fault body change = refl
+
+pub quiet_added : {X : Type 0} (b : Bool) (change : List X → Change) (t : Taken X) → is_publish (only b (added change t)).act ≡ false
+quiet_added false change t = refl
+quiet_added true change (Faulty f) = refl
+quiet_added true change (Took new n) = elim (is_empty new) as (λ b. is_publish (if b then Nothing else Apply (change new)) ≡ false) [ true ↦ refl | false ↦ refl ]
+
+never : (x : Sight) (ask : Ask) → is_publish (decision x ask).act ≡ false → is_publish (decision x ask).act ≡ true → opens_result (Calls ask) (answer x ask) ≡ true
+never x ask e f = let e' : true ≡ false = sym f ∙ e in cc
+
+opens_if : (b : Bool) (body : Data) (refusal : Answer) → is_publish (if b then record { reply = answered 200 body; act = Publish } else refuses refusal).act ≡ true
+    → opens_result (Calls (Ask.Move Published)) (if b then record { reply = answered 200 body; act = Publish } else refuses refusal).reply ≡ true
+opens_if true body refusal e = refl
+opens_if false body refusal e = cc
+
+moves_open : (v : OfficeSees) (p q : Phase) → is_publish (moves v p q).act ≡ true → opens_result (Calls (Ask.Move q)) (moves v p q).reply ≡ true
+moves_open v Ranking Published e = opens_if (is_empty v.still_to_rank) _ _ e
+moves_open v Setup Setup e = cc
+moves_open v Setup Choosing e = cc
+moves_open v Choosing Choosing e = cc
+moves_open v Choosing Ranking e = cc
+moves_open v Ranking Ranking e = cc
+moves_open v Published Published e = cc
+moves_open v _ _ e = cc
+
+publishes_opens : (x : Sight) (ask : Ask) → is_publish (decision x ask).act ≡ true → opens_result (Calls ask) (answer x ask) ≡ true
+publishes_opens Nobody ask e = cc
+publishes_opens (Student v) (Ask.SetChoices list) e = never (Student v) (Ask.SetChoices list) (quiet_set (is_choosing v.phase) (choice_fault v.catalogue 1 [] list) (projects_body list) (Choices v.me.key list)) e
+publishes_opens (Student v) Ask.Result e = never (Student v) Ask.Result (ap is_publish (only_quiet (is_published v.phase) _ refl)) e
+publishes_opens (Student v) _ e = cc
+publishes_opens (Lecturer v) (Ask.SetRanking list) e = never (Lecturer v) (Ask.SetRanking list) (quiet_set (is_ranking v.phase) (ranking_fault v.applicants 1 [] list) (students_body (Some list)) (Ranks v.me.key list)) e
+publishes_opens (Lecturer v) Ask.Applicants e = never (Lecturer v) Ask.Applicants (ap is_publish (only_quiet (is_from_ranking v.phase) _ refl)) e
+publishes_opens (Lecturer v) Ask.ShowRanking e = never (Lecturer v) Ask.ShowRanking (ap is_publish (only_quiet (is_from_ranking v.phase) _ refl)) e
+publishes_opens (Lecturer v) Ask.Result e = never (Lecturer v) Ask.Result (ap is_publish (only_quiet (is_published v.phase) _ refl)) e
+publishes_opens (Lecturer v) _ e = cc
+publishes_opens (Office v) (Ask.Move phase) e = moves_open v v.phase phase e
+publishes_opens (Office v) (Ask.AddLecturers rs) e = never (Office v) (Ask.AddLecturers rs) (quiet_added (not (is_from_ranking v.phase)) Lecturers (take_rows (lecturer_roll v) 1 v.lecturers rs)) e
+publishes_opens (Office v) (Ask.AddProjects rs) e = never (Office v) (Ask.AddProjects rs) (quiet_added (not (is_from_ranking v.phase)) Projects (take_rows (project_roll v) 1 v.projects rs)) e
+publishes_opens (Office v) (Ask.AddStudents rs) e = never (Office v) (Ask.AddStudents rs) (quiet_added (not (is_from_ranking v.phase)) Students (take_rows (student_roll v) 1 v.students rs)) e
+publishes_opens (Office v) Ask.Allocation e = never (Office v) Ask.Allocation (ap is_publish (only_quiet (is_published v.phase) _ refl)) e
+publishes_opens (Office v) _ e = cc
+
+-- one request
+
+after : (v w v' w' : World) (a b : Act) → SameButPlaces v w → SameAct a b → is_publish a ≡ false → Leaves v a v' → Leaves w b w' → SameButPlaces v' w'
+after v w v' w' _ _ s (same_act Nothing) e l m = subst (λ x. SameButPlaces x w') (sym l) (subst (λ x. SameButPlaces v x) (sym m) s)
+after v w v' w' _ _ s (same_act (Apply change)) e l m = subst (λ x. SameButPlaces x w') (sym l) (subst (λ x. SameButPlaces (changed v change) x) (sym m) (both_changed v w change s))
+after v w v' w' _ _ s (same_act Publish) e l m = cc
+after v w v' w' _ _ s (reorders k {ks} {ls} r) e l m = subst (λ x. SameButPlaces x w') (sym l) (subst (λ x. SameButPlaces (changed v (Choices k ks)) x) (sym m) (both_choose v w k ks ls r s))
+
+abbrev Goes : Wish → Answer → Answer → World → World → Type 0
+Goes p a b v' w' = Unless (has_places p) (a ≡ b) × (SameButPlaces v' w' ⊎ (opens_result p a ≡ true))
+
+goes_on : (v w v' w' : World) (c : Key) (ask ask' : Ask) (a b : Answer) → SameButPlaces v w → Step v c ask a v' → Step w c ask' b w' → SameAct (decision (view v c) ask).act (decision (view w c) ask').act
+    → SameButPlaces v' w' ⊎ (opens_result (Calls ask) a ≡ true)
+goes_on v w v' w' c ask ask' a b s l m same = go (is_publish (decision (view v c) ask).act) refl
+  where
+    go : (p : Bool) → is_publish (decision (view v c) ask).act ≡ p → SameButPlaces v' w' ⊎ (opens_result (Calls ask) a ≡ true)
+    go true e = inr (subst (λ x. opens_result (Calls ask) x ≡ true) (sym l.told) (publishes_opens (view v c) ask e))
+    go false e = inl (after v w v' w' _ _ s same e l.left m.left)
+
+one_goes : (v w v' w' : World) (q r : Request) → SameButPlaces v w → q.code ≡ r.code → (p p' : Wish) → SameWish p p' → (a b : Answer) → Answers v q p a v' → Answers w r p' b w' → Goes p a b v' w'
+one_goes v w v' w' q r s code _ _ (equal (Calls ask)) a b l m =
+    let n : Step w q.code ask b w' = subst (λ c. Step w c ask b w') (sym code) m in
+    let d : Decides (view v q.code) (view w q.code) ask = same_ask _ _ (same_view v w s q.code) ask in
+    (unless_map _ _ _ (λ e. l.told ∙ e ∙ sym n.told) d.0, goes_on v w v' w' q.code ask ask a b s l n d.1)
+one_goes v w v' w' q r s code _ _ (equal (Refused refusal)) a b l m =
+    (l.0 ∙ sym m.0, inl (subst (λ x. SameButPlaces x w') (sym l.1) (subst (λ x. SameButPlaces v x) (sym m.1) s)))
+one_goes v w v' w' q r s code _ _ (sets {ks} {ls} o) a b l m =
+    let n : Step w q.code (Ask.SetChoices ls) b w' = subst (λ c. Step w c (Ask.SetChoices ls) b w') (sym code) m in
+    (tt, goes_on v w v' w' q.code (Ask.SetChoices ks) (Ask.SetChoices ls) a b s l n (same_sets _ _ (same_view v w s q.code) ks ls o))
+
+-- 503 aside
+really : (w w' : World) (r : Request) (a : Answer) → Serves w r a w' → a ≢ unavailable → Answers w r r.wish a w'
+really w w' r a (inl s) ok = s
+really w w' r a (inr s) ok = absurd (ok s.0)
+
+-- whole runs
+pub places_unseen : (v w : World) (asked others : List Request) (told said : List Answer) (after later : List World)
+    → SameButPlaces v w → AllZip SameRequest asked others → Run v asked told after → AllAnswered told → Run w others said later → AllAnswered said → AlikeUntilPublished asked told said
+places_unseen v w [] others told said after later s z run all run' all' = tt
+places_unseen v w (q ∷ qs) (r ∷ rs) (a ∷ told) (b ∷ said) (v' ∷ after) (w' ∷ later) s z run all run' all' =
+    let one : Goes q.wish a b v' w' = one_goes v w v' w' q r s z.0.code q.wish r.wish z.0.wish a b (really v v' q a run.0 all.0) (really w w' r b run'.0 all'.0) in
+    (one.0, rest one.1 (λ t. places_unseen v' w' qs rs told said after later t z.1 run.1 all.1 run'.1 all'.1))
+  where
+    rest : SameButPlaces v' w' ⊎ (opens_result q.wish a ≡ true) → (SameButPlaces v' w' → AlikeUntilPublished qs told said) → Unless (opens_result q.wish a) (AlikeUntilPublished qs told said)
+    rest (inl t) k = unless_any _ _ (k t)
+    rest (inr e) k = subst (λ b. Unless b (AlikeUntilPublished qs told said)) (sym e) tt
+places_unseen v w (q ∷ qs) [] told said after later s z run all run' all' = absurd z
+places_unseen v w (q ∷ qs) (r ∷ rs) [] said after later s z run all run' all' = tt
+places_unseen v w (q ∷ qs) (r ∷ rs) (a ∷ told) [] after later s z run all run' all' = tt
+places_unseen v w (q ∷ qs) (r ∷ rs) (a ∷ told) (b ∷ said) [] later s z run all run' all' = absurd run
+places_unseen v w (q ∷ qs) (r ∷ rs) (a ∷ told) (b ∷ said) (v' ∷ after) [] s z run all run' all' = absurd run'

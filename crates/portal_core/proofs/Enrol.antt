@@ -1,0 +1,184 @@
+-- One new row keeps the rows sound, and so does a whole roll.
+use Rattle.std.proofs.Common.{◌≡◌, ℕ, suc, ◌+◌, ◌≤◌, Bool, true, false, List, [], ◌∷◌, ◌++◌, length, refl, sym, ◌∙◌, ap, subst, arith, append-nil}
+use Rattle.std.specs.Prelude.{map, not, ◌||◌, None}
+use Rattle.std.specs.List.{AllByRecursion}
+use Rattle.portal_core.specs.Words.{Key, is, has, AreDistinct, put}
+use Rattle.portal_core.specs.World as rows
+use Rattle.portal_core.specs.World.{World, lecturer_key, project_key, student_key, applicants_of, is_from_ranking, is_published}
+use Rattle.portal_core.specs.Change.{Lecturers, Projects, Students, changed, new_lecturer, new_student}
+use Rattle.portal_core.specs.Instance.{lecturer_keys, project_keys}
+use Rattle.portal_core.specs.declared.phase.Phase.{Phase}
+use Rattle.portal_core.specs.declared.phase.Phase.TheVariants.{Setup, Choosing, Ranking, Published}
+use Rattle.portal_core.specs.declared.rows.LecturerRow.{LecturerRow}
+use Rattle.portal_core.specs.declared.rows.ProjectRow.{ProjectRow}
+use Rattle.portal_core.specs.declared.rows.StudentRow.{StudentRow}
+use Rattle.portal_core.specs.View.{office_sees}
+use Rattle.portal_core.specs.Rolls.{Took, take_rows, lecturer_roll, project_roll, student_roll}
+use Rattle.portal_core.specs.Good.{Sound, IsLecturer, IsProject, IsStudent, IsChoice, IsRanking, codes_of}
+use Rattle.portal_core.proofs.Kept.{none_ranked}
+use Rattle.portal_core.proofs.AllLaws.{any_append, all_weaker, is_sym, or_parts}
+use Rattle.portal_core.proofs.Puts.{all_put, length_put, rise_put, distinct_put, has_put}
+use Rattle.portal_core.proofs.Adds.{Alike, has_alike, taken}
+
+-- before rankings nothing is published
+pub open_phase : (phase : Phase) → is_from_ranking phase ≡ false → is_published phase ≡ false
+open_phase Setup e = refl
+open_phase Choosing e = refl
+open_phase Ranking e = cc
+open_phase Published e = cc
+
+map_twice : {X Y Z : Type 0} (f : X → Y) (g : Y → Z) (xs : List X) → map g (map f xs) ≡ map (λ x. g (f x)) xs
+map_twice f g [] = refl
+map_twice f g (x ∷ xs) = ap (λ l. g (f x) ∷ l) (map_twice f g xs)
+
+map_itself : {X : Type 0} (xs : List X) → map (λ x. x) xs ≡ xs
+map_itself [] = refl
+map_itself (x ∷ xs) = ap (λ l. x ∷ l) (map_itself xs)
+
+or_true : (b : Bool) → (b || true) ≡ true
+or_true true = refl
+or_true false = refl
+
+or_turned : (s t : Bool) → (s || t) ≡ (t || s)
+or_turned true true = refl
+or_turned true false = refl
+or_turned false true = refl
+or_turned false false = refl
+
+-- codes that differ do so in any order
+has_swap : (xs ys : List Key) (k : Key) → has (xs ++ ys) k ≡ has (ys ++ xs) k
+has_swap xs ys k = any_append (is k) xs ys ∙ or_turned (has xs k) (has ys k) ∙ sym (any_append (is k) ys xs)
+
+distinct_between : (ys zs : List Key) (x : Key) → AreDistinct (ys ++ zs) → has (ys ++ zs) x ≡ false → AreDistinct (ys ++ x ∷ zs)
+distinct_between [] zs x d new = (new, d)
+distinct_between (y ∷ ys) zs x d new =
+    let parts : (is x y ≡ false) × (has (ys ++ zs) x ≡ false) = or_parts (is x y) (has (ys ++ zs) x) new in
+    let old : (has ys y ≡ false) × (has zs y ≡ false) = or_parts (has ys y) (has zs y) (sym (any_append (is y) ys zs) ∙ d.0) in (
+      any_append (is y) ys (x ∷ zs) ∙ ap (λ b. b || (is y x || has zs y)) old.0 ∙ ap (λ b. b || has zs y) (is_sym y x ∙ parts.0) ∙ old.1,
+      distinct_between ys zs x d.1 parts.1,
+    )
+
+distinct_swap : (xs ys : List Key) → AreDistinct (xs ++ ys) → AreDistinct (ys ++ xs)
+distinct_swap [] ys d = rw append-nil d
+distinct_swap (x ∷ xs) ys d = distinct_between ys xs x (distinct_swap xs ys d.1) (sym (has_swap xs ys x) ∙ d.0)
+
+not_false : (b : Bool) → not b ≡ false → b ≡ true
+not_false true h = refl
+not_false false h = cc
+
+-- what a list of keys has, it has with one more
+still_has : {X : Type 0} (key : X → Key) (x : X) (ys : List X) (k : Key) → has (map key ys) k ≡ true → has (map key (put key x ys)) k ≡ true
+still_has key x ys k h = has_put key x key ys k ∙ ap (λ b. is k (key x) || b) h ∙ or_true (is k (key x))
+
+module _ (w : World) (early : is_from_ranking w.phase ≡ false) where
+  put_student : (ss : List rows.Student) (r : StudentRow) → Sound (record w { students = ss }) → IsStudent r → has (map student_key ss) r.key ≡ false
+      → (student_roll (office_sees w)).is_bad (map (λ (s : rows.Student). s.row) ss) r ≡ false → length ss + 1 ≤ 2000 → Sound (record w { students = put student_key (new_student r) ss })
+  put_student ss r g form key free room =
+      let long : length (put student_key (new_student r) ss) ≡ suc (length ss) = length_put student_key (new_student r) ss in
+      let code : has (codes_of (record w { students = ss })) r.code ≡ false
+      = subst (λ ls. has (w.office ∷ ls ++ map (λ (s : rows.Student). s.row.code) ss) r.code ≡ false) (map_twice (λ (l : rows.Lecturer). l.row) (λ l. l.code) w.lecturers)
+      (subst (λ cs. has (w.office ∷ map (λ (l : LecturerRow). l.code) (map (λ (l : rows.Lecturer). l.row) w.lecturers) ++ cs) r.code ≡ false) (map_twice (λ (s : rows.Student). s.row) (λ s. s.code) ss) free) in
+      record {
+        lecturers_rise = g.lecturers_rise;
+        projects_rise = g.projects_rise;
+        students_rise = rise_put student_key (new_student r) ss g.students_rise key;
+        lecturer_forms = g.lecturer_forms;
+        project_forms = g.project_forms;
+        student_forms = all_put student_key (new_student r) (λ s. IsStudent s.row) ss form g.student_forms;
+        office_form = g.office_form;
+        few_lecturers = g.few_lecturers;
+        few_projects = g.few_projects;
+        few_students = omega arith;
+        codes = distinct_put student_key (new_student r) (λ s. s.row.code) (w.office ∷ map (λ (l : rows.Lecturer). l.row.code) w.lecturers) ss g.codes code;
+        lecturers_known = g.lecturers_known;
+        choices = all_put student_key (new_student r) (λ s. IsChoice (project_keys w) s.choice) ss (record { few = omega arith; known = tt; once = tt }) g.choices;
+        no_choices_yet = λ h. all_put student_key (new_student r) (λ s. s.choice ≡ []) ss refl (g.no_choices_yet h);
+        no_rankings_yet = g.no_rankings_yet;
+        rankings = none_ranked (λ l. IsRanking (map student_key (applicants_of (record w { students = put student_key (new_student r) ss }) l.row.key))) w.lecturers (g.no_rankings_yet early);
+        no_result_yet = λ h. all_put student_key (new_student r) (λ s. s.placed ≡ None) ss refl (g.no_result_yet h);
+        all_ranked = λ h. let not' : is_published w.phase ≡ false = open_phase w.phase early in cc;
+      }
+
+  put_lecturer : (ls : List rows.Lecturer) (r : LecturerRow) → Sound (record w { lecturers = ls }) → IsLecturer r → has (map lecturer_key ls) r.key ≡ false
+      → (lecturer_roll (office_sees w)).is_bad (map (λ (l : rows.Lecturer). l.row) ls) r ≡ false → length ls + 1 ≤ 300 → Sound (record w { lecturers = put lecturer_key (new_lecturer r) ls })
+  put_lecturer ls r g form key free room =
+      let long : length (put lecturer_key (new_lecturer r) ls) ≡ suc (length ls) = length_put lecturer_key (new_lecturer r) ls in
+      let ss : List Key = map (λ (s : rows.Student). s.row.code) w.students in
+      let code : has (w.office ∷ ss ++ map (λ (l : rows.Lecturer). l.row.code) ls) r.code ≡ false
+      = subst (λ cs. has (w.office ∷ cs ++ map (λ (l : rows.Lecturer). l.row.code) ls) r.code ≡ false) (map_twice (λ (s : rows.Student). s.row) (λ s. s.code) w.students)
+      (subst (λ cs. has (w.office ∷ map (λ (s : StudentRow). s.code) (map (λ (s : rows.Student). s.row) w.students) ++ cs) r.code ≡ false) (map_twice (λ (l : rows.Lecturer). l.row) (λ l. l.code) ls) free) in
+      let turned : AreDistinct (w.office ∷ ss ++ map (λ (l : rows.Lecturer). l.row.code) ls)
+      = (has_swap ss (map (λ (l : rows.Lecturer). l.row.code) ls) w.office ∙ g.codes.0, distinct_swap (map (λ (l : rows.Lecturer). l.row.code) ls) ss g.codes.1) in
+      let more : AreDistinct (w.office ∷ ss ++ map (λ (l : rows.Lecturer). l.row.code) (put lecturer_key (new_lecturer r) ls))
+      = distinct_put lecturer_key (new_lecturer r) (λ l. l.row.code) (w.office ∷ ss) ls turned code in
+      let none : is_from_ranking w.phase ≡ false → AllByRecursion (λ l. l.ranking ≡ None) (put lecturer_key (new_lecturer r) ls)
+      = λ h. all_put lecturer_key (new_lecturer r) (λ l. l.ranking ≡ None) ls refl (g.no_rankings_yet h) in
+      record {
+        lecturers_rise = rise_put lecturer_key (new_lecturer r) ls g.lecturers_rise key;
+        projects_rise = g.projects_rise;
+        students_rise = g.students_rise;
+        lecturer_forms = all_put lecturer_key (new_lecturer r) (λ l. IsLecturer l.row) ls form g.lecturer_forms;
+        project_forms = g.project_forms;
+        student_forms = g.student_forms;
+        office_form = g.office_form;
+        few_lecturers = omega arith;
+        few_projects = g.few_projects;
+        few_students = g.few_students;
+        codes = (has_swap (map (λ (l : rows.Lecturer). l.row.code) (put lecturer_key (new_lecturer r) ls)) ss w.office ∙ more.0, distinct_swap ss (map (λ (l : rows.Lecturer). l.row.code) (put lecturer_key (new_lecturer r) ls)) more.1);
+        lecturers_known = all_weaker _ _ (λ p h. still_has lecturer_key (new_lecturer r) ls p.lecturer h) w.projects g.lecturers_known;
+        choices = g.choices;
+        no_choices_yet = g.no_choices_yet;
+        no_rankings_yet = none;
+        rankings = none_ranked (λ l. IsRanking (map student_key (applicants_of (record w { lecturers = put lecturer_key (new_lecturer r) ls }) l.row.key))) (put lecturer_key (new_lecturer r) ls) (none early);
+        no_result_yet = g.no_result_yet;
+        all_ranked = λ h. let not' : is_published w.phase ≡ false = open_phase w.phase early in cc;
+      }
+
+  put_project : (ps : List ProjectRow) (r : ProjectRow) → Sound (record w { projects = ps }) → IsProject r → has (map project_key ps) r.key ≡ false
+      → (project_roll (office_sees w)).is_bad (map (λ (p : ProjectRow). p) ps) r ≡ false → length ps + 1 ≤ 1000 → Sound (record w { projects = put project_key r ps })
+  put_project ps r g form key free room =
+      let long : length (put project_key r ps) ≡ suc (length ps) = length_put project_key r ps in
+      let known : has (lecturer_keys w) r.lecturer ≡ true
+      = subst (λ ks. has ks r.lecturer ≡ true) (map_twice (λ (l : rows.Lecturer). l.row) (λ l. l.key) w.lecturers) (not_false _ free) in
+      record {
+        lecturers_rise = g.lecturers_rise;
+        projects_rise = rise_put project_key r ps g.projects_rise key;
+        students_rise = g.students_rise;
+        lecturer_forms = g.lecturer_forms;
+        project_forms = all_put project_key r IsProject ps form g.project_forms;
+        student_forms = g.student_forms;
+        office_form = g.office_form;
+        few_lecturers = g.few_lecturers;
+        few_projects = omega arith;
+        few_students = g.few_students;
+        codes = g.codes;
+        lecturers_known = all_put project_key r (λ p. has (lecturer_keys w) p.lecturer ≡ true) ps known g.lecturers_known;
+        choices = all_weaker _ _ (λ s c. record { few = c.few; known = all_weaker _ _ (λ p h. still_has project_key r ps p h) s.choice c.known; once = c.once }) w.students g.choices;
+        no_choices_yet = g.no_choices_yet;
+        no_rankings_yet = g.no_rankings_yet;
+        rankings = none_ranked (λ l. IsRanking (map student_key (applicants_of (record w { projects = put project_key r ps }) l.row.key))) w.lecturers (g.no_rankings_yet early);
+        no_result_yet = g.no_result_yet;
+        all_ranked = λ h. let not' : is_published w.phase ≡ false = open_phase w.phase early in cc;
+      }
+
+  itself : {X : Type 0} (xs : List X) → Alike xs xs
+  itself xs = record { tests = λ p. refl; long = refl }
+
+  pub students_added : (rs new : List StudentRow) (same : ℕ) → Sound w → AllByRecursion IsStudent rs → take_rows (student_roll (office_sees w)) 1 (office_sees w).students rs ≡ Took new same → Sound (changed w (Students new))
+  students_added rs new same g forms e =
+      taken (student_roll (office_sees w)) (λ s. s.row) new_student (λ r. refl) IsStudent (λ ss. Sound (record w { students = ss }))
+      (λ xs ys r al. has_alike (λ (s : StudentRow). s.code) (w.office ∷ map (λ (l : LecturerRow). l.code) (office_sees w).lecturers) xs ys r.code al)
+      put_student rs 1 (office_sees w).students w.students new same g (itself _) forms e
+
+  pub lecturers_added : (rs new : List LecturerRow) (same : ℕ) → Sound w → AllByRecursion IsLecturer rs → take_rows (lecturer_roll (office_sees w)) 1 (office_sees w).lecturers rs ≡ Took new same → Sound (changed w (Lecturers new))
+  lecturers_added rs new same g forms e =
+      taken (lecturer_roll (office_sees w)) (λ l. l.row) new_lecturer (λ r. refl) IsLecturer (λ ls. Sound (record w { lecturers = ls }))
+      (λ xs ys r al. has_alike (λ (l : LecturerRow). l.code) (w.office ∷ map (λ (s : StudentRow). s.code) (office_sees w).students) xs ys r.code al)
+      put_lecturer rs 1 (office_sees w).lecturers w.lecturers new same g (itself _) forms e
+
+  pub projects_added : (rs new : List ProjectRow) (same : ℕ) → Sound w → AllByRecursion IsProject rs → take_rows (project_roll (office_sees w)) 1 (office_sees w).projects rs ≡ Took new same → Sound (changed w (Projects new))
+  projects_added rs new same g forms e =
+      subst (λ ps. Sound (changed w (Projects ps))) (map_itself new)
+      (taken (project_roll (office_sees w)) (λ p. p) (λ p. p) (λ r. refl) IsProject (λ ps. Sound (record w { projects = ps }))
+      (λ xs ys r al. refl)
+      put_project rs 1 (office_sees w).projects w.projects new same g (subst (λ ps. Alike w.projects ps) (sym (map_itself w.projects)) (itself w.projects)) forms e)

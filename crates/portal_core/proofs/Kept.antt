@@ -1,0 +1,400 @@
+-- A change that is decided keeps the rows sound.
+use Rattle.std.proofs.Common.{◌≡◌, ℕ, ◌+◌, ◌≤◌, Bool, true, false, cond, List, [], ◌∷◌, ◌++◌, length, refl, sym, ◌∙◌, ap, subst, arith, append_assoc, append-nil}
+use Rattle.std.specs.Prelude.{map, filter, Option, Some, None, option_map, IfSome, not, ◌||◌, ◌&&◌, ◌==◌, if◌then◌else◌, is_none, unwrap_or}
+use Rattle.std.specs.List.{list_any, AllByRecursion}
+use Rattle.std.proofs.lemmas.Bool.Decides.{nat_tests}
+use Rattle.spa_model.specs.Spa.{IsBest, IsStable}
+use Rattle.spa_model.specs.Pairs.{number_in}
+use Rattle.portal_core.specs.Words.{Key, is, has, is_empty, Rise, AreDistinct}
+use Rattle.portal_core.specs.World as rows
+use Rattle.portal_core.specs.World.{World, lecturer_key, project_key, student_key, applicants_to, projects_of, applicants_of, is_still_to_rank, is_setup, is_choosing, is_ranking, is_published, is_from_ranking}
+use Rattle.portal_core.specs.Change.{Choices, Ranks, To, Places, changed, with_choice, with_ranking, with_place}
+use Rattle.portal_core.specs.Instance.{instance, matching_of, project_keys, student_keys}
+use Rattle.portal_core.specs.declared.phase.Phase.{Phase}
+use Rattle.portal_core.specs.declared.phase.Phase.TheVariants.{Setup, Choosing, Ranking, Published}
+use Rattle.portal_core.specs.declared.rows.Listing.{Listing}
+use Rattle.portal_core.specs.declared.rows.Person.{Person}
+use Rattle.portal_core.specs.declared.rows.ProjectRow.{ProjectRow}
+use Rattle.portal_core.specs.View.{catalogue, office_sees, persons, name_in, listing_with}
+use Rattle.portal_core.specs.Faults.{ListFault, choice_fault, ranking_fault, in_catalogue, is_applicant, lacks_one}
+use Rattle.portal_core.specs.Good.{Good, Sound, IsChoice, IsRanking, IsStudent, IsLecturer}
+use Rattle.portal_core.proofs.Keys.{is_same}
+use Rattle.portal_core.proofs.Acts.{choice_row, ranking_row}
+use Rattle.portal_core.proofs.AllLaws.{all_map, all_weaker, map_same, length_same, is_sym, none_is, split_append, any_map, any_shown, any_alike, none_passes}
+
+-- before the result is published nothing has to be stable
+pub not_published : (w : World) → Sound w → is_published w.phase ≡ false → Good w
+not_published w g shut = record { sound = g; stable = λ h. cc }
+
+-- phases
+
+pub to_choosing : (w : World) → Sound w → w.phase ≡ Setup → Sound (changed w (To Choosing))
+to_choosing w g e =
+    record {
+      lecturers_rise = g.lecturers_rise;
+      projects_rise = g.projects_rise;
+      students_rise = g.students_rise;
+      lecturer_forms = g.lecturer_forms;
+      project_forms = g.project_forms;
+      student_forms = g.student_forms;
+      office_form = g.office_form;
+      few_lecturers = g.few_lecturers;
+      few_projects = g.few_projects;
+      few_students = g.few_students;
+      codes = g.codes;
+      lecturers_known = g.lecturers_known;
+      choices = g.choices;
+      no_choices_yet = λ h. cc;
+      no_rankings_yet = λ h. g.no_rankings_yet (ap is_from_ranking e);
+      rankings = g.rankings;
+      no_result_yet = λ h. g.no_result_yet (ap is_published e);
+      all_ranked = λ h. cc;
+    }
+
+pub to_ranking : (w : World) → Sound w → w.phase ≡ Choosing → Sound (changed w (To Ranking))
+to_ranking w g e =
+    record {
+      lecturers_rise = g.lecturers_rise;
+      projects_rise = g.projects_rise;
+      students_rise = g.students_rise;
+      lecturer_forms = g.lecturer_forms;
+      project_forms = g.project_forms;
+      student_forms = g.student_forms;
+      office_form = g.office_form;
+      few_lecturers = g.few_lecturers;
+      few_projects = g.few_projects;
+      few_students = g.few_students;
+      codes = g.codes;
+      lecturers_known = g.lecturers_known;
+      choices = g.choices;
+      no_choices_yet = λ h. cc;
+      no_rankings_yet = λ h. cc;
+      rankings = g.rankings;
+      no_result_yet = λ h. g.no_result_yet (ap is_published e);
+      all_ranked = λ h. cc;
+    }
+
+-- the result
+
+-- a place changes neither who applies nor the instance
+kept_filtered : {X Y : Type 0} (key : X → Y) (f : X → X) (q : X → Bool) → ((x : X) → key (f x) ≡ key x) → ((x : X) → q (f x) ≡ q x) → (xs : List X) → map key (filter q (map f xs)) ≡ map key (filter q xs)
+kept_filtered key f q same alike [] = refl
+kept_filtered {X} key f q same alike (x ∷ xs) =
+    rw (alike x) (elim (q x) as (λ b. map key (cond b (f x ∷ filter q (map f xs)) (filter q (map f xs))) ≡ map key (cond b (x ∷ filter q xs) (filter q xs))) [
+      | true ↦ λ i. same x i ∷ kept_filtered key f q same alike xs i
+      | false ↦ kept_filtered key f q same alike xs
+    ])
+
+pub empty_map : {X Y : Type 0} (f : X → Y) (xs : List X) → is_empty (map f xs) ≡ is_empty xs
+empty_map f [] = refl
+empty_map f (x ∷ xs) = refl
+
+module _ (w : World) (pairs : List (Key × Key)) where
+  applicants_placed : (l : Key) → map student_key (applicants_of (changed w (Places pairs)) l) ≡ map student_key (applicants_of w l)
+  applicants_placed l = kept_filtered student_key (with_place pairs) (λ s. list_any (λ p. has s.choice p.key) (projects_of w l)) (λ s. refl) (λ s. refl) w.students
+
+  ranked_placed : (l : rows.Lecturer) → is_still_to_rank (changed w (Places pairs)) l ≡ is_still_to_rank w l
+  ranked_placed l =
+      ap (λ b. not b && is_none l.ranking)
+      (sym (empty_map student_key (applicants_of (changed w (Places pairs)) l.row.key)) ∙ ap is_empty (applicants_placed l.row.key) ∙ empty_map student_key (applicants_of w l.row.key))
+
+  keys_placed : student_keys (changed w (Places pairs)) ≡ student_keys w
+  keys_placed = map_same student_key (with_place pairs) (λ s. refl) w.students
+
+  pub instance_placed : instance (changed w (Places pairs)) ≡ instance w
+  instance_placed = λ i. record (instance w) {
+    student_keys = keys_placed i;
+    choices = map_same (λ (s : rows.Student). map (number_in (project_keys w)) s.choice) (with_place pairs) (λ s. refl) w.students i;
+    rankings = map (λ (l : rows.Lecturer). map (number_in (keys_placed i)) (unwrap_or l.ranking [])) w.lecturers;
+  }
+
+  pub placed_sound : Sound w → is_setup w.phase ≡ false → AllByRecursion (λ l. is_still_to_rank w l ≡ false) w.lecturers → Sound (changed w (Places pairs))
+  placed_sound g late ranked =
+      let codes : map (λ (s : rows.Student). s.row.code) (map (with_place pairs) w.students) ≡ map (λ s. s.row.code) w.students = map_same _ (with_place pairs) (λ s. refl) w.students in
+      let long : length (map (with_place pairs) w.students) ≡ length w.students = length_same (with_place pairs) w.students in
+      record {
+        lecturers_rise = g.lecturers_rise;
+        projects_rise = g.projects_rise;
+        students_rise = subst Rise (sym keys_placed) g.students_rise;
+        lecturer_forms = g.lecturer_forms;
+        project_forms = g.project_forms;
+        student_forms = all_map (λ s. IsStudent s.row) (with_place pairs) w.students g.student_forms;
+        office_form = g.office_form;
+        few_lecturers = g.few_lecturers;
+        few_projects = g.few_projects;
+        few_students = let few = g.few_students in omega arith;
+        codes = subst (λ cs. AreDistinct (w.office ∷ map (λ (l : rows.Lecturer). l.row.code) w.lecturers ++ cs)) (sym codes) g.codes;
+        lecturers_known = g.lecturers_known;
+        choices = all_map (λ s. IsChoice (project_keys w) s.choice) (with_place pairs) w.students g.choices;
+        no_choices_yet = λ h. cc;
+        no_rankings_yet = λ h. cc;
+        rankings = all_weaker _ _ (λ l h. subst (λ ks. IfSome l.ranking (IsRanking ks)) (sym (applicants_placed l.row.key)) h) w.lecturers g.rankings;
+        no_result_yet = λ h. cc;
+        all_ranked = λ h. all_weaker _ _ (λ l e. ranked_placed l ∙ e) w.lecturers ranked;
+      }
+
+  pub to_published : Good w → is_setup w.phase ≡ false → AllByRecursion (λ l. is_still_to_rank w l ≡ false) w.lecturers → IsBest (instance w) (matching_of (changed w (Places pairs))) → Good (changed w (Places pairs))
+  to_published g late ranked best =
+      record {
+        sound = placed_sound g.sound late ranked;
+        stable = λ h. subst (λ i. IsStable i (matching_of (changed w (Places pairs)))) (sym instance_placed) best.stable;
+      }
+
+-- nobody is still to rank
+pub all_ranked : (w : World) → is_from_ranking w.phase ≡ true → is_empty (office_sees w).still_to_rank ≡ true → AllByRecursion (λ l. is_still_to_rank w l ≡ false) w.lecturers
+all_ranked w closed none =
+    none_passes (λ (l : rows.Lecturer). l.row.key) (is_still_to_rank w) w.lecturers
+    (subst (λ b. is_empty (cond b (map (λ (l : rows.Lecturer). l.row.key) (filter (is_still_to_rank w) w.lecturers)) []) ≡ true) closed none)
+
+-- a student's list
+
+pub record Chooses (cat : List Listing) (at : ℕ) (earlier list : List Key) : Type 0 where
+  pub few : length list + at ≤ 21
+  pub known : AllByRecursion (λ k. in_catalogue cat k ≡ true) list
+  pub once : AreDistinct list
+  pub new : AllByRecursion (λ k. has earlier k ≡ false) list
+
+pub no_fault : (cat : List Listing) (at : ℕ) (earlier list : List Key) → at ≤ 21 → choice_fault cat at earlier list ≡ None → Chooses cat at earlier list
+no_fault cat at earlier [] low e = record { few = omega arith; known = tt; once = tt; new = tt }
+no_fault cat at earlier (k ∷ ks) low e = passes (λ room h. no_fault cat (at + 1) (earlier ++ k ∷ []) ks room h) (at == 21) (in_catalogue cat k) (has earlier k) refl refl refl _ _ _ e
+  where
+    below : (at == 21) ≡ false → at ≤ 21 → at + 1 ≤ 21
+    below ef low = grind (arith, nat_tests)
+
+    next : in_catalogue cat k ≡ true → has earlier k ≡ false → at + 1 ≤ 21 → Chooses cat (at + 1) (earlier ++ k ∷ []) ks → Chooses cat at earlier (k ∷ ks)
+    next ek et room rest =
+        let apart : AllByRecursion (λ l. (has earlier l ≡ false) × (is l k ≡ false)) ks = all_weaker _ _ (λ l h. split_append earlier k l h) ks rest.new in
+        record {
+          few = let few = rest.few in omega arith;
+          known = (ek, rest.known);
+          once = (none_is k ks (all_weaker _ _ (λ l h. h.1) ks apart), rest.once);
+          new = (et, all_weaker _ _ (λ l h. h.0) ks apart);
+        }
+
+    passes : (at + 1 ≤ 21 → choice_fault cat (at + 1) (earlier ++ k ∷ []) ks ≡ None → Chooses cat (at + 1) (earlier ++ k ∷ []) ks)
+        → (full known twice : Bool) → (at == 21) ≡ full → in_catalogue cat k ≡ known → has earlier k ≡ twice → (a b c : ListFault)
+        → (if full then Some a else if not known then Some b else if twice then Some c else choice_fault cat (at + 1) (earlier ++ k ∷ []) ks) ≡ None
+        → Chooses cat at earlier (k ∷ ks)
+    passes again true known twice ef ek et a b c h = cc
+    passes again false false twice ef ek et a b c h = cc
+    passes again false true true ef ek et a b c h = cc
+    passes again false true false ef ek et a b c h = let room : at + 1 ≤ 21 = below ef low in next ek et room (again room h)
+
+-- the catalogue has the projects' keys
+listed_is_there : (w : World) (k : Key) → in_catalogue (catalogue w) k ≡ true → has (map project_key w.projects) k ≡ true
+listed_is_there w k h = any_map (is k) project_key w.projects ∙ any_shown (λ (l : Listing). is l.key k) (λ p. is k p.key) _ here w.projects h
+  where
+    here : (p : ProjectRow) (l : Listing) → option_map (listing_with p) (name_in w.lecturers p.lecturer) ≡ Some l → is l.key k ≡ true → is k p.key ≡ true
+    here p l e t = of_name (name_in w.lecturers p.lecturer) e
+      where
+        of_name : (o : Option Key) → option_map (listing_with p) o ≡ Some l → is k p.key ≡ true
+        of_name None f = cc
+        of_name (Some name) f = let same : listing_with p name ≡ l = cc in is_sym k p.key ∙ ap (λ (x : Listing). is x.key k) same ∙ t
+
+chosen_good : (w : World) (list : List Key) → choice_fault (catalogue w) 1 [] list ≡ None → IsChoice (project_keys w) list
+chosen_good w list e =
+    let c : Chooses (catalogue w) 1 [] list = no_fault (catalogue w) 1 [] list (omega arith) e in
+    record {
+      few = let few = c.few in omega arith;
+      known = all_weaker _ _ (λ k h. listed_is_there w k h) list c.known;
+      once = c.once;
+    }
+
+-- what holds of a row holds after its list is replaced
+choice_with : (P : List Key → Type 0) (k : Key) (list : List Key) → P list → (ss : List rows.Student) → AllByRecursion (λ s. P s.choice) ss → AllByRecursion (λ s. P s.choice) (map (with_choice k list) ss)
+choice_with P k list new [] all = tt
+choice_with P k list new (s ∷ ss) all = (
+  elim (is s.row.key k) as (λ b. P (cond b (record s { choice = list }) s).choice) [ true ↦ new | false ↦ all.0 ],
+  choice_with P k list new ss all.1,
+)
+
+pub none_ranked : (P : rows.Lecturer → List Key → Type 0) (ls : List rows.Lecturer) → AllByRecursion (λ l. l.ranking ≡ None) ls → AllByRecursion (λ l. IfSome l.ranking (P l)) ls
+none_ranked P [] all = tt
+none_ranked P (l ∷ ls) all = (rw all.0 tt, none_ranked P ls all.1)
+
+-- a new list keeps the place
+choice_placed : (k : Key) (list : List Key) (s : rows.Student) → (with_choice k list s).placed ≡ s.placed
+choice_placed k list s = elim (is s.row.key k) as (λ b. (cond b (record s { choice = list }) s).placed ≡ s.placed) [ true ↦ refl | false ↦ refl ]
+
+pub choosing : (w : World) (k : Key) (list : List Key) → Sound w → is_choosing w.phase ≡ true → choice_fault (catalogue w) 1 [] list ≡ None → Sound (changed w (Choices k list))
+choosing w k list g e none =
+    let keys : map student_key (map (with_choice k list) w.students) ≡ map student_key w.students = map_same student_key (with_choice k list) (λ s. ap (λ r. r.key) (choice_row k list s)) w.students in
+    let codes : map (λ (s : rows.Student). s.row.code) (map (with_choice k list) w.students) ≡ map (λ s. s.row.code) w.students = map_same _ (with_choice k list) (λ s. ap (λ r. r.code) (choice_row k list s)) w.students in
+    let long : length (map (with_choice k list) w.students) ≡ length w.students = length_same (with_choice k list) w.students in
+    let shut : (is_setup w.phase ≡ false) × (is_from_ranking w.phase ≡ false) × (is_published w.phase ≡ false) = only_choosing w.phase e in
+    record {
+      lecturers_rise = g.lecturers_rise;
+      projects_rise = g.projects_rise;
+      students_rise = subst Rise (sym keys) g.students_rise;
+      lecturer_forms = g.lecturer_forms;
+      project_forms = g.project_forms;
+      student_forms = all_map _ (with_choice k list) w.students (all_weaker _ _ (λ s h. subst IsStudent (sym (choice_row k list s)) h) w.students g.student_forms);
+      office_form = g.office_form;
+      few_lecturers = g.few_lecturers;
+      few_projects = g.few_projects;
+      few_students = let few = g.few_students in omega arith;
+      codes = subst (λ cs. AreDistinct (w.office ∷ map (λ (l : rows.Lecturer). l.row.code) w.lecturers ++ cs)) (sym codes) g.codes;
+      lecturers_known = g.lecturers_known;
+      choices = choice_with (IsChoice (project_keys w)) k list (chosen_good w list none) w.students g.choices;
+      no_choices_yet = λ h. cc;
+      no_rankings_yet = g.no_rankings_yet;
+      rankings = none_ranked (λ l. IsRanking (map student_key (applicants_of (changed w (Choices k list)) l.row.key))) w.lecturers (g.no_rankings_yet shut.1);
+      no_result_yet = λ h. all_map (λ (s : rows.Student). s.placed ≡ None) (with_choice k list) w.students (all_weaker _ _ (λ s e. choice_placed k list s ∙ e) w.students (g.no_result_yet h));
+      all_ranked = λ h. cc;
+    }
+  where
+    only_choosing : (phase : Phase) → is_choosing phase ≡ true → (is_setup phase ≡ false) × (is_from_ranking phase ≡ false) × (is_published phase ≡ false)
+    only_choosing Setup e = cc
+    only_choosing Choosing e = (refl, refl, refl)
+    only_choosing Ranking e = cc
+    only_choosing Published e = cc
+
+-- a lecturer's ranking
+
+filtered_any : {X : Type 0} (q t : X → Bool) (xs : List X) → list_any q (filter t xs) ≡ list_any (λ x. t x && q x) xs
+filtered_any q t [] = refl
+filtered_any {X} q t (x ∷ xs) =
+    elim (t x) as (λ b. list_any q (cond b (x ∷ filter t xs) (filter t xs)) ≡ ((b && q x) || list_any (λ y. t y && q y) xs)) [
+      | true ↦ ap (λ b. q x || b) (filtered_any q t xs)
+      | false ↦ filtered_any q t xs
+    ]
+
+any_or : {X : Type 0} (f g : X → Bool) (xs : List X) → list_any (λ x. f x || g x) xs ≡ (list_any f xs || list_any g xs)
+any_or f g [] = refl
+any_or f g (x ∷ xs) = ap (λ b. (f x || g x) || b) (any_or f g xs) ∙ swap' (f x) (g x) (list_any f xs) (list_any g xs)
+  where
+    swap' : (a b c d : Bool) → ((a || b) || (c || d)) ≡ ((a || c) || (b || d))
+    swap' true b c d = refl
+    swap' false true true d = refl
+    swap' false true false d = refl
+    swap' false false c d = refl
+
+any_and : {X : Type 0} (f : X → Bool) (b : Bool) (xs : List X) → list_any (λ x. f x && b) xs ≡ (list_any f xs && b)
+any_and f b [] = refl
+any_and f b (x ∷ xs) = ap (λ c. (f x && b) || c) (any_and f b xs) ∙ spread (f x) b (list_any f xs)
+  where
+    spread : (a b c : Bool) → ((a && b) || (c && b)) ≡ ((a || c) && b)
+    spread true true c = refl
+    spread true false true = refl
+    spread true false false = refl
+    spread false b c = refl
+
+any_nowhere : {X : Type 0} (xs : List X) → list_any (λ (x : X). false) xs ≡ false
+any_nowhere [] = refl
+any_nowhere (x ∷ xs) = any_nowhere xs
+
+-- some student of some project's applicants, or of all projects' applicants together
+exchanged : {X Y : Type 0} (t : X → Y → Bool) (q : Y → Bool) (xs : List X) (ys : List Y) → list_any (λ x. list_any (λ y. t x y && q y) ys) xs ≡ list_any (λ y. list_any (λ x. t x y) xs && q y) ys
+exchanged t q xs [] = any_nowhere xs
+exchanged t q xs (y ∷ ys) =
+    any_or (λ x. t x y && q y) (λ x. list_any (λ z. t x z && q z) ys) xs
+    ∙ λ i. any_and (λ x. t x y) (q y) xs i || exchanged t q xs ys i
+
+pub union_any : (q : Key → Bool) (ps : List ProjectRow) (ss : List rows.Student)
+    → list_any (λ p. list_any (λ x. q x.key) (persons (filter (λ s. has s.choice p.key) ss))) ps
+    ≡ list_any q (map student_key (filter (λ s. list_any (λ p. has s.choice p.key) ps) ss))
+union_any q ps ss =
+    any_alike _ (λ p. list_any (λ s. has s.choice p.key && q (student_key s)) ss) (λ p. any_map (λ (x : Person). q x.key) _ (filter (λ s. has s.choice p.key) ss) ∙ filtered_any (λ s. q (student_key s)) (λ s. has s.choice p.key) ss) ps
+    ∙ exchanged (λ p s. has s.choice p.key) (λ s. q (student_key s)) ps ss
+    ∙ sym (filtered_any (λ s. q (student_key s)) (λ s. list_any (λ p. has s.choice p.key) ps) ss)
+    ∙ sym (any_map q student_key (filter (λ s. list_any (λ p. has s.choice p.key) ps) ss))
+
+record Ranked (ps : List (Key × List Person)) (earlier list : List Key) : Type 0 where
+  only : AllByRecursion (λ k. is_applicant ps k ≡ true) list
+  once : AreDistinct list
+  new : AllByRecursion (λ k. has earlier k ≡ false) list
+  all : lacks_one ps (earlier ++ list) ≡ false
+
+no_rank_fault : (ps : List (Key × List Person)) (at : ℕ) (earlier list : List Key) → ranking_fault ps at earlier list ≡ None → Ranked ps earlier list
+no_rank_fault ps at earlier [] e = record { only = tt; once = tt; new = tt; all = rw append-nil (whole (lacks_one ps earlier) _ e) }
+  where
+    whole : (b : Bool) (a : ListFault) → (if b then Some a else None) ≡ None → b ≡ false
+    whole true a h = cc
+    whole false a h = refl
+no_rank_fault ps at earlier (k ∷ ks) e = passes (λ h. no_rank_fault ps (at + 1) (earlier ++ k ∷ []) ks h) (is_applicant ps k) (has earlier k) refl refl _ _ e
+  where
+    next : is_applicant ps k ≡ true → has earlier k ≡ false → Ranked ps (earlier ++ k ∷ []) ks → Ranked ps earlier (k ∷ ks)
+    next ek et rest =
+        let apart : AllByRecursion (λ l. (has earlier l ≡ false) × (is l k ≡ false)) ks = all_weaker _ _ (λ l h. split_append earlier k l h) ks rest.new in
+        record {
+          only = (ek, rest.only);
+          once = (none_is k ks (all_weaker _ _ (λ l h. h.1) ks apart), rest.once);
+          new = (et, all_weaker _ _ (λ l h. h.0) ks apart);
+          all = subst (λ xs. lacks_one ps xs ≡ false) (append_assoc earlier (k ∷ []) ks) rest.all;
+        }
+
+    passes : (ranking_fault ps (at + 1) (earlier ++ k ∷ []) ks ≡ None → Ranked ps (earlier ++ k ∷ []) ks)
+        → (known twice : Bool) → is_applicant ps k ≡ known → has earlier k ≡ twice → (a b : ListFault)
+        → (if not known then Some a else if twice then Some b else ranking_fault ps (at + 1) (earlier ++ k ∷ []) ks) ≡ None
+        → Ranked ps earlier (k ∷ ks)
+    passes again false twice ek et a b h = cc
+    passes again true true ek et a b h = cc
+    passes again true false ek et a b h = next ek et (again h)
+
+none_lacks : (list ks : List Key) → list_any (λ k. not (has list k)) ks ≡ false → AllByRecursion (λ k. has list k ≡ true) ks
+none_lacks list [] e = tt
+none_lacks list (k ∷ ks) e = step (has list k) refl (λ h. none_lacks list ks h) e
+  where
+    step : (b : Bool) → has list k ≡ b → (list_any (λ k. not (has list k)) ks ≡ false → AllByRecursion (λ k. has list k ≡ true) ks) → (not b || list_any (λ k. not (has list k)) ks) ≡ false → AllByRecursion (λ k. has list k ≡ true) (k ∷ ks)
+    step true e rest h = (e, rest h)
+    step false e rest h = cc
+
+-- what the lecturer is shown while rankings are made
+abbrev shown_sets : World → Key → Bool → List (Key × List Person)
+shown_sets w l closed = map (λ p. (p.key, if closed then persons (applicants_to w p.key) else [])) (projects_of w l)
+
+ranks_all : (w : World) (l : Key) (list : List Key) → ranking_fault (shown_sets w l true) 1 [] list ≡ None → IsRanking (map student_key (applicants_of w l)) list
+ranks_all w l list e =
+    let r : Ranked (shown_sets w l true) [] list = no_rank_fault (shown_sets w l true) 1 [] list e in
+    record {
+      all = none_lacks list (map student_key (applicants_of w l))
+          (sym (any_map (λ (p : Key × List Person). list_any (λ s. not (has list s.key)) p.1) _ (projects_of w l) ∙ union_any (λ k. not (has list k)) (projects_of w l) w.students) ∙ r.all);
+      only = all_weaker _ _ (λ k h.
+          any_alike (is k) (λ s. is s k) (λ s. is_sym k s) (map student_key (applicants_of w l))
+          ∙ sym (any_map (λ (p : Key × List Person). list_any (λ s. is s.key k) p.1) _ (projects_of w l) ∙ union_any (λ s. is s k) (projects_of w l) w.students) ∙ h) list r.only;
+      once = r.once;
+    }
+
+-- the new ranking stands at its lecturer, and each other one stays
+ranking_with : (P : Key → List Key → Type 0) (k : Key) (list : List Key) → P k list → (ls : List rows.Lecturer) → AllByRecursion (λ l. IfSome l.ranking (P l.row.key)) ls → AllByRecursion (λ l. IfSome l.ranking (P l.row.key)) (map (with_ranking k list) ls)
+ranking_with P k list new [] all = tt
+ranking_with P k list new (l ∷ ls) all = (
+  (elim (is l.row.key k) as (λ b. is l.row.key k ≡ b → IfSome (cond b (record l { ranking = Some list }) l).ranking (P (cond b (record l { ranking = Some list }) l).row.key)) [
+    | true ↦ λ e. subst (λ q. P q list) (sym (is_same l.row.key k e)) new
+    | false ↦ λ e. all.0
+  ]) refl,
+  ranking_with P k list new ls all.1,
+)
+
+pub ranking : (w : World) (k : Key) (list : List Key) → Sound w → is_ranking w.phase ≡ true → ranking_fault (shown_sets w k (is_from_ranking w.phase)) 1 [] list ≡ None → Sound (changed w (Ranks k list))
+ranking w k list g e none =
+    let keys : map lecturer_key (map (with_ranking k list) w.lecturers) ≡ map lecturer_key w.lecturers = map_same lecturer_key (with_ranking k list) (λ l. ap (λ r. r.key) (ranking_row k list l)) w.lecturers in
+    let codes : map (λ (l : rows.Lecturer). l.row.code) (map (with_ranking k list) w.lecturers) ≡ map (λ l. l.row.code) w.lecturers = map_same _ (with_ranking k list) (λ l. ap (λ r. r.code) (ranking_row k list l)) w.lecturers in
+    let long : length (map (with_ranking k list) w.lecturers) ≡ length w.lecturers = length_same (with_ranking k list) w.lecturers in
+    let now : (is_setup w.phase ≡ false) × (is_from_ranking w.phase ≡ true) × (is_published w.phase ≡ false) = only_ranking w.phase e in
+    record {
+      lecturers_rise = subst Rise (sym keys) g.lecturers_rise;
+      projects_rise = g.projects_rise;
+      students_rise = g.students_rise;
+      lecturer_forms = all_map _ (with_ranking k list) w.lecturers (all_weaker _ _ (λ l h. subst IsLecturer (sym (ranking_row k list l)) h) w.lecturers g.lecturer_forms);
+      project_forms = g.project_forms;
+      student_forms = g.student_forms;
+      office_form = g.office_form;
+      few_lecturers = let few = g.few_lecturers in omega arith;
+      few_projects = g.few_projects;
+      few_students = g.few_students;
+      codes = subst (λ cs. AreDistinct (w.office ∷ cs ++ map (λ (s : rows.Student). s.row.code) w.students)) (sym codes) g.codes;
+      lecturers_known = subst (λ ks. AllByRecursion (λ p. has ks p.lecturer ≡ true) w.projects) (sym keys) g.lecturers_known;
+      choices = g.choices;
+      no_choices_yet = g.no_choices_yet;
+      no_rankings_yet = λ h. cc;
+      rankings = ranking_with (λ q. IsRanking (map student_key (applicants_of w q))) k list (ranks_all w k list (subst (λ b. ranking_fault (shown_sets w k b) 1 [] list ≡ None) now.1 none)) w.lecturers g.rankings;
+      no_result_yet = g.no_result_yet;
+      all_ranked = λ h. cc;
+    }
+  where
+    only_ranking : (phase : Phase) → is_ranking phase ≡ true → (is_setup phase ≡ false) × (is_from_ranking phase ≡ true) × (is_published phase ≡ false)
+    only_ranking Setup e = cc
+    only_ranking Choosing e = cc
+    only_ranking Ranking e = (refl, refl, refl)
+    only_ranking Published e = cc

@@ -1,0 +1,178 @@
+-- Worlds that differ in the order within students' lists show the same, but for these lists, and stay so.
+use Rattle.std.proofs.Common.{◌≡◌, Bool, true, false, cond, List, [], ◌∷◌, refl, sym, ◌∙◌, ap, subst}
+use Rattle.std.specs.Prelude.{map, filter, Option, Some, None, option_map, not, ◌&&◌, is_none}
+use Rattle.std.specs.List.{list_any, find, filter_map, cons_option, AllZip}
+use Rattle.portal_core.specs.Words.{Key, is, has, is_empty, is_before, put, put_all}
+use Rattle.portal_core.specs.World as rows
+use Rattle.portal_core.specs.World.{World, lecturer_key, project_key, student_key, applicants_to, projects_of, applicants_of, placed_at, is_at, pairs_of, is_still_to_rank, is_published, is_from_ranking}
+use Rattle.portal_core.specs.Change.{Change, Choices, Ranks, Lecturers, Projects, Students, To, Places, changed, with_choice, with_ranking, with_place, place_in, new_lecturer, new_student}
+use Rattle.portal_core.specs.declared.rows.Person.{Person}
+use Rattle.portal_core.specs.declared.view.View.{View as Sight}
+use Rattle.portal_core.specs.declared.view.View.TheVariants.{Office, Lecturer, Student}
+use Rattle.portal_core.specs.View.{OfficeCaller, caller_among, lecturer_with, student_with, sight_of, view, student_sees, lecturer_sees, office_sees, persons}
+use Rattle.portal_core.specs.Places.{Reordered, SameStudent, SameButPlaces}
+use Rattle.portal_core.proofs.Kept.{empty_map}
+use Rattle.portal_core.proofs.Reorder.{any_reordered, empty_reordered, reordered_itself}
+
+-- lists of students that are the same but for the order within their lists
+
+pub zip_filter : {Y : Type 0} (f : rows.Student → Y) (p : rows.Student → Bool) → ((s t : rows.Student) → SameStudent s t → f s ≡ f t) → ((s t : rows.Student) → SameStudent s t → p s ≡ p t)
+    → (ss ts : List rows.Student) → AllZip SameStudent ss ts → map f (filter p ss) ≡ map f (filter p ts)
+zip_filter f p same alike [] [] z = refl
+zip_filter f p same alike [] (t ∷ ts) z = absurd z
+zip_filter f p same alike (s ∷ ss) [] z = absurd z
+zip_filter f p same alike (s ∷ ss) (t ∷ ts) z =
+    subst (λ b. map f (cond (p s) (s ∷ filter p ss) (filter p ss)) ≡ map f (cond b (t ∷ filter p ts) (filter p ts))) (alike s t z.0)
+    (elim (p s) as (λ b. map f (cond b (s ∷ filter p ss) (filter p ss)) ≡ map f (cond b (t ∷ filter p ts) (filter p ts))) [
+      | true ↦ λ i. same s t z.0 i ∷ zip_filter f p same alike ss ts z.1 i
+      | false ↦ zip_filter f p same alike ss ts z.1
+    ])
+
+zip_map : {Y : Type 0} (f : rows.Student → Y) → ((s t : rows.Student) → SameStudent s t → f s ≡ f t) → (ss ts : List rows.Student) → AllZip SameStudent ss ts → map f ss ≡ map f ts
+zip_map f same [] [] z = refl
+zip_map f same [] (t ∷ ts) z = absurd z
+zip_map f same (s ∷ ss) [] z = absurd z
+zip_map f same (s ∷ ss) (t ∷ ts) z = λ i. same s t z.0 i ∷ zip_map f same ss ts z.1 i
+
+zip_some : {Y : Type 0} (f : rows.Student → Option Y) → ((s t : rows.Student) → SameStudent s t → f s ≡ f t) → (ss ts : List rows.Student) → AllZip SameStudent ss ts → filter_map f ss ≡ filter_map f ts
+zip_some f same [] [] z = refl
+zip_some f same [] (t ∷ ts) z = absurd z
+zip_some f same (s ∷ ss) [] z = absurd z
+zip_some f same (s ∷ ss) (t ∷ ts) z = λ i. cons_option (same s t z.0 i) (zip_some f same ss ts z.1 i)
+
+zip_with : (f g : rows.Student → rows.Student) → ((s t : rows.Student) → SameStudent s t → SameStudent (f s) (g t)) → (ss ts : List rows.Student) → AllZip SameStudent ss ts → AllZip SameStudent (map f ss) (map g ts)
+zip_with f g same [] [] z = tt
+zip_with f g same [] (t ∷ ts) z = absurd z
+zip_with f g same (s ∷ ss) [] z = absurd z
+zip_with f g same (s ∷ ss) (t ∷ ts) z = (same s t z.0, zip_with f g same ss ts z.1)
+
+zip_put : (x : rows.Student) (ss ts : List rows.Student) → AllZip SameStudent ss ts → AllZip SameStudent (put student_key x ss) (put student_key x ts)
+zip_put x [] [] z = (record { row = refl; choice = reordered_itself x.choice; placed = refl }, tt)
+zip_put x [] (t ∷ ts) z = absurd z
+zip_put x (s ∷ ss) [] z = absurd z
+zip_put x (s ∷ ss) (t ∷ ts) z =
+    subst (λ r. AllZip SameStudent (cond (is_before x.row.key s.row.key) (x ∷ s ∷ ss) (s ∷ put student_key x ss)) (cond (is_before x.row.key r.key) (x ∷ t ∷ ts) (t ∷ put student_key x ts))) z.0.row
+    (elim (is_before x.row.key s.row.key) as (λ b. AllZip SameStudent (cond b (x ∷ s ∷ ss) (s ∷ put student_key x ss)) (cond b (x ∷ t ∷ ts) (t ∷ put student_key x ts))) [
+      | true ↦ (record { row = refl; choice = reordered_itself x.choice; placed = refl }, z)
+      | false ↦ (z.0, zip_put x ss ts z.1)
+    ])
+
+zip_put_all : (xs ss ts : List rows.Student) → AllZip SameStudent ss ts → AllZip SameStudent (put_all student_key xs ss) (put_all student_key xs ts)
+zip_put_all [] ss ts z = z
+zip_put_all (x ∷ xs) ss ts z = zip_put_all xs (put student_key x ss) (put student_key x ts) (zip_put x ss ts z)
+
+-- whom a code names
+
+abbrev SameFound : Option rows.Student → Option rows.Student → Type 0
+SameFound None None = Unit {0}
+SameFound (Some s) (Some t) = SameStudent s t
+SameFound _ _ = ⊥
+
+same_found : (c : Key) (ss ts : List rows.Student) → AllZip SameStudent ss ts → SameFound (find (λ s. is s.row.code c) ss) (find (λ s. is s.row.code c) ts)
+same_found c [] [] z = tt
+same_found c [] (t ∷ ts) z = absurd z
+same_found c (s ∷ ss) [] z = absurd z
+same_found c (s ∷ ss) (t ∷ ts) z =
+    subst (λ r. SameFound (cond (is s.row.code c) (Some s) (find (λ s. is s.row.code c) ss)) (cond (is r.code c) (Some t) (find (λ s. is s.row.code c) ts))) z.0.row
+    (elim (is s.row.code c) as (λ b. SameFound (cond b (Some s) (find (λ s. is s.row.code c) ss)) (cond b (Some t) (find (λ s. is s.row.code c) ts))) [
+      | true ↦ z.0
+      | false ↦ same_found c ss ts z.1
+    ])
+
+-- what is seen, but for the own list
+
+abbrev pub SameSight : Sight → Sight → Type 0
+SameSight (Student x) (Student y) = record x { choices = y.choices } ≡ y
+SameSight x y = x ≡ y
+
+module _ (w : World) (ss ts : List rows.Student) (z : AllZip SameStudent ss ts) where
+  abbrev one : World
+  one = record w { students = ss }
+
+  abbrev other : World
+  other = record w { students = ts }
+
+  abbrev person_of : rows.Student → Person
+  person_of s = record { key = s.row.key; name = s.row.name }
+
+  same_person : (s t : rows.Student) → SameStudent s t → person_of s ≡ person_of t
+  same_person s t same = λ i. record { key = (same.row i).key; name = (same.row i).name }
+
+  applicants_same : (p : Key) → persons (applicants_to one p) ≡ persons (applicants_to other p)
+  applicants_same p = zip_filter person_of (λ s. has s.choice p) same_person (λ s t same. any_reordered (is p) s.choice t.choice same.choice) ss ts z
+
+  placed_same : (p : Key) → persons (placed_at one p) ≡ persons (placed_at other p)
+  placed_same p = zip_filter person_of (λ s. is_at p s.placed) same_person (λ s t same. ap (is_at p) same.placed) ss ts z
+
+  same_any : (s t : rows.Student) → SameStudent s t → (l : Key) → list_any (λ p. has s.choice p.key) (projects_of w l) ≡ list_any (λ p. has t.choice p.key) (projects_of w l)
+  same_any s t same l = λ i. list_any (λ p. any_reordered (is p.key) s.choice t.choice same.choice i) (projects_of w l)
+
+  ranked_same : (l : rows.Lecturer) → is_still_to_rank one l ≡ is_still_to_rank other l
+  ranked_same l =
+      ap (λ b. not b && is_none l.ranking)
+      (sym (empty_map student_key (applicants_of one l.row.key))
+      ∙ ap is_empty (zip_filter student_key (λ s. list_any (λ p. has s.choice p.key) (projects_of w l.row.key)) (λ s t same. ap (λ r. r.key) same.row) (λ s t same. same_any s t same l.row.key) ss ts z)
+      ∙ empty_map student_key (applicants_of other l.row.key))
+
+  office_same : office_sees one ≡ office_sees other
+  office_same = λ i. record (office_sees one) {
+    students = zip_map (λ s. s.row) (λ s t same. same.row) ss ts z i;
+    without_list = zip_filter student_key (λ s. is_empty s.choice) (λ s t same. ap (λ r. r.key) same.row) (λ s t same. empty_reordered s.choice t.choice same.choice) ss ts z i;
+    still_to_rank = cond (is_from_ranking w.phase) (map lecturer_key (filter (λ l. ranked_same l i) w.lecturers)) [];
+    pairs = cond (is_published w.phase) (zip_some (λ s. option_map (λ p. (s.row.key, p)) s.placed) (λ s t same. λ j. option_map (λ p. ((same.row j).key, p)) (same.placed j)) ss ts z i) [];
+  }
+
+  lecturer_same : (l : rows.Lecturer) → lecturer_sees one l ≡ lecturer_sees other l
+  lecturer_same l = λ i. record (lecturer_sees one l) {
+    applicants = map (λ p. (p.key, cond (is_from_ranking w.phase) (applicants_same p.key i) [])) (projects_of w l.row.key);
+    placed = map (λ p. (p.key, cond (is_published w.phase) (placed_same p.key i) [])) (projects_of w l.row.key);
+  }
+
+  student_same : (s t : rows.Student) → SameStudent s t → record (student_sees one s) { choices = t.choice } ≡ student_sees other t
+  student_same s t same = λ i. record (student_sees other t) {
+    me = record { key = (same.row i).key; name = (same.row i).name };
+    result = cond (is_published w.phase) (same.placed i) None;
+  }
+
+  seen_same : (b : Bool) (l : Option rows.Lecturer) (o p : Option rows.Student) → SameFound o p → SameSight (sight_of one (cond b OfficeCaller (caller_among l o))) (sight_of other (cond b OfficeCaller (caller_among l p)))
+  seen_same true l o p f = ap Office office_same
+  seen_same false (Some l) o p f = ap Lecturer (lecturer_same l)
+  seen_same false None (Some s) (Some t) f = student_same s t f
+  seen_same false None None None f = refl
+  seen_same false None (Some s) None f = absurd f
+  seen_same false None None (Some t) f = absurd f
+
+  pub view_same : (c : Key) → SameSight (view one c) (view other c)
+  view_same c = seen_same (is w.office c) (lecturer_with w c) (student_with one c) (student_with other c) (same_found c ss ts z)
+
+-- the first world with the rest of the second
+pub but_students : (v w : World) (s : SameButPlaces v w) → v ≡ record w { students = v.students }
+but_students v w s = λ i. record { phase = s.phase i; office = s.office i; lecturers = s.lecturers i; projects = s.projects i; students = v.students }
+
+pub same_view : (v w : World) → SameButPlaces v w → (c : Key) → SameSight (view v c) (view w c)
+same_view v w s c = subst (λ u. SameSight (view u c) (view w c)) (sym (but_students v w s)) (view_same w v.students w.students s.students c)
+
+-- a change of both
+
+pub both_choose : (v w : World) (k : Key) (ks ls : List Key) → Reordered ks ls → SameButPlaces v w → SameButPlaces (changed v (Choices k ks)) (changed w (Choices k ls))
+both_choose v w k ks ls r s = record { phase = s.phase; office = s.office; lecturers = s.lecturers; projects = s.projects; students = zip_with (with_choice k ks) (with_choice k ls) each v.students w.students s.students }
+  where
+    each : (s t : rows.Student) → SameStudent s t → SameStudent (with_choice k ks s) (with_choice k ls t)
+    each s t same =
+        subst (λ r. SameStudent (with_choice k ks s) (cond (is r.key k) (record t { choice = ls }) t)) same.row
+        (elim (is s.row.key k) as (λ b. SameStudent (cond b (record s { choice = ks }) s) (cond b (record t { choice = ls }) t)) [
+          | true ↦ record { row = same.row; choice = r; placed = same.placed }
+          | false ↦ same
+        ])
+
+pub both_changed : (v w : World) (change : Change) → SameButPlaces v w → SameButPlaces (changed v change) (changed w change)
+both_changed v w (Choices k list) s = both_choose v w k list list (reordered_itself list) s
+both_changed v w (Ranks k list) s = record { phase = s.phase; office = s.office; lecturers = ap (map (with_ranking k list)) s.lecturers; projects = s.projects; students = s.students }
+both_changed v w (Lecturers rows) s = record { phase = s.phase; office = s.office; lecturers = ap (put_all lecturer_key (map new_lecturer rows)) s.lecturers; projects = s.projects; students = s.students }
+both_changed v w (Projects rows) s = record { phase = s.phase; office = s.office; lecturers = s.lecturers; projects = ap (put_all project_key rows) s.projects; students = s.students }
+both_changed v w (Students rows) s = record { phase = s.phase; office = s.office; lecturers = s.lecturers; projects = s.projects; students = zip_put_all (map new_student rows) v.students w.students s.students }
+both_changed v w (To phase) s = record { phase = refl; office = s.office; lecturers = s.lecturers; projects = s.projects; students = s.students }
+both_changed v w (Places pairs) s = record { phase = refl; office = s.office; lecturers = s.lecturers; projects = s.projects; students = zip_with (with_place pairs) (with_place pairs) each v.students w.students s.students }
+  where
+    each : (s t : rows.Student) → SameStudent s t → SameStudent (with_place pairs s) (with_place pairs t)
+    each s t same = record { row = same.row; choice = same.choice; placed = ap (λ r. place_in pairs r.key) same.row }

@@ -1,0 +1,191 @@
+-- What others do is not seen.
+use Rattle.std.proofs.Common.{◌≡◌, Bool, true, false, cond, List, [], ◌∷◌, ◌++◌, refl, sym, ◌∙◌, ap, subst, inl, inr}
+use Rattle.std.specs.Prelude.{map, Option, Some, None}
+use Rattle.serde_json.specs.Data.{Data}
+use Rattle.portal_core.specs.Words.{Key, is}
+use Rattle.portal_core.specs.World as rows
+use Rattle.portal_core.specs.Change.{Choices, Ranks, changed, with_choice, with_ranking}
+use Rattle.portal_core.specs.World.{World, is_choosing, is_ranking, is_published, is_from_ranking, lecturer_key, student_key, applicants_to, placed_at, projects_of}
+use Rattle.portal_core.specs.declared.phase.Phase.{Phase}
+use Rattle.portal_core.specs.declared.phase.Phase.TheVariants.{Setup, Choosing, Ranking, Published}
+use Rattle.portal_core.specs.Sight.{LecturerSees}
+use Rattle.portal_core.specs.declared.view.View.TheVariants.{Lecturer, Student}
+use Rattle.portal_core.specs.View.{Caller, NoCaller, OfficeCaller, LecturerCaller, StudentCaller, caller_among, lecturer_with, student_with, caller, sight_of, view, catalogue, student_sees, lecturer_sees, persons}
+use Rattle.portal_core.specs.Ask.{Ask}
+use Rattle.portal_core.specs.Answer.{Answer, Act, Nothing, only, unless, applies, decision}
+use Rattle.portal_core.specs.Faults.{ListFault, choice_fault, ranking_fault}
+use Rattle.portal_core.specs.Bodies.{projects_body, students_body}
+use Rattle.portal_core.specs.Good.{Good}
+use Rattle.portal_core.specs.Run.{Leaves, Step, Serves, Answers, Run, Request, Wish, Calls, Refused, end_of}
+use Rattle.portal_core.specs.Heard.{IsMember, IsIdle, IsIdleWish, replies_to}
+use Rattle.portal_core.proofs.Keys.{is_same, is_own, found_passes, one_row}
+use Rattle.portal_core.proofs.Acts.{caller_chosen, caller_ranked, re_chosen, re_ranked, catalogue_ranked, only_quiet}
+
+-- whom a code names was found by that code
+
+among_lecturer : (w : World) (c : Key) (l : rows.Lecturer) (b : Bool) (o : Option rows.Lecturer) (s : Option rows.Student) → cond b OfficeCaller (caller_among o s) ≡ LecturerCaller l → o ≡ Some l
+among_lecturer w c l true o s e = cc
+among_lecturer w c l false (Some m) s e = let same : m ≡ l = cc in ap Some same
+among_lecturer w c l false None (Some s) e = cc
+among_lecturer w c l false None None e = cc
+
+among_student : (w : World) (c : Key) (t : rows.Student) (b : Bool) (o : Option rows.Lecturer) (s : Option rows.Student) → cond b OfficeCaller (caller_among o s) ≡ StudentCaller t → s ≡ Some t
+among_student w c t true o s e = cc
+among_student w c t false (Some m) s e = cc
+among_student w c t false None (Some s) e = let same : s ≡ t = cc in ap Some same
+among_student w c t false None None e = cc
+
+pub lecturer_found : (w : World) (c : Key) (l : rows.Lecturer) → caller w c ≡ LecturerCaller l → lecturer_with w c ≡ Some l
+lecturer_found w c l e = among_lecturer w c l (is w.office c) (lecturer_with w c) (student_with w c) e
+
+pub student_found : (w : World) (c : Key) (s : rows.Student) → caller w c ≡ StudentCaller s → student_with w c ≡ Some s
+student_found w c s e = among_student w c s (is w.office c) (lecturer_with w c) (student_with w c) e
+
+-- two codes name two rows
+pub apart_lecturers : (w : World) (c d : Key) (l m : rows.Lecturer) → Good w → caller w d ≡ LecturerCaller l → caller w c ≡ LecturerCaller m → is d c ≡ false → is m.row.key l.row.key ≡ false
+apart_lecturers w c d l m good el em other =
+    (elim (is m.row.key l.row.key) as (λ b. is m.row.key l.row.key ≡ b → b ≡ false) [
+      | true ↦ λ e.
+          let one : m ≡ l = one_row lecturer_key _ _ w.lecturers m l good.sound.lecturers_rise (lecturer_found w c m em) (lecturer_found w d l el) (is_same _ _ e) in
+          let of_c : m.row.code ≡ c = is_same _ _ (found_passes _ w.lecturers m (lecturer_found w c m em)) in
+          let of_d : l.row.code ≡ d = is_same _ _ (found_passes _ w.lecturers l (lecturer_found w d l el)) in
+          let same : d ≡ c = sym of_d ∙ sym (ap (λ x. x.row.code) one) ∙ of_c in
+          let yes' : is d c ≡ true = subst (λ k. is d k ≡ true) same (is_own d) in cc
+      | false ↦ λ e. refl
+    ]) refl
+
+pub apart_students : (w : World) (c d : Key) (s t : rows.Student) → Good w → caller w d ≡ StudentCaller s → caller w c ≡ StudentCaller t → is d c ≡ false → is t.row.key s.row.key ≡ false
+apart_students w c d s t good es et other =
+    (elim (is t.row.key s.row.key) as (λ b. is t.row.key s.row.key ≡ b → b ≡ false) [
+      | true ↦ λ e.
+          let one : t ≡ s = one_row student_key _ _ w.students t s good.sound.students_rise (student_found w c t et) (student_found w d s es) (is_same _ _ e) in
+          let of_c : t.row.code ≡ c = is_same _ _ (found_passes _ w.students t (student_found w c t et)) in
+          let of_d : s.row.code ≡ d = is_same _ _ (found_passes _ w.students s (student_found w d s es)) in
+          let same : d ≡ c = sym of_d ∙ sym (ap (λ x. x.row.code) one) ∙ of_c in
+          let yes' : is d c ≡ true = subst (λ k. is d k ≡ true) same (is_own d) in cc
+      | false ↦ λ e. refl
+    ]) refl
+
+-- while the lists are open a lecturer sees nothing of them
+
+abbrev gated : World → rows.Lecturer → Bool → Bool → LecturerSees
+gated w l closed out =
+    record (lecturer_sees w l) {
+      applicants = map (λ p. (p.key, cond closed (persons (applicants_to w p.key)) [])) (projects_of w l.row.key);
+      placed = map (λ p. (p.key, cond out (persons (placed_at w p.key)) [])) (projects_of w l.row.key);
+    }
+
+choosing_open : (phase : Phase) → is_choosing phase ≡ true → (is_from_ranking phase ≡ false) × (is_published phase ≡ false)
+choosing_open Setup e = cc
+choosing_open Choosing e = (refl, refl)
+choosing_open Ranking e = cc
+choosing_open Published e = cc
+
+lecturer_blind : (w : World) (k : Key) (list : List Key) (l : rows.Lecturer) → is_choosing w.phase ≡ true → lecturer_sees (changed w (Choices k list)) l ≡ lecturer_sees w l
+lecturer_blind w k list l e =
+    let shut : (is_from_ranking w.phase ≡ false) × (is_published w.phase ≡ false) = choosing_open w.phase e in
+    (λ i. gated (changed w (Choices k list)) l (shut.0 i) (shut.1 i)) ∙ sym (λ i. gated w l (shut.0 i) (shut.1 i))
+
+choice_other : (k : Key) (list : List Key) (s : rows.Student) → is s.row.key k ≡ false → with_choice k list s ≡ s
+choice_other k list s e = ap (λ b. cond b (record s { choice = list }) s) e
+
+ranking_other : (k : Key) (list : List Key) (l : rows.Lecturer) → is l.row.key k ≡ false → with_ranking k list l ≡ l
+ranking_other k list l e = ap (λ b. cond b (record l { ranking = Some list }) l) e
+
+pub office_not : (w : World) (c : Key) → is w.office c ≡ false → caller w c ≡ OfficeCaller → ⊥
+office_not w c no' e = none (lecturer_with w c) (student_with w c) (sym (ap (λ b. cond b OfficeCaller (caller_among (lecturer_with w c) (student_with w c))) no') ∙ e)
+  where
+    none : (o : Option rows.Lecturer) (s : Option rows.Student) → caller_among o s ≡ OfficeCaller → ⊥
+    none (Some l) s e = cc
+    none None (Some s) e = cc
+    none None None e = cc
+
+-- a student's new list, seen by another
+chosen_unseen : (w : World) (c d : Key) (s : rows.Student) (list : List Key) → Good w → caller w d ≡ StudentCaller s → is d c ≡ false → is w.office c ≡ false → is_choosing w.phase ≡ true
+    → (x : Caller) → caller w c ≡ x → view (changed w (Choices s.row.key list)) c ≡ sight_of w x
+chosen_unseen w c d s list good es other office open' x e =
+    ap (sight_of (changed w (Choices s.row.key list))) (caller_chosen w s.row.key list c ∙ ap (re_chosen s.row.key list) e) ∙ seen x e
+  where
+    seen : (x : Caller) → caller w c ≡ x → sight_of (changed w (Choices s.row.key list)) (re_chosen s.row.key list x) ≡ sight_of w x
+    seen NoCaller e = refl
+    seen OfficeCaller e = absurd (office_not w c office e)
+    seen (LecturerCaller l) e = ap Lecturer (lecturer_blind w s.row.key list l open')
+    seen (StudentCaller t) e = ap (λ u. Student (student_sees (changed w (Choices s.row.key list)) u)) (choice_other s.row.key list t (apart_students w c d s t good es e other))
+
+-- a lecturer's new ranking, seen by another
+ranked_unseen : (w : World) (c d : Key) (l : rows.Lecturer) (list : List Key) → Good w → caller w d ≡ LecturerCaller l → is d c ≡ false → is w.office c ≡ false
+    → (x : Caller) → caller w c ≡ x → view (changed w (Ranks l.row.key list)) c ≡ sight_of w x
+ranked_unseen w c d l list good el other office x e =
+    ap (sight_of (changed w (Ranks l.row.key list))) (caller_ranked w l.row.key list c ∙ ap (re_ranked l.row.key list) e) ∙ seen x e
+  where
+    seen : (x : Caller) → caller w c ≡ x → sight_of (changed w (Ranks l.row.key list)) (re_ranked l.row.key list x) ≡ sight_of w x
+    seen NoCaller e = refl
+    seen OfficeCaller e = absurd (office_not w c office e)
+    seen (LecturerCaller m) e =
+        ap (λ u. Lecturer (lecturer_sees (changed w (Ranks l.row.key list)) u)) (ranking_other l.row.key list m (apart_lecturers w c d l m good el e other))
+        ∙ λ i. Lecturer (record (lecturer_sees w m) { catalogue = catalogue_ranked w l.row.key list i })
+    seen (StudentCaller t) e = λ i. Student (record (student_sees w t) { catalogue = catalogue_ranked w l.row.key list i })
+
+-- the call of a student or a lecturer
+module _ (w v : World) (c d : Key) (good : Good w) (other : is d c ≡ false) (office : is w.office c ≡ false) where
+  chosen_case : (s : rows.Student) → caller w d ≡ StudentCaller s → (body : Data) (list : List Key) (b : Bool) → is_choosing w.phase ≡ b → (fault : Option ListFault) → Leaves w (only b (unless fault (applies body (Choices s.row.key list)))).act v → view v c ≡ view w c
+  chosen_case s e body list false at fault left = ap (λ u. view u c) left
+  chosen_case s e body list true at (Some fault) left = ap (λ u. view u c) left
+  chosen_case s e body list true at None left = ap (λ u. view u c) left ∙ chosen_unseen w c d s list good e other office at (caller w c) refl
+
+  ranked_case : (l : rows.Lecturer) → caller w d ≡ LecturerCaller l → (body : Data) (list : List Key) (b : Bool) (fault : Option ListFault) → Leaves w (only b (unless fault (applies body (Ranks l.row.key list)))).act v → view v c ≡ view w c
+  ranked_case l e body list false fault left = ap (λ u. view u c) left
+  ranked_case l e body list true (Some fault) left = ap (λ u. view u c) left
+  ranked_case l e body list true None left = ap (λ u. view u c) left ∙ ranked_unseen w c d l list good e other office (caller w c) refl
+
+  idle_case : (a : Act) → a ≡ Nothing → Leaves w a v → view v c ≡ view w c
+  idle_case a e left = ap (λ u. view u c) (subst (λ x. Leaves w x v) e left)
+
+  member_case : (x : Caller) → caller w d ≡ x → IsMember (sight_of w x) → (ask : Ask) → Leaves w (decision (sight_of w x) ask).act v → view v c ≡ view w c
+  member_case NoCaller e m ask left = absurd m
+  member_case OfficeCaller e m ask left = absurd m
+  member_case (LecturerCaller l) e m (Ask.SetRanking list) left = ranked_case l e (students_body (Some list)) list (is_ranking w.phase) (ranking_fault (lecturer_sees w l).applicants 1 [] list) left
+  member_case (LecturerCaller l) e m Ask.Applicants left = idle_case _ (only_quiet (is_from_ranking w.phase) _ refl) left
+  member_case (LecturerCaller l) e m Ask.ShowRanking left = idle_case _ (only_quiet (is_from_ranking w.phase) _ refl) left
+  member_case (LecturerCaller l) e m Ask.Result left = idle_case _ (only_quiet (is_published w.phase) _ refl) left
+  member_case (LecturerCaller l) e m ask left = ap (λ u. view u c) left
+  member_case (StudentCaller s) e m (Ask.SetChoices list) left = chosen_case s e (projects_body list) list (is_choosing w.phase) refl (choice_fault (catalogue w) 1 [] list) left
+  member_case (StudentCaller s) e m Ask.Result left = idle_case _ (only_quiet (is_published w.phase) _ refl) left
+  member_case (StudentCaller s) e m ask left = ap (λ u. view u c) left
+
+pub others : (w v : World) (c d : Key) (ask : Ask) (reply : Answer) → Good w → Step w d ask reply v → IsMember (view w d) → is d c ≡ false → is w.office c ≡ false → view v c ≡ view w c
+others w v c d ask reply good step member other office = member_case w v c d good other office (caller w d) refl member ask step.left
+
+-- an idle request may be struck out
+
+idle_wish : (w v : World) (r : Request) (a : Answer) (wish : Wish) → Answers w r wish a v → IsIdleWish w r.code wish → v ≡ w
+idle_wish w v r a (Calls ask) s idle = subst (λ x. Leaves w x v) idle s.left
+idle_wish w v r a (Refused refusal) s idle = s.1
+
+idle_stays : (w v : World) (r : Request) (a : Answer) → Serves w r a v → IsIdle w r → v ≡ w
+idle_stays w v r a (inl s) idle = idle_wish w v r a r.wish s idle
+idle_stays w v r a (inr s) idle = s.1
+
+joined : (w : World) (before rest : List Request) (told said : List Answer) (after later : List World) → Run w before told after → Run (end_of w after) rest said later → Run w (before ++ rest) (told ++ said) (after ++ later)
+joined w [] rest [] said [] later run next = next
+joined w (r ∷ rs) rest (a ∷ told) said (v ∷ after) later run next = (run.0, joined v rs rest told said after later run.1 next)
+joined w [] rest [] said (v ∷ after) later run next = absurd run
+joined w [] rest (a ∷ told) said after later run next = absurd run
+joined w (r ∷ rs) rest [] said after later run next = absurd run
+joined w (r ∷ rs) rest (a ∷ told) said [] later run next = absurd run
+
+same_told : (c : Key) (w : World) (before : List Request) (r : Request) (rest : List Request) (told : List Answer) (a : Answer) (said : List Answer) (after : List World) → Run w before told after → is r.code c ≡ false → replies_to c (before ++ rest) (told ++ said) ≡ replies_to c (before ++ r ∷ rest) (told ++ a ∷ said)
+same_told c w [] r rest [] a said [] run other = ap (λ b. cond b (a ∷ replies_to c rest said) (replies_to c rest said)) (sym other)
+same_told c w (q ∷ qs) r rest (b ∷ told) a said (v ∷ after) run other = ap (λ x. cond (is q.code c) (b ∷ x) x) (same_told c v qs r rest told a said after run.1 other)
+same_told c w [] r rest [] a said (v ∷ after) run other = absurd run
+same_told c w [] r rest (b ∷ told) a said after run other = absurd run
+same_told c w (q ∷ qs) r rest [] a said after run other = absurd run
+same_told c w (q ∷ qs) r rest (b ∷ told) a said [] run other = absurd run
+
+pub struck : (c : Key) (w v : World) (before : List Request) (r : Request) (rest : List Request) (told : List Answer) (a : Answer) (said : List Answer) (after later : List World)
+    → Run w before told after → Serves (end_of w after) r a v → Run v rest said later → is r.code c ≡ false → IsIdle (end_of w after) r
+    → Run w (before ++ rest) (told ++ said) (after ++ later) × (replies_to c (before ++ rest) (told ++ said) ≡ replies_to c (before ++ r ∷ rest) (told ++ a ∷ said))
+struck c w v before r rest told a said after later run s next other idle = (
+  joined w before rest told said after later run (subst (λ u. Run u rest said later) (idle_stays (end_of w after) v r a s idle) next),
+  same_told c w before r rest told a said after run other,
+)

@@ -1,0 +1,11 @@
+use Rattle.std.proofs.Common.{refl}
+use Rattle.portal_core.proofs.laws.worked_replies.Goals as goal
+
+pub returns : goal.returns
+returns c = record {
+  who = record { office_me = refl; student_me = refl; lecturer_me = refl; nobody = refl; not_the_office = refl };
+  applicants = record { sets = refl; in_another_order = refl; too_early = refl; to_a_student = refl };
+  lists = record { taken = refl; repeated = refl; unknown = refl; missing = refl; not_an_applicant = refl; no_ranking_yet = refl };
+  moves = record { same_rows = refl; other_row = refl; current = refl; too_far = refl; one_to_rank = refl };
+  result = record { to_ann = refl; to_cyr = refl; to_lee = refl; status = refl };
+}

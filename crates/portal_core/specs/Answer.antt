@@ -1,0 +1,166 @@
+-- What is answered to a caller who sees this, and what is to be done. No world is in it.
+use Rattle.std.specs.Prelude.{ℕ, Bool, not, if◌then◌else◌, codes, List, [], ◌∷◌, length, Option, Some, None}
+use Rattle.serde_json.specs.Data.{Data, string}
+use Rattle.portal_core.specs.declared.phase.Phase.{Phase}
+use Rattle.portal_core.specs.declared.phase.Phase.TheVariants.{Setup, Choosing, Ranking, Published}
+use Rattle.portal_core.specs.Words.{Key, is_empty}
+use Rattle.portal_core.specs.World.{is_choosing, is_ranking, is_published, is_from_ranking}
+use Rattle.portal_core.specs.Change.{Change, Choices, Ranks, Lecturers, Projects, Students, To}
+use Rattle.portal_core.specs.Sight.{StudentSees, LecturerSees, OfficeSees}
+use Rattle.portal_core.specs.declared.view.View.{View as Sight}
+use Rattle.portal_core.specs.declared.view.View.TheVariants.{Nobody, Office, Lecturer, Student}
+use Rattle.portal_core.specs.Ask.{Ask}
+use Rattle.portal_core.specs.Json.{dictionary, texts, count}
+use Rattle.portal_core.specs.Bodies.{catalogue_body, projects_body, students_body, applicants_body, placed_body, project_body, phase_body, student_me, lecturer_me, office_me, roll_body, status_body, allocation_body}
+use Rattle.portal_core.specs.Faults.{ListFault, choice_fault, ranking_fault}
+use Rattle.portal_core.specs.Rolls.{Taken, Faulty, Took, take_rows, lecturer_roll, project_roll, student_roll}
+
+pub data Said : Type 0 where
+  Json : Data → Said
+  Csv : List ℕ → Said
+  Plain : List ℕ → Said
+  Unavailable : Said
+
+-- a reply; `allow` has the methods that a path has, where another was asked for
+pub record Answer : Type 0 where
+  pub status : ℕ
+  pub allow : List ℕ
+  pub body : Said
+
+pub data Act : Type 0 where
+  Nothing : Act
+  Apply : Change → Act
+  Publish : Act
+
+pub record Decision : Type 0 where
+  pub reply : Answer
+  pub act : Act
+
+abbrev pub answered : ℕ → Data → Answer
+answered status body = record { status = status; allow = []; body = Json body }
+
+abbrev pub shows : Data → Decision
+shows body = record { reply = answered 200 body; act = Nothing }
+
+abbrev pub applies : Data → Change → Decision
+applies body change = record { reply = answered 200 body; act = Apply change }
+
+abbrev pub refuses : Answer → Decision
+refuses answer = record { reply = answer; act = Nothing }
+
+-- a refusal by a word alone
+abbrev pub by_word : ℕ → List ℕ → Answer
+by_word status word = answered status (dictionary ((codes "error", string word) ∷ []))
+
+abbrev pub no_caller : Decision
+no_caller = refuses (by_word 403 (codes "no_caller"))
+
+abbrev pub not_yours : Decision
+not_yours = refuses (by_word 403 (codes "not_yours"))
+
+abbrev pub wrong_phase : Decision
+wrong_phase = refuses (by_word 409 (codes "wrong_phase"))
+
+-- a call that is open in some phases alone
+abbrev pub only : Bool → Decision → Decision
+only now d = if now then d else wrong_phase
+
+abbrev pub bad_list : ListFault → Answer
+bad_list fault = answered 422 (dictionary ((codes "at", count fault.at) ∷ (codes "error", string (codes "bad_list")) ∷ (codes "fault", string fault.word) ∷ []))
+
+-- a list that is taken where it has no fault
+abbrev pub unless : Option ListFault → Decision → Decision
+unless None d = d
+unless (Some fault) d = refuses (bad_list fault)
+
+-- a student
+
+abbrev pub to_student : StudentSees → Ask → Decision
+to_student v Ask.Me = shows (student_me v)
+to_student v Ask.Catalogue = shows (catalogue_body v.catalogue)
+to_student v Ask.ShowChoices = shows (projects_body v.choices)
+to_student v (Ask.SetChoices list) = only (is_choosing v.phase) (unless (choice_fault v.catalogue 1 [] list) (applies (projects_body list) (Choices v.me.key list)))
+to_student v Ask.Result = only (is_published v.phase) (shows (project_body v.result))
+to_student v _ = not_yours
+
+-- a lecturer
+
+abbrev pub to_lecturer : LecturerSees → Ask → Decision
+to_lecturer v Ask.Me = shows (lecturer_me v)
+to_lecturer v Ask.Catalogue = shows (catalogue_body v.catalogue)
+to_lecturer v Ask.Applicants = only (is_from_ranking v.phase) (shows (applicants_body v.applicants))
+to_lecturer v Ask.ShowRanking = only (is_from_ranking v.phase) (shows (students_body v.ranking))
+to_lecturer v (Ask.SetRanking list) = only (is_ranking v.phase) (unless (ranking_fault v.applicants 1 [] list) (applies (students_body (Some list)) (Ranks v.me.key list)))
+to_lecturer v Ask.Result = only (is_published v.phase) (shows (placed_body v.placed))
+to_lecturer v _ = not_yours
+
+-- the office
+
+-- rolls are open before ranking
+abbrev pub is_open_to_rolls : Phase → Bool
+is_open_to_rolls phase = not (is_from_ranking phase)
+
+abbrev pub row_fault : ℕ → List ℕ → Option ℕ → Answer
+row_fault status word None = by_word status word
+row_fault status word (Some row) = answered status (dictionary ((codes "error", string word) ∷ (codes "row", count row) ∷ []))
+
+-- where no row is new there is nothing to do
+abbrev pub added : {X : Type 0} → (List X → Change) → Taken X → Decision
+added change (Faulty fault) = refuses (row_fault fault.status fault.word fault.row)
+added change (Took new same) =
+    record {
+      reply = answered 200 (roll_body (length new) same);
+      act = if is_empty new then Nothing else Apply (change new);
+    }
+
+abbrev pub still_to_rank : List Key → Answer
+still_to_rank keys = answered 409 (dictionary ((codes "error", string (codes "still_to_rank")) ∷ (codes "lecturers", texts keys) ∷ []))
+
+-- the reply is the same whatever the result will be
+abbrev pub publishes : OfficeSees → Decision
+publishes v =
+    if is_empty v.still_to_rank then record { reply = answered 200 (phase_body Published); act = Publish }
+    else refuses (still_to_rank v.still_to_rank)
+
+-- to the next phase, or to the current one, which changes nothing
+abbrev pub moves : OfficeSees → Phase → Phase → Decision
+moves v Setup Setup = shows (phase_body Setup)
+moves v Setup Choosing = applies (phase_body Choosing) (To Choosing)
+moves v Choosing Choosing = shows (phase_body Choosing)
+moves v Choosing Ranking = applies (phase_body Ranking) (To Ranking)
+moves v Ranking Ranking = shows (phase_body Ranking)
+moves v Ranking Published = publishes v
+moves v Published Published = shows (phase_body Published)
+moves v _ _ = wrong_phase
+
+abbrev pub to_office : OfficeSees → Ask → Decision
+to_office v Ask.Me = shows (office_me v)
+to_office v Ask.Catalogue = shows (catalogue_body v.catalogue)
+to_office v (Ask.AddLecturers rows) = only (is_open_to_rolls v.phase) (added Lecturers (take_rows (lecturer_roll v) 1 v.lecturers rows))
+to_office v (Ask.AddProjects rows) = only (is_open_to_rolls v.phase) (added Projects (take_rows (project_roll v) 1 v.projects rows))
+to_office v (Ask.AddStudents rows) = only (is_open_to_rolls v.phase) (added Students (take_rows (student_roll v) 1 v.students rows))
+to_office v (Ask.Move phase) = moves v v.phase phase
+to_office v Ask.Status = shows (status_body v)
+to_office v Ask.Allocation = only (is_published v.phase) (shows (allocation_body v.pairs))
+to_office v _ = not_yours
+
+-- all callers
+
+abbrev pub decision : Sight → Ask → Decision
+decision Nobody ask = no_caller
+decision (Office v) ask = to_office v ask
+decision (Lecturer v) ask = to_lecturer v ask
+decision (Student v) ask = to_student v ask
+
+abbrev pub answer : Sight → Ask → Answer
+answer v ask = (decision v ask).reply
+
+-- the caller's own list in what the caller sees
+abbrev pub with_own : Sight → Act → Sight
+with_own (Student v) (Apply (Choices k list)) = Student (record v { choices = list })
+with_own (Lecturer v) (Apply (Ranks k list)) = Lecturer (record v { ranking = Some list })
+with_own v _ = v
+
+-- what the caller sees after a call by which nothing else of it may change
+abbrev pub own : Sight → Ask → Sight
+own v ask = with_own v (decision v ask).act

@@ -1,0 +1,50 @@
+-- The changes of a world.
+use Rattle.std.specs.Prelude.{if◌then◌else◌, List, [], map, Option, Some, None, option_map}
+use Rattle.std.specs.List.{find}
+use Rattle.portal_core.specs.declared.phase.Phase.{Phase}
+use Rattle.portal_core.specs.declared.phase.Phase.TheVariants.{Published}
+use Rattle.portal_core.specs.declared.rows.LecturerRow.{LecturerRow}
+use Rattle.portal_core.specs.declared.rows.ProjectRow.{ProjectRow}
+use Rattle.portal_core.specs.declared.rows.StudentRow.{StudentRow}
+use Rattle.portal_core.specs.Words.{Key, is, put_all}
+use Rattle.portal_core.specs.World.{World, Lecturer, Student, lecturer_key, project_key, student_key}
+
+-- a student's list; a lecturer's ranking; new rows of a roll; the phase; the result, as pairs of a student and a project
+pub data Change : Type 0 where
+  Choices : Key → List Key → Change
+  Ranks : Key → List Key → Change
+  Lecturers : List LecturerRow → Change
+  Projects : List ProjectRow → Change
+  Students : List StudentRow → Change
+  To : Phase → Change
+  Places : List (Key × Key) → Change
+
+abbrev pub with_choice : Key → List Key → Student → Student
+with_choice k list s = if is s.row.key k then record s { choice = list } else s
+
+abbrev pub with_ranking : Key → List Key → Lecturer → Lecturer
+with_ranking k list l = if is l.row.key k then record l { ranking = Some list } else l
+
+-- a new row has no ranking, no list and no place
+abbrev pub new_lecturer : LecturerRow → Lecturer
+new_lecturer r = record { row = r; ranking = None }
+
+abbrev pub new_student : StudentRow → Student
+new_student r = record { row = r; choice = []; placed = None }
+
+-- the project that the pairs give to the student
+abbrev pub place_in : List (Key × Key) → Key → Option Key
+place_in pairs s = option_map (λ (x : Key × Key). x.1) (find (λ x. is x.0 s) pairs)
+
+abbrev pub with_place : List (Key × Key) → Student → Student
+with_place pairs s = record s { placed = place_in pairs s.row.key }
+
+-- the world with one change
+abbrev pub changed : World → Change → World
+changed w (Choices k list) = record w { students = map (with_choice k list) w.students }
+changed w (Ranks k list) = record w { lecturers = map (with_ranking k list) w.lecturers }
+changed w (Lecturers rows) = record w { lecturers = put_all lecturer_key (map new_lecturer rows) w.lecturers }
+changed w (Projects rows) = record w { projects = put_all project_key rows w.projects }
+changed w (Students rows) = record w { students = put_all student_key (map new_student rows) w.students }
+changed w (To phase) = record w { phase = phase }
+changed w (Places pairs) = record w { phase = Published; students = map (with_place pairs) w.students }

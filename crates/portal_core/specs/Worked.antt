@@ -1,0 +1,131 @@
+-- A small world in each phase: two lecturers, three projects and three students.
+use Rattle.std.specs.Prelude.{◌≡◌, ℕ, if◌then◌else◌, List, [], ◌∷◌, codes, Option, Some, None}
+use Rattle.serde_json.specs.Data.{Data, null, string}
+use Rattle.portal_core.specs.declared.phase.Phase.{Phase}
+use Rattle.portal_core.specs.declared.phase.Phase.TheVariants.{Setup, Choosing, Ranking, Published}
+use Rattle.portal_core.specs.declared.rows.StudentRow.{StudentRow}
+use Rattle.portal_core.specs.Words.{Key}
+use Rattle.portal_core.specs.World.{World, is_setup, is_published}
+use Rattle.portal_core.specs.Change.{Choices, Ranks, changed}
+use Rattle.portal_core.specs.View.{view}
+use Rattle.portal_core.specs.Ask.{Ask}
+use Rattle.portal_core.specs.Json.{dictionary, several, texts, count}
+use Rattle.portal_core.specs.Answer.{Answer, answer, answered}
+
+-- lists are made after setup, and rankings and places stand in published
+abbrev pub choice_in : Phase → List Key → List Key
+choice_in phase list = if is_setup phase then [] else list
+
+abbrev pub ranking_in : Phase → List Key → Option (List Key)
+ranking_in phase list = if is_published phase then Some list else None
+
+abbrev pub placed_in : Phase → Option Key → Option Key
+placed_in phase place = if is_published phase then place else None
+
+abbrev pub worked : Phase → World
+worked phase =
+    record {
+      phase = phase;
+      office = codes "office-code-0";
+      lecturers =
+          record { row = record { key = codes "L1"; name = codes "Lee"; code = codes "lee-code-01"; capacity = 2 }; ranking = ranking_in phase (codes "S2" ∷ codes "S1" ∷ []) }
+          ∷ record { row = record { key = codes "L2"; name = codes "Moe"; code = codes "moe-code-02"; capacity = 1 }; ranking = ranking_in phase (codes "S2" ∷ []) }
+          ∷ [];
+      projects =
+          record { key = codes "P1"; lecturer = codes "L1"; title = codes "Tides"; capacity = 1 }
+          ∷ record { key = codes "P2"; lecturer = codes "L1"; title = codes "Kites"; capacity = 1 }
+          ∷ record { key = codes "P3"; lecturer = codes "L2"; title = codes "Bells"; capacity = 1 }
+          ∷ [];
+      students =
+          record { row = record { key = codes "S1"; name = codes "Ann"; code = codes "ann-code-1" }; choice = choice_in phase (codes "P1" ∷ codes "P2" ∷ []); placed = placed_in phase (Some (codes "P2")) }
+          ∷ record { row = record { key = codes "S2"; name = codes "Roe, Bea"; code = codes "bea-code-2" }; choice = choice_in phase (codes "P1" ∷ codes "P3" ∷ []); placed = placed_in phase (Some (codes "P1")) }
+          ∷ record { row = record { key = codes "S3"; name = codes "Cyr"; code = codes "cyr-code-3" }; choice = []; placed = None }
+          ∷ [];
+    }
+
+-- what is answered in the small world
+
+abbrev pub reply : Phase → Key → Ask → Answer
+reply phase code ask = answer (view (worked phase) code) ask
+
+abbrev pub office : Key
+office = codes "office-code-0"
+
+abbrev pub ann : Key
+ann = codes "ann-code-1"
+
+abbrev pub cyr : Key
+cyr = codes "cyr-code-3"
+
+abbrev pub lee : Key
+lee = codes "lee-code-01"
+
+abbrev pub body : List (List ℕ × Data) → Answer
+body members = answered 200 (dictionary members)
+
+abbrev pub refusal : ℕ → List (List ℕ × Data) → Answer
+refusal status members = answered status (dictionary members)
+
+abbrev pub word : List ℕ → List ℕ × Data
+word text = (codes "error", string text)
+
+abbrev pub someone : List ℕ → List ℕ → Data
+someone key name = dictionary ((codes "key", string key) ∷ (codes "name", string name) ∷ [])
+
+abbrev pub ann_row : StudentRow
+ann_row = record { key = codes "S1"; name = codes "Ann"; code = ann }
+
+abbrev pub bea_row : StudentRow
+bea_row = record { key = codes "S2"; name = codes "Roe, Bea"; code = codes "bea-code-2" }
+
+-- each caller is told who it is, and nobody else is told anything
+pub record TellsWho : Type 0 where
+  pub office_me : reply Setup office Ask.Me ≡ body ((codes "phase", string (codes "setup")) ∷ (codes "role", string (codes "office")) ∷ [])
+  pub student_me : reply Setup ann Ask.Me ≡ body ((codes "key", string (codes "S1")) ∷ (codes "name", string (codes "Ann")) ∷ (codes "phase", string (codes "setup")) ∷ (codes "role", string (codes "student")) ∷ [])
+  pub lecturer_me : reply Setup lee Ask.Me ≡ body ((codes "capacity", count 2) ∷ (codes "key", string (codes "L1")) ∷ (codes "name", string (codes "Lee")) ∷ (codes "phase", string (codes "setup")) ∷ (codes "role", string (codes "lecturer")) ∷ [])
+  pub nobody : reply Setup [] Ask.Me ≡ refusal 403 (word (codes "no_caller") ∷ [])
+  pub not_the_office : reply Published office Ask.ShowChoices ≡ refusal 403 (word (codes "not_yours") ∷ [])
+
+-- a lecturer sees the sets of applicants once the lists are closed, and not the order of any list
+pub record TellsApplicants : Type 0 where
+  pub sets : reply Ranking lee Ask.Applicants ≡ body ((
+    codes "projects",
+    several (
+        dictionary ((codes "applicants", several (someone (codes "S1") (codes "Ann") ∷ someone (codes "S2") (codes "Roe, Bea") ∷ [])) ∷ (codes "id", string (codes "P1")) ∷ [])
+        ∷ dictionary ((codes "applicants", several (someone (codes "S1") (codes "Ann") ∷ [])) ∷ (codes "id", string (codes "P2")) ∷ []) ∷ []),
+  ) ∷ [])
+  pub in_another_order : answer (view (changed (worked Ranking) (Choices (codes "S1") (codes "P2" ∷ codes "P1" ∷ []))) lee) Ask.Applicants ≡ reply Ranking lee Ask.Applicants
+  pub too_early : reply Choosing lee Ask.Applicants ≡ refusal 409 (word (codes "wrong_phase") ∷ [])
+  pub to_a_student : reply Choosing ann Ask.Applicants ≡ refusal 403 (word (codes "not_yours") ∷ [])
+
+-- lists and rankings are taken whole or refused at their first fault
+pub record TellsLists : Type 0 where
+  pub taken : reply Choosing ann (Ask.SetChoices (codes "P2" ∷ codes "P1" ∷ [])) ≡ body ((codes "projects", texts (codes "P2" ∷ codes "P1" ∷ [])) ∷ [])
+  pub repeated : reply Choosing ann (Ask.SetChoices (codes "P1" ∷ codes "P1" ∷ [])) ≡ refusal 422 ((codes "at", count 2) ∷ word (codes "bad_list") ∷ (codes "fault", string (codes "repeated")) ∷ [])
+  pub unknown : reply Choosing ann (Ask.SetChoices (codes "P1" ∷ codes "P9x" ∷ [])) ≡ refusal 422 ((codes "at", count 2) ∷ word (codes "bad_list") ∷ (codes "fault", string (codes "unknown_project")) ∷ [])
+  pub missing : reply Ranking lee (Ask.SetRanking (codes "S2" ∷ [])) ≡ refusal 422 ((codes "at", count 0) ∷ word (codes "bad_list") ∷ (codes "fault", string (codes "missing")) ∷ [])
+  pub not_an_applicant : reply Ranking lee (Ask.SetRanking (codes "S1" ∷ codes "S3" ∷ [])) ≡ refusal 422 ((codes "at", count 2) ∷ word (codes "bad_list") ∷ (codes "fault", string (codes "not_an_applicant")) ∷ [])
+  pub no_ranking_yet : reply Ranking lee Ask.ShowRanking ≡ body ((codes "students", null) ∷ [])
+
+-- rolls and moves of the office
+pub record TellsMoves : Type 0 where
+  pub same_rows : reply Setup office (Ask.AddStudents (ann_row ∷ bea_row ∷ [])) ≡ body ((codes "added", count 0) ∷ (codes "same", count 2) ∷ [])
+  pub other_row : reply Setup office (Ask.AddStudents (record ann_row { name = codes "Anna" } ∷ bea_row ∷ [])) ≡ refusal 409 (word (codes "roll_conflict") ∷ (codes "row", count 1) ∷ [])
+  pub current : reply Choosing office (Ask.Move Choosing) ≡ body ((codes "phase", string (codes "choosing")) ∷ [])
+  pub too_far : reply Choosing office (Ask.Move Published) ≡ refusal 409 (word (codes "wrong_phase") ∷ [])
+  pub one_to_rank : answer (view (changed (worked Ranking) (Ranks (codes "L1") (codes "S2" ∷ codes "S1" ∷ []))) office) (Ask.Move Published)
+      ≡ refusal 409 (word (codes "still_to_rank") ∷ (codes "lecturers", texts (codes "L2" ∷ [])) ∷ [])
+
+-- the result, as each sees it
+pub record TellsResult : Type 0 where
+  pub to_ann : reply Published ann Ask.Result ≡ body ((codes "project", string (codes "P2")) ∷ [])
+  pub to_cyr : reply Published cyr Ask.Result ≡ body ((codes "project", null) ∷ [])
+  pub to_lee : reply Published lee Ask.Result ≡ body ((
+    codes "projects",
+    several (
+        dictionary ((codes "id", string (codes "P1")) ∷ (codes "students", several (someone (codes "S2") (codes "Roe, Bea") ∷ [])) ∷ [])
+        ∷ dictionary ((codes "id", string (codes "P2")) ∷ (codes "students", several (someone (codes "S1") (codes "Ann") ∷ [])) ∷ []) ∷ []),
+  ) ∷ [])
+  pub status : reply Published office Ask.Status ≡ body (
+      (codes "assigned", count 2) ∷ (codes "lecturers", count 2) ∷ (codes "phase", string (codes "published")) ∷ (codes "projects", count 3) ∷ (codes "still_to_rank", texts [])
+      ∷ (codes "students", count 3) ∷ (codes "unassigned", texts (codes "S3" ∷ [])) ∷ (codes "without_list", texts (codes "S3" ∷ [])) ∷ [])

@@ -1,0 +1,26 @@
+//! What a caller asks.
+
+use crate::phase::Phase;
+use crate::rows::{LecturerRow, ProjectRow, StudentRow};
+
+/// A call of the portal.
+#[derive(Drop)]
+pub enum Call {
+    Me,
+    Catalogue,
+    ShowChoices,
+    /// Replaces the student's own list of projects, best first.
+    SetChoices(Vec<Vec<u8>>),
+    Applicants,
+    ShowRanking,
+    /// Replaces the lecturer's own ranking of all applicants, best first.
+    SetRanking(Vec<Vec<u8>>),
+    Result,
+    AddLecturers(Vec<LecturerRow>),
+    AddProjects(Vec<ProjectRow>),
+    AddStudents(Vec<StudentRow>),
+    /// Moves the round to this phase.
+    Move(Phase),
+    Status,
+    Allocation,
+}

@@ -1,0 +1,56 @@
+//! What is answered, and what is to be done.
+
+use crate::phase::Phase;
+use crate::rows::{LecturerRow, ProjectRow, StudentRow};
+use serde_json::Value;
+use spa_rows::Key;
+
+/// The body of a reply.
+#[derive(Drop)]
+pub enum Body {
+    Json(Value),
+    Csv(Vec<u8>),
+    Plain(Vec<u8>),
+    /// The body of a reply that memory or the store failed.
+    Unavailable,
+}
+
+/// A reply; `allow` has the methods that a path has, where another was asked for.
+#[derive(Drop)]
+pub struct Reply {
+    pub status: u16,
+    pub allow: &'static str,
+    pub body: Body,
+}
+
+/// A change of the world.
+#[derive(Drop)]
+pub enum Change {
+    Choices { student: Key, projects: Vec<Key> },
+    Ranking { lecturer: Key, students: Vec<Key> },
+    /// New rows of the roll of lecturers.
+    Lecturers(Vec<LecturerRow>),
+    /// New rows of the roll of projects.
+    Projects(Vec<ProjectRow>),
+    /// New rows of the roll of students.
+    Students(Vec<StudentRow>),
+    Phase(Phase),
+    /// The result, as pairs of a student and a project; the phase becomes published.
+    Result(Vec<(Key, Key)>),
+}
+
+/// What is to be done.
+#[derive(Drop)]
+pub enum Act {
+    Nothing,
+    Apply(Change),
+    /// Solves the world's instance and publishes the matching.
+    Publish,
+}
+
+/// What is answered, and what is to be done.
+#[derive(Drop)]
+pub struct Decision {
+    pub reply: Reply,
+    pub act: Act,
+}

@@ -1,0 +1,99 @@
+//! Laws over the definitions alone: what each caller may learn, whatever a keeper does.
+
+ghost use Rattle.std.specs.Prelude.{◌≡◌, ◌++◌, ◌∷◌, List, map, true, false};
+ghost use Rattle.portal_core.specs.Words.{Key, is, has};
+ghost use Rattle.portal_core.specs.World.{World};
+ghost use Rattle.portal_core.specs.Good.{Good, codes_of};
+ghost use Rattle.portal_core.specs.Ask.{Ask};
+ghost use Rattle.portal_core.specs.Answer.{Answer, own};
+ghost use Rattle.portal_core.specs.View.{view, catalogue, office_sees, lecturer_sees, student_sees};
+ghost use Rattle.portal_core.specs.declared.view.View.TheVariants.{Nobody, Office, Lecturer, Student};
+ghost use Rattle.portal_core.specs.declared.rows.Listing.{Listing};
+ghost use Rattle.portal_core.specs.declared.rows.ProjectRow.{ProjectRow};
+ghost use Rattle.portal_core.specs.Run.{Request, Step, Serves, Calls, Run, AllAnswered, end_of};
+ghost use Rattle.portal_core.specs.Heard.{IsMember, IsIdle, is_move_or_add, Item, Heard, replies_to};
+ghost use Rattle.portal_core.specs.Places.{SameButPlaces, SameRequest, AlikeUntilPublished};
+ghost use Rattle.std.specs.List.{AllZip, AllByRecursion};
+ghost use Rattle.portal_core.specs.Worked.{worked, TellsWho, TellsApplicants, TellsLists, TellsMoves, TellsResult};
+ghost use Rattle.portal_core.specs.declared.phase.Phase as phases;
+
+/// Two runs in which a caller starts with the same view and hears the same give the caller the same
+/// replies, and leave the caller the same view.
+pub fn same_replies()
+    ensures { (c : Key) (w v : World) (asked others : List Request) (told said : List Answer) (after later : List World) (items : List Item)
+        → Run w asked told after → AllAnswered told → Heard c w asked after items
+        → Run v others said later → AllAnswered said → Heard c v others later items
+        → view w c ≡ view v c
+        → (replies_to c asked told ≡ replies_to c others said) × (view (end_of w after) c ≡ view (end_of v later) c) }
+{}
+
+/// No call of a student or lecturer changes what another student or lecturer, or a stranger, sees.
+/// Of one's own calls one sees one's own list change. A request of another that changes no row may be
+/// struck out.
+pub fn others_unseen()
+    ensures others { (w v : World) (c d : Key) (ask : Ask) (reply : Answer)
+        → Good w → Step w d ask reply v → IsMember (view w d) → is d c ≡ false → is w.office c ≡ false
+        → view v c ≡ view w c }
+    ensures own_list { (w v : World) (c : Key) (ask : Ask) (reply : Answer)
+        → Step w c ask reply v → is_move_or_add (Calls ask) ≡ false → view v c ≡ own (view w c) ask }
+    ensures struck { (c : Key) (w v : World) (before : List Request) (r : Request) (rest : List Request) (told : List Answer) (a : Answer) (said : List Answer) (after later : List World)
+        → Run w before told after → Serves (end_of w after) r a v → Run v rest said later
+        → is r.code c ≡ false → IsIdle (end_of w after) r
+        → Run w (before ++ rest) (told ++ said) (after ++ later)
+        × (replies_to c (before ++ rest) (told ++ said) ≡ replies_to c (before ++ r ∷ rest) (told ++ a ∷ said)) }
+{}
+
+/// Each run has exactly one list of what a caller hears.
+pub fn heard_once()
+    ensures there { (c : Key) (w : World) (asked : List Request) (after : List World) → (items : List Item) × Heard c w asked after items }
+    ensures once { (c : Key) (w : World) (asked : List Request) (after : List World) (items others : List Item)
+        → Heard c w asked after items → Heard c w asked after others → items ≡ others }
+{}
+
+/// A step from a good world leads to a good world.
+pub fn step_good()
+    ensures { (w v : World) (code : Key) (ask : Ask) (reply : Answer) → Good w → Step w code ask reply v → Good v }
+{}
+
+/// A step of a good world has one reply and leaves one world.
+pub fn step_once()
+    ensures { (w v u : World) (code : Key) (ask : Ask) (a b : Answer)
+        → Good w → Step w code ask a v → Step w code ask b u → (a ≡ b) × (v ≡ u) }
+{}
+
+/// In a good world the catalogue shows each project.
+pub fn catalogue_whole()
+    ensures { (w : World) → Good w → map (λ (l : Listing). l.key) (catalogue w) ≡ map (λ (p : ProjectRow). p.key) w.projects }
+{}
+
+/// Two runs that differ at most in the order within students' lists, at the start and in what the
+/// students hand in, give equal replies up to and with the first accepted move to published, but for
+/// the replies to a student's own list.
+pub fn places_unseen()
+    ensures { (v w : World) (asked others : List Request) (told said : List Answer) (after later : List World)
+        → SameButPlaces v w → AllZip SameRequest asked others
+        → Run v asked told after → AllAnswered told → Run w others said later → AllAnswered said
+        → AlikeUntilPublished asked told said }
+{}
+
+/// In a good world a code names its own row, by role, and any other code nobody.
+pub fn named_by_code()
+    ensures office { (w : World) → Good w → view w w.office ≡ Office (office_sees w) }
+    ensures lecturers { (w : World) → Good w → AllByRecursion (λ l. view w l.row.code ≡ Lecturer (lecturer_sees w l)) w.lecturers }
+    ensures students { (w : World) → Good w → AllByRecursion (λ s. view w s.row.code ≡ Student (student_sees w s)) w.students }
+    ensures others { (w : World) (c : Key) → Good w → has (codes_of w) c ≡ false → view w c ≡ Nobody }
+{}
+
+/// There is a good world in each phase: the small world is one.
+pub fn worked_good()
+    ensures { (phase : phases.Phase) → Good (worked phase) }
+{}
+
+/// What is answered in the small world.
+pub fn worked_replies()
+    ensures who { TellsWho }
+    ensures applicants { TellsApplicants }
+    ensures lists { TellsLists }
+    ensures moves { TellsMoves }
+    ensures result { TellsResult }
+{}

@@ -1,0 +1,24 @@
+//! The world of the portal: who sees what, what is answered, and what a call changes.
+#![tactic(auto)]
+
+mod call;
+mod code;
+mod decision;
+mod keeper;
+pub mod laws;
+mod name;
+mod phase;
+mod rows;
+#[cfg(test)]
+mod tests;
+mod text;
+mod view;
+
+pub use call::Call;
+pub use code::{Code, CodeFault};
+pub use decision::{Act, Body, Change, Decision, Reply};
+pub use keeper::{KeepFault, Keeper};
+pub use name::{Name, NameFault};
+pub use phase::Phase;
+pub use rows::{LecturerRow, Listing, Person, ProjectRow, StudentRow};
+pub use view::{LecturerView, OfficeView, StudentView, View};

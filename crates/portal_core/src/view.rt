@@ -1,0 +1,91 @@
+//! What a caller sees.
+
+use crate::code::Code;
+use crate::phase::Phase;
+use crate::rows::{LecturerRow, Listing, Person, ProjectRow, StudentRow};
+use spa_rows::Key;
+use std::marker::Model;
+
+#[derive(Drop)]
+pub struct StudentView {
+    pub phase: Phase,
+    pub me: Person,
+    pub catalogue: Vec<Listing>,
+    pub choices: Vec<Key>,
+    pub result: Option<Key>,
+}
+
+impl Model for StudentView {
+    ghost use Rattle.portal_core.specs.Sight.{StudentSees};
+
+    ghost Value = { StudentSees };
+
+    ghost view = { λ v. record { phase = v.phase; me = v.me; catalogue = v.catalogue.items; choices = v.choices.items; result = v.result } };
+}
+
+#[derive(Drop)]
+pub struct LecturerView {
+    pub phase: Phase,
+    pub me: Person,
+    pub capacity: u32,
+    pub catalogue: Vec<Listing>,
+    pub applicants: Vec<(Key, Vec<Person>)>,
+    pub ranking: Option<Vec<Key>>,
+    pub placed: Vec<(Key, Vec<Person>)>,
+}
+
+impl Model for LecturerView {
+    ghost use Rattle.std.specs.Prelude.{map, option_map};
+    ghost use Rattle.portal_core.specs.Sight.{LecturerSees};
+
+    ghost Value = { LecturerSees };
+
+    ghost view = { λ v. record {
+      phase = v.phase;
+      me = v.me;
+      capacity = v.capacity;
+      catalogue = v.catalogue.items;
+      applicants = map (λ p. (p.0, p.1.items)) v.applicants.items;
+      ranking = option_map (λ r. r.items) v.ranking;
+      placed = map (λ p. (p.0, p.1.items)) v.placed.items;
+    } };
+}
+
+#[derive(Drop)]
+pub struct OfficeView {
+    pub phase: Phase,
+    pub office_code: Code,
+    pub lecturers: Vec<LecturerRow>,
+    pub projects: Vec<ProjectRow>,
+    pub students: Vec<StudentRow>,
+    pub catalogue: Vec<Listing>,
+    pub without_list: Vec<Key>,
+    pub still_to_rank: Vec<Key>,
+    pub pairs: Vec<(Key, Key)>,
+}
+
+impl Model for OfficeView {
+    ghost use Rattle.portal_core.specs.Sight.{OfficeSees};
+
+    ghost Value = { OfficeSees };
+
+    ghost view = { λ v. record {
+      phase = v.phase;
+      office_code = v.office_code;
+      lecturers = v.lecturers.items;
+      projects = v.projects.items;
+      students = v.students.items;
+      catalogue = v.catalogue.items;
+      without_list = v.without_list.items;
+      still_to_rank = v.still_to_rank.items;
+      pairs = v.pairs.items;
+    } };
+}
+
+#[derive(Drop)]
+pub enum View {
+    Nobody,
+    Office(OfficeView),
+    Lecturer(LecturerView),
+    Student(StudentView),
+}
