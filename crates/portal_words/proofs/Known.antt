@@ -1,10 +1,10 @@
 -- What the parser makes of the words that ask for `check` and `solve`.
-use Rattle.std.proofs.Common.{◌≡◌, ◌∙◌, ◌&&◌, ℕ, Bool, true, false, Option, Some, None, List, [], ◌∷◌, drop, refl, sym, ap, ap₂, inl, inr, ⊎_elim, codes, option_map}
+use Rattle.std.proofs.Common.{◌≡◌, ◌∙◌, ◌&&◌, true, Option, Some, None, List, [], ◌∷◌, refl, sym, ap, ⊎_elim, codes, option_map}
 use Rattle.std.specs.Prelude.{Box}
 use Rattle.std.specs.Box.{box_value}
-use Rattle.clap.specs.Words.{App, Row, Rule, Text, first_of, first_value, found_of, is_simple, matches_of, rows_of, subcommand_of, subcommand_rows, subcommand_rows_of, takes}
+use Rattle.clap.specs.Words.{Row, Text, first_of, first_value, is_simple, rows_of, subcommand_of, subcommand_rows, subcommand_rows_of, takes}
 use Rattle.clap.specs.Matches.{subcommand_name_of}
-use Rattle.clap.specs.Simple.{built, entered, names_of, argument_words}
+use Rattle.clap.specs.Simple.{built, entered, names_of}
 use Rattle.clap.specs.Takes.{built_takes}
 use Rattle.clap.specs.Walk.{nothing_held, stop_after}
 use Rattle.clap.specs.declared.parser.matches.ArgMatches.{ArgMatches}
