@@ -1,0 +1,131 @@
+//! What `solve` gives for generated files, judged by `check`.
+
+use super::{HEADER, told};
+use std::alloc::{AllocError, Global};
+use std::test::Fail;
+
+/// Numbers that look like chance, the same each time.
+#[derive(Drop)]
+struct Chance {
+    state: u64,
+}
+
+impl Chance {
+    fn below(&mut self, n: u64) -> u64 {
+        self.state = self
+            .state
+            .wrapping_mul(6_364_136_223_846_793_005)
+            .wrapping_add(1_442_695_040_888_963_407);
+        (self.state >> 33) % n.max(1)
+    }
+
+    /// Some different numbers below n, in an order of chance.
+    fn some(&mut self, alloc: Global, n: u64, turns: u64) -> Result<Vec<u64>, AllocError> {
+        let mut list = Vec::new(alloc);
+        for _ in 0..turns {
+            let number = self.below(n);
+            if !list.contains(&number) {
+                list.push(number)?;
+            }
+        }
+        Ok(list)
+    }
+}
+
+/// Adds keys of these numbers, between blanks.
+fn put_keys(
+    alloc: Global,
+    text: &mut Vec<u8>,
+    letter: &str,
+    list: &[u64],
+) -> Result<(), AllocError> {
+    let mut gap = "";
+    for number in list {
+        let key = format!(in alloc; "{gap}{letter}{number}")?;
+        text.extend_from_slice(key.as_bytes())?;
+        gap = " ";
+    }
+    text.extend_from_slice(b"\n")?;
+    Ok(())
+}
+
+/// Up to three lecturers, six projects (each of the lecturer whose number it has by three) and six
+/// students, in any capacities to 3.
+fn file(alloc: Global, chance: &mut Chance) -> Result<Vec<u8>, AllocError> {
+    let mut text = Vec::new(alloc);
+    let mut choices = Vec::new(alloc);
+    for student in 0..6 {
+        let list = chance.some(alloc, 6, 5)?;
+        let line = format!(in alloc; "S,S{student},,")?;
+        text.extend_from_slice(line.as_bytes())?;
+        put_keys(alloc, &mut text, "P", &list)?;
+        choices.push(list)?;
+    }
+    for project in 0..6u64 {
+        let capacity = chance.below(3).wrapping_add(1);
+        let lecturer = project % 3;
+        let line = format!(in alloc; "P,P{project},{capacity},L{lecturer}\n")?;
+        text.extend_from_slice(line.as_bytes())?;
+    }
+    for lecturer in 0..3u64 {
+        let capacity = chance.below(3).wrapping_add(1);
+        let line = format!(in alloc; "L,L{lecturer},{capacity},")?;
+        text.extend_from_slice(line.as_bytes())?;
+        let order = chance.some(alloc, 6, 90)?;
+        let list = applicants(alloc, &choices, &order, lecturer)?;
+        put_keys(alloc, &mut text, "S", &list)?;
+    }
+    Ok(text)
+}
+
+/// Those of the students, in this order, who list a project of the lecturer.
+fn applicants(
+    alloc: Global,
+    choices: &[Vec<u64>],
+    order: &[u64],
+    lecturer: u64,
+) -> Result<Vec<u64>, AllocError> {
+    let mut list = Vec::new(alloc);
+    for student in order {
+        if let Some(own) = choices.get(*student as usize) {
+            if own.iter().any(|p| *p % 3 == lecturer) {
+                list.push(*student)?;
+            }
+        }
+    }
+    Ok(list)
+}
+
+/// The lines `assign STUDENT PROJECT` as pairs of a file.
+fn pairs(alloc: Global, solution: &str) -> Result<Vec<u8>, AllocError> {
+    let mut text = Vec::new(alloc);
+    for line in solution.lines() {
+        let mut words = line.split_whitespace();
+        if words.next() == Some("assign") {
+            if let (Some(student), Some(project)) = (words.next(), words.next()) {
+                let pair = format!(in alloc; "M,{student},{project},\n")?;
+                text.extend_from_slice(pair.as_bytes())?;
+            }
+        }
+    }
+    Ok(text)
+}
+
+#[test]
+fn solutions_are_stable(rt: HostRuntime) -> Result<(), Fail> {
+    let alloc = rt.alloc();
+    let mut chance = Chance { state: 4 };
+    for turn in 0..200 {
+        let mut records = file(alloc, &mut chance)?;
+        let (status, solution) = told(&rt, "solve", HEADER, &records)?;
+        assert!(rt; status == 0, "{turn}");
+        match str::from_utf8(&solution) {
+            Ok(text) => records.extend_from_slice(&pairs(alloc, text)?)?,
+            Err(_) => assert!(rt; false, "{turn}"),
+        }
+        let (status, blocks) = told(&rt, "check", HEADER, &records)?;
+        assert!(rt; status == 0, "{turn}");
+        assert!(rt; blocks.as_slice() == b"blocking 0\n".as_slice(), "{turn}");
+    }
+    Ok(())
+}
