@@ -98,10 +98,20 @@ fn no_matching(rt: HostRuntime) -> Result<(), Fail> {
         assert!(rt; status == 2, "{pairs:?}");
         assert!(rt; got.as_slice() == out, "{pairs:?}");
     }
-    let other = b"L,L1,1,S1\nP,P1,1,L1\nP,P2,1,L1\nS,S1,,P1\nM,S1,P2,\n";
-    let (status, got) = told(&rt, "check", HEADER, other)?;
-    assert!(rt; status == 2);
-    assert!(rt; got.as_slice() == b"refused pair_not_acceptable row 5\n".as_slice());
+    for (records, out) in [
+        (
+            b"L,L1,1,S1\nP,P1,1,L1\nP,P2,1,L1\nS,S1,,P1\nM,S1,P2,\n".as_slice(),
+            b"refused pair_not_acceptable row 5\n".as_slice(),
+        ),
+        (
+            b"L,L1,1,S1\nP,P1,1,L1\nP,P2,1,L1\nS,S1,,P1 P2\nM,S1,P2,\nM,S1,P1,\n".as_slice(),
+            b"refused student_twice row 6\n".as_slice(),
+        ),
+    ] {
+        let (status, got) = told(&rt, "check", HEADER, records)?;
+        assert!(rt; status == 2, "{records:?}");
+        assert!(rt; got.as_slice() == out, "{records:?}");
+    }
     Ok(())
 }
 
