@@ -73,14 +73,16 @@ impl Progress {
         }
     }
 
-    fn is_with(&self, instance: &Instance, s: usize, l: usize) -> bool
+    /// Whether the student has a project of the lecturer who offers this one.
+    fn is_with(&self, instance: &Instance, s: usize, p: usize) -> bool
         requires marks { AreMarks instance.now self.now }
         requires in_range { s < length self.now.projects.items }
-        ensures { IsTrue result ↔ IsWith instance.now self.now.projects.items l s }
+        requires offered { p < length instance.now.lecturers }
+        ensures { IsTrue result ↔ IsWith instance.now self.now.projects.items (lecturer_of instance.now p) s }
     {
         let _lawful = instance.students();
         match self.projects[s] {
-            Some(q) => instance.lecturer_of(q) == l,
+            Some(q) => instance.lecturer_of(q) == instance.lecturer_of(p),
             None => false,
         }
     }
@@ -104,19 +106,20 @@ impl Progress {
         unreachable!()
     }
 
-    /// The place, on the lecturer's ranking, of the worst student at any of the lecturer's projects.
-    fn worst_with(&self, instance: &Instance, l: usize) -> usize
+    /// The place, on its lecturer's ranking, of the worst student at any of the lecturer's projects.
+    fn worst_with(&self, instance: &Instance, p: usize) -> usize
         requires marks { AreMarks instance.now self.now }
         requires uncut { IsUncut instance.now self.now }
-        requires in_range { l < length instance.now.rankings }
-        requires some { (s : ℕ) × IsWith instance.now self.now.projects.items l s }
-        ensures in_range { result < length (ranking_of instance.now l) }
-        ensures worst { IsWorstWith instance.now self.now.projects.items l (slice_index (ranking_of instance.now l) result) }
+        requires in_range { p < length instance.now.lecturers }
+        requires some { (s : ℕ) × IsWith instance.now self.now.projects.items (lecturer_of instance.now p) s }
+        ensures in_range { result < length (ranking_of instance.now (lecturer_of instance.now p)) }
+        ensures worst { IsWorstWith instance.now self.now.projects.items (lecturer_of instance.now p) (slice_index (ranking_of instance.now (lecturer_of instance.now p)) result) }
     {
         let _lawful = instance.students();
+        let l = instance.lecturer_of(p);
         let ranking = instance.ranking(l);
         for k in (0..self.lecturer_cuts[l]).rev() {
-            if self.is_with(instance, ranking[k], l) {
+            if self.is_with(instance, ranking[k], p) {
                 return k;
             }
         }
@@ -166,22 +169,23 @@ impl Progress {
         w
     }
 
-    /// The lecturer's worst student is let go; from there on, students are cut.
-    fn let_go_with(&mut self, instance: &Instance, l: usize) -> usize
+    /// The worst student of the project's lecturer is let go; from there on, students are cut.
+    fn let_go_with(&mut self, instance: &Instance, p: usize) -> usize
         requires marks { AreMarks instance.now self.old }
         requires counts { AreCounts instance.now self.old }
         requires uncut { IsUncut instance.now self.old }
-        requires in_range { l < length instance.now.rankings }
-        requires some { (s : ℕ) × IsWith instance.now self.old.projects.items l s }
-        ensures worst { IsWorstWith instance.now self.old.projects.items l result }
+        requires in_range { p < length instance.now.lecturers }
+        requires some { (s : ℕ) × IsWith instance.now self.old.projects.items (lecturer_of instance.now p) s }
+        ensures worst { IsWorstWith instance.now self.old.projects.items (lecturer_of instance.now p) result }
         ensures leaves { Leaves result self.old self.new }
         ensures project_cuts { self.new.project_cuts.items ≡ self.old.project_cuts.items }
-        ensures lecturer_cuts { self.new.lecturer_cuts.items ≡ slice_set self.old.lecturer_cuts.items l (rank_of instance.now l result) }
+        ensures lecturer_cuts { self.new.lecturer_cuts.items ≡ slice_set self.old.lecturer_cuts.items (lecturer_of instance.now p) (rank_of instance.now (lecturer_of instance.now p) result) }
         ensures marks { AreMarks instance.now self.new }
         ensures counts { AreCounts instance.now self.new }
     {
         let _lawful = instance.students();
-        let rank = self.worst_with(instance, l);
+        let l = instance.lecturer_of(p);
+        let rank = self.worst_with(instance, p);
         let w = instance.ranking(l)[rank];
         let Some(u) = self.projects[w] else {
             unreachable!()
@@ -222,7 +226,7 @@ impl Progress {
             return Some(self.let_go_at(instance, p));
         }
         if self.lecturer_counts[l] > instance.lecturer_capacity(l) as usize {
-            return Some(self.let_go_with(instance, l));
+            return Some(self.let_go_with(instance, p));
         }
         None
     }

@@ -1,6 +1,7 @@
 //! Both bodies: on worked examples, on a family, and on generated instances.
 
 use crate::{cuts, lists};
+use spa_check::is_stable;
 use spa_model::{Instance, InstanceRows, LecturerLine, ProjectLine, StudentLine};
 use std::alloc::{AllocError, Global};
 use std::process::Abort;
@@ -76,7 +77,7 @@ impl Plan {
     }
 }
 
-/// Both bodies give each student the same project; where `want` is there, it is this one.
+/// Both bodies give each student the same project, and nothing blocks; where `want` is there, it is this one.
 fn agree(
     rt: &impl Abort,
     alloc: Global,
@@ -89,6 +90,7 @@ fn agree(
         return Ok(());
     };
     let first = cuts::solve(alloc, &instance)?;
+    assert!(rt; is_stable(&instance, &first));
     let second = lists::solve(alloc, &instance)?;
     for s in 0..instance.students() {
         let project = instance.project_of(&first, s);

@@ -36,7 +36,7 @@ returns-then-index-lecturer_capacity-clause-state c =
     let room : get_or q.project_counts.items c.args.p 0 ≤ capacity_of i c.args.p = omega arith in
     let over : limit_of i c.lecturer_of-l.result < get_or q.lecturer_counts.items c.lecturer_of-l.result 0 = omega arith in
     lecturer_state i lawful c.args.self.now q c.requires.state c.args.s c.args.p c.requires.next c.place.ensures.puts c.place.ensures.cuts counts c.let_go_with.result c.let_go_with.new.self room (rw own at over)
-    (rw own at c.let_go_with.ensures.worst) c.let_go_with.ensures.leaves c.let_go_with.ensures.project_cuts (rw own at c.let_go_with.ensures.lecturer_cuts) c.let_go_with.ensures.marks c.let_go_with.ensures.counts
+    c.let_go_with.ensures.worst c.let_go_with.ensures.leaves c.let_go_with.ensures.project_cuts c.let_go_with.ensures.lecturer_cuts c.let_go_with.ensures.marks c.let_go_with.ensures.counts
 
 pub returns-clause-state : goal.returns-clause-state
 returns-clause-state c =
