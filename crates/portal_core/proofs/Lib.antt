@@ -1,6 +1,7 @@
 pub mod Texts
 pub mod Keys
 pub mod AllLaws
+pub mod Persons
 pub mod Puts
 pub mod Acts
 pub mod Told
@@ -18,3 +19,6 @@ pub mod Example
 pub mod Named
 pub mod Play
 pub mod Only
+pub mod Published
+pub mod Scan
+pub mod Givers

@@ -49,7 +49,7 @@ module _ (keys : List Key) where
         | false ↦ λ e f. on_list cs known.1 n (omega arith)
       ]) refl on
 
-  on_roll : (ss : List rows.Student) → AllByRecursion (λ s. IsChoice keys s.choice) ss → (s n : ℕ) → IsOn (get_or (map (λ (s : rows.Student). map (number_in keys) s.choice) ss) s []) n → n < length keys
+  pub on_roll : (ss : List rows.Student) → AllByRecursion (λ s. IsChoice keys s.choice) ss → (s n : ℕ) → IsOn (get_or (map (λ (s : rows.Student). map (number_in keys) s.choice) ss) s []) n → n < length keys
   on_roll [] all s n on = absurd (omega (arith, on))
   on_roll (x ∷ ss) all zero n on = on_list x.choice all.0.known n on
   on_roll (x ∷ ss) all (suc s) n on = on_roll ss all.1 s n on

@@ -1,5 +1,5 @@
 -- The instance that a world stands for, and the matching that its result is: a key becomes its place on the roll.
-use Rattle.std.specs.Prelude.{ℕ, List, [], map, Option, unwrap_or, option_map}
+use Rattle.std.specs.Prelude.{ℕ, List, [], ◌∷◌, map, Option, Some, None, unwrap_or, option_map, slice_index_or}
 use Rattle.spa_model.specs.Spa.{Spa}
 use Rattle.spa_model.specs.Pairs.{number_in}
 use Rattle.portal_core.specs.Words.{Key}
@@ -31,3 +31,9 @@ instance w =
 -- each student's place in the result
 abbrev pub matching_of : World → List (Option ℕ)
 matching_of w = map (λ s. option_map (number_in (project_keys w)) s.placed) w.students
+
+-- the pairs of a matching by numbers, for these students and projects, by student
+abbrev pub pairs_by : List Key → List Key → List (Option ℕ) → List (Key × Key)
+pairs_by (s ∷ ss) projects (Some p ∷ places) = (s, slice_index_or projects p []) ∷ pairs_by ss projects places
+pairs_by (s ∷ ss) projects (None ∷ places) = pairs_by ss projects places
+pairs_by _ _ _ = []

@@ -1,6 +1,10 @@
 -- What calls, changes, replies and decisions of the code stand for.
-use Rattle.std.specs.Prelude.{map}
+use Rattle.std.specs.Prelude.{ℕ, List, Vec, map}
+use Rattle.std.specs.declared.alloc.Global.{Global}
 use Rattle.serde_json.specs.View as json
+use Rattle.spa_rows.specs.declared.key.Key as kept
+use Rattle.portal_core.specs.Words.{Key}
+use Rattle.portal_core.specs.declared.rows.Person.{Person}
 use Rattle.portal_core.specs.declared.call.Call.{Call}
 use Rattle.portal_core.specs.declared.call.Call.TheVariants as call
 use Rattle.portal_core.specs.declared.decision.Body.{Body}
@@ -15,14 +19,22 @@ use Rattle.portal_core.specs.Change.{Change, Choices, Ranks, Lecturers, Projects
 use Rattle.portal_core.specs.Ask.{Ask}
 use Rattle.portal_core.specs.Answer.{Answer, Said, Json, Csv, Plain, Unavailable, Act, Nothing, Apply, Publish, Decision}
 
+-- the texts of a list as it came
+abbrev pub texts_of : List (Vec ℕ Global) → List (List ℕ)
+texts_of list = map (λ t. t.items) list
+
+-- the persons at each project
+abbrev pub by_project : List (kept.Key × Vec Person Global) → List (Key × List Person)
+by_project ps = map (λ p. (p.0, p.1.items)) ps
+
 abbrev pub asked : Call → Ask
 asked call.Me = Ask.Me
 asked call.Catalogue = Ask.Catalogue
 asked call.ShowChoices = Ask.ShowChoices
-asked (call.SetChoices list) = Ask.SetChoices (map (λ t. t.items) list.items)
+asked (call.SetChoices list) = Ask.SetChoices (texts_of list.items)
 asked call.Applicants = Ask.Applicants
 asked call.ShowRanking = Ask.ShowRanking
-asked (call.SetRanking list) = Ask.SetRanking (map (λ t. t.items) list.items)
+asked (call.SetRanking list) = Ask.SetRanking (texts_of list.items)
 asked call.Result = Ask.Result
 asked (call.AddLecturers rows) = Ask.AddLecturers rows.items
 asked (call.AddProjects rows) = Ask.AddProjects rows.items

@@ -3,6 +3,7 @@
 
 mod call;
 mod code;
+mod deciding;
 mod decision;
 mod keeper;
 pub mod laws;
@@ -16,6 +17,7 @@ mod view;
 
 pub use call::Call;
 pub use code::{Code, CodeFault};
+pub use deciding::decide;
 pub use decision::{Act, Body, Change, Decision, Reply};
 pub use keeper::{KeepFault, Keeper};
 pub use name::{Name, NameFault};

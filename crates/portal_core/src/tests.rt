@@ -1,4 +1,9 @@
-//! Codes, names and phases.
+//! Codes, names and phases, and what callers are answered.
+
+mod lecturer;
+mod made;
+mod office;
+mod student;
 
 use crate::*;
 use std::test::Fail;

@@ -1,0 +1,96 @@
+-- The pairs of a matching by numbers place the students as the matching does.
+use Rattle.std.proofs.Common.{◌≡◌, ℕ, zero, suc, ◌+◌, ◌<◌, Bool, true, false, List, [], ◌∷◌, map, length, get_or, refl, sym, ◌∙◌, ap, subst, arith}
+use Rattle.std.specs.Prelude.{Option, Some, None, option_map}
+use Rattle.std.specs.List.{AllByRecursion}
+use Rattle.spa_model.specs.Spa.{IsMatching}
+use Rattle.spa_model.specs.Pairs.{number_in}
+use Rattle.portal_core.specs.Words.{Key, is, is_before, Rise}
+use Rattle.portal_core.specs.World as rows
+use Rattle.portal_core.specs.World.{World, student_key}
+use Rattle.portal_core.specs.Change.{Places, place_in, with_place, changed}
+use Rattle.portal_core.specs.Instance.{instance, matching_of, pairs_by, project_keys, student_keys}
+use Rattle.portal_core.specs.Good.{Sound}
+use Rattle.portal_core.proofs.Keys.{is_same, is_own, not_before_itself, all_unmap}
+use Rattle.portal_core.proofs.AllLaws.{length_same}
+use Rattle.portal_core.proofs.Only.{on_roll}
+
+-- a key that stands before another is another
+differs : (k l : Key) → is_before k l ≡ true → is k l ≡ false
+differs k l before = go (is k l) refl
+  where
+    go : (b : Bool) → is k l ≡ b → b ≡ false
+    go true e = absurd (not_before_itself k (subst (λ x. is_before k x ≡ true) (sym (is_same k l e)) before))
+    go false e = refl
+
+at_all : (P : Key → Type 0) (ks : List Key) (n : ℕ) → AllByRecursion P ks → n < length ks → P (get_or ks n [])
+at_all P [] n all lt = absurd (omega arith)
+at_all P (k ∷ ks) zero all lt = all.0
+at_all P (k ∷ ks) (suc n) all lt = at_all P ks n all.1 (omega arith)
+
+-- the number of the key with a number
+pub number_back : (keys : List Key) (n : ℕ) → Rise keys → n < length keys → number_in keys (get_or keys n []) ≡ n
+number_back [] n rise lt = absurd (omega arith)
+number_back (k ∷ ks) zero rise lt = rw (is_own k) refl
+number_back (k ∷ ks) (suc n) rise lt =
+    rw (differs k (get_or ks n []) (at_all (λ l. is_before k l ≡ true) ks n rise.0 (omega arith))) (ap (λ (m : ℕ). 1 + m) (number_back ks n rise.1 (omega arith)) ∙ one_more)
+  where
+    one_more : 1 + n ≡ suc n
+    one_more = omega arith
+
+module _ (projects : List Key) (rise : Rise projects) where
+  abbrev number_of : List (Key × Key) → rows.Student → Option ℕ
+  number_of pairs s = option_map (number_in projects) (place_in pairs s.row.key)
+
+  -- a pair of another student changes nothing
+  later : (k p : Key) (pairs : List (Key × Key)) (ss : List rows.Student) → AllByRecursion (λ s. is_before k (student_key s) ≡ true) ss
+      → map (number_of ((k, p) ∷ pairs)) ss ≡ map (number_of pairs) ss
+  later k p pairs [] all = refl
+  later k p pairs (s ∷ ss) all =
+      let here : number_of ((k, p) ∷ pairs) s ≡ number_of pairs s = rw (differs k (student_key s) all.0) refl in
+      λ i. here i ∷ later k p pairs ss all.1 i
+
+  absent : (ss : List rows.Student) (places : List (Option ℕ)) (k : Key) → AllByRecursion (λ s. is_before k (student_key s) ≡ true) ss
+      → place_in (pairs_by (map student_key ss) projects places) k ≡ None
+  absent [] places k all = refl
+  absent (s ∷ ss) [] k all = refl
+  absent (s ∷ ss) (Some p ∷ places) k all = rw (other s.row.key k (differs k s.row.key all.0)) (absent ss places k all.1)
+    where
+      other : (a b : Key) → is b a ≡ false → is a b ≡ false
+      other a b e = go (is a b) refl
+        where
+          go : (c : Bool) → is a b ≡ c → c ≡ false
+          go true f = absurd (let own : is b b ≡ true = is_own b in let g : is b a ≡ true = subst (λ x. is b x ≡ true) (sym (is_same a b f)) own in cc)
+          go false f = refl
+  absent (s ∷ ss) (None ∷ places) k all = absent ss places k all.1
+
+  pub placed_back : (ss : List rows.Student) (places : List (Option ℕ)) → Rise (map student_key ss) → length places ≡ length ss
+      → ((s p : ℕ) → get_or places s None ≡ Some p → p < length projects)
+      → map (number_of (pairs_by (map student_key ss) projects places)) ss ≡ places
+  placed_back [] [] up same low = refl
+  placed_back [] (m ∷ places) up same low = absurd (omega arith)
+  placed_back (s ∷ ss) [] up same low = absurd (omega arith)
+  placed_back (s ∷ ss) (Some p ∷ places) up same low =
+      let above : AllByRecursion (λ s'. is_before (student_key s) (student_key s') ≡ true) ss = all_unmap (λ l. is_before (student_key s) l ≡ true) student_key ss up.0 in
+      let pairs = pairs_by (map student_key ss) projects places in
+      let here : number_of ((student_key s, get_or projects p []) ∷ pairs) s ≡ Some p = rw (is_own (student_key s)) (ap Some (number_back projects p rise (low 0 p refl))) in
+      let rest = later (student_key s) (get_or projects p []) pairs ss above ∙ placed_back ss places up.1 (omega arith) (λ n q e. low (suc n) q e) in
+      λ i. here i ∷ rest i
+  placed_back (s ∷ ss) (None ∷ places) up same low =
+      let above : AllByRecursion (λ s'. is_before (student_key s) (student_key s') ≡ true) ss = all_unmap (λ l. is_before (student_key s) l ≡ true) student_key ss up.0 in
+      let here : number_of (pairs_by (map student_key ss) projects places) s ≡ None = ap (option_map (number_in projects)) (absent ss places (student_key s) above) in
+      let rest = placed_back ss places up.1 (omega arith) (λ n q e. low (suc n) q e) in
+      λ i. here i ∷ rest i
+
+placed_map : (pairs : List (Key × Key)) (projects : List Key) (ss : List rows.Student)
+    → map (λ (s : rows.Student). option_map (number_in projects) s.placed) (map (with_place pairs) ss) ≡ map (λ (s : rows.Student). option_map (number_in projects) (place_in pairs s.row.key)) ss
+placed_map pairs projects [] = refl
+placed_map pairs projects (s ∷ ss) = λ i. option_map (number_in projects) (place_in pairs s.row.key) ∷ placed_map pairs projects ss i
+
+-- what a matching's pairs leave is the matching
+pub pairs_place : (w : World) (places : List (Option ℕ)) → Sound w → IsMatching (instance w) places
+    → matching_of (changed w (Places (pairs_by (student_keys w) (project_keys w) places))) ≡ places
+pairs_place w places sound matching =
+    placed_map (pairs_by (student_keys w) (project_keys w) places) (project_keys w) w.students
+    ∙ placed_back (project_keys w) sound.projects_rise w.students places sound.students_rise
+    (matching.students ∙ length_same _ w.students)
+    (λ s p e. on_roll (project_keys w) w.students sound.choices s p (matching.acceptable s p e))

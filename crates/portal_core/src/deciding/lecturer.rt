@@ -1,0 +1,205 @@
+//! What a lecturer is answered.
+
+ghost use Rattle.std.specs.Prelude.{◌≡◌, [], ◌∷◌, map, option_map, codes, Some, IfOk};
+ghost use Rattle.serde_json.specs.View as json;
+ghost use Rattle.serde_json.specs.Data.{string};
+ghost use Rattle.portal_core.specs.World as world;
+ghost use Rattle.portal_core.specs.Json.{dictionary, several, texts_or_null};
+ghost use Rattle.portal_core.specs.Bodies as shown;
+ghost use Rattle.portal_core.specs.Faults.{ranking_fault};
+ghost use Rattle.portal_core.specs.Change as change;
+ghost use Rattle.portal_core.specs.Ask.{Ask};
+ghost use Rattle.portal_core.specs.Answer as answer;
+ghost use Rattle.portal_core.specs.Answer.{unless, to_lecturer};
+ghost use Rattle.portal_core.specs.Meaning.{asked, texts_of, by_project, decided};
+
+use crate::call::Call;
+use crate::deciding::bodies::{catalogue_body, persons_value, texts};
+use crate::deciding::lists::{bad_list, checked_ranking};
+use crate::deciding::replies::{applies, not_yours, shows, wrong_phase};
+use crate::decision::{Change, Decision};
+use crate::phase::Phase;
+use crate::rows::Person;
+use crate::view::LecturerView;
+use serde_json::{Value, json};
+use spa_rows::Key;
+use std::alloc::{AllocError, Global};
+
+/// Who the lecturer is.
+fn me_body(alloc: Global, view: &LecturerView) -> Result<Value, AllocError>
+    ensures { IfOk result (λ body. json.view body ≡ shown.lecturer_me view.now) }
+{
+    json!(in alloc; {
+        "capacity": view.capacity,
+        "key": view.me.key.as_str(),
+        "name": view.me.name.as_str(),
+        "phase": view.phase.word(),
+        "role": "lecturer"
+    })
+}
+
+/// A project and its applicants.
+fn applicants_value(
+    alloc: Global,
+    project: &Key,
+    applicants: &[Person],
+) -> Result<Value, AllocError>
+    ensures { IfOk result (λ value. json.view value ≡ dictionary (
+        (codes "applicants", several (map shown.person applicants.now)) ∷ (codes "id", string project.now) ∷ [])) }
+{
+    let applicants = persons_value(alloc, applicants)?;
+    json!(in alloc; {"applicants": applicants, "id": project.as_str()})
+}
+
+/// The applicants to each project.
+fn applicants_body(alloc: Global, projects: &[(Key, Vec<Person>)]) -> Result<Value, AllocError>
+    ensures { IfOk result (λ body. json.view body ≡ shown.applicants_body (by_project projects.now)) }
+{
+    let mut values = Vec::new(alloc);
+    for (project, applicants) in projects {
+        values.push(applicants_value(alloc, project, applicants)?)?;
+    }
+    let projects = Value::Array(values);
+    json!(in alloc; {"projects": projects})
+}
+
+/// A project and the students whom the result places there.
+fn placed_value(alloc: Global, project: &Key, students: &[Person]) -> Result<Value, AllocError>
+    ensures { IfOk result (λ value. json.view value ≡ dictionary (
+        (codes "id", string project.now) ∷ (codes "students", several (map shown.person students.now)) ∷ [])) }
+{
+    let students = persons_value(alloc, students)?;
+    json!(in alloc; {"id": project.as_str(), "students": students})
+}
+
+/// The students whom the result places at each project.
+fn placed_body(alloc: Global, projects: &[(Key, Vec<Person>)]) -> Result<Value, AllocError>
+    ensures { IfOk result (λ body. json.view body ≡ shown.placed_body (by_project projects.now)) }
+{
+    let mut values = Vec::new(alloc);
+    for (project, students) in projects {
+        values.push(placed_value(alloc, project, students)?)?;
+    }
+    let projects = Value::Array(values);
+    json!(in alloc; {"projects": projects})
+}
+
+/// The students of a ranking, or null where none is there.
+fn ranking_value(alloc: Global, ranking: &Option<Vec<Key>>) -> Result<Value, AllocError>
+    ensures { IfOk result (λ value. json.view value ≡ texts_or_null (option_map (λ r. r.items) ranking.now)) }
+{
+    match ranking {
+        None => Ok(Value::Null),
+        Some(students) => texts(alloc, students),
+    }
+}
+
+/// A ranking.
+fn ranking_body(alloc: Global, students: Value) -> Result<Value, AllocError>
+    ensures { IfOk result (λ body. json.view body ≡ dictionary ((codes "students", json.view students) ∷ [])) }
+{
+    json!(in alloc; {"students": students})
+}
+
+/// Whether the students' lists are closed.
+fn is_from_ranking(phase: Phase) -> bool
+    ensures { result ≡ world.is_from_ranking phase }
+{
+    match phase {
+        Phase::Setup | Phase::Choosing => false,
+        Phase::Ranking | Phase::Published => true,
+    }
+}
+
+/// A lecturer asks for the applicants.
+fn show_applicants(alloc: Global, view: &LecturerView) -> Result<Decision, AllocError>
+    ensures { IfOk result (λ decision. decided decision ≡ to_lecturer view.now Ask.Applicants) }
+{
+    if is_from_ranking(view.phase) {
+        Ok(shows(applicants_body(alloc, &view.applicants)?))
+    } else {
+        wrong_phase(alloc)
+    }
+}
+
+/// A lecturer asks for the own ranking.
+fn show_ranking(alloc: Global, view: &LecturerView) -> Result<Decision, AllocError>
+    ensures { IfOk result (λ decision. decided decision ≡ to_lecturer view.now Ask.ShowRanking) }
+{
+    if is_from_ranking(view.phase) {
+        let students = ranking_value(alloc, &view.ranking)?;
+        Ok(shows(ranking_body(alloc, students)?))
+    } else {
+        wrong_phase(alloc)
+    }
+}
+
+/// The lecturer's ranking becomes this one, which has no fault.
+fn replace_ranking(
+    alloc: Global,
+    view: &LecturerView,
+    students: Vec<Key>,
+) -> Result<Decision, AllocError>
+    ensures { IfOk result (λ decision. decided decision
+        ≡ answer.applies (shown.students_body (Some students.items)) (change.Ranks view.now.me.key students.items)) }
+{
+    let ranking = texts(alloc, &students)?;
+    let body = ranking_body(alloc, ranking)?;
+    let lecturer = view.me.key.copy(alloc)?;
+    Ok(applies(body, Change::Ranking { lecturer, students }))
+}
+
+/// The ranking is taken where it has no fault.
+fn take_ranking(
+    alloc: Global,
+    view: &LecturerView,
+    list: &[Vec<u8>],
+) -> Result<Decision, AllocError>
+    ensures { let texts = texts_of list.now in
+        IfOk result (λ decision. decided decision ≡ unless (ranking_fault view.now.applicants 1 [] texts)
+        (answer.applies (shown.students_body (Some texts)) (change.Ranks view.now.me.key texts))) }
+{
+    match checked_ranking(alloc, &view.applicants, list)? {
+        Ok(students) => replace_ranking(alloc, view, students),
+        Err(fault) => bad_list(alloc, fault),
+    }
+}
+
+/// A lecturer hands in a ranking.
+fn set_ranking(alloc: Global, view: &LecturerView, list: &[Vec<u8>]) -> Result<Decision, AllocError>
+    ensures { IfOk result (λ decision. decided decision ≡ to_lecturer view.now (Ask.SetRanking (texts_of list.now))) }
+{
+    match view.phase {
+        Phase::Ranking => take_ranking(alloc, view, list),
+        _ => wrong_phase(alloc),
+    }
+}
+
+/// A lecturer asks for the result.
+fn show_result(alloc: Global, view: &LecturerView) -> Result<Decision, AllocError>
+    ensures { IfOk result (λ decision. decided decision ≡ to_lecturer view.now Ask.Result) }
+{
+    match view.phase {
+        Phase::Published => Ok(shows(placed_body(alloc, &view.placed)?)),
+        _ => wrong_phase(alloc),
+    }
+}
+
+/// What a lecturer is answered, and what is to be done.
+pub(crate) fn decide_lecturer(
+    alloc: Global,
+    view: &LecturerView,
+    call: &Call,
+) -> Result<Decision, AllocError>
+    ensures { IfOk result (λ decision. decided decision ≡ to_lecturer view.now (asked call.now)) }
+{
+    match call {
+        Call::Me => Ok(shows(me_body(alloc, view)?)),
+        Call::Catalogue => Ok(shows(catalogue_body(alloc, &view.catalogue)?)),
+        Call::Applicants => show_applicants(alloc, view),
+        Call::ShowRanking => show_ranking(alloc, view),
+        Call::SetRanking(list) => set_ranking(alloc, view, list),
+        Call::Result => show_result(alloc, view),
+        _ => not_yours(alloc),
+    }
+}

@@ -1,0 +1,296 @@
+//! The office's calls.
+
+ghost use Rattle.std.specs.Prelude.{◌≡◌, ◌∷◌, [], length, map, codes, if◌then◌else◌, IfOk};
+ghost use Rattle.serde_json.specs.View as json;
+ghost use Rattle.serde_json.specs.Data.{string};
+ghost use Rattle.portal_core.specs.Words.{Key, is_empty};
+ghost use Rattle.portal_core.specs.World.{phase_word, is_published};
+ghost use Rattle.portal_core.specs.Json as form;
+ghost use Rattle.portal_core.specs.Json.{dictionary, members, count};
+ghost use Rattle.portal_core.specs.Bodies as shown;
+ghost use Rattle.portal_core.specs.Rolls as rolls;
+ghost use Rattle.portal_core.specs.Rolls.{Took};
+ghost use Rattle.portal_core.specs.Answer as answer;
+ghost use Rattle.portal_core.specs.Answer.{Nothing, Apply, only, is_open_to_rolls, row_fault, publishes, moves, to_office};
+ghost use Rattle.portal_core.specs.Meaning.{asked, told, does, decided};
+
+use crate::call::Call;
+use crate::deciding::bodies::{catalogue_body, key_value, phase_body, texts};
+use crate::deciding::kinds::{LecturerRoll, ProjectRoll, StudentRoll};
+use crate::deciding::replies::{
+    applies, json_reply, not_yours, refused, refuses, shows, wrong_phase,
+};
+use crate::deciding::rolls::{Added, Roll, RollFault, take_rows};
+use crate::decision::{Act, Change, Decision, Reply};
+use crate::phase::Phase;
+use crate::view::OfficeView;
+use serde_json::{Map, Value, json, put};
+use spa_rows::Key;
+use std::alloc::{AllocError, Global};
+
+/// The office itself.
+fn me_body(alloc: Global, view: &OfficeView) -> Result<Value, AllocError>
+    ensures { IfOk result (λ body. json.view body ≡ shown.office_me view.now) }
+{
+    json!(in alloc; {"phase": view.phase.word(), "role": "office"})
+}
+
+/// Whether the pairs give the student a project.
+fn is_assigned(pairs: &[(Key, Key)], student: &Key) -> bool
+    ensures { result ≡ shown.is_assigned pairs.now student.now }
+{
+    pairs.iter().any(|pair| pair.0 == *student)
+}
+
+/// The students who have no project in the result.
+fn unassigned_values(alloc: Global, view: &OfficeView) -> Result<Vec<Value>, AllocError>
+    ensures { IfOk result (λ values. map json.view values.items ≡ map string (shown.unassigned view.now)) }
+{
+    let mut values = Vec::new(alloc);
+    for student in &view.students {
+        if !is_assigned(&view.pairs, &student.key) {
+            values.push(key_value(alloc, &student.key)?)?;
+        }
+    }
+    Ok(values)
+}
+
+/// What the status has in each phase.
+fn status_members(alloc: Global, view: &OfficeView) -> Result<Map<String, Value>, AllocError>
+    ensures { IfOk result (λ status. json.members_view status.entries ≡ members (
+        (codes "lecturers", count (length view.now.lecturers)) ∷ (codes "phase", string (phase_word view.now.phase)) ∷ (codes "projects", count (length view.now.projects))
+        ∷ (codes "still_to_rank", form.texts view.now.still_to_rank) ∷ (codes "students", count (length view.now.students)) ∷ (codes "without_list", form.texts view.now.without_list) ∷ [])) }
+{
+    let mut status = Map::new(alloc);
+    put(
+        &mut status,
+        alloc,
+        "lecturers",
+        Value::from(view.lecturers.len()),
+    )?;
+    put(
+        &mut status,
+        alloc,
+        "phase",
+        Value::try_from_str(alloc, view.phase.word())?,
+    )?;
+    put(
+        &mut status,
+        alloc,
+        "projects",
+        Value::from(view.projects.len()),
+    )?;
+    put(
+        &mut status,
+        alloc,
+        "still_to_rank",
+        texts(alloc, &view.still_to_rank)?,
+    )?;
+    put(
+        &mut status,
+        alloc,
+        "students",
+        Value::from(view.students.len()),
+    )?;
+    put(
+        &mut status,
+        alloc,
+        "without_list",
+        texts(alloc, &view.without_list)?,
+    )?;
+    Ok(status)
+}
+
+/// The status.
+fn status_body(alloc: Global, view: &OfficeView) -> Result<Value, AllocError>
+    ensures { IfOk result (λ body. json.view body ≡ shown.status_body view.now) }
+{
+    let mut status = status_members(alloc, view)?;
+    if view.phase != Phase::Published {
+        return Ok(Value::Object(status));
+    }
+    let unassigned = Value::Array(unassigned_values(alloc, view)?);
+    put(
+        &mut status,
+        alloc,
+        "assigned",
+        Value::from(view.pairs.len()),
+    )?;
+    put(&mut status, alloc, "unassigned", unassigned)?;
+    Ok(Value::Object(status))
+}
+
+/// A student and the project.
+fn pair_value(alloc: Global, pair: &(Key, Key)) -> Result<Value, AllocError>
+    ensures { IfOk result (λ value. json.view value ≡ dictionary ((codes "project", string pair.now.1) ∷ (codes "student", string pair.now.0) ∷ [])) }
+{
+    let (student, project) = pair;
+    json!(in alloc; {"project": project.as_str(), "student": student.as_str()})
+}
+
+/// Each student and the project.
+fn pair_values(alloc: Global, pairs: &[(Key, Key)]) -> Result<Vec<Value>, AllocError>
+    ensures { IfOk result (λ values. map json.view values.items ≡ map (λ (x : Key × Key). dictionary ((codes "project", string x.1) ∷ (codes "student", string x.0) ∷ [])) pairs.now) }
+{
+    let mut values = Vec::new(alloc);
+    for pair in pairs {
+        values.push(pair_value(alloc, pair)?)?;
+    }
+    Ok(values)
+}
+
+/// The result.
+fn allocation_body(alloc: Global, pairs: &[(Key, Key)]) -> Result<Value, AllocError>
+    ensures { IfOk result (λ body. json.view body ≡ shown.allocation_body pairs.now) }
+{
+    let pairs = Value::Array(pair_values(alloc, pairs)?);
+    json!(in alloc; {"pairs": pairs})
+}
+
+/// How a faulty row of a roll is refused.
+fn row_refusal(alloc: Global, fault: &RollFault) -> Result<Reply, AllocError>
+    ensures { IfOk result (λ reply. told reply ≡ row_fault fault.now.status fault.now.word fault.now.row) }
+{
+    match fault.row {
+        None => refused(alloc, fault.status, fault.word),
+        Some(row) => {
+            let body = json!(in alloc; {"error": fault.word, "row": row})?;
+            Ok(json_reply(fault.status, body))
+        }
+    }
+}
+
+/// How many rows were new, and how many were there.
+fn roll_body(alloc: Global, new: usize, same: u64) -> Result<Value, AllocError>
+    ensures { IfOk result (λ body. json.view body ≡ shown.roll_body new same) }
+{
+    json!(in alloc; {"added": new, "same": same})
+}
+
+/// The new rows are added, where there are any.
+fn adds<X: Drop, R: Roll<X>>(roll: &R, new: Vec<X>) -> Act
+    ensures { does result ≡ (if is_empty new.items then Nothing else Apply (R.changes roll.now new.items)) }
+{
+    if new.is_empty() {
+        return Act::Nothing;
+    }
+    Act::Apply(roll.change(new))
+}
+
+/// The rows are taken.
+fn accepts<X: Drop, R: Roll<X>>(
+    alloc: Global,
+    roll: &R,
+    added: Added<X>,
+) -> Result<Decision, AllocError>
+    ensures { IfOk result (λ decision. decided decision ≡ answer.added (R.changes roll.now) (Took added.new.items added.same)) }
+{
+    let body = roll_body(alloc, added.new.len(), added.same)?;
+    Ok(Decision {
+        reply: json_reply(200, body),
+        act: adds(roll, added.new),
+    })
+}
+
+/// Adds rows to a roll, which is open before ranking.
+fn add_rows<X: Drop, R: Roll<X>>(
+    alloc: Global,
+    phase: Phase,
+    roll: &R,
+    on_roll: &[X],
+    rows: &[X],
+) -> Result<Decision, AllocError>
+    ensures { IfOk result (λ decision. decided decision ≡ only (is_open_to_rolls phase) (answer.added (R.changes roll.now) (rolls.take_rows (R.rules roll.now) 1 on_roll.now rows.now))) }
+{
+    if phase == Phase::Ranking || phase == Phase::Published {
+        return wrong_phase(alloc);
+    }
+    match take_rows(alloc, roll, on_roll, rows)? {
+        Ok(added) => accepts(alloc, roll, added),
+        Err(fault) => Ok(refuses(row_refusal(alloc, &fault)?)),
+    }
+}
+
+/// The lecturers who are still to rank.
+fn still_to_rank_body(alloc: Global, keys: &[Key]) -> Result<Value, AllocError>
+    ensures { IfOk result (λ body. json.view body ≡ dictionary ((codes "error", string (codes "still_to_rank")) ∷ (codes "lecturers", form.texts keys.now) ∷ [])) }
+{
+    let lecturers = texts(alloc, keys)?;
+    json!(in alloc; {"error": "still_to_rank", "lecturers": lecturers})
+}
+
+/// The refusal to publish while lecturers are still to rank.
+fn still_to_rank(alloc: Global, keys: &[Key]) -> Result<Reply, AllocError>
+    ensures { IfOk result (λ reply. told reply ≡ answer.still_to_rank keys.now) }
+{
+    Ok(json_reply(409, still_to_rank_body(alloc, keys)?))
+}
+
+/// Publishes, unless lecturers are still to rank. The result is in no reply.
+fn publish(alloc: Global, view: &OfficeView) -> Result<Decision, AllocError>
+    ensures { IfOk result (λ decision. decided decision ≡ publishes view.now) }
+{
+    if !view.still_to_rank.is_empty() {
+        return Ok(refuses(still_to_rank(alloc, &view.still_to_rank)?));
+    }
+    let body = phase_body(alloc, Phase::Published)?;
+    Ok(Decision {
+        reply: json_reply(200, body),
+        act: Act::Publish,
+    })
+}
+
+/// Moves to the next phase, or to the current one, which changes nothing.
+fn move_to(alloc: Global, view: &OfficeView, phase: Phase) -> Result<Decision, AllocError>
+    ensures { IfOk result (λ decision. decided decision ≡ moves view.now view.now.phase phase) }
+{
+    match (view.phase, phase) {
+        (Phase::Setup, Phase::Setup)
+        | (Phase::Choosing, Phase::Choosing)
+        | (Phase::Ranking, Phase::Ranking)
+        | (Phase::Published, Phase::Published) => Ok(shows(phase_body(alloc, phase)?)),
+        (Phase::Setup, Phase::Choosing) | (Phase::Choosing, Phase::Ranking) => {
+            Ok(applies(phase_body(alloc, phase)?, Change::Phase(phase)))
+        }
+        (Phase::Ranking, Phase::Published) => publish(alloc, view),
+        _ => wrong_phase(alloc),
+    }
+}
+
+/// Shows the result, once it is published.
+fn allocation(alloc: Global, view: &OfficeView) -> Result<Decision, AllocError>
+    ensures { IfOk result (λ decision. decided decision ≡ only (is_published view.now.phase) (answer.shows (shown.allocation_body view.now.pairs))) }
+{
+    if view.phase != Phase::Published {
+        return wrong_phase(alloc);
+    }
+    Ok(shows(allocation_body(alloc, &view.pairs)?))
+}
+
+/// What is answered to the office, and what is to be done.
+pub(crate) fn decide_office(
+    alloc: Global,
+    view: &OfficeView,
+    call: &Call,
+) -> Result<Decision, AllocError>
+    ensures { IfOk result (λ decision. decided decision ≡ to_office view.now (asked call.now)) }
+{
+    let phase = view.phase;
+    match call {
+        Call::Me => Ok(shows(me_body(alloc, view)?)),
+        Call::Catalogue => Ok(shows(catalogue_body(alloc, &view.catalogue)?)),
+        Call::AddLecturers(rows) => {
+            add_rows(alloc, phase, &LecturerRoll(view), &view.lecturers, rows)
+        }
+        Call::AddProjects(rows) => {
+            add_rows(alloc, phase, &ProjectRoll(view), &view.projects, rows)
+        }
+        Call::AddStudents(rows) => {
+            add_rows(alloc, phase, &StudentRoll(view), &view.students, rows)
+        }
+        Call::Move(phase) => move_to(alloc, view, *phase),
+        Call::Status => Ok(shows(status_body(alloc, view)?)),
+        Call::Allocation => allocation(alloc, view),
+        _ => not_yours(alloc),
+    }
+}

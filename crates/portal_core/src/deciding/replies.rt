@@ -1,0 +1,81 @@
+//! Replies, and what is decided with them.
+
+ghost use Rattle.std.specs.Prelude.{◌≡◌, codes, IfOk};
+ghost use Rattle.serde_json.specs.View as json;
+ghost use Rattle.portal_core.specs.Answer as answer;
+ghost use Rattle.portal_core.specs.Answer.{answered, by_word};
+ghost use Rattle.portal_core.specs.Meaning.{told, meant, decided};
+
+use crate::decision::{Act, Body, Change, Decision, Reply};
+use serde_json::{Value, json};
+use std::alloc::{AllocError, Global};
+
+/// A reply with this status and this body.
+pub(crate) fn json_reply(status: u16, body: Value) -> Reply
+    ensures { told result ≡ answered status (json.view body) }
+{
+    Reply {
+        status,
+        allow: "",
+        body: Body::Json(body),
+    }
+}
+
+/// The body is shown, and nothing changes.
+pub(crate) fn shows(body: Value) -> Decision
+    ensures { decided result ≡ answer.shows (json.view body) }
+{
+    Decision {
+        reply: json_reply(200, body),
+        act: Act::Nothing,
+    }
+}
+
+/// The change is made, and the body is answered.
+pub(crate) fn applies(body: Value, change: Change) -> Decision
+    ensures { decided result ≡ answer.applies (json.view body) (meant change) }
+{
+    Decision {
+        reply: json_reply(200, body),
+        act: Act::Apply(change),
+    }
+}
+
+/// The reply is a refusal, and nothing changes.
+pub(crate) fn refuses(reply: Reply) -> Decision
+    ensures { decided result ≡ answer.refuses (told reply) }
+{
+    Decision {
+        reply,
+        act: Act::Nothing,
+    }
+}
+
+/// A refusal that is told by a word alone.
+pub(crate) fn refused(alloc: Global, status: u16, word: &str) -> Result<Reply, AllocError>
+    ensures { IfOk result (λ reply. told reply ≡ by_word status word.now) }
+{
+    let body = json!(in alloc; {"error": word})?;
+    Ok(json_reply(status, body))
+}
+
+/// The code names nobody.
+pub(crate) fn no_caller(alloc: Global) -> Result<Decision, AllocError>
+    ensures { IfOk result (λ decision. decided decision ≡ answer.no_caller) }
+{
+    Ok(refuses(refused(alloc, 403, "no_caller")?))
+}
+
+/// The call belongs to another role.
+pub(crate) fn not_yours(alloc: Global) -> Result<Decision, AllocError>
+    ensures { IfOk result (λ decision. decided decision ≡ answer.not_yours) }
+{
+    Ok(refuses(refused(alloc, 403, "not_yours")?))
+}
+
+/// The call is not open in this phase.
+pub(crate) fn wrong_phase(alloc: Global) -> Result<Decision, AllocError>
+    ensures { IfOk result (λ decision. decided decision ≡ answer.wrong_phase) }
+{
+    Ok(refuses(refused(alloc, 409, "wrong_phase")?))
+}

@@ -1,0 +1,125 @@
+//! What a student is answered.
+
+ghost use Rattle.std.specs.Prelude.{◌≡◌, [], IfOk};
+ghost use Rattle.serde_json.specs.View as json;
+ghost use Rattle.portal_core.specs.Json.{text_or_null};
+ghost use Rattle.portal_core.specs.Bodies as shown;
+ghost use Rattle.portal_core.specs.Faults.{choice_fault};
+ghost use Rattle.portal_core.specs.Change as change;
+ghost use Rattle.portal_core.specs.Ask.{Ask};
+ghost use Rattle.portal_core.specs.Answer as answer;
+ghost use Rattle.portal_core.specs.Answer.{unless, to_student};
+ghost use Rattle.portal_core.specs.Meaning.{asked, texts_of, decided};
+
+use crate::call::Call;
+use crate::deciding::bodies::{catalogue_body, key_value, texts};
+use crate::deciding::lists::{bad_list, checked_choices};
+use crate::deciding::replies::{applies, not_yours, shows, wrong_phase};
+use crate::decision::{Change, Decision};
+use crate::phase::Phase;
+use crate::view::StudentView;
+use serde_json::{Value, json};
+use spa_rows::Key;
+use std::alloc::{AllocError, Global};
+
+/// Who the student is.
+fn me_body(alloc: Global, view: &StudentView) -> Result<Value, AllocError>
+    ensures { IfOk result (λ body. json.view body ≡ shown.student_me view.now) }
+{
+    json!(in alloc; {
+        "key": view.me.key.as_str(),
+        "name": view.me.name.as_str(),
+        "phase": view.phase.word(),
+        "role": "student"
+    })
+}
+
+/// A student's list.
+fn choices_body(alloc: Global, choices: &[Key]) -> Result<Value, AllocError>
+    ensures { IfOk result (λ body. json.view body ≡ shown.projects_body choices.now) }
+{
+    let projects = texts(alloc, choices)?;
+    json!(in alloc; {"projects": projects})
+}
+
+/// A project's key, or null.
+fn project_value(alloc: Global, project: &Option<Key>) -> Result<Value, AllocError>
+    ensures { IfOk result (λ value. json.view value ≡ text_or_null project.now) }
+{
+    match project {
+        None => Ok(Value::Null),
+        Some(key) => key_value(alloc, key),
+    }
+}
+
+/// The project that the result gives to the student.
+fn result_body(alloc: Global, project: &Option<Key>) -> Result<Value, AllocError>
+    ensures { IfOk result (λ body. json.view body ≡ shown.project_body project.now) }
+{
+    let project = project_value(alloc, project)?;
+    json!(in alloc; {"project": project})
+}
+
+/// The student's list becomes this one, which has no fault.
+fn replace_choices(
+    alloc: Global,
+    view: &StudentView,
+    projects: Vec<Key>,
+) -> Result<Decision, AllocError>
+    ensures { IfOk result (λ decision. decided decision
+        ≡ answer.applies (shown.projects_body projects.items) (change.Choices view.now.me.key projects.items)) }
+{
+    let body = choices_body(alloc, &projects)?;
+    let student = view.me.key.copy(alloc)?;
+    Ok(applies(body, Change::Choices { student, projects }))
+}
+
+/// The list is taken where it has no fault.
+fn take_choices(alloc: Global, view: &StudentView, list: &[Vec<u8>]) -> Result<Decision, AllocError>
+    ensures { let texts = texts_of list.now in
+        IfOk result (λ decision. decided decision ≡ unless (choice_fault view.now.catalogue 1 [] texts)
+        (answer.applies (shown.projects_body texts) (change.Choices view.now.me.key texts))) }
+{
+    match checked_choices(alloc, &view.catalogue, list)? {
+        Ok(projects) => replace_choices(alloc, view, projects),
+        Err(fault) => bad_list(alloc, fault),
+    }
+}
+
+/// A student hands in a list.
+fn set_choices(alloc: Global, view: &StudentView, list: &[Vec<u8>]) -> Result<Decision, AllocError>
+    ensures { IfOk result (λ decision. decided decision ≡ to_student view.now (Ask.SetChoices (texts_of list.now))) }
+{
+    match view.phase {
+        Phase::Choosing => take_choices(alloc, view, list),
+        _ => wrong_phase(alloc),
+    }
+}
+
+/// A student asks for the result.
+fn show_result(alloc: Global, view: &StudentView) -> Result<Decision, AllocError>
+    ensures { IfOk result (λ decision. decided decision ≡ to_student view.now Ask.Result) }
+{
+    match view.phase {
+        Phase::Published => Ok(shows(result_body(alloc, &view.result)?)),
+        _ => wrong_phase(alloc),
+    }
+}
+
+/// What a student is answered, and what is to be done.
+pub(crate) fn decide_student(
+    alloc: Global,
+    view: &StudentView,
+    call: &Call,
+) -> Result<Decision, AllocError>
+    ensures { IfOk result (λ decision. decided decision ≡ to_student view.now (asked call.now)) }
+{
+    match call {
+        Call::Me => Ok(shows(me_body(alloc, view)?)),
+        Call::Catalogue => Ok(shows(catalogue_body(alloc, &view.catalogue)?)),
+        Call::ShowChoices => Ok(shows(choices_body(alloc, &view.choices)?)),
+        Call::SetChoices(list) => set_choices(alloc, view, list),
+        Call::Result => show_result(alloc, view),
+        _ => not_yours(alloc),
+    }
+}
