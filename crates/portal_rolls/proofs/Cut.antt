@@ -1,5 +1,5 @@
 -- Cutting a list field byte by byte, and adding a line at the end of its kind.
-use Rattle.std.proofs.Common.{Bor, add-one, ◌≡◌, ◌≢◌, ◌∙◌, ◌+◌, ◌*◌, ◌-◌, ◌^◌, ◌<◌, ◌≤◌, ℕ, zero, suc, Bool, true, false, cond, eqb, List, [], ◌∷◌, ◌++◌, length, take, drop, get_or, Option, Some, None, Result, Ok, Err, refl, sym, ap, ap₂, arith, append_assoc, map, inl, inr}
+use Rattle.std.proofs.Common.{Bor, add-one, ◌≡◌, ◌≢◌, ◌∙◌, ◌+◌, ◌*◌, ◌^◌, ◌<◌, ◌≤◌, ℕ, zero, suc, Bool, true, false, cond, eqb, List, [], ◌∷◌, ◌++◌, length, drop, get_or, Some, None, Result, Ok, Err, refl, sym, ap, arith, append_assoc, inl, inr}
 use Rattle.std.specs.Prelude.{MatchResult, IsUtf8}
 use Rattle.std.specs.Result.{is_ok}
 use Rattle.std.specs.Str.{is_utf8}
@@ -16,7 +16,8 @@ use Rattle.csv.specs.Records.{field_at}
 use Rattle.spa_rows.specs.Lines.{Text}
 use Rattle.portal_rolls.specs.declared.line.Line.{Line}
 use Rattle.portal_rolls.specs.declared.line.Line.TheVariants as variant
-use Rattle.portal_rolls.specs.Lines.{File, file_of, as_lecturer, as_project, as_student, as_pair, cut_at_blanks, with_front, four, Fields, list_of, capacity_of, digits_value}
+use Rattle.portal_rolls.specs.Lines.{File, file_of}
+use Rattle.portal_rolls.specs.Fields.{cut_at_blanks, with_front, four, three, list_of, capacity_of, digits_value}
 use Rattle.portal_rolls.specs.Records.{Record}
 
 -- these bytes before the first piece
@@ -47,7 +48,7 @@ before_other piece b text e = rw e (go (cut_at_blanks text))
 
 -- the four fields of a record that has four
 pub four_is : (r : Record) (a b c d : Text) → length r ≡ 4 → Some a ≡ field_at r 0 → Some b ≡ field_at r 1 → Some c ≡ field_at r 2 → Some d ≡ field_at r 3
-    → Some (record { kind = a; key = b; value = c; list = d }) ≡ four r
+    → Some (record { first = a; second = b; third = c; fourth = d }) ≡ four r
 unfolding field_at
 four_is [] a b c d len p q s t = absurd (omega arith)
 four_is (x ∷ []) a b c d len p q s t = absurd (omega arith)
@@ -55,6 +56,16 @@ four_is (x ∷ y ∷ []) a b c d len p q s t = absurd (omega arith)
 four_is (x ∷ y ∷ z ∷ []) a b c d len p q s t = absurd (omega arith)
 four_is (x ∷ y ∷ z ∷ w ∷ []) a b c d len p q s t = cc
 four_is (x ∷ y ∷ z ∷ w ∷ v ∷ r) a b c d len p q s t = absurd (omega arith)
+
+-- the three fields of a record that has three
+pub three_is : (r : Record) (a b c : Text) → length r ≡ 3 → Some a ≡ field_at r 0 → Some b ≡ field_at r 1 → Some c ≡ field_at r 2
+    → Some (record { first = a; second = b; third = c }) ≡ three r
+unfolding field_at
+three_is [] a b c len p q s = absurd (omega arith)
+three_is (x ∷ []) a b c len p q s = absurd (omega arith)
+three_is (x ∷ y ∷ []) a b c len p q s = absurd (omega arith)
+three_is (x ∷ y ∷ z ∷ []) a b c len p q s = cc
+three_is (x ∷ y ∷ z ∷ w ∷ r) a b c len p q s = absurd (omega arith)
 
 -- a field that is not there
 pub field_there : (r : Record) (i : ℕ) → i < length r → None ≡ field_at r i → ⊥

@@ -3,15 +3,19 @@ use Rattle.std.specs.Prelude.{ℕ, List, map, Vec}
 use Rattle.std.specs.Global.{Global}
 use Rattle.spa_rows.specs.Lines.{Text, Rows, Pair}
 use Rattle.portal_rolls.specs.Lines as spec
-use Rattle.portal_rolls.specs.declared.line.Line.{Line}
+use Rattle.portal_rolls.specs.Fields as field
 use Rattle.portal_rolls.specs.declared.line.File.{File}
-use Rattle.portal_rolls.specs.declared.fields.Fields.{Fields}
+use Rattle.portal_rolls.specs.declared.fields.FourFields.{FourFields}
+use Rattle.portal_rolls.specs.declared.fields.ThreeFields.{ThreeFields}
 
 abbrev pub texts : {Z : Type 0} → List (Vec ℕ Z) → List Text
 texts vs = map (λ v. v.items) vs
 
-abbrev pub same : Line → Line
-same line = line
+abbrev pub same : {X : Type 0} → X → X
+same x = x
+
+abbrev pub items : {X : Type 0} → Vec X Global → List X
+items v = v.items
 
 abbrev pub file : File → spec.File
 file f = record { lecturers = f.lecturers.items; projects = f.projects.items; students = f.students.items; pairs = f.pairs.items }
@@ -20,5 +24,8 @@ file f = record { lecturers = f.lecturers.items; projects = f.projects.items; st
 abbrev pub parts : Rows × Vec Pair Global → spec.File
 parts p = record { lecturers = p.0.lecturers; projects = p.0.projects; students = p.0.students; pairs = p.1.items }
 
-abbrev pub fields : Fields → spec.Fields
-fields f = record { kind = f.kind.now; key = f.key.now; value = f.value.now; list = f.list.now }
+abbrev pub four : FourFields → field.FourFields
+four f = record { first = f.first.now; second = f.second.now; third = f.third.now; fourth = f.fourth.now }
+
+abbrev pub three : ThreeFields → field.ThreeFields
+three f = record { first = f.first.now; second = f.second.now; third = f.third.now }

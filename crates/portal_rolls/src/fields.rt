@@ -1,61 +1,108 @@
 //! The fields of a record, and what each of them says.
 
-ghost use Rattle.std.specs.Prelude.{◌≡◌, IfOk, option_map, map};
+ghost use Rattle.std.specs.Prelude.{◌≡◌, IfOk, List, ℕ, map, option_map};
 ghost use Rattle.std.specs.Char.{is_ascii_digit};
 ghost use Rattle.std.specs.List.{list_all};
 ghost use Rattle.std.specs.Str.{is_utf8};
 ghost use Rattle.csv.specs.Records.{fields_of};
-ghost use Rattle.portal_rolls.specs.Lines as spec;
+ghost use Rattle.spa_rows.specs.Form.{is_key};
+ghost use Rattle.portal_core.specs.Form.{is_code, is_name};
+ghost use Rattle.portal_rolls.specs.Fields as spec;
+ghost use Rattle.portal_rolls.specs.Gives.{Gives};
+ghost use Rattle.portal_rolls.specs.Reading.{same_record};
 ghost use Rattle.portal_rolls.specs.Views as view;
 
+use crate::fault::RollFault;
 use csv::ByteRecord;
+use portal_core::{Code, CodeFault, Name, NameFault};
+use spa_rows::{Key, KeyFault};
 use std::alloc::{AllocError, Global};
 use std::{mem, str};
 
-/// What a record is about.
-#[derive(Clone, Copy, Debug, PartialEq, Eq)]
-pub(crate) enum Kind {
-    Lecturer,
-    Project,
-    Student,
-    Pair,
+/// Four fields of a record.
+#[derive(Clone, Copy)]
+pub(crate) struct FourFields<'a> {
+    pub first: &'a [u8],
+    pub second: &'a [u8],
+    pub third: &'a [u8],
+    pub fourth: &'a [u8],
 }
 
-/// The four fields of a record.
+/// Three fields of a record.
 #[derive(Clone, Copy)]
-pub(crate) struct Fields<'a> {
-    pub kind: &'a [u8],
-    pub key: &'a [u8],
-    pub value: &'a [u8],
-    pub list: &'a [u8],
+pub(crate) struct ThreeFields<'a> {
+    pub first: &'a [u8],
+    pub second: &'a [u8],
+    pub third: &'a [u8],
 }
 
 /// The fields of a record that has four.
-pub(crate) fn four(row: &ByteRecord) -> Option<Fields<'_>>
-    ensures { option_map view.fields result ≡ spec.four (fields_of row.now) }
+pub(crate) fn four(row: &ByteRecord) -> Option<FourFields<'_>>
+    ensures { option_map view.four result ≡ spec.four (fields_of row.now) }
 {
     if row.len() != 4 {
         return None;
     }
-    Some(Fields {
-        kind: row.get(0)?,
-        key: row.get(1)?,
-        value: row.get(2)?,
-        list: row.get(3)?,
+    Some(FourFields {
+        first: row.get(0)?,
+        second: row.get(1)?,
+        third: row.get(2)?,
+        fourth: row.get(3)?,
     })
 }
 
-/// The kind that a letter stands for.
-pub(crate) fn kind_of(field: &[u8]) -> Option<Kind>
-    ensures { result ≡ spec.kind_of field.now }
+/// The fields of a record that has three.
+pub(crate) fn three(row: &ByteRecord) -> Option<ThreeFields<'_>>
+    ensures { option_map view.three result ≡ spec.three (fields_of row.now) }
 {
-    match field {
-        [b'L'] => Some(Kind::Lecturer),
-        [b'P'] => Some(Kind::Project),
-        [b'S'] => Some(Kind::Student),
-        [b'M'] => Some(Kind::Pair),
-        _ => None,
+    if row.len() != 3 {
+        return None;
     }
+    Some(ThreeFields {
+        first: row.get(0)?,
+        second: row.get(1)?,
+        third: row.get(2)?,
+    })
+}
+
+/// Whether the fields of a record are these names.
+pub(crate) fn has_names(row: &ByteRecord, names: &[&str]) -> bool
+    ensures { result ≡ same_record (map (λ n. n.now) names.now) (fields_of row.now) }
+{
+    if row.len() != names.len() {
+        return false;
+    }
+    for (i, name) in names.iter().enumerate() {
+        let Some(field) = row.get(i) else {
+            return false;
+        };
+        if name.as_bytes() != field {
+            return false;
+        }
+    }
+    true
+}
+
+/// Whether a field is UTF-8.
+fn is_text(field: &[u8]) -> bool
+    ensures { result ≡ is_utf8 field.now }
+{
+    str::from_utf8(field).is_ok()
+}
+
+/// Whether each field of a record is UTF-8.
+pub(crate) fn is_all_text(row: &ByteRecord) -> bool
+    ensures { result ≡ list_all is_utf8 (fields_of row.now) }
+{
+    for i in 0..row.len() {
+        let Some(field) = row.get(i) else {
+            return false;
+        };
+        if !is_text(field) {
+            return false;
+        }
+    }
+    true
 }
 
 /// Whether each byte is a digit.
@@ -79,6 +126,49 @@ pub(crate) fn capacity_of(field: &[u8]) -> Option<u32>
     Some(value)
 }
 
+/// The capacity, from 1 to 200, in a column of a record.
+pub(crate) fn limited(row: u32, column: u32, field: &[u8]) -> Result<u32, RollFault>
+    ensures { result ≡ spec.limited row column field.now }
+{
+    match capacity_of(field) {
+        Some(n) if 1 <= n && n <= 200 => Ok(n),
+        _ => Err(RollFault::BadField(row, column)),
+    }
+}
+
+/// The key in a column of a record.
+pub(crate) fn key_at(alloc: Global, row: u32, column: u32, field: &[u8]) -> Result<Key, RollFault>
+    ensures { Gives view.same result (spec.formed is_key row column field.now) }
+{
+    match Key::parse(alloc, field) {
+        Ok(key) => Ok(key),
+        Err(KeyFault::BadKey) => Err(RollFault::BadField(row, column)),
+        Err(KeyFault::Memory) => Err(RollFault::Memory),
+    }
+}
+
+/// The name in a column of a record.
+pub(crate) fn name_at(alloc: Global, row: u32, column: u32, field: &[u8]) -> Result<Name, RollFault>
+    ensures { Gives view.same result (spec.formed is_name row column field.now) }
+{
+    match Name::parse(alloc, field) {
+        Ok(name) => Ok(name),
+        Err(NameFault::BadName) => Err(RollFault::BadField(row, column)),
+        Err(NameFault::Memory) => Err(RollFault::Memory),
+    }
+}
+
+/// The code in a column of a record.
+pub(crate) fn code_at(alloc: Global, row: u32, column: u32, field: &[u8]) -> Result<Code, RollFault>
+    ensures { Gives view.same result (spec.formed is_code row column field.now) }
+{
+    match Code::parse(alloc, field) {
+        Ok(code) => Ok(code),
+        Err(CodeFault::BadCode) => Err(RollFault::BadField(row, column)),
+        Err(CodeFault::Memory) => Err(RollFault::Memory),
+    }
+}
+
 /// The keys of a list, which stand between single blanks.
 pub(crate) fn list_of(alloc: Global, field: &[u8]) -> Result<Vec<Vec<u8>>, AllocError>
     ensures { IfOk result (λ v. view.texts v.items ≡ spec.list_of field.now) }
@@ -97,11 +187,4 @@ pub(crate) fn list_of(alloc: Global, field: &[u8]) -> Result<Vec<Vec<u8>>, Alloc
     }
     list.push(piece)?;
     Ok(list)
-}
-
-/// Whether a field is UTF-8.
-pub(crate) fn is_text(field: &[u8]) -> bool
-    ensures { result ≡ is_utf8 field.now }
-{
-    str::from_utf8(field).is_ok()
 }

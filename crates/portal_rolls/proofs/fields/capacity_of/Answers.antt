@@ -1,7 +1,7 @@
-use Rattle.std.proofs.Common.{◌≡◌, ◌+◌, ◌*◌, ◌^◌, ◌-◌, ◌∙◌, ℕ, ap, arith, rules, take}
+use Rattle.std.proofs.Common.{◌∙◌, ap, arith, rules}
 use Rattle.std.proofs.lemmas.Grind.{common_steps, fold-append}
 use Rattle.std.proofs.lemmas.List.{take_all}
-use Rattle.portal_rolls.specs.Lines as spec
+use Rattle.portal_rolls.specs.Fields as spec
 use Rattle.portal_rolls.proofs.Cut.{capacity_is, ten_more, ten_pow}
 use Rattle.portal_rolls.proofs.fields.capacity_of.Goals as goal
 

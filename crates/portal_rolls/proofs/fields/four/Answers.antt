@@ -1,4 +1,4 @@
-use Rattle.std.proofs.Common.{◌≡◌, ◌∙◌, sym, arith, length}
+use Rattle.std.proofs.Common.{arith}
 use Rattle.csv.specs.Records.{fields_of}
 use Rattle.portal_rolls.proofs.Cut.{field_there, four_is}
 use Rattle.portal_rolls.proofs.fields.four.Goals as goal

@@ -1,8 +1,6 @@
-use Rattle.std.proofs.Common.{[], ◌∷◌, arith, rules, map, ◌∙◌, ap}
+use Rattle.std.proofs.Common.{arith, rules, ◌∙◌}
 use Rattle.std.proofs.lemmas.List.{map-append}
-use Rattle.portal_rolls.specs.Lines as spec
-use Rattle.portal_rolls.specs.Views as view
-use Rattle.portal_rolls.proofs.Cut.{before, before_nil, last_piece, list_is_cut, step_blank, step_other}
+use Rattle.portal_rolls.proofs.Cut.{before_nil, last_piece, list_is_cut, step_blank, step_other}
 use Rattle.portal_rolls.proofs.fields.list_of.Goals as goal
 use Rattle.portal_rolls.proofs.fields.list_of.Goals.{then-byte-eq32+in_ok-push, else-byte-eq32+in_ok-push-2}
 

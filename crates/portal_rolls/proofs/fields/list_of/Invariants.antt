@@ -1,5 +1,5 @@
 use Rattle.std.proofs.Common.{◌≡◌, ◌++◌, drop}
-use Rattle.portal_rolls.specs.Lines as spec
+use Rattle.portal_rolls.specs.Fields as spec
 use Rattle.portal_rolls.specs.Views as view
 use Rattle.portal_rolls.proofs.Cut.{before}
 use Rattle.portal_rolls.proofs.fields.list_of.Given as goal

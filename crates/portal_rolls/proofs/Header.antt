@@ -1,0 +1,82 @@
+-- A record beside the names of the columns, and the test that all fields are text.
+use Rattle.std.proofs.Common.{Bor, ◌≡◌, ◌+◌, ◌<◌, ◌≤◌, ℕ, zero, suc, Bool, true, false, not, ◌&&◌, List, [], ◌∷◌, length, map, drop, get_or, Some, refl, ap, add-one, arith}
+use Rattle.std.proofs.lemmas.List.{drop_all}
+use Rattle.std.specs.List.{list_all}
+use Rattle.std.specs.Str.{bytes_eq, is_utf8}
+use Rattle.csv.specs.Records.{field_at}
+use Rattle.portal_rolls.specs.Records.{Record}
+use Rattle.portal_rolls.specs.Reading.{same_record}
+
+-- another count of fields
+pub other_count : (a b : Record) → (length a ≡ length b → ⊥) → false ≡ same_record a b
+other_count [] [] h = absurd (h refl)
+other_count [] (y ∷ b) h = refl
+other_count (x ∷ a) [] h = refl
+other_count (x ∷ a) (y ∷ b) h = rest (bytes_eq x y) (other_count a b (λ e. h (ap suc e)))
+  where
+    rest : (same : Bool) → false ≡ same_record a b → false ≡ (same && same_record a b)
+    rest true e = e
+    rest false e = refl
+
+-- the field at a place stands before those after it
+splits : (r : Record) (i : ℕ) (x : List ℕ) → Some x ≡ field_at r i → drop i r ≡ x ∷ drop (suc i) r
+unfolding field_at
+splits [] i x e = absurd (cc e)
+splits (y ∷ r) zero x e = cc e
+splits (y ∷ r) (suc i) x e = splits r i x e
+
+split : (r : Record) (i : ℕ) (x : List ℕ) → Some x ≡ field_at r i → drop i r ≡ x ∷ drop (i + 1) r
+split r i x e = rw (add-one i) (splits r i x e)
+
+-- a field that is no text ends the test, and one that is text goes on with the rest
+
+pub ends_text : (r : Record) (i : ℕ) (x : List ℕ) → Some x ≡ field_at r i → false ≡ is_utf8 x → list_all is_utf8 (drop i r) ≡ list_all is_utf8 r → false ≡ list_all is_utf8 r
+ends_text r i x at isnt so_far = rw (split r i x at, ← isnt) at so_far
+
+pub one_text : (r : Record) (i : ℕ) (x : List ℕ) → Some x ≡ field_at r i → true ≡ is_utf8 x → list_all is_utf8 (drop i r) ≡ list_all is_utf8 r
+    → list_all is_utf8 (drop (i + 1) r) ≡ list_all is_utf8 r
+one_text r i x at is so_far = rw (split r i x at, ← is) at so_far
+
+-- the names of columns as the code has them
+
+abbrev pub texts : List (Bor (List ℕ)) → Record
+texts ns = map (λ n. n.now) ns
+
+pub texts_count : (ns : List (Bor (List ℕ))) → length (texts ns) ≡ length ns
+texts_count [] = refl
+texts_count (n ∷ ns) = ap suc (texts_count ns)
+
+name_splits : (ns : List (Bor (List ℕ))) (i : ℕ) (d : Bor (List ℕ)) → i < length ns → drop i (texts ns) ≡ (get_or ns i d).now ∷ drop (suc i) (texts ns)
+name_splits [] i d lt = absurd (omega arith)
+name_splits (n ∷ ns) zero d lt = refl
+name_splits (n ∷ ns) (suc i) d lt = name_splits ns i d (omega arith)
+
+name_split : (ns : List (Bor (List ℕ))) (i : ℕ) (d : Bor (List ℕ)) → i < length ns → drop i (texts ns) ≡ (get_or ns i d).now ∷ drop (i + 1) (texts ns)
+name_split ns i d lt = rw (add-one i) (name_splits ns i d lt)
+
+pub name_differs : (ns : List (Bor (List ℕ))) (r : Record) (i : ℕ) (d : Bor (List ℕ)) (x n : List ℕ) → i < length ns → Some x ≡ field_at r i → n ≡ (get_or ns i d).now
+    → true ≡ not (bytes_eq n x) → same_record (drop i (texts ns)) (drop i r) ≡ same_record (texts ns) r → false ≡ same_record (texts ns) r
+name_differs ns r i d x n lt at is isnt so_far = go (bytes_eq n x) refl isnt
+  where
+    here : (bytes_eq n x && same_record (drop (i + 1) (texts ns)) (drop (i + 1) r)) ≡ same_record (texts ns) r
+    here = rw (split r i x at, name_split ns i d lt, ← is) at so_far
+
+    go : (b : Bool) → bytes_eq n x ≡ b → true ≡ not b → false ≡ same_record (texts ns) r
+    go true e h = absurd (cc h)
+    go false e h = rw e at here
+
+pub name_same : (ns : List (Bor (List ℕ))) (r : Record) (i : ℕ) (d : Bor (List ℕ)) (x n : List ℕ) → i < length ns → Some x ≡ field_at r i → n ≡ (get_or ns i d).now
+    → false ≡ not (bytes_eq n x) → same_record (drop i (texts ns)) (drop i r) ≡ same_record (texts ns) r
+    → same_record (drop (i + 1) (texts ns)) (drop (i + 1) r) ≡ same_record (texts ns) r
+name_same ns r i d x n lt at is same so_far = go (bytes_eq n x) refl same
+  where
+    here : (bytes_eq n x && same_record (drop (i + 1) (texts ns)) (drop (i + 1) r)) ≡ same_record (texts ns) r
+    here = rw (split r i x at, name_split ns i d lt, ← is) at so_far
+
+    go : (b : Bool) → bytes_eq n x ≡ b → false ≡ not b → same_record (drop (i + 1) (texts ns)) (drop (i + 1) r) ≡ same_record (texts ns) r
+    go true e h = rw e at here
+    go false e h = absurd (cc h)
+
+pub all_names : (ns : List (Bor (List ℕ))) (r : Record) (i : ℕ) → length ns ≤ i → length r ≡ length ns → same_record (drop i (texts ns)) (drop i r) ≡ same_record (texts ns) r
+    → true ≡ same_record (texts ns) r
+all_names ns r i le same so_far = rw (drop_all i (texts ns) (rw (texts_count ns) le), drop_all i r (rw same le)) at so_far

@@ -1,0 +1,7 @@
+use Rattle.std.proofs.Common.{List}
+use Rattle.portal_rolls.specs.Records.{Has, IsSetUp, Record}
+use Rattle.portal_rolls.proofs.Run.{Progress}
+use Rattle.portal_rolls.proofs.reading.read_lines.Given as goal
+
+abbrev pub invariant-loop-number : goal.invariant-loop-number
+invariant-loop-number g l = IsSetUp l.rdr × ((rows : List Record) → Has l.fn.rdr rows → Progress g.K.Kind.format rows l.number l.rdr l.lines.items)

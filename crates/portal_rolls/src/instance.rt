@@ -1,0 +1,150 @@
+//! Instance files.
+
+ghost use Rattle.std.specs.Prelude.{◌≡◌, IfOk, IfErr};
+ghost use Rattle.csv.specs.Records.{fields_of};
+ghost use Rattle.portal_rolls.specs.Gives.{Gives};
+ghost use Rattle.portal_rolls.specs.Lines as spec;
+ghost use Rattle.portal_rolls.specs.Views as view;
+
+use crate::fault::RollFault;
+use crate::fields::{FourFields, capacity_of, four, list_of};
+use crate::line::{File, Line};
+use crate::reading::{Kind, read_text};
+use csv::ByteRecord;
+use spa_rows::{InstanceRows, LecturerLine, PairLine, ProjectLine, StudentLine};
+use std::alloc::Global;
+
+/// What a record is about.
+#[derive(Clone, Copy, Debug, PartialEq, Eq)]
+pub(crate) enum Mark {
+    Lecturer,
+    Project,
+    Student,
+    Pair,
+}
+
+/// What a letter stands for.
+fn mark_of(field: &[u8]) -> Option<Mark>
+    ensures { result ≡ spec.mark_of field.now }
+{
+    match field {
+        [b'L'] => Some(Mark::Lecturer),
+        [b'P'] => Some(Mark::Project),
+        [b'S'] => Some(Mark::Student),
+        [b'M'] => Some(Mark::Pair),
+        _ => None,
+    }
+}
+
+/// The line of a record with this mark.
+fn line_at(
+    alloc: Global,
+    mark: Mark,
+    number: u32,
+    fields: FourFields<'_>,
+) -> Result<Line, RollFault>
+    ensures { Gives view.same result (spec.line_at mark number (view.four fields.entry)) }
+{
+    let key = Vec::from_slice(alloc, fields.second)?;
+    match mark {
+        Mark::Lecturer => {
+            let Some(capacity) = capacity_of(fields.third) else {
+                return Err(RollFault::BadField(number, 3));
+            };
+            let list = list_of(alloc, fields.fourth)?;
+            Ok(Line::Lecturer(LecturerLine {
+                row: number,
+                key,
+                capacity,
+                list,
+            }))
+        }
+        Mark::Project => {
+            let Some(capacity) = capacity_of(fields.third) else {
+                return Err(RollFault::BadField(number, 3));
+            };
+            let lecturer = Vec::from_slice(alloc, fields.fourth)?;
+            Ok(Line::Project(ProjectLine {
+                row: number,
+                key,
+                capacity,
+                lecturer,
+            }))
+        }
+        Mark::Student => {
+            if !fields.third.is_empty() {
+                return Err(RollFault::BadField(number, 3));
+            }
+            let list = list_of(alloc, fields.fourth)?;
+            Ok(Line::Student(StudentLine {
+                row: number,
+                key,
+                list,
+            }))
+        }
+        Mark::Pair => {
+            if !fields.fourth.is_empty() {
+                return Err(RollFault::BadField(number, 4));
+            }
+            let project = Vec::from_slice(alloc, fields.third)?;
+            Ok(Line::Pair(PairLine {
+                row: number,
+                student: key,
+                project,
+            }))
+        }
+    }
+}
+
+/// The lines of an instance file.
+struct InstanceFile;
+
+impl Kind for InstanceFile {
+    type Line = Line;
+
+    ghost format = { spec.instance_file };
+
+    fn names() -> &'static [&'static str] {
+        &["kind", "key", "value", "list"]
+    }
+
+    fn limit() -> u32 {
+        5300
+    }
+
+    fn says(alloc: Global, number: u32, row: &ByteRecord) -> Result<Line, RollFault> {
+        let Some(fields) = four(row) else {
+            return Err(RollFault::FieldCount(number));
+        };
+        let Some(mark) = mark_of(fields.first) else {
+            return Err(RollFault::BadField(number, 1));
+        };
+        line_at(alloc, mark, number, fields)
+    }
+}
+
+/// The lines of a file, each put to its kind.
+fn file_of(alloc: Global, lines: Vec<Line>) -> Result<File, RollFault>
+    ensures ok { IfOk result (λ file. view.file file ≡ spec.file_of lines.items) }
+    ensures fault { IfErr result (λ e. e ≡ RollFault.Memory) }
+{
+    let mut file = File::new(alloc);
+    for line in lines {
+        file.put(line)?;
+    }
+    Ok(file)
+}
+
+/// The rows of an instance file and the pairs of its matching, or the file's first fault.
+///
+/// # Errors
+///
+/// The first fault with its row and column, or that memory ran out.
+pub fn read_instance(alloc: Global, text: &[u8]) -> Result<(InstanceRows, Vec<PairLine>), RollFault>
+    ensures { Gives view.parts result (spec.rows text.now) }
+{
+    match read_text::<InstanceFile>(alloc, text) {
+        Ok(lines) => Ok(file_of(alloc, lines)?.into_parts()),
+        Err(fault) => Err(fault),
+    }
+}

@@ -1,0 +1,97 @@
+//! Reading a file of any kind: its header, then record by record up to the first fault.
+
+ghost use Rattle.std.specs.Prelude.{◌≡◌, ◌<◌, List, map};
+ghost use Rattle.csv.specs.Records.{fields_of};
+ghost use Rattle.portal_rolls.specs.Gives.{Gives};
+ghost use Rattle.portal_rolls.specs.Reading.{Format, same_record, line_of as line_in, lines_of};
+ghost use Rattle.portal_rolls.specs.Records.{Has, IsSetUp, Record, records_of};
+ghost use Rattle.portal_rolls.specs.Views as view;
+
+use crate::fault::RollFault;
+use crate::fields::{has_names, is_all_text};
+use crate::record::take_record;
+use csv::{ByteRecord, Reader, ReaderBuilder};
+use std::alloc::Global;
+
+/// A kind of file: the names of its columns, how many records may stand under them, and what a record says.
+pub(crate) trait Kind {
+    /// What one record says.
+    type Line: Drop;
+
+    /// The definition of this kind of file.
+    ghost format: { Format Self.Line };
+
+    /// The names of the columns.
+    fn names() -> &'static [&'static str]
+        ensures { map (λ n. n.now) result.now ≡ format.header };
+
+    /// The most records under the header.
+    fn limit() -> u32
+        ensures value { result ≡ format.limit }
+        ensures small { result < 10000 };
+
+    /// What a record of as many fields as the header says, where each field is text.
+    fn says(alloc: Global, number: u32, row: &ByteRecord) -> Result<Self::Line, RollFault>
+        ensures { Gives view.same result (format.says number (fields_of row.now)) };
+}
+
+/// What a record says.
+fn line_of<K: Kind>(alloc: Global, number: u32, row: &ByteRecord) -> Result<K::Line, RollFault>
+    ensures { Gives view.same result (line_in K.format number (fields_of row.now)) }
+{
+    if row.len() != K::names().len() {
+        return Err(RollFault::FieldCount(number));
+    }
+    if !is_all_text(row) {
+        return Err(RollFault::NotText(number));
+    }
+    K::says(alloc, number, row)
+}
+
+/// A reader of the records of a text.
+fn reader_of(alloc: Global, text: &[u8]) -> Reader<&[u8]>
+    ensures set_up { IsSetUp result }
+    ensures has { Has result (records_of text.entry.now) }
+{
+    ReaderBuilder::new()
+        .has_headers(false)
+        .flexible(true)
+        .from_reader(alloc, text)
+}
+
+/// What the records say that a reader has left, the header first.
+fn read_lines<K: Kind>(
+    alloc: Global,
+    rdr: &mut Reader<&[u8]>,
+    row: &mut ByteRecord,
+) -> Result<Vec<K::Line>, RollFault>
+    requires { IsSetUp rdr.old }
+    ensures { (rows : List Record) → Has rdr.old rows → Gives view.items result (lines_of K.format rows) }
+{
+    if !take_record(rdr, row)? {
+        return Err(RollFault::NoHeader);
+    }
+    if !has_names(row, K::names()) {
+        return Err(RollFault::BadHeader);
+    }
+    let mut lines = Vec::new(alloc);
+    for number in 1..K::limit() + 1 {
+        if !take_record(rdr, row)? {
+            return Ok(lines);
+        }
+        lines.push(line_of::<K>(alloc, number, row)?)?;
+    }
+    if take_record(rdr, row)? {
+        return Err(RollFault::TooMany);
+    }
+    Ok(lines)
+}
+
+/// What a text says, or its first fault.
+pub(crate) fn read_text<K: Kind>(alloc: Global, text: &[u8]) -> Result<Vec<K::Line>, RollFault>
+    ensures { Gives view.items result (lines_of K.format (records_of text.now)) }
+{
+    let mut rdr = reader_of(alloc, text);
+    let mut row = ByteRecord::new(alloc);
+    read_lines::<K>(alloc, &mut rdr, &mut row)
+}

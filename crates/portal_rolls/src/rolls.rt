@@ -1,0 +1,145 @@
+//! The rolls of lecturers, of projects and of students.
+
+ghost use Rattle.std.specs.Prelude.{◌≡◌, IfOk};
+ghost use Rattle.std.specs.List.{AllByRecursion};
+ghost use Rattle.csv.specs.Records.{fields_of};
+ghost use Rattle.portal_core.specs.Good.{IsLecturer, IsProject, IsStudent};
+ghost use Rattle.portal_rolls.specs.Gives.{Gives};
+ghost use Rattle.portal_rolls.specs.Rolls as spec;
+ghost use Rattle.portal_rolls.specs.Views as view;
+
+use crate::fault::RollFault;
+use crate::fields::{code_at, four, key_at, limited, name_at, three};
+use crate::reading::{Kind, read_text};
+use csv::ByteRecord;
+use portal_core::{LecturerRow, ProjectRow, StudentRow};
+use std::alloc::Global;
+
+/// The roll of lecturers.
+struct LecturerRoll;
+
+impl Kind for LecturerRoll {
+    type Line = LecturerRow;
+
+    ghost format = { spec.lecturer_roll };
+
+    fn names() -> &'static [&'static str] {
+        &["id", "name", "code", "capacity"]
+    }
+
+    fn limit() -> u32 {
+        300
+    }
+
+    fn says(alloc: Global, number: u32, row: &ByteRecord) -> Result<LecturerRow, RollFault> {
+        let Some(fields) = four(row) else {
+            return Err(RollFault::FieldCount(number));
+        };
+        let key = key_at(alloc, number, 1, fields.first)?;
+        let name = name_at(alloc, number, 2, fields.second)?;
+        let code = code_at(alloc, number, 3, fields.third)?;
+        let capacity = limited(number, 4, fields.fourth)?;
+        Ok(LecturerRow {
+            key,
+            name,
+            code,
+            capacity,
+        })
+    }
+}
+
+/// The roll of projects.
+struct ProjectRoll;
+
+impl Kind for ProjectRoll {
+    type Line = ProjectRow;
+
+    ghost format = { spec.project_roll };
+
+    fn names() -> &'static [&'static str] {
+        &["id", "lecturer", "title", "capacity"]
+    }
+
+    fn limit() -> u32 {
+        1000
+    }
+
+    fn says(alloc: Global, number: u32, row: &ByteRecord) -> Result<ProjectRow, RollFault> {
+        let Some(fields) = four(row) else {
+            return Err(RollFault::FieldCount(number));
+        };
+        let key = key_at(alloc, number, 1, fields.first)?;
+        let lecturer = key_at(alloc, number, 2, fields.second)?;
+        let title = name_at(alloc, number, 3, fields.third)?;
+        let capacity = limited(number, 4, fields.fourth)?;
+        Ok(ProjectRow {
+            key,
+            lecturer,
+            title,
+            capacity,
+        })
+    }
+}
+
+/// The roll of students.
+struct StudentRoll;
+
+impl Kind for StudentRoll {
+    type Line = StudentRow;
+
+    ghost format = { spec.student_roll };
+
+    fn names() -> &'static [&'static str] {
+        &["id", "name", "code"]
+    }
+
+    fn limit() -> u32 {
+        2000
+    }
+
+    fn says(alloc: Global, number: u32, row: &ByteRecord) -> Result<StudentRow, RollFault> {
+        let Some(fields) = three(row) else {
+            return Err(RollFault::FieldCount(number));
+        };
+        let key = key_at(alloc, number, 1, fields.first)?;
+        let name = name_at(alloc, number, 2, fields.second)?;
+        let code = code_at(alloc, number, 3, fields.third)?;
+        Ok(StudentRow { key, name, code })
+    }
+}
+
+/// The rows of a roll of lecturers, or its first fault.
+///
+/// # Errors
+///
+/// The first fault with its row and column, or that memory ran out.
+pub fn read_lecturers(alloc: Global, text: &[u8]) -> Result<Vec<LecturerRow>, RollFault>
+    ensures read { Gives view.items result (spec.lecturers text.now) }
+    ensures formed { IfOk result (λ rows. AllByRecursion IsLecturer rows.items) }
+{
+    read_text::<LecturerRoll>(alloc, text)
+}
+
+/// The rows of a roll of projects, or its first fault.
+///
+/// # Errors
+///
+/// The first fault with its row and column, or that memory ran out.
+pub fn read_projects(alloc: Global, text: &[u8]) -> Result<Vec<ProjectRow>, RollFault>
+    ensures read { Gives view.items result (spec.projects text.now) }
+    ensures formed { IfOk result (λ rows. AllByRecursion IsProject rows.items) }
+{
+    read_text::<ProjectRoll>(alloc, text)
+}
+
+/// The rows of a roll of students, or its first fault.
+///
+/// # Errors
+///
+/// The first fault with its row and column, or that memory ran out.
+pub fn read_students(alloc: Global, text: &[u8]) -> Result<Vec<StudentRow>, RollFault>
+    ensures read { Gives view.items result (spec.students text.now) }
+    ensures formed { IfOk result (λ rows. AllByRecursion IsStudent rows.items) }
+{
+    read_text::<StudentRoll>(alloc, text)
+}
