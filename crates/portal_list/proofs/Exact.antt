@@ -1,0 +1,71 @@
+-- What stands for the lines of a good world is its instance.
+use Rattle.std.proofs.Common.{◌≡◌, List, [], map, sym, ◌∙◌, subst, ap}
+use Rattle.std.specs.Prelude.{unwrap_or}
+use Rattle.spa_rows.specs.Faults.{HasNoneBefore}
+use Rattle.spa_rows.specs.declared.faults.InstanceFault.TheVariants.{Memory}
+use Rattle.spa_model.specs.Spa as spa
+use Rattle.spa_model.specs.Spa.{Spa, IsLawful}
+use Rattle.spa_model.specs.Built.{StandsFor}
+use Rattle.spa_model.specs.Pairs.{number_in}
+use Rattle.portal_core.specs.Words.{Key, Rise}
+use Rattle.portal_core.specs.World.{World, Lecturer, Student}
+use Rattle.portal_core.specs.declared.rows.ProjectRow.{ProjectRow}
+use Rattle.portal_core.specs.Instance.{instance, lecturer_keys, project_keys, student_keys}
+use Rattle.portal_core.specs.Good.{Good, CanPublish}
+use Rattle.portal_list.specs.Lines.{lecturer_line, project_line, student_line, lines_of, HasEntries}
+use Rattle.portal_list.proofs.Rising.{map_map, pairs_rise}
+use Rattle.portal_list.proofs.Standing.{spa_of_rows, only_instance}
+use Rattle.portal_list.proofs.Faultless.{faultless}
+
+keys_rise : {X L : Type 0} (f : X → L) (key : L → Key) (xs : List X) → Rise (map (λ x. key (f x)) xs) → spa.Rise (map key (map f xs))
+keys_rise f key xs rise = subst spa.Rise (sym (map_map key f xs)) (pairs_rise (map (λ x. key (f x)) xs) rise)
+
+-- the instance of the lines is that of the entries
+same_instance : (w : World) → spa_of_rows (lines_of w.lecturers w.projects w.students) ≡ instance w
+same_instance w = λ j. record {
+  student_keys = students j;
+  choices = (map_map (λ x. map (number_in (map (λ p. p.key) (map project_line w.projects))) x.list) student_line w.students ∙ ap (λ keys. map (λ (s : Student). map (number_in keys) s.choice) w.students) projects) j;
+  project_keys = projects j;
+  lecturers = (map_map (λ x. number_in (map (λ l. l.key) (map lecturer_line w.lecturers)) x.lecturer) project_line w.projects ∙ ap (λ keys. map (λ (p : ProjectRow). number_in keys p.lecturer) w.projects) lecturers) j;
+  capacities = map_map (λ x. x.capacity) project_line w.projects j;
+  lecturer_keys = lecturers j;
+  rankings = (map_map (λ x. map (number_in (map (λ s. s.key) (map student_line w.students))) x.list) lecturer_line w.lecturers ∙ ap (λ keys. map (λ (l : Lecturer). map (number_in keys) (unwrap_or l.ranking [])) w.lecturers) students) j;
+  limits = map_map (λ x. x.capacity) lecturer_line w.lecturers j;
+}
+  where
+    students : map (λ x. x.key) (map student_line w.students) ≡ student_keys w
+    students = map_map (λ x. x.key) student_line w.students
+
+    projects : map (λ x. x.key) (map project_line w.projects) ≡ project_keys w
+    projects = map_map (λ x. x.key) project_line w.projects
+
+    lecturers : map (λ x. x.key) (map lecturer_line w.lecturers) ≡ lecturer_keys w
+    lecturers = map_map (λ x. x.key) lecturer_line w.lecturers
+
+exact : (w : World) (i : Spa) → Good w → IsLawful i → StandsFor (lines_of w.lecturers w.projects w.students) i → i ≡ instance w
+exact w i good lawful for =
+    only_instance (lines_of w.lecturers w.projects w.students) i lawful for
+    (keys_rise student_line (λ x. x.key) w.students good.sound.students_rise)
+    (keys_rise project_line (λ x. x.key) w.projects good.sound.projects_rise)
+    (keys_rise lecturer_line (λ x. x.key) w.lecturers good.sound.lecturers_rise)
+    ∙ same_instance w
+
+-- of the entries that some good world has, as instance_of is told
+module _ (ls : List Lecturer) (ps : List ProjectRow) (ss : List Student) (ready : (w : World) × HasEntries ls ps ss w × Good w × CanPublish w) where
+  pub none_before_memory : HasNoneBefore (lines_of ls ps ss) Memory
+  none_before_memory =
+      let has : HasEntries ls ps ss ready.0 = ready.1 in
+      let same : lines_of ready.0.lecturers ready.0.projects ready.0.students ≡ lines_of ls ps ss = λ j. lines_of (has.lecturers_there j) (has.projects_there j) (has.students_there j) in
+      subst (λ rows. HasNoneBefore rows Memory) same (faultless ready.0 ready.2 ready.3)
+
+  pub only_meant : (i : Spa) → IsLawful i → StandsFor (lines_of ls ps ss) i → (v : World) → HasEntries ls ps ss v → i ≡ instance v
+  only_meant i lawful for v hv =
+      let w : World = ready.0 in
+      let has : HasEntries ls ps ss w = ready.1 in
+      let same : lines_of w.lecturers w.projects w.students ≡ lines_of ls ps ss = λ j. lines_of (has.lecturers_there j) (has.projects_there j) (has.students_there j) in
+      let ours : i ≡ instance w = exact w i ready.2 lawful (subst (λ rows. StandsFor rows i) (sym same) for) in
+      let l : w.lecturers ≡ v.lecturers = has.lecturers_there ∙ sym hv.lecturers_there in
+      let p : w.projects ≡ v.projects = has.projects_there ∙ sym hv.projects_there in
+      let s : w.students ≡ v.students = has.students_there ∙ sym hv.students_there in
+      let theirs : instance w ≡ instance v = λ j. instance (record { phase = w.phase; office = w.office; lecturers = l j; projects = p j; students = s j }) in
+      ours ∙ theirs

@@ -1,0 +1,146 @@
+-- The lines of a good world in which nobody is still to rank have no fault.
+use Rattle.std.proofs.Common.{◌≡◌, inl, inr, ℕ, ◌<◌, ◌≤◌, Bool, true, false, List, [], ◌∷◌, map, length, get_or, Any, refl, sym, ◌∙◌, subst, arith}
+use Rattle.std.specs.Prelude.{Option, Some, None, is_none, unwrap_or, IfSome, not, ◌&&◌}
+use Rattle.std.specs.List.{list_any, AllByRecursion}
+use Rattle.std.proofs.lemmas.List.{length-map}
+use Rattle.std.proofs.lemmas.List.Folds.{Any-from_list_any, list_any-from_Any}
+use Rattle.spa_rows.specs.Form.{is_key}
+use Rattle.spa_rows.specs.Least.{BadAt}
+use Rattle.spa_rows.specs.Lines.{Rows}
+use Rattle.spa_rows.specs.Faults.{HasNoneBefore, IsRefusal, IsBadCapacity, IsEarlierKey, IsKeyOf, NamesNone, Repeats, FindsOne, IsApplicant, MissesOne}
+use Rattle.spa_rows.specs.declared.faults.InstanceFault.{InstanceFault}
+use Rattle.spa_rows.specs.declared.faults.InstanceFault.TheVariants.{TooMany, BadKey, KeyTwice, BadCapacity, NoSuchLecturer, NoSuchProject, RepeatInList, ListTooLong, NotApplicant, ApplicantMissing, Memory}
+use Rattle.spa_model.proofs.Zips.{any_map, any_unmap}
+use Rattle.portal_core.specs.Words.{Key, is, has, is_empty, Rise}
+use Rattle.portal_core.specs.World.{World, Student, student_key, projects_of, applicants_of, is_still_to_rank}
+use Rattle.portal_core.specs.Instance.{lecturer_keys, project_keys}
+use Rattle.portal_core.specs.Good.{Good, Sound, CanPublish, IsChoice, IsRanking, IsLecturer, IsProject, IsStudent}
+use Rattle.portal_core.specs.declared.rows.ProjectRow.{ProjectRow}
+use Rattle.portal_core.proofs.Keys.{is_same, is_own}
+use Rattle.portal_core.proofs.AllLaws as laws
+use Rattle.portal_list.specs.Lines.{lecturer_line, project_line, student_line, lines_of}
+use Rattle.portal_list.proofs.Rising.{all_at, map_map}
+use Rattle.portal_list.proofs.Members.{and_parts, and_both, there, has_it, has_all, key_there, filtered_any, repeats_not, earlier_not, none_of}
+
+module _ (w : World) where
+  abbrev rows : Rows
+  rows = lines_of w.lecturers w.projects w.students
+
+  -- a student's list holds a project of the lecturer
+  abbrev wants : Key → Student → Bool
+  wants l s = list_any (λ p. has s.choice p.key) (projects_of w l)
+
+  wants_finds : (l : Key) (s : Student) → wants l s ≡ true → FindsOne rows (student_line s) l
+  wants_finds l s h =
+      let found = Any-from_list_any (λ p. is p.lecturer l && has s.choice p.key) w.projects (sym (filtered_any (λ p. has s.choice p.key) (λ p. is p.lecturer l) w.projects) ∙ h) in
+      let p : ProjectRow = found.1 in
+      let parts : (is p.lecturer l ≡ true) × (has s.choice p.key ≡ true) = and_parts (is p.lecturer l) (has s.choice p.key) found.4 in
+      let listed = there s.choice p.key parts.1 in (
+        listed.0,
+        listed.1,
+        listed.2,
+        listed.3,
+        any_map (λ q. (q.key ≡ listed.1) × (q.lecturer ≡ l)) project_line w.projects found.0 p found.2 (sym found.3) (sym listed.4, is_same p.lecturer l parts.0),
+      )
+
+  finds_wants : (l : Key) (s : Student) → FindsOne rows (student_line s) l → wants l s ≡ true
+  finds_wants l s (m, x, low, at, offered) =
+      let found = any_unmap (λ q. (q.key ≡ x) × (q.lecturer ≡ l)) project_line w.projects offered in
+      let p : ProjectRow = found.1 in
+      let listed : has s.choice p.key ≡ true = has_it s.choice p.key (m, x, low, at, sym found.4.0) in
+      let own : is p.lecturer l ≡ true = subst (λ y. is y l ≡ true) (sym found.4.1) (is_own l) in
+      filtered_any (λ q. has s.choice q.key) (λ q. is q.lecturer l) w.projects
+      ∙ list_any-from_Any (λ q. is q.lecturer l && has s.choice q.key) w.projects (found.0, p, found.2, found.3, and_both (is p.lecturer l) (has s.choice p.key) own listed)
+
+  abbrev applicant_keys : Key → List Key
+  applicant_keys l = map student_key (applicants_of w l)
+
+  among : (l k : Key) → has (applicant_keys l) k ≡ list_any (λ s. wants l s && is k s.row.key) w.students
+  among l k = laws.any_map (is k) student_key (applicants_of w l) ∙ filtered_any (λ s. is k s.row.key) (wants l) w.students
+
+  has_applicant : (l k : Key) → has (applicant_keys l) k ≡ true → IsApplicant rows l k
+  has_applicant l k h =
+      let found = Any-from_list_any (λ s. wants l s && is k s.row.key) w.students (sym (among l k) ∙ h) in
+      let parts : (wants l found.1 ≡ true) × (is k found.1.row.key ≡ true) = and_parts (wants l found.1) (is k found.1.row.key) found.4 in
+      any_map (λ x. (x.key ≡ k) × FindsOne rows x l) student_line w.students found.0 found.1 found.2 (sym found.3) (sym (is_same k found.1.row.key parts.1), wants_finds l found.1 parts.0)
+
+  is_applicant : (l : Key) (j : ℕ) (s : Student) → j < length w.students → get_or w.students j s ≡ s → FindsOne rows (student_line s) l → has (applicant_keys l) s.row.key ≡ true
+  is_applicant l j s low at finds = among l s.row.key ∙ list_any-from_Any (λ t. wants l t && is s.row.key t.row.key) w.students (j, s, low, at, and_both (wants l s) (is s.row.key s.row.key) (finds_wants l s finds) (is_own s.row.key))
+
+  abbrev Ranks : Key → Option (List Key) → Type 0
+  Ranks l o = IfSome o (IsRanking (applicant_keys l))
+
+  no_repeat : (l : Key) (o : Option (List Key)) → Ranks l o → Repeats (unwrap_or o []) → ⊥
+  no_repeat l None ranks (j, text, low, at, any) = absurd (omega arith)
+  no_repeat l (Some r) ranks repeats = repeats_not r ranks.once repeats
+
+  no_other : (l : Key) (o : Option (List Key)) → Ranks l o → Any (λ text. IsApplicant rows l text → ⊥) (unwrap_or o []) → ⊥
+  no_other l None ranks (j, text, low, at, no_one) = absurd (omega arith)
+  no_other l (Some r) ranks (j, text, low, at, no_one) = no_one (has_applicant l text (subst (λ k. has (applicant_keys l) k ≡ true) at (all_at (λ k. has (applicant_keys l) k ≡ true) r j text ranks.only low)))
+
+  none_empty : {X : Type 0} (key : X → Key) (xs : List X) (k : Key) → (not (is_empty xs) && true) ≡ false → has (map key xs) k ≡ true → ⊥
+  none_empty key [] k e h = cc
+  none_empty key (x ∷ xs) k e h = cc
+
+  by_ranking : (l k : Key) (o : Option (List Key)) → Ranks l o → (not (is_empty (applicants_of w l)) && is_none o) ≡ false → has (applicant_keys l) k ≡ true → (Any (λ text. text ≡ k) (unwrap_or o []) → ⊥) → ⊥
+  by_ranking l k None ranks none is_one off = none_empty student_key (applicants_of w l) k none is_one
+  by_ranking l k (Some r) ranks none is_one off = off (there r k (has_all (λ x. has r x ≡ true) (applicant_keys l) k ranks.all is_one))
+
+  no_missing : (l : Key) (o : Option (List Key)) → Ranks l o → (not (is_empty (applicants_of w l)) && is_none o) ≡ false
+      → Any (λ s. FindsOne rows s l × (Any (λ text. text ≡ s.key) (unwrap_or o []) → ⊥)) rows.students → ⊥
+  no_missing l o ranks ranked missing =
+      let found = any_unmap (λ s. FindsOne rows s l × (Any (λ text. text ≡ s.key) (unwrap_or o []) → ⊥)) student_line w.students missing in
+      by_ranking l found.1.row.key o ranks ranked (is_applicant l found.0 found.1 found.2 found.3 found.4.0) found.4.1
+
+  no_bad_capacity : (n : ℕ) → 1 ≤ n → n ≤ 200 → IsBadCapacity n → ⊥
+  no_bad_capacity n low high (inl h) = omega arith
+  no_bad_capacity n low high (inr h) = omega arith
+
+  module _ (good : Good w) (ready : CanPublish w) where
+    abbrev sound : Sound w
+    sound = good.sound
+
+    ranked : AllByRecursion (λ l. Ranks l.row.key l.ranking × (is_still_to_rank w l ≡ false)) w.lecturers
+    ranked = laws.all_both (λ l. Ranks l.row.key l.ranking) (λ l. is_still_to_rank w l ≡ false) w.lecturers sound.rankings ready.all_ranked
+
+    bad_key : (k : Key) → is_key k ≡ true → is_key k ≡ false → ⊥
+    bad_key k h e = cc
+
+    twice : {E L : Type 0} (f : E → L) (row : L → ℕ) (key : L → Key) (es : List E) → Rise (map (λ e. key (f e)) es) → (q : ℕ) → BadAt (map f es) row (λ j x. IsEarlierKey (map f es) key j (key x)) q → ⊥
+    twice f row key es rise q (j, x, low, long, at, is_row, earlier) = earlier_not key (map f es) j x (subst Rise (sym (map_map key f es)) rise) low at earlier
+
+    pub faultless : HasNoneBefore rows Memory
+    faultless TooMany low q (z, inl h) = omega (arith, length-map w.lecturers lecturer_line, sound.few_lecturers)
+    faultless TooMany low q (z, inr (inl h)) = omega (arith, length-map w.projects project_line, sound.few_projects)
+    faultless TooMany low q (z, inr (inr h)) = omega (arith, length-map w.students student_line, sound.few_students)
+    faultless BadKey low q (inl bad) = none_of (λ l. IsLecturer l.row) lecturer_line (λ x. x.row) (λ _ x. is_key x.key ≡ false) w.lecturers sound.lecturer_forms (λ j e l at form h. bad_key e.row.key form.key h) q bad
+    faultless BadKey low q (inr (inl bad)) = none_of IsProject project_line (λ x. x.row) (λ _ x. is_key x.key ≡ false) w.projects sound.project_forms (λ j e l at form h. bad_key e.key form.key h) q bad
+    faultless BadKey low q (inr (inr bad)) = none_of (λ s. IsStudent s.row) student_line (λ x. x.row) (λ _ x. is_key x.key ≡ false) w.students sound.student_forms (λ j e l at form h. bad_key e.row.key form.key h) q bad
+    faultless KeyTwice low q (inl bad) = twice lecturer_line (λ x. x.row) (λ x. x.key) w.lecturers sound.lecturers_rise q bad
+    faultless KeyTwice low q (inr (inl bad)) = twice project_line (λ x. x.row) (λ x. x.key) w.projects sound.projects_rise q bad
+    faultless KeyTwice low q (inr (inr bad)) = twice student_line (λ x. x.row) (λ x. x.key) w.students sound.students_rise q bad
+    faultless BadCapacity low q (inl bad) = none_of (λ l. IsLecturer l.row) lecturer_line (λ x. x.row) (λ _ x. IsBadCapacity x.capacity) w.lecturers sound.lecturer_forms (λ j e l at form h. no_bad_capacity e.row.capacity form.low form.high h) q bad
+    faultless BadCapacity low q (inr bad) = none_of IsProject project_line (λ x. x.row) (λ _ x. IsBadCapacity x.capacity) w.projects sound.project_forms (λ j e l at form h. no_bad_capacity e.capacity form.low form.high h) q bad
+    faultless NoSuchLecturer low q bad = none_of (λ p. has (lecturer_keys w) p.lecturer ≡ true) project_line (λ x. x.row) (λ _ x. IsKeyOf rows.lecturers (λ y. y.key) x.lecturer → ⊥) w.projects sound.lecturers_known (λ j e l at known h. h (key_there lecturer_line (λ y. y.key) w.lecturers e.lecturer known)) q bad
+    faultless NoSuchProject low q bad = none_of (λ s. IsChoice (project_keys w) s.choice) student_line (λ x. x.row) (λ _ x. NamesNone rows.projects (λ y. y.key) x.list) w.students sound.choices (λ j e l at choice (m, text, less, is_text, no_one).
+        no_one (key_there project_line (λ y. y.key) w.projects text (subst (λ k. has (project_keys w) k ≡ true) is_text (all_at (λ k. has (project_keys w) k ≡ true) e.choice m text choice.known less)))) q bad
+    faultless RepeatInList low q (inl bad) = none_of (λ l. Ranks l.row.key l.ranking × (is_still_to_rank w l ≡ false)) lecturer_line (λ x. x.row) (λ _ x. Repeats x.list) w.lecturers ranked (λ j e l at is_ranked h. no_repeat e.row.key e.ranking is_ranked.0 h) q bad
+    faultless RepeatInList low q (inr bad) = none_of (λ s. IsChoice (project_keys w) s.choice) student_line (λ x. x.row) (λ _ x. Repeats x.list) w.students sound.choices (λ j e l at choice h. repeats_not e.choice choice.once h) q bad
+    faultless ListTooLong low q bad = none_of (λ s. IsChoice (project_keys w) s.choice) student_line (λ x. x.row) (λ _ x. 20 < length x.list) w.students sound.choices (λ j e l at choice h. let few : length e.choice ≤ 20 = choice.few in omega arith) q bad
+    faultless NotApplicant low q bad = none_of (λ l. Ranks l.row.key l.ranking × (is_still_to_rank w l ≡ false)) lecturer_line (λ x. x.row) (λ _ x. Any (λ text. IsApplicant rows x.key text → ⊥) x.list) w.lecturers ranked (λ j e l at is_ranked h. no_other e.row.key e.ranking is_ranked.0 h) q bad
+    faultless ApplicantMissing low q bad = none_of (λ l. Ranks l.row.key l.ranking × (is_still_to_rank w l ≡ false)) lecturer_line (λ x. x.row) (λ _ x. MissesOne rows x) w.lecturers ranked (λ j e l at is_ranked h. no_missing e.row.key e.ranking is_ranked.0 is_ranked.1 h) q bad
+    faultless Memory low q bad = bad
+
+-- what is refused of rows without a fault is memory
+pub only_memory : (rows : Rows) (fault : InstanceFault) (r : ℕ) → HasNoneBefore rows Memory → (fault ≡ Memory → ⊥) → IsRefusal rows fault r → ⊥
+only_memory rows TooMany r none other first = none TooMany (omega arith) r first.here
+only_memory rows BadKey r none other first = none BadKey (omega arith) r first.here
+only_memory rows KeyTwice r none other first = none KeyTwice (omega arith) r first.here
+only_memory rows BadCapacity r none other first = none BadCapacity (omega arith) r first.here
+only_memory rows NoSuchLecturer r none other first = none NoSuchLecturer (omega arith) r first.here
+only_memory rows NoSuchProject r none other first = none NoSuchProject (omega arith) r first.here
+only_memory rows RepeatInList r none other first = none RepeatInList (omega arith) r first.here
+only_memory rows ListTooLong r none other first = none ListTooLong (omega arith) r first.here
+only_memory rows NotApplicant r none other first = none NotApplicant (omega arith) r first.here
+only_memory rows ApplicantMissing r none other first = none ApplicantMissing (omega arith) r first.here
+only_memory rows Memory r none other first = other refl

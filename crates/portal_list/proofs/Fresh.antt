@@ -1,0 +1,31 @@
+-- The empty world is good.
+use Rattle.std.proofs.Common.{◌≡◌, true, [], refl, arith}
+use Rattle.portal_core.specs.Form.{is_code}
+use Rattle.portal_core.specs.Words.{Key}
+use Rattle.portal_core.specs.Good.{Good}
+use Rattle.portal_core.specs.declared.phase.Phase.TheVariants.{Setup}
+
+pub fresh_good : (office : Key) → is_code office ≡ true → Good (record { phase = Setup; office = office; lecturers = []; projects = []; students = [] })
+fresh_good office form = record {
+  sound = record {
+    lecturers_rise = tt;
+    projects_rise = tt;
+    students_rise = tt;
+    lecturer_forms = tt;
+    project_forms = tt;
+    student_forms = tt;
+    office_form = form;
+    few_lecturers = omega arith;
+    few_projects = omega arith;
+    few_students = omega arith;
+    codes = (refl, tt);
+    lecturers_known = tt;
+    choices = tt;
+    no_choices_yet = λ h. tt;
+    no_rankings_yet = λ h. tt;
+    rankings = tt;
+    no_result_yet = λ h. tt;
+    all_ranked = λ h. tt;
+  };
+  stable = λ h. cc;
+}

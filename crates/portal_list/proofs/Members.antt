@@ -1,0 +1,76 @@
+-- What stands in a list, in a list made of it, and in a part of it.
+use Rattle.std.proofs.Common.{◌≡◌, ℕ, zero, suc, ◌<◌, Bool, true, false, cond, List, [], ◌∷◌, map, length, get_or, Any, Less, refl, sym, ◌∙◌, ap, subst, arith}
+use Rattle.std.specs.Prelude.{◌&&◌, ◌||◌, filter}
+use Rattle.std.specs.List.{list_any, AllByRecursion}
+use Rattle.std.specs.Ordering.{nat_cmp}
+use Rattle.std.specs.Cmp.Lexicographic.{slice_cmp}
+use Rattle.std.proofs.lemmas.List.{get_or_default, get_or-take, length-take, length-map}
+use Rattle.std.proofs.lemmas.List.Folds.{Any-from_list_any, list_any-from_Any, list_any_at}
+use Rattle.spa_rows.specs.Least.{BadAt}
+use Rattle.spa_rows.specs.Faults.{IsEarlierKey, IsKeyOf, Repeats}
+use Rattle.spa_rows.proofs.Lists.{at_place, map_at}
+use Rattle.spa_model.proofs.Zips.{any_map, any_unmap}
+use Rattle.portal_core.specs.Words.{Key, is, has, Rise, AreDistinct}
+use Rattle.portal_core.proofs.Keys.{is_same, is_own}
+use Rattle.portal_list.proofs.Rising.{all_at, pairs_rise, never_itself}
+
+pub and_parts : (a b : Bool) → (a && b) ≡ true → (a ≡ true) × (b ≡ true)
+and_parts true b h = (refl, h)
+and_parts false b h = cc
+
+pub and_both : (a b : Bool) → a ≡ true → b ≡ true → (a && b) ≡ true
+and_both a b h g = rw (h, g) refl
+
+pub there : (ks : List Key) (k : Key) → has ks k ≡ true → Any (λ x. x ≡ k) ks
+there ks k h = let found = Any-from_list_any (is k) ks h in (found.0, found.1, found.2, found.3, sym (is_same k found.1 found.4))
+
+pub has_it : (ks : List Key) (k : Key) → Any (λ x. x ≡ k) ks → has ks k ≡ true
+has_it ks k (j, x, low, at, same) = list_any-from_Any (is k) ks (j, x, low, at, subst (λ y. is k y ≡ true) (sym same) (is_own k))
+
+pub has_all : (P : Key → Type 0) (ks : List Key) (k : Key) → AllByRecursion P ks → has ks k ≡ true → P k
+has_all P ks k all h = let found = there ks k h in subst P (found.3 ∙ found.4) (all_at P ks found.0 found.1 all found.2)
+
+-- a known key is a line's key
+pub key_there : {X L : Type 0} (f : X → L) (key : L → Key) (xs : List X) (k : Key) → has (map (λ x. key (f x)) xs) k ≡ true → IsKeyOf (map f xs) key k
+key_there f key xs k h =
+    let found = any_unmap (λ y. y ≡ k) (λ x. key (f x)) xs (there (map (λ x. key (f x)) xs) k h) in
+    any_map (λ y. key y ≡ k) f xs found.0 found.1 found.2 (sym found.3) found.4
+
+pub filtered_any : {X : Type 0} (q p : X → Bool) (xs : List X) → list_any q (filter p xs) ≡ list_any (λ x. p x && q x) xs
+filtered_any q p [] = refl
+filtered_any {X} q p (x ∷ xs) = step (p x) (filtered_any q p xs)
+  where
+    step : (b : Bool) → list_any q (filter p xs) ≡ list_any (λ y. p y && q y) xs → list_any q (cond b (x ∷ filter p xs) (filter p xs)) ≡ ((b && q x) || list_any (λ y. p y && q y) xs)
+    step true rest = ap (λ b. q x || b) rest
+    step false rest = rest
+
+pub distinct_apart : (list : List Key) (i j : ℕ) (d : Key) → AreDistinct list → i < j → j < length list → get_or list i d ≡ get_or list j d → ⊥
+distinct_apart [] i j d once less low same = absurd (omega arith)
+distinct_apart (k ∷ ks) i zero d once less low same = absurd (omega arith)
+distinct_apart (k ∷ ks) zero (suc j) d once less low same =
+    let found : has ks k ≡ true = list_any_at (is k) ks j d (omega arith) (subst (λ y. is k y ≡ true) same (is_own k)) in
+    cc
+distinct_apart (k ∷ ks) (suc i) (suc j) d once less low same = distinct_apart ks i j d once.1 (omega arith) (omega arith) same
+
+pub repeats_not : (list : List Key) → AreDistinct list → Repeats list → ⊥
+repeats_not list once (j, text, low, at, (i, x, less, is_x, same)) =
+    let before : i < j = omega (arith, length-take j list) in
+    let x_at : get_or list i text ≡ text = get_or_default list i text x (omega arith) ∙ sym (get_or-take j list i x before) ∙ is_x ∙ same in
+    distinct_apart list i j text once before low (x_at ∙ sym at)
+
+pub earlier_not : {X : Type 0} (key : X → Key) (lines : List X) (j : ℕ) (x : X) → Rise (map key lines) → j < length lines → get_or lines j x ≡ x → IsEarlierKey lines key j (key x) → ⊥
+earlier_not key lines j x rise low at (i, y, less, is_y, same) =
+    let before : i < j = omega (arith, length-take j lines) in
+    let y_at : get_or lines i y ≡ y = sym (get_or-take j lines i y before) ∙ is_y in
+    let below : slice_cmp nat_cmp (get_or (map key lines) i []) (get_or (map key lines) j []) ≡ Less = pairs_rise (map key lines) rise i j [] before (omega (arith, length-map lines key)) in
+    never_itself (key x) (rw (map_at key lines i y [] (omega arith) y_at, map_at key lines j x [] low at, same) at below)
+
+-- no line made of these is bad
+pub none_of : {E L : Type 0} (P : E → Type 0) (f : E → L) (row : L → ℕ) (Bad : ℕ → L → Type 0) (es : List E) → AllByRecursion P es
+    → ((j : ℕ) (e : E) → j < length es → get_or es j e ≡ e → P e → Bad j (f e) → ⊥)
+    → (r : ℕ) → BadAt (map f es) row Bad r → ⊥
+none_of P f row Bad es all never r (j, x, low, long, at, is_row, bad) =
+    let l : j < length es = omega (arith, length-map es f) in
+    let e = at_place es j l in
+    let same : x ≡ f e.0 = sym at ∙ map_at f es j e.0 x l e.1 in
+    never j e.0 l e.1 (subst P e.1 (all_at P es j e.0 all l)) (subst (Bad j) same bad)

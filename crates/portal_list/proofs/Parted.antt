@@ -1,0 +1,156 @@
+-- A world is sound exactly where its parts fit, and its rows say which world it is.
+use Rattle.std.proofs.Common.{◌≡◌, true, false, List, [], ◌∷◌, ◌++◌, map, refl, sym, ◌∙◌, ap, subst, arith}
+use Rattle.std.specs.Prelude.{Option, Some, None, is_none, option_map, not, ◌&&◌, filter}
+use Rattle.std.specs.List.{AllByRecursion}
+use Rattle.std.proofs.lemmas.List.{length-map}
+use Rattle.portal_core.specs.Words.{Key, has, is_empty, Rise, AreDistinct}
+use Rattle.portal_core.specs.World.{World, Lecturer, Student, project_key, student_key, projects_of, applicants_of, is_still_to_rank, is_published}
+use Rattle.portal_core.specs.Good.{Sound, codes_of, IsLecturer, IsStudent}
+use Rattle.portal_core.specs.Instance.{lecturer_keys, student_keys}
+use Rattle.portal_core.proofs.Keys.{all_unmap}
+use Rattle.portal_core.proofs.AllLaws as laws
+use Rattle.portal_list.specs.Rows.{Rows, rows_of}
+use Rattle.portal_list.specs.Fit.{lecturers_fitting, students_fitting}
+use Rattle.portal_list.specs.Parts.{codes_in, lecturer_row_keys, student_row_keys, applicant_keys, IsRanked, RollsFit, ListsFit}
+use Rattle.portal_list.proofs.Rising.{map_map}
+use Rattle.portal_list.proofs.Fitting.{lecturers_back, lecturers_rows, students_back, students_rows}
+
+lecturer_keys_are : (w : World) → lecturer_row_keys (rows_of w).lecturers ≡ lecturer_keys w
+lecturer_keys_are w = map_map (λ r. r.key) (λ l. l.row) w.lecturers
+
+student_keys_are : (w : World) → student_row_keys (rows_of w).students ≡ student_keys w
+student_keys_are w = map_map (λ r. r.key) (λ s. s.row) w.students
+
+codes_are : (w : World) → codes_in w.office (rows_of w).lecturers (rows_of w).students ≡ codes_of w
+codes_are w = λ i. w.office ∷ map_map (λ r. r.code) (λ l. l.row) w.lecturers i ++ map_map (λ r. r.code) (λ s. s.row) w.students i
+
+applicants_are : (w : World) (l : Key) → applicant_keys w.projects w.students l ≡ map student_key (applicants_of w l)
+applicants_are w l = λ i. map student_key (filter (λ s. laws.any_map (λ p. has s.choice p) project_key (projects_of w l) i) w.students)
+
+still : (xs : List Student) (o : Option (List Key)) → (not (is_empty xs) && is_none o) ≡ false → o ≡ None → map student_key xs ≡ []
+still [] o e n = refl
+still (x ∷ xs) None e n = cc
+still (x ∷ xs) (Some r) e n = cc
+
+not_still : (xs : List Student) (o : Option (List Key)) → (o ≡ None → map student_key xs ≡ []) → (not (is_empty xs) && is_none o) ≡ false
+not_still [] o f = refl
+not_still (x ∷ xs) None f = let e : map student_key (x ∷ xs) ≡ [] = f refl in cc
+not_still (x ∷ xs) (Some r) f = refl
+
+all_under : {X A : Type 0} (P : X → Type 0) (xs : List X) → (A → AllByRecursion P xs) → AllByRecursion (λ x. A → P x) xs
+all_under P [] f = tt
+all_under P (x ∷ xs) f = (λ a. (f a).0, all_under P xs (λ a. (f a).1))
+
+module _ (w : World) where
+  abbrev RollsOf : Type 0
+  RollsOf = RollsFit (rows_of w).office (rows_of w).lecturers (rows_of w).projects (rows_of w).students
+
+  abbrev ListsOf : Type 0
+  ListsOf = ListsFit w.phase w.lecturers w.projects w.students
+
+  pub rolls_of : Sound w → RollsOf
+  rolls_of sound = record {
+    rise = record {
+      lecturers_rise = subst Rise (sym (lecturer_keys_are w)) sound.lecturers_rise;
+      projects_rise = sound.projects_rise;
+      students_rise = subst Rise (sym (student_keys_are w)) sound.students_rise;
+    };
+    few = record {
+      few_lecturers = omega (arith, length-map w.lecturers (λ l. l.row), sound.few_lecturers);
+      few_projects = sound.few_projects;
+      few_students = omega (arith, length-map w.students (λ s. s.row), sound.few_students);
+    };
+    lecturer_forms = laws.all_map IsLecturer (λ l. l.row) w.lecturers sound.lecturer_forms;
+    project_forms = sound.project_forms;
+    student_forms = laws.all_map IsStudent (λ s. s.row) w.students sound.student_forms;
+    office_form = sound.office_form;
+    lecturers_known = subst (λ keys. AllByRecursion (λ p. has keys p.lecturer ≡ true) w.projects) (sym (lecturer_keys_are w)) sound.lecturers_known;
+    codes = subst AreDistinct (sym (codes_are w)) sound.codes;
+  }
+
+  ranked : Sound w → AllByRecursion (λ l. IsRanked (is_published w.phase) (applicant_keys w.projects w.students l.row.key) l.ranking) w.lecturers
+  ranked sound =
+      laws.all_weaker _ (λ l. IsRanked (is_published w.phase) (applicant_keys w.projects w.students l.row.key) l.ranking) (λ l h. subst (λ keys. IsRanked (is_published w.phase) keys l.ranking) (sym (applicants_are w l.row.key)) (record {
+        whole = h.0;
+        there = λ asked none. still (applicants_of w l.row.key) l.ranking (h.1 asked) none;
+      })) w.lecturers
+      (laws.all_both _ (λ l. is_published w.phase ≡ true → is_still_to_rank w l ≡ false) w.lecturers sound.rankings (all_under (λ l. is_still_to_rank w l ≡ false) w.lecturers sound.all_ranked))
+
+  pub lists_of : Sound w → ListsOf
+  lists_of sound = record {
+    phase_fits = record { no_choices_yet = sound.no_choices_yet; no_rankings_yet = sound.no_rankings_yet; no_result_yet = sound.no_result_yet };
+    choices = sound.choices;
+    rankings = ranked sound;
+  }
+
+  meant : (l : Lecturer) → IsRanked (is_published w.phase) (applicant_keys w.projects w.students l.row.key) l.ranking → IsRanked (is_published w.phase) (map student_key (applicants_of w l.row.key)) l.ranking
+  meant l h = subst (λ keys. IsRanked (is_published w.phase) keys l.ranking) (applicants_are w l.row.key) h
+
+  pub sound_of : RollsOf → ListsOf → Sound w
+  sound_of rolls lists = record {
+    lecturers_rise = subst Rise (lecturer_keys_are w) rolls.rise.lecturers_rise;
+    projects_rise = rolls.rise.projects_rise;
+    students_rise = subst Rise (student_keys_are w) rolls.rise.students_rise;
+    lecturer_forms = all_unmap IsLecturer (λ l. l.row) w.lecturers rolls.lecturer_forms;
+    project_forms = rolls.project_forms;
+    student_forms = all_unmap IsStudent (λ s. s.row) w.students rolls.student_forms;
+    office_form = rolls.office_form;
+    few_lecturers = omega (arith, length-map w.lecturers (λ l. l.row), rolls.few.few_lecturers);
+    few_projects = rolls.few.few_projects;
+    few_students = omega (arith, length-map w.students (λ s. s.row), rolls.few.few_students);
+    codes = subst AreDistinct (codes_are w) rolls.codes;
+    lecturers_known = subst (λ keys. AllByRecursion (λ p. has keys p.lecturer ≡ true) w.projects) (lecturer_keys_are w) rolls.lecturers_known;
+    choices = lists.choices;
+    no_choices_yet = lists.phase_fits.no_choices_yet;
+    no_rankings_yet = lists.phase_fits.no_rankings_yet;
+    rankings = laws.all_weaker _ _ (λ l h. (meant l h).whole) w.lecturers lists.rankings;
+    no_result_yet = lists.phase_fits.no_result_yet;
+    all_ranked = λ asked. laws.all_weaker _ _ (λ l h. not_still (applicants_of w l.row.key) l.ranking (λ none. (meant l h).there asked none)) w.lecturers lists.rankings;
+  }
+
+  lecturers_come_back : Rise (lecturer_row_keys (rows_of w).lecturers) → lecturers_fitting (rows_of w).lecturers (rows_of w).rankings ≡ Some w.lecturers
+  lecturers_come_back rise = lecturers_back w.lecturers (subst Rise (lecturer_keys_are w) rise)
+
+  students_come_back : Rise (student_row_keys (rows_of w).students) → students_fitting (rows_of w).students (rows_of w).choices (rows_of w).pairs ≡ Some w.students
+  students_come_back rise = students_back w.students (subst Rise (student_keys_are w) rise)
+
+module _ (rows : Rows) where
+  pub fitted_rows : (ls : List Lecturer) (ss : List Student) → lecturers_fitting rows.lecturers rows.rankings ≡ Some ls → students_fitting rows.students rows.choices rows.pairs ≡ Some ss
+      → rows ≡ rows_of (record { phase = rows.phase; office = rows.office; lecturers = ls; projects = rows.projects; students = ss })
+  fitted_rows ls ss e f =
+      let l = lecturers_rows rows.lecturers rows.rankings ls e in
+      let s = students_rows rows.students rows.choices rows.pairs ss f in
+      sym (λ i. record { phase = rows.phase; office = rows.office; lecturers = l.0 i; projects = rows.projects; students = s.0 i; choices = s.1 i; rankings = l.1 i; pairs = s.2 i })
+
+  pub lecturers_come : Rise (lecturer_row_keys rows.lecturers) → (w : World) → rows ≡ rows_of w → lecturers_fitting rows.lecturers rows.rankings ≡ Some w.lecturers
+  lecturers_come rise w e = ap (λ r. lecturers_fitting r.lecturers r.rankings) e ∙ lecturers_come_back w (subst (λ r. Rise (lecturer_row_keys r.lecturers)) e rise)
+
+  pub students_come : Rise (student_row_keys rows.students) → (w : World) → rows ≡ rows_of w → students_fitting rows.students rows.choices rows.pairs ≡ Some w.students
+  students_come rise w e = ap (λ r. students_fitting r.students r.choices r.pairs) e ∙ students_come_back w (subst (λ r. Rise (student_row_keys r.students)) e rise)
+
+  -- these rows are of one world
+  pub one_world : Rise (lecturer_row_keys rows.lecturers) → Rise (student_row_keys rows.students) → (v w : World) → rows ≡ rows_of v → rows ≡ rows_of w → v ≡ w
+  one_world ls_rise ss_rise v w e f =
+      let l : Some v.lecturers ≡ Some w.lecturers = sym (lecturers_come ls_rise v e) ∙ lecturers_come ls_rise w f in
+      let s : Some v.students ≡ Some w.students = sym (students_come ss_rise v e) ∙ students_come ss_rise w f in
+      let ls : v.lecturers ≡ w.lecturers = cc in
+      let ss : v.students ≡ w.students = cc in
+      let same : rows_of v ≡ rows_of w = sym e ∙ f in
+      λ i. record { phase = (same i).phase; office = (same i).office; lecturers = ls i; projects = (same i).projects; students = ss i }
+
+  -- no sound world has rows whose rolls, or whose lists, don't fit
+  pub rolls_tell : (RollsFit rows.office rows.lecturers rows.projects rows.students → ⊥) → (w : World) → rows ≡ rows_of w → Sound w → ⊥
+  rolls_tell unfit w e sound = unfit (subst (λ r. RollsFit r.office r.lecturers r.projects r.students) (sym e) (rolls_of w sound))
+
+  pub lists_tell : RollsFit rows.office rows.lecturers rows.projects rows.students → (v : World) → rows ≡ rows_of v → (ListsFit v.phase v.lecturers v.projects v.students → ⊥) → (w : World) → rows ≡ rows_of w → Sound w → ⊥
+  lists_tell rolls v e unfit w f sound = unfit (subst (λ u. ListsFit u.phase u.lecturers u.projects u.students) (sym (one_world rolls.rise.lecturers_rise rolls.rise.students_rise v w e f)) (lists_of w sound))
+
+  pub students_rise : RollsFit rows.office rows.lecturers rows.projects rows.students → (v : World) → rows ≡ rows_of v → Rise (map student_key v.students)
+  students_rise rolls v e = subst Rise (student_keys_are v) (subst (λ r. Rise (student_row_keys r.students)) e rolls.rise.students_rise)
+
+  pub both_sound : RollsFit rows.office rows.lecturers rows.projects rows.students → (v : World) → rows ≡ rows_of v → ListsFit v.phase v.lecturers v.projects v.students → Sound v
+  both_sound rolls v e lists = sound_of v (subst (λ r. RollsFit r.office r.lecturers r.projects r.students) e rolls) lists
+
+pub nothing_made : {X Y : Type 0} (f : X → Y) (o : Option X) (y : Y) → o ≡ None → option_map f o ≡ Some y → ⊥
+nothing_made f None y e h = cc
+nothing_made f (Some x) y e h = cc

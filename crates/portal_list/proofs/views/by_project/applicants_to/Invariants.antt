@@ -1,0 +1,8 @@
+use Rattle.std.proofs.Common.{◌≡◌, take}
+use Rattle.std.specs.Prelude.{filter}
+use Rattle.portal_core.specs.Words.{has}
+use Rattle.portal_core.specs.View.{persons}
+use Rattle.portal_list.proofs.views.by_project.applicants_to.Given as goal
+
+abbrev pub invariant-loop-student : goal.invariant-loop-student
+invariant-loop-student l = l.applicants.items ≡ persons (filter (λ s. has s.choice l.project) (take l.student-index l.students))

@@ -1,0 +1,31 @@
+use Rattle.std.proofs.Common.{◌≡◌, Bool, cond, List, [], map, ◌∙◌, ap}
+use Rattle.std.specs.Prelude.{filter}
+use Rattle.portal_core.specs.Words.{Key, is_empty}
+use Rattle.portal_core.specs.World.{World, Lecturer, Student, is_still_to_rank, is_from_ranking}
+use Rattle.portal_core.specs.declared.rows.ProjectRow.{ProjectRow}
+use Rattle.portal_core.specs.View.{office_sees, listings}
+use Rattle.portal_list.specs.Shown.{is_waiting, pairs_in}
+use Rattle.portal_list.proofs.Waiting.{waiting_lecturers}
+use Rattle.portal_list.proofs.views.office_view.Goals as goal
+
+waiting : (w : World) (b : Bool) (ls : List Lecturer) (ps : List ProjectRow) (ss : List Student) → b ≡ is_from_ranking w.phase → ls ≡ w.lecturers → ps ≡ w.projects → ss ≡ w.students
+    → cond b (map (λ (l : Lecturer). l.row.key) (filter (is_waiting ss ps) ls)) [] ≡ cond (is_from_ranking w.phase) (map (λ l. l.row.key) (filter (is_still_to_rank w) w.lecturers)) []
+waiting w b ls ps ss eb el ep es =
+    (λ i. cond (eb i) (map (λ (l : Lecturer). l.row.key) (filter (is_waiting (es i) (ep i)) (el i))) [])
+    ∙ ap (λ (ks : List Key). cond (is_from_ranking w.phase) ks []) (waiting_lecturers w)
+
+pub returns : goal.returns
+returns c =
+    let w : World = record { phase = c.keeper.inside.phase; office = c.keeper.inside.office; lecturers = c.keeper.inside.lecturers.items; projects = c.keeper.inside.projects.items; students = c.keeper.inside.students.items } in
+    (λ i. record {
+      phase = c.keeper.inside.phase;
+      office_code = c.in_ok-copy.ensures i;
+      lecturers = (c.in_ok-lecturer_rows.ensures ∙ ap (map (λ (l : Lecturer). l.row)) c.deref.ensures.value) i;
+      projects = (c.in_ok-project_rows_of.ensures ∙ c.deref-2.ensures.value) i;
+      students = (c.in_ok-student_rows.ensures ∙ ap (map (λ (s : Student). s.row)) c.deref-3.ensures.value) i;
+      catalogue = (c.in_ok-catalogue_of.ensures ∙ λ j. listings (c.deref-4.ensures.value j) (c.deref-5.ensures.value j)) i;
+      without_list = (c.in_ok-without_list.ensures ∙ ap (λ ss. map (λ (s : Student). s.row.key) (filter (λ s. is_empty s.choice) ss)) c.deref-6.ensures.value) i;
+      still_to_rank = (c.in_ok-still_to_rank.ensures ∙ waiting w _ _ _ _ c.are_closed-closed.ensures c.deref-7.ensures.value c.deref-8.ensures.value c.deref-9.ensures.value) i;
+      pairs = (c.in_ok-pairs_of.ensures ∙ λ j. cond (c.is_shown-published.ensures j) (pairs_in (c.deref-10.ensures.value j)) []) i;
+    })
+    ∙ ap office_sees c.keeper.view_is

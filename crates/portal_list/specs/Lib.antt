@@ -1,0 +1,6 @@
+pub mod Lines
+pub mod Shown
+pub mod Rows
+pub mod Fit
+pub mod Parts
+pub mod Play

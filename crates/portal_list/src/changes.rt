@@ -1,0 +1,55 @@
+//! What a change does to the rows.
+
+ghost use Rattle.std.specs.Prelude.{◌≡◌, OnOk, OnErr, map};
+ghost use Rattle.portal_core.specs.Words.{Rise};
+ghost use Rattle.portal_core.specs.World.{student_key, lecturer_key};
+ghost use Rattle.portal_core.specs.Change.{with_choice, with_ranking};
+
+mod places;
+mod rolls;
+
+use crate::by_key::place_of;
+use crate::copies::keys_of;
+use crate::entries::{LecturerEntry, StudentEntry};
+pub(crate) use places::place_all;
+pub(crate) use rolls::{add_lecturers, add_projects, add_students};
+use spa_rows::Key;
+use std::alloc::{AllocError, Global};
+
+/// Replaces the list of the student with this key.
+pub(crate) fn replace_choice(
+    alloc: Global,
+    students: &mut [StudentEntry],
+    key: &Key,
+    list: &[Key],
+) -> Result<(), AllocError>
+    requires { Rise (map student_key students.old) }
+    ensures made { OnOk result (students.new ≡ map (with_choice key.now list.now) students.old) }
+    ensures same { OnErr result (students.new ≡ students.old) }
+{
+    let list = keys_of(alloc, list)?;
+    if let Some(place) = place_of(students, key) {
+        let student = &mut students[place];
+        student.choice = list;
+    }
+    Ok(())
+}
+
+/// Replaces the ranking of the lecturer with this key.
+pub(crate) fn replace_ranking(
+    alloc: Global,
+    lecturers: &mut [LecturerEntry],
+    key: &Key,
+    list: &[Key],
+) -> Result<(), AllocError>
+    requires { Rise (map lecturer_key lecturers.old) }
+    ensures made { OnOk result (lecturers.new ≡ map (with_ranking key.now list.now) lecturers.old) }
+    ensures same { OnErr result (lecturers.new ≡ lecturers.old) }
+{
+    let list = keys_of(alloc, list)?;
+    if let Some(place) = place_of(lecturers, key) {
+        let lecturer = &mut lecturers[place];
+        lecturer.ranking = Some(list);
+    }
+    Ok(())
+}

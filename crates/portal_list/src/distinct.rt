@@ -1,0 +1,40 @@
+//! Whether texts differ.
+
+ghost use Rattle.std.specs.Prelude.{◌≡◌, ◌↔◌, IfOk, IsTrue, map};
+ghost use Rattle.portal_core.specs.Words.{AreDistinct};
+
+use spa_rows::Key;
+use std::alloc::{AllocError, Global};
+use std::collections::BTreeSet;
+
+/// Whether no text stands twice.
+pub(crate) fn are_distinct(alloc: Global, texts: &[&[u8]]) -> Result<bool, AllocError>
+    ensures { IfOk result (λ yes. IsTrue yes ↔ AreDistinct (map (λ text. text.now) texts.now)) }
+{
+    let mut seen = BTreeSet::new(alloc);
+    for text in texts {
+        if !seen.insert(*text)? {
+            return Ok(false);
+        }
+    }
+    Ok(true)
+}
+
+/// The bytes of each key.
+fn bytes_of<'a>(alloc: Global, keys: &'a [Key]) -> Result<Vec<&'a [u8]>, AllocError>
+    ensures { IfOk result (λ texts. map (λ text. text.now) texts.items ≡ keys.now) }
+{
+    let mut texts = Vec::new(alloc);
+    for key in keys {
+        texts.push(key.as_bytes())?;
+    }
+    Ok(texts)
+}
+
+/// Whether no key stands twice.
+pub(crate) fn keys_are_distinct(alloc: Global, keys: &[Key]) -> Result<bool, AllocError>
+    ensures { IfOk result (λ yes. IsTrue yes ↔ AreDistinct keys.now) }
+{
+    let texts = bytes_of(alloc, keys)?;
+    are_distinct(alloc, &texts)
+}

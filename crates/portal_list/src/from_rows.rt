@@ -1,0 +1,139 @@
+//! A keeper of the rows of tables.
+
+ghost use Rattle.std.specs.Prelude.{◌≡◌, ◌↔◌, Err, IfOk, IsTrue, MatchOption, map};
+ghost use Rattle.portal_core.specs.Words.{Rise};
+ghost use Rattle.portal_core.specs.World.{World, project_key, student_key};
+ghost use Rattle.portal_core.specs.Good.{Sound};
+ghost use Rattle.portal_list.specs.Parts.{lecturer_row_keys, student_row_keys, RollsFit, ListsFit};
+ghost use Rattle.portal_list.specs.Rows.{rows_of};
+ghost use Rattle.portal_list.specs.declared.from_rows.RowsFault.TheVariants.{Memory};
+
+use crate::fit::{lecturer_entries, student_entries};
+use crate::keeper::ListKeeper;
+use crate::lists::lists_fit;
+use crate::rolls::rolls_fit;
+use portal_core::{Code, LecturerRow, Phase, ProjectRow, StudentRow};
+use spa_rows::Key;
+use std::alloc::{AllocError, Global};
+use std::marker::Model;
+
+/// The rows of a world, as tables keep them.
+#[derive(Drop)]
+pub struct WorldRows {
+    pub phase: Phase,
+    pub office: Code,
+    pub lecturers: Vec<LecturerRow>,
+    pub projects: Vec<ProjectRow>,
+    pub students: Vec<StudentRow>,
+    /// Each student's list, by student.
+    pub choices: Vec<(Key, Vec<Key>)>,
+    /// The rankings that are there, by lecturer.
+    pub rankings: Vec<(Key, Vec<Key>)>,
+    /// The result: pairs of a student and a project, by student.
+    pub pairs: Vec<(Key, Key)>,
+}
+
+impl Model for WorldRows {
+    ghost use Rattle.std.specs.Prelude.{map};
+    ghost use Rattle.portal_list.specs.Rows.{Rows};
+
+    ghost Value = { Rows };
+
+    ghost view = { λ x. record { phase = x.phase; office = x.office; lecturers = x.lecturers.items; projects = x.projects.items; students = x.students.items; choices = map (λ c. (c.0, c.1.items)) x.choices.items; rankings = map (λ r. (r.0, r.1.items)) x.rankings.items; pairs = x.pairs.items } };
+}
+
+/// Why rows give no keeper.
+#[derive(Clone, Copy, Debug, PartialEq, Eq)]
+pub enum RowsFault {
+    /// They are the rows of no sound world.
+    NotGood,
+    /// There was not enough memory.
+    Memory,
+}
+
+impl From<AllocError> for RowsFault {
+    ghost from_gives = { λ _ fault. fault ≡ Memory };
+
+    fn from(_: AllocError) -> RowsFault {
+        RowsFault::Memory
+    }
+}
+
+/// Whether the rows of the rolls are those of a world.
+fn rolls_of_rows_fit(alloc: Global, rows: &WorldRows) -> Result<bool, AllocError>
+    ensures { IfOk result (λ yes. IsTrue yes ↔ RollsFit rows.now.office rows.now.lecturers rows.now.projects rows.now.students) }
+{
+    rolls_fit(
+        alloc,
+        &rows.office,
+        &rows.lecturers,
+        &rows.projects,
+        &rows.students,
+    )
+}
+
+/// Whether lists, rankings and the result are those of a sound world.
+fn lists_of_keeper_fit(alloc: Global, keeper: &ListKeeper) -> Result<bool, AllocError>
+    requires projects { Rise (map project_key keeper.now.projects) }
+    requires students { Rise (map student_key keeper.now.students) }
+    ensures { IfOk result (λ yes. IsTrue yes ↔ ListsFit keeper.now.phase keeper.now.lecturers keeper.now.projects keeper.now.students) }
+{
+    lists_fit(
+        alloc,
+        keeper.phase,
+        &keeper.lecturers,
+        &keeper.projects,
+        &keeper.students,
+    )
+}
+
+/// The keeper of these rows, if they are those of a world.
+fn fitted(alloc: Global, rows: WorldRows) -> Result<Option<ListKeeper>, AllocError>
+    requires lecturers { Rise (lecturer_row_keys rows.lecturers) }
+    requires students { Rise (student_row_keys rows.students) }
+    ensures { IfOk result (λ found. MatchOption found ((w : World) → rows ≡ rows_of w → ⊥) (λ keeper. rows ≡ rows_of keeper)) }
+{
+    let WorldRows {
+        phase,
+        office,
+        lecturers,
+        projects,
+        students,
+        choices,
+        rankings,
+        pairs,
+    } = rows;
+    let Some(lecturers) = lecturer_entries(alloc, lecturers, rankings)? else {
+        return Ok(None);
+    };
+    let Some(students) = student_entries(alloc, students, choices, pairs)? else {
+        return Ok(None);
+    };
+    Ok(Some(ListKeeper {
+        phase,
+        office,
+        lecturers,
+        projects,
+        students,
+    }))
+}
+
+impl ListKeeper {
+    /// The keeper of the rows of a sound world.
+    pub fn from_rows(alloc: Global, rows: WorldRows) -> Result<ListKeeper, RowsFault>
+        ensures ok { IfOk result (λ keeper. rows ≡ rows_of keeper) }
+        ensures sound { IfOk result (λ keeper. Sound keeper) }
+        ensures err { result ≡ Err RowsFault.NotGood → (w : World) → rows ≡ rows_of w → Sound w → ⊥ }
+    {
+        if !rolls_of_rows_fit(alloc, &rows)? {
+            return Err(RowsFault::NotGood);
+        }
+        let Some(keeper) = fitted(alloc, rows)? else {
+            return Err(RowsFault::NotGood);
+        };
+        if !lists_of_keeper_fit(alloc, &keeper)? {
+            return Err(RowsFault::NotGood);
+        }
+        Ok(keeper)
+    }
+}

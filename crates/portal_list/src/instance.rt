@@ -1,0 +1,136 @@
+//! The instance of the entries.
+
+ghost use Rattle.std.specs.Prelude.{◌≡◌, IfOk, map};
+ghost use Rattle.portal_core.specs.World.{World};
+ghost use Rattle.portal_core.specs.Good.{Good, CanPublish};
+ghost use Rattle.portal_core.specs.Instance as meant_by;
+ghost use Rattle.portal_list.specs.Lines.{lecturer_line, project_line, student_line, lines_of, HasEntries};
+
+use crate::entries::{LecturerEntry, StudentEntry};
+use portal_core::ProjectRow;
+use spa_model::{Instance, InstanceFault, InstanceRows, LecturerLine, ProjectLine, StudentLine};
+use spa_rows::Key;
+use std::alloc::{AllocError, Global};
+
+/// The bytes of a key.
+fn text_of(alloc: Global, key: &Key) -> Result<Vec<u8>, AllocError>
+    ensures { IfOk result (λ text. text.items ≡ key.now) }
+{
+    key.as_bytes().to_vec(alloc)
+}
+
+/// The bytes of each key.
+fn texts_of(alloc: Global, keys: &[Key]) -> Result<Vec<Vec<u8>>, AllocError>
+    ensures { IfOk result (λ texts. map (λ text. text.items) texts.items ≡ keys.now) }
+{
+    let mut texts = Vec::new(alloc);
+    for key in keys {
+        texts.push(text_of(alloc, key)?)?;
+    }
+    Ok(texts)
+}
+
+fn lecturer_line(alloc: Global, entry: &LecturerEntry) -> Result<LecturerLine, AllocError>
+    ensures { IfOk result (λ line. line ≡ lecturer_line entry.now) }
+{
+    let list = match &entry.ranking {
+        Some(ranking) => texts_of(alloc, ranking)?,
+        None => Vec::new(alloc),
+    };
+    Ok(LecturerLine {
+        row: 0,
+        key: text_of(alloc, &entry.row.key)?,
+        capacity: entry.row.capacity,
+        list,
+    })
+}
+
+fn project_line(alloc: Global, project: &ProjectRow) -> Result<ProjectLine, AllocError>
+    ensures { IfOk result (λ line. line ≡ project_line project.now) }
+{
+    Ok(ProjectLine {
+        row: 0,
+        key: text_of(alloc, &project.key)?,
+        capacity: project.capacity,
+        lecturer: text_of(alloc, &project.lecturer)?,
+    })
+}
+
+fn student_line(alloc: Global, entry: &StudentEntry) -> Result<StudentLine, AllocError>
+    ensures { IfOk result (λ line. line ≡ student_line entry.now) }
+{
+    Ok(StudentLine {
+        row: 0,
+        key: text_of(alloc, &entry.row.key)?,
+        list: texts_of(alloc, &entry.choice)?,
+    })
+}
+
+fn lecturer_lines(alloc: Global, entries: &[LecturerEntry]) -> Result<Vec<LecturerLine>, AllocError>
+    ensures { IfOk result (λ lines. lines.items ≡ map lecturer_line entries.now) }
+{
+    let mut lines = Vec::new(alloc);
+    for entry in entries {
+        lines.push(lecturer_line(alloc, entry)?)?;
+    }
+    Ok(lines)
+}
+
+fn project_lines(alloc: Global, projects: &[ProjectRow]) -> Result<Vec<ProjectLine>, AllocError>
+    ensures { IfOk result (λ lines. lines.items ≡ map project_line projects.now) }
+{
+    let mut lines = Vec::new(alloc);
+    for project in projects {
+        lines.push(project_line(alloc, project)?)?;
+    }
+    Ok(lines)
+}
+
+fn student_lines(alloc: Global, entries: &[StudentEntry]) -> Result<Vec<StudentLine>, AllocError>
+    ensures { IfOk result (λ lines. lines.items ≡ map student_line entries.now) }
+{
+    let mut lines = Vec::new(alloc);
+    for entry in entries {
+        lines.push(student_line(alloc, entry)?)?;
+    }
+    Ok(lines)
+}
+
+/// The lines of the entries.
+fn rows_of(
+    alloc: Global,
+    lecturers: &[LecturerEntry],
+    projects: &[ProjectRow],
+    students: &[StudentEntry],
+) -> Result<InstanceRows, AllocError>
+    ensures { IfOk result (λ rows. rows ≡ lines_of lecturers.now projects.now students.now) }
+{
+    Ok(InstanceRows {
+        lecturers: lecturer_lines(alloc, lecturers)?,
+        projects: project_lines(alloc, projects)?,
+        students: student_lines(alloc, students)?,
+    })
+}
+
+/// The instance of the entries of a good world in which nobody is still to rank.
+pub(crate) fn instance_of(
+    alloc: Global,
+    lecturers: &[LecturerEntry],
+    projects: &[ProjectRow],
+    students: &[StudentEntry],
+) -> Result<Instance, AllocError>
+    requires ready { (w : World) × HasEntries lecturers.now projects.now students.now w × Good w × CanPublish w }
+    ensures instance { IfOk result (λ instance. (w : World) → HasEntries lecturers.now projects.now students.now w → instance ≡ meant_by.instance w) }
+{
+    let rows = rows_of(alloc, lecturers, projects, students)?;
+    match Instance::build(alloc, rows) {
+        Ok(instance) => {
+            let _lawful = instance.students();
+            Ok(instance)
+        }
+        Err(bad) => match bad.fault {
+            InstanceFault::Memory => Err(AllocError),
+            _ => unreachable!(),
+        },
+    }
+}

@@ -1,0 +1,138 @@
+//! The keeper.
+
+ghost use Rattle.std.specs.Prelude.{◌≡◌, [], IfOk, IfErr, OnOk, OnErr};
+ghost use Rattle.portal_core.specs.View as seen;
+ghost use Rattle.portal_core.specs.Good.{Good, CanPublish};
+ghost use Rattle.portal_core.specs.Words.{Rise};
+ghost use Rattle.portal_core.specs.Instance as meant_by;
+ghost use Rattle.portal_core.specs.Instance.{lecturer_keys, student_keys};
+ghost use Rattle.portal_core.specs.Change.{changed};
+ghost use Rattle.portal_core.specs.Meaning.{meant};
+
+use crate::changes::{
+    add_lecturers, add_projects, add_students, place_all, replace_choice, replace_ranking,
+};
+use crate::entries::{LecturerEntry, StudentEntry};
+use crate::instance::instance_of;
+use crate::views::{lecturer_view, lecturer_with, office_view, student_view, student_with};
+use portal_core::{Change, Code, KeepFault, Keeper, Phase, ProjectRow, View};
+use spa_model::Instance;
+use std::alloc::{AllocError, Global};
+use std::marker::Model;
+
+/// A world in vectors, whose rows stand by rising key.
+#[derive(Drop)]
+pub struct ListKeeper {
+    pub(crate) phase: Phase,
+    pub(crate) office: Code,
+    pub(crate) lecturers: Vec<LecturerEntry>,
+    pub(crate) projects: Vec<ProjectRow>,
+    pub(crate) students: Vec<StudentEntry>,
+}
+
+impl Model for ListKeeper {
+    ghost use Rattle.portal_core.specs.World.{World};
+
+    ghost Value = { World };
+
+    ghost view = { λ k. record { phase = k.phase; office = k.office; lecturers = k.lecturers.items; projects = k.projects.items; students = k.students.items } };
+}
+
+impl ListKeeper {
+    /// The empty world in setup, whose office has this code.
+    pub fn new(alloc: Global, office: Code) -> ListKeeper
+        ensures empty { result ≡ record { phase = Phase.Setup; office = office; lecturers = []; projects = []; students = [] } }
+        ensures good { Good result }
+    {
+        let _form = office.as_bytes();
+        ListKeeper {
+            phase: Phase::Setup,
+            office,
+            lecturers: Vec::new(alloc),
+            projects: Vec::new(alloc),
+            students: Vec::new(alloc),
+        }
+    }
+
+    /// What the caller with this code sees.
+    pub(crate) fn shown_to(&self, alloc: Global, code: &[u8]) -> Result<View, AllocError>
+        ensures { IfOk result (λ view. view ≡ seen.view self.now code.now) }
+    {
+        if self.office.as_bytes() == code {
+            return Ok(View::Office(office_view(alloc, self)?));
+        }
+        if let Some(lecturer) = lecturer_with(&self.lecturers, code) {
+            return Ok(View::Lecturer(lecturer_view(alloc, self, lecturer)?));
+        }
+        match student_with(&self.students, code) {
+            Some(student) => Ok(View::Student(student_view(alloc, self, student)?)),
+            None => Ok(View::Nobody),
+        }
+    }
+
+    /// Makes one change, or leaves all as it was where memory is short.
+    pub(crate) fn make(&mut self, alloc: Global, change: &Change) -> Result<(), AllocError>
+        requires lecturers { Rise (lecturer_keys self.old) }
+        requires students { Rise (student_keys self.old) }
+        ensures made { OnOk result (self.new ≡ changed self.old (meant change.now)) }
+        ensures same { OnErr result (self.new ≡ self.old) }
+    {
+        match change {
+            Change::Choices { student, projects } => {
+                replace_choice(alloc, &mut self.students, student, projects)
+            }
+            Change::Ranking { lecturer, students } => {
+                replace_ranking(alloc, &mut self.lecturers, lecturer, students)
+            }
+            Change::Lecturers(rows) => add_lecturers(alloc, &mut self.lecturers, rows),
+            Change::Projects(rows) => add_projects(alloc, &mut self.projects, rows),
+            Change::Students(rows) => add_students(alloc, &mut self.students, rows),
+            Change::Phase(phase) => {
+                self.phase = *phase;
+                Ok(())
+            }
+            Change::Result(pairs) => {
+                place_all(alloc, &mut self.students, pairs)?;
+                self.phase = Phase::Published;
+                Ok(())
+            }
+        }
+    }
+}
+
+impl Keeper for ListKeeper {
+    ghost world = { λ keeper. keeper };
+
+    ghost clean = { λ _. Unit {0} };
+
+    fn view(&mut self, alloc: Global, code: &[u8]) -> Result<View, KeepFault>
+        ensures shown { IfOk result (λ view. view ≡ seen.view self.old code.now) }
+        ensures same { self.new ≡ self.old }
+
+        // There is no store that could fail.
+        ensures memory { IfErr result (λ fault. fault ≡ KeepFault.Memory) }
+    {
+        self.shown_to(alloc, code).map_err(|_| KeepFault::Memory)
+    }
+
+    fn instance(&mut self, alloc: Global) -> Result<Instance, KeepFault>
+        requires good { Good self.old }
+        requires ready { CanPublish self.old }
+        ensures instance { IfOk result (λ instance. instance ≡ meant_by.instance self.old) }
+        ensures same { self.new ≡ self.old }
+        ensures memory { IfErr result (λ fault. fault ≡ KeepFault.Memory) }
+    {
+        instance_of(alloc, &self.lecturers, &self.projects, &self.students).map_err(
+            |_| KeepFault::Memory,
+        )
+    }
+
+    fn apply(&mut self, alloc: Global, change: &Change) -> Result<(), KeepFault>
+        requires good { Good self.old }
+        ensures made { OnOk result (self.new ≡ changed self.old (meant change.now)) }
+        ensures same { OnErr result (self.new ≡ self.old) }
+        ensures memory { IfErr result (λ fault. fault ≡ KeepFault.Memory) }
+    {
+        self.make(alloc, change).map_err(|_| KeepFault::Memory)
+    }
+}

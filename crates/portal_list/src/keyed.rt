@@ -1,0 +1,90 @@
+//! What rows with a key share.
+
+ghost use Rattle.std.specs.Prelude.{◌≡◌, ◌↔◌, ℕ, List, IsTrue, map};
+ghost use Rattle.std.specs.Ordering.{nat_cmp};
+ghost use Rattle.std.specs.Cmp.Lexicographic.{slice_cmp};
+ghost use Rattle.portal_core.specs.Words.{Rise, has};
+ghost use Rattle.portal_core.specs.World.{lecturer_key, student_key};
+
+use crate::entries::{LecturerEntry, StudentEntry};
+use portal_core::{LecturerRow, ProjectRow, StudentRow};
+use spa_rows::Key;
+use std::cmp::Ordering;
+
+/// A row with a key.
+pub(crate) trait Keyed {
+    ghost key_of: { Self → List ℕ };
+
+    fn key(&self) -> &Key
+        ensures { result.now ≡ key_of self.now };
+}
+
+impl Keyed for LecturerRow {
+    ghost key_of = { λ r. r.key };
+
+    fn key(&self) -> &Key {
+        &self.key
+    }
+}
+
+impl Keyed for ProjectRow {
+    ghost key_of = { λ r. r.key };
+
+    fn key(&self) -> &Key {
+        &self.key
+    }
+}
+
+impl Keyed for StudentRow {
+    ghost key_of = { λ r. r.key };
+
+    fn key(&self) -> &Key {
+        &self.key
+    }
+}
+
+impl Keyed for LecturerEntry {
+    ghost key_of = { lecturer_key };
+
+    fn key(&self) -> &Key {
+        &self.row.key
+    }
+}
+
+impl Keyed for StudentEntry {
+    ghost key_of = { student_key };
+
+    fn key(&self) -> &Key {
+        &self.row.key
+    }
+}
+
+impl Keyed for &Key {
+    ghost key_of = { λ k. k.now };
+
+    fn key(&self) -> &Key {
+        self
+    }
+}
+
+/// Whether the keys of the rows rise.
+pub(crate) fn keys_rise<K: Keyed>(rows: &[K]) -> bool
+    ensures { IsTrue result ↔ Rise (map K.key_of rows.now) }
+{
+    rows.is_sorted_by(|a, b| a.key() < b.key())
+}
+
+/// Whether a row has the key, among rows whose keys rise.
+pub(crate) fn is_known<K: Keyed>(rows: &[K], key: &Key) -> bool
+    requires { Rise (map K.key_of rows.now) }
+    ensures { result ≡ has (map K.key_of rows.now) key.now }
+{
+    match rows.binary_search_by(
+        |row: &K| -> Ordering
+            ensures { result ≡ slice_cmp nat_cmp (K.key_of row.now) key.entry.now }
+        { row.key().cmp(key) },
+    ) {
+        Ok(_) => true,
+        Err(_) => false,
+    }
+}

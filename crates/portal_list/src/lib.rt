@@ -1,0 +1,21 @@
+//! A keeper of the world in plain vectors of rows.
+#![tactic(auto)]
+
+mod by_key;
+mod changes;
+mod copies;
+mod distinct;
+mod entries;
+mod fit;
+mod from_rows;
+mod instance;
+mod keeper;
+mod keyed;
+mod lists;
+mod rolls;
+#[cfg(test)]
+mod tests;
+mod views;
+
+pub use from_rows::{RowsFault, WorldRows};
+pub use keeper::ListKeeper;

@@ -1,0 +1,250 @@
+//! Whether lists, rankings and the result are those of a sound world.
+
+ghost use Rattle.std.specs.Prelude.{◌≡◌, ◌↔◌, IfOk, IsTrue, true, map, option_map, [], None};
+ghost use Rattle.std.specs.List.{AllByRecursion, list_any};
+ghost use Rattle.portal_core.specs.Words.{has, Rise};
+ghost use Rattle.portal_core.specs.World.{project_key, student_key, is_published};
+ghost use Rattle.portal_core.specs.Good.{IsChoice, IsRanking};
+ghost use Rattle.portal_list.specs.Parts.{PhaseFits, wanting, own_keys, applicant_keys, IsRanked, ListsFit};
+
+use crate::distinct::keys_are_distinct;
+use crate::entries::{LecturerEntry, StudentEntry};
+use crate::keyed::is_known;
+use portal_core::{Phase, ProjectRow};
+use spa_rows::Key;
+use std::alloc::{AllocError, Global};
+
+fn have_no_choices(students: &[StudentEntry]) -> bool
+    ensures { IsTrue result ↔ AllByRecursion (λ s. s.choice ≡ []) students.now }
+{
+    for student in students {
+        if !student.choice.is_empty() {
+            return false;
+        }
+    }
+    true
+}
+
+fn have_no_rankings(lecturers: &[LecturerEntry]) -> bool
+    ensures { IsTrue result ↔ AllByRecursion (λ l. l.ranking ≡ None) lecturers.now }
+{
+    for lecturer in lecturers {
+        if lecturer.ranking.is_some() {
+            return false;
+        }
+    }
+    true
+}
+
+fn have_no_places(students: &[StudentEntry]) -> bool
+    ensures { IsTrue result ↔ AllByRecursion (λ s. s.placed ≡ None) students.now }
+{
+    for student in students {
+        if student.placed.is_some() {
+            return false;
+        }
+    }
+    true
+}
+
+fn is_published(phase: Phase) -> bool
+    ensures { result ≡ is_published phase }
+{
+    phase == Phase::Published
+}
+
+/// Whether nothing is there that is made in a later phase.
+fn phase_fits(phase: Phase, lecturers: &[LecturerEntry], students: &[StudentEntry]) -> bool
+    ensures { IsTrue result ↔ PhaseFits phase lecturers.now students.now }
+{
+    match phase {
+        Phase::Setup => {
+            have_no_choices(students) && have_no_rankings(lecturers) && have_no_places(students)
+        }
+        Phase::Choosing => have_no_rankings(lecturers) && have_no_places(students),
+        Phase::Ranking => have_no_places(students),
+        Phase::Published => true,
+    }
+}
+
+/// Whether each is the key of a project.
+fn are_projects(projects: &[ProjectRow], keys: &[Key]) -> bool
+    requires { Rise (map project_key projects.now) }
+    ensures { IsTrue result ↔ AllByRecursion (λ k. has (map project_key projects.now) k ≡ true) keys.now }
+{
+    keys.iter().all(|key| is_known(projects, key))
+}
+
+/// Whether the list is one of at most 20 projects, none twice.
+fn is_choice(alloc: Global, projects: &[ProjectRow], choice: &[Key]) -> Result<bool, AllocError>
+    requires { Rise (map project_key projects.now) }
+    ensures { IfOk result (λ yes. IsTrue yes ↔ IsChoice (map project_key projects.now) choice.now) }
+{
+    if choice.len() > 20 {
+        return Ok(false);
+    }
+    if !are_projects(projects, choice) {
+        return Ok(false);
+    }
+    keys_are_distinct(alloc, choice)
+}
+
+fn choices_fit(
+    alloc: Global,
+    projects: &[ProjectRow],
+    students: &[StudentEntry],
+) -> Result<bool, AllocError>
+    requires { Rise (map project_key projects.now) }
+    ensures { IfOk result (λ yes. IsTrue yes ↔ AllByRecursion (λ s. IsChoice (map project_key projects.now) s.choice) students.now) }
+{
+    for student in students {
+        if !is_choice(alloc, projects, &student.choice)? {
+            return Ok(false);
+        }
+    }
+    Ok(true)
+}
+
+/// The keys of the lecturer's projects.
+fn own_projects<'a>(
+    alloc: Global,
+    projects: &'a [ProjectRow],
+    lecturer: &Key,
+) -> Result<Vec<&'a Key>, AllocError>
+    ensures { IfOk result (λ own. map (λ k. k.now) own.items ≡ own_keys projects.now lecturer.now) }
+{
+    let mut own = Vec::new(alloc);
+    for project in projects {
+        if project.lecturer == *lecturer {
+            own.push(&project.key)?;
+        }
+    }
+    Ok(own)
+}
+
+fn is_on(choice: &[Key], project: &Key) -> bool
+    ensures { result ≡ has choice.now project.now }
+{
+    choice.iter().any(|key| project == key)
+}
+
+/// Whether the list holds one of the projects.
+fn holds_one(choice: &[Key], projects: &[&Key]) -> bool
+    ensures { result ≡ list_any (λ p. has choice.now p) (map (λ k. k.now) projects.now) }
+{
+    for project in projects {
+        if is_on(choice, *project) {
+            return true;
+        }
+    }
+    false
+}
+
+/// The keys of the students whose list holds one of the projects.
+fn wanting_students<'a>(
+    alloc: Global,
+    projects: &[&Key],
+    students: &'a [StudentEntry],
+) -> Result<Vec<&'a Key>, AllocError>
+    ensures { IfOk result (λ keys. map (λ k. k.now) keys.items ≡ map student_key (wanting (map (λ k. k.now) projects.now) students.now)) }
+{
+    let mut keys = Vec::new(alloc);
+    for student in students {
+        if holds_one(&student.choice, projects) {
+            keys.push(&student.row.key)?;
+        }
+    }
+    Ok(keys)
+}
+
+/// The keys of the lecturer's applicants.
+fn applicants<'a>(
+    alloc: Global,
+    projects: &[ProjectRow],
+    students: &'a [StudentEntry],
+    lecturer: &Key,
+) -> Result<Vec<&'a Key>, AllocError>
+    ensures { IfOk result (λ keys. map (λ k. k.now) keys.items ≡ applicant_keys projects.now students.now lecturer.now) }
+{
+    let own = own_projects(alloc, projects, lecturer)?;
+    wanting_students(alloc, &own, students)
+}
+
+/// Whether each is an applicant.
+fn are_applicants(applicants: &[&Key], keys: &[Key]) -> bool
+    requires { Rise (map (λ k. k.now) applicants.now) }
+    ensures { IsTrue result ↔ AllByRecursion (λ k. has (map (λ a. a.now) applicants.now) k ≡ true) keys.now }
+{
+    keys.iter().all(|key| is_known(applicants, key))
+}
+
+/// Whether the ranking has each applicant once, and no one else.
+fn is_ranking(alloc: Global, applicants: &[&Key], ranking: &[Key]) -> Result<bool, AllocError>
+    requires { Rise (map (λ k. k.now) applicants.now) }
+    ensures { IfOk result (λ yes. IsTrue yes ↔ IsRanking (map (λ k. k.now) applicants.now) ranking.now) }
+{
+    if ranking.len() != applicants.len() {
+        return Ok(false);
+    }
+    if !are_applicants(applicants, ranking) {
+        return Ok(false);
+    }
+    keys_are_distinct(alloc, ranking)
+}
+
+/// Whether the ranking, if there is one, is one of the applicants; where it is asked for, it has to be
+/// there if there are any.
+fn is_ranked(
+    alloc: Global,
+    asked: bool,
+    applicants: &[&Key],
+    ranking: &Option<Vec<Key>>,
+) -> Result<bool, AllocError>
+    requires { Rise (map (λ k. k.now) applicants.now) }
+    ensures { IfOk result (λ yes. IsTrue yes ↔ IsRanked asked (map (λ k. k.now) applicants.now) (option_map (λ r. r.items) ranking.now)) }
+{
+    match ranking {
+        Some(ranking) => is_ranking(alloc, applicants, ranking),
+        None => Ok(!asked || applicants.is_empty()),
+    }
+}
+
+fn rankings_fit(
+    alloc: Global,
+    asked: bool,
+    lecturers: &[LecturerEntry],
+    projects: &[ProjectRow],
+    students: &[StudentEntry],
+) -> Result<bool, AllocError>
+    requires { Rise (map student_key students.now) }
+    ensures { IfOk result (λ yes. IsTrue yes ↔ AllByRecursion (λ l. IsRanked asked (applicant_keys projects.now students.now l.row.key) l.ranking) lecturers.now) }
+{
+    for lecturer in lecturers {
+        let applicants = applicants(alloc, projects, students, &lecturer.row.key)?;
+        if !is_ranked(alloc, asked, &applicants, &lecturer.ranking)? {
+            return Ok(false);
+        }
+    }
+    Ok(true)
+}
+
+/// Whether lists, rankings and the result are those of a sound world.
+pub(crate) fn lists_fit(
+    alloc: Global,
+    phase: Phase,
+    lecturers: &[LecturerEntry],
+    projects: &[ProjectRow],
+    students: &[StudentEntry],
+) -> Result<bool, AllocError>
+    requires projects { Rise (map project_key projects.now) }
+    requires students { Rise (map student_key students.now) }
+    ensures { IfOk result (λ yes. IsTrue yes ↔ ListsFit phase lecturers.now projects.now students.now) }
+{
+    if !phase_fits(phase, lecturers, students) {
+        return Ok(false);
+    }
+    if !choices_fit(alloc, projects, students)? {
+        return Ok(false);
+    }
+    rankings_fit(alloc, is_published(phase), lecturers, projects, students)
+}

@@ -1,0 +1,163 @@
+//! Whether the rows of the rolls are those of a world.
+
+ghost use Rattle.std.specs.Prelude.{◌≡◌, ◌↔◌, IfOk, IsTrue, true, map};
+ghost use Rattle.std.specs.List.{AllByRecursion};
+ghost use Rattle.portal_core.specs.Words.{has, Rise, AreDistinct};
+ghost use Rattle.portal_core.specs.Good.{IsLecturer, IsProject, IsStudent};
+ghost use Rattle.portal_list.specs.Parts.{codes_in, lecturer_row_keys, KeysRise, AreFew, RollsFit};
+
+use crate::distinct::are_distinct;
+use crate::keyed::{is_known, keys_rise};
+use portal_core::{Code, LecturerRow, ProjectRow, StudentRow};
+use std::alloc::{AllocError, Global};
+
+/// Whether the row has its form; its texts have theirs by their types.
+fn is_lecturer(row: &LecturerRow) -> bool
+    ensures { IsTrue result ↔ IsLecturer row.now }
+{
+    let _key = row.key.as_bytes();
+    let _name = row.name.as_bytes();
+    let _code = row.code.as_bytes();
+    1 <= row.capacity && row.capacity <= 200
+}
+
+/// Whether the row has its form; its texts have theirs by their types.
+fn is_project(row: &ProjectRow) -> bool
+    ensures { IsTrue result ↔ IsProject row.now }
+{
+    let _key = row.key.as_bytes();
+    let _lecturer = row.lecturer.as_bytes();
+    let _title = row.title.as_bytes();
+    1 <= row.capacity && row.capacity <= 200
+}
+
+/// A row has its form, since its texts have theirs by their types.
+fn has_student_form(row: &StudentRow)
+    ensures { IsStudent row.now }
+{
+    let _key = row.key.as_bytes();
+    let _name = row.name.as_bytes();
+    let _code = row.code.as_bytes();
+}
+
+fn are_lecturers(rows: &[LecturerRow]) -> bool
+    ensures { IsTrue result ↔ AllByRecursion IsLecturer rows.now }
+{
+    for row in rows {
+        if !is_lecturer(row) {
+            return false;
+        }
+    }
+    true
+}
+
+fn are_projects(rows: &[ProjectRow]) -> bool
+    ensures { IsTrue result ↔ AllByRecursion IsProject rows.now }
+{
+    for row in rows {
+        if !is_project(row) {
+            return false;
+        }
+    }
+    true
+}
+
+fn have_student_form(rows: &[StudentRow])
+    ensures { AllByRecursion IsStudent rows.now }
+{
+    for row in rows {
+        has_student_form(row);
+    }
+}
+
+/// Whether each project is of a lecturer who is there.
+fn lecturers_are_known(lecturers: &[LecturerRow], projects: &[ProjectRow]) -> bool
+    requires { Rise (lecturer_row_keys lecturers.now) }
+    ensures { IsTrue result ↔ AllByRecursion (λ p. has (lecturer_row_keys lecturers.now) p.lecturer ≡ true) projects.now }
+{
+    projects
+        .iter()
+        .all(|project| is_known(lecturers, &project.lecturer))
+}
+
+fn lecturer_codes<'a>(alloc: Global, rows: &'a [LecturerRow]) -> Result<Vec<&'a [u8]>, AllocError>
+    ensures { IfOk result (λ codes. map (λ code. code.now) codes.items ≡ map (λ r. r.code) rows.now) }
+{
+    let mut codes = Vec::new(alloc);
+    for row in rows {
+        codes.push(row.code.as_bytes())?;
+    }
+    Ok(codes)
+}
+
+fn student_codes<'a>(alloc: Global, rows: &'a [StudentRow]) -> Result<Vec<&'a [u8]>, AllocError>
+    ensures { IfOk result (λ codes. map (λ code. code.now) codes.items ≡ map (λ r. r.code) rows.now) }
+{
+    let mut codes = Vec::new(alloc);
+    for row in rows {
+        codes.push(row.code.as_bytes())?;
+    }
+    Ok(codes)
+}
+
+/// Whether no two callers have one code.
+fn codes_differ(
+    alloc: Global,
+    office: &Code,
+    lecturers: &[LecturerRow],
+    students: &[StudentRow],
+) -> Result<bool, AllocError>
+    ensures { IfOk result (λ yes. IsTrue yes ↔ AreDistinct (codes_in office.now lecturers.now students.now)) }
+{
+    let lecturer_codes = lecturer_codes(alloc, lecturers)?;
+    let student_codes = student_codes(alloc, students)?;
+    let mut codes = Vec::new(alloc);
+    codes.push(office.as_bytes())?;
+    codes.extend_from_slice(&lecturer_codes)?;
+    codes.extend_from_slice(&student_codes)?;
+    are_distinct(alloc, &codes)
+}
+
+/// Whether the keys of each roll rise.
+fn rolls_rise(lecturers: &[LecturerRow], projects: &[ProjectRow], students: &[StudentRow]) -> bool
+    ensures { IsTrue result ↔ KeysRise lecturers.now projects.now students.now }
+{
+    keys_rise(lecturers) && keys_rise(projects) && keys_rise(students)
+}
+
+/// Whether no roll has more rows than there may be.
+fn are_few(lecturers: &[LecturerRow], projects: &[ProjectRow], students: &[StudentRow]) -> bool
+    ensures { IsTrue result ↔ AreFew lecturers.now projects.now students.now }
+{
+    lecturers.len() <= 300 && projects.len() <= 1000 && students.len() <= 2000
+}
+
+/// Whether the rows of the rolls are those of a world.
+pub(crate) fn rolls_fit(
+    alloc: Global,
+    office: &Code,
+    lecturers: &[LecturerRow],
+    projects: &[ProjectRow],
+    students: &[StudentRow],
+) -> Result<bool, AllocError>
+    ensures { IfOk result (λ yes. IsTrue yes ↔ RollsFit office.now lecturers.now projects.now students.now) }
+{
+    let _code = office.as_bytes();
+    have_student_form(students);
+    if !rolls_rise(lecturers, projects, students) {
+        return Ok(false);
+    }
+    if !are_few(lecturers, projects, students) {
+        return Ok(false);
+    }
+    if !are_lecturers(lecturers) {
+        return Ok(false);
+    }
+    if !are_projects(projects) {
+        return Ok(false);
+    }
+    if !lecturers_are_known(lecturers, projects) {
+        return Ok(false);
+    }
+    codes_differ(alloc, office, lecturers, students)
+}

@@ -1,0 +1,139 @@
+//! A department at every limit, played from setup to published.
+
+ghost use Rattle.portal_core.specs.Meaning.{asked};
+ghost use Rattle.portal_core.specs.Run.{HasForm};
+
+use crate::tests::portal::{OFFICE, Portal};
+use portal_core::{Call, Phase};
+use std::process::Abort;
+
+const LECTURERS: u64 = 300;
+
+const PROJECTS: u64 = 1000;
+
+const STUDENTS: u64 = 2000;
+
+const CHOICES: u64 = 20;
+
+/// A student's project in this place of the list.
+fn project_of(student: u64, place: u64) -> u64 {
+    student.wrapping_mul(7).wrapping_add(place.wrapping_mul(37)) % PROJECTS
+}
+
+/// Whether the student lists a project of the lecturer.
+fn is_applicant(student: u64, lecturer: u64) -> bool {
+    for place in 0..CHOICES {
+        if project_of(student, place) % LECTURERS == lecturer {
+            return true;
+        }
+    }
+    false
+}
+
+fn lecturers(rt: &(impl Abort + AllocGlobal)) -> String {
+    let mut text = String::new(rt.alloc());
+    text.push_str("id,name,code,capacity\n")
+        .expect(rt, "memory");
+    for i in 0..LECTURERS {
+        let row = format!(in rt.alloc(); "L{i},Lee,lect-code-{i},7\n").expect(rt, "memory");
+        text.push_str(&row).expect(rt, "memory");
+    }
+    text
+}
+
+fn projects(rt: &(impl Abort + AllocGlobal)) -> String {
+    let mut text = String::new(rt.alloc());
+    text.push_str("id,lecturer,title,capacity\n")
+        .expect(rt, "memory");
+    for i in 0..PROJECTS {
+        let l = i % LECTURERS;
+        let row = format!(in rt.alloc(); "P{i},L{l},Tides,2\n").expect(rt, "memory");
+        text.push_str(&row).expect(rt, "memory");
+    }
+    text
+}
+
+fn students(rt: &(impl Abort + AllocGlobal)) -> String {
+    let mut text = String::new(rt.alloc());
+    text.push_str("id,name,code\n").expect(rt, "memory");
+    for i in 0..STUDENTS {
+        let row = format!(in rt.alloc(); "S{i},Ann,stud-code-{i}\n").expect(rt, "memory");
+        text.push_str(&row).expect(rt, "memory");
+    }
+    text
+}
+
+/// The student's list, as it comes in.
+fn choice(rt: &(impl Abort + AllocGlobal), student: u64) -> Vec<Vec<u8>> {
+    let mut list = Vec::new(rt.alloc());
+    for place in 0..CHOICES {
+        let p = project_of(student, place);
+        let text = format!(in rt.alloc(); "P{p}").expect(rt, "memory");
+        list.push(Vec::from_slice(rt.alloc(), text.as_bytes()).expect(rt, "memory"))
+            .expect(rt, "memory");
+    }
+    list
+}
+
+/// The lecturer's ranking, as it comes in: every applicant, the last on the roll first.
+fn ranking(rt: &(impl Abort + AllocGlobal), lecturer: u64) -> Vec<Vec<u8>> {
+    let mut list = Vec::new(rt.alloc());
+    for s in (0..STUDENTS).rev() {
+        if is_applicant(s, lecturer) {
+            let text = format!(in rt.alloc(); "S{s}").expect(rt, "memory");
+            list.push(Vec::from_slice(rt.alloc(), text.as_bytes()).expect(rt, "memory"))
+                .expect(rt, "memory");
+        }
+    }
+    list
+}
+
+/// The caller's call is taken.
+fn taken(rt: &(impl Abort + AllocGlobal), portal: &mut Portal, code: &str, call: &Call)
+    requires { HasForm (asked call.now) }
+{
+    assert_eq!(rt; portal.status(rt, code, call), 200);
+}
+
+fn choose(rt: &(impl Abort + AllocGlobal), portal: &mut Portal) {
+    for s in 0..STUDENTS {
+        let code = format!(in rt.alloc(); "stud-code-{s}").expect(rt, "memory");
+        taken(rt, portal, &code, &Call::SetChoices(choice(rt, s)));
+    }
+}
+
+fn rank(rt: &(impl Abort + AllocGlobal), portal: &mut Portal) {
+    for l in 0..LECTURERS {
+        let code = format!(in rt.alloc(); "lect-code-{l}").expect(rt, "memory");
+        taken(rt, portal, &code, &Call::SetRanking(ranking(rt, l)));
+    }
+}
+
+#[test]
+fn a_department_at_every_limit(rt: HostRuntime) {
+    let mut portal = Portal::new(&rt);
+    portal.adds_lecturers(
+        &rt,
+        lecturers(&rt).as_bytes(),
+        200,
+        r#"{"added":300,"same":0}"#,
+    );
+    portal.adds_projects(
+        &rt,
+        projects(&rt).as_bytes(),
+        200,
+        r#"{"added":1000,"same":0}"#,
+    );
+    portal.adds_students(
+        &rt,
+        students(&rt).as_bytes(),
+        200,
+        r#"{"added":2000,"same":0}"#,
+    );
+    taken(&rt, &mut portal, OFFICE, &Call::Move(Phase::Choosing));
+    choose(&rt, &mut portal);
+    taken(&rt, &mut portal, OFFICE, &Call::Move(Phase::Ranking));
+    rank(&rt, &mut portal);
+    taken(&rt, &mut portal, OFFICE, &Call::Move(Phase::Published));
+    taken(&rt, &mut portal, OFFICE, &Call::Status);
+}

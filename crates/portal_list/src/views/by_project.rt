@@ -1,0 +1,129 @@
+//! Applicants and placed students, project by project.
+
+ghost use Rattle.std.specs.Prelude.{◌≡◌, IfOk, map, filter, [], if◌then◌else◌};
+ghost use Rattle.portal_core.specs.Words.{has};
+ghost use Rattle.portal_core.specs.World.{is_at};
+ghost use Rattle.portal_core.specs.View.{persons};
+ghost use Rattle.portal_list.specs.Shown.{applicants_shown, placed_shown};
+
+use crate::copies::{holds, person_of};
+use crate::entries::StudentEntry;
+use portal_core::{Person, ProjectRow};
+use spa_rows::Key;
+use std::alloc::{AllocError, Global};
+
+/// The students whose list holds the project.
+fn applicants_to(
+    alloc: Global,
+    students: &[StudentEntry],
+    project: &Key,
+) -> Result<Vec<Person>, AllocError>
+    ensures { IfOk result (λ v. v.items ≡ persons (filter (λ s. has s.choice project.now) students.now)) }
+{
+    let mut applicants = Vec::new(alloc);
+    for student in students {
+        if holds(&student.choice, project) {
+            applicants.push(person_of(alloc, &student.row.key, &student.row.name)?)?;
+        }
+    }
+    Ok(applicants)
+}
+
+/// Whether the result gives this project.
+fn is_placed_at(placed: &Option<Key>, project: &Key) -> bool
+    ensures { result ≡ is_at project.now placed.now }
+{
+    match placed {
+        Some(key) => key == project,
+        None => false,
+    }
+}
+
+/// The students whom the result places at the project.
+fn placed_at(
+    alloc: Global,
+    students: &[StudentEntry],
+    project: &Key,
+) -> Result<Vec<Person>, AllocError>
+    ensures { IfOk result (λ v. v.items ≡ persons (filter (λ s. is_at project.now s.placed) students.now)) }
+{
+    let mut found = Vec::new(alloc);
+    for student in students {
+        if is_placed_at(&student.placed, project) {
+            found.push(person_of(alloc, &student.row.key, &student.row.name)?)?;
+        }
+    }
+    Ok(found)
+}
+
+/// The applicants of a project, once the lists are closed.
+fn shown_applicants(
+    alloc: Global,
+    closed: bool,
+    students: &[StudentEntry],
+    project: &Key,
+) -> Result<Vec<Person>, AllocError>
+    ensures { IfOk result (λ v. v.items ≡ (if closed then persons (filter (λ s. has s.choice project.now) students.now) else [])) }
+{
+    if closed {
+        applicants_to(alloc, students, project)
+    } else {
+        Ok(Vec::new(alloc))
+    }
+}
+
+/// The students placed at a project, once the result is shown.
+fn shown_placed(
+    alloc: Global,
+    published: bool,
+    students: &[StudentEntry],
+    project: &Key,
+) -> Result<Vec<Person>, AllocError>
+    ensures { IfOk result (λ v. v.items ≡ (if published then persons (filter (λ s. is_at project.now s.placed) students.now) else [])) }
+{
+    if published {
+        placed_at(alloc, students, project)
+    } else {
+        Ok(Vec::new(alloc))
+    }
+}
+
+/// The applicants of each project of the lecturer.
+pub(super) fn applicants_by_project(
+    alloc: Global,
+    closed: bool,
+    students: &[StudentEntry],
+    lecturer: &Key,
+    projects: &[ProjectRow],
+) -> Result<Vec<(Key, Vec<Person>)>, AllocError>
+    ensures { IfOk result (λ v. map (λ p. (p.0, p.1.items)) v.items ≡ applicants_shown closed students.now lecturer.now projects.now) }
+{
+    let mut found = Vec::new(alloc);
+    for project in projects {
+        if project.lecturer == *lecturer {
+            let persons = shown_applicants(alloc, closed, students, &project.key)?;
+            found.push((project.key.copy(alloc)?, persons))?;
+        }
+    }
+    Ok(found)
+}
+
+/// The students placed at each project of the lecturer.
+pub(super) fn placed_by_project(
+    alloc: Global,
+    published: bool,
+    students: &[StudentEntry],
+    lecturer: &Key,
+    projects: &[ProjectRow],
+) -> Result<Vec<(Key, Vec<Person>)>, AllocError>
+    ensures { IfOk result (λ v. map (λ p. (p.0, p.1.items)) v.items ≡ placed_shown published students.now lecturer.now projects.now) }
+{
+    let mut found = Vec::new(alloc);
+    for project in projects {
+        if project.lecturer == *lecturer {
+            let persons = shown_placed(alloc, published, students, &project.key)?;
+            found.push((project.key.copy(alloc)?, persons))?;
+        }
+    }
+    Ok(found)
+}
