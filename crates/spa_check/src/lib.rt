@@ -12,5 +12,3 @@ pub use list::blocking_pairs;
 pub use spa_model::Letter;
 pub use stable::is_stable;
 
-#[cfg(test)]
-mod tests;

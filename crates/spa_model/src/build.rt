@@ -2,8 +2,6 @@
 
 mod applicants;
 mod numbers;
-#[cfg(test)]
-mod tests;
 
 ghost use Rattle.std.specs.Prelude.{IfErr, IfOk, OnOk, IsSortedByKey};
 ghost use Rattle.std.specs.Ordering.{nat_cmp};

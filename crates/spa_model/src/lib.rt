@@ -17,5 +17,3 @@ pub use spa_rows::{
     StudentLine,
 };
 
-#[cfg(test)]
-mod tests;

@@ -8,8 +8,6 @@ mod kinds;
 mod least;
 mod lines;
 mod order;
-#[cfg(test)]
-mod tests;
 
 pub use checks::{check_lines, check_lists, refuse};
 pub use faults::{BadInstance, InstanceFault};

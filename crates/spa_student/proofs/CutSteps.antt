@@ -12,7 +12,7 @@ use Rattle.spa_student.specs.Machine.{rank_of, LecturerSpent, ProjectSpent, Hold
 use Rattle.spa_student.specs.Cuts.{IsPastCut, IsCut, IsUncut, AreCounts, AreMarks, IsUnderWay, IsNextEntry, KeepsCuts, Puts, Leaves, IsSettled}
 use Rattle.spa_student.specs.Worst.{IsWorstAt, IsWorstWith}
 use Rattle.spa_student.proofs.Machine.{student_in_range, delete_holds, place_holds, swap_at_project_holds, swap_at_lecturer_holds, best_at_end, put_cases, put_at_project, put_at_lecturer, one_here, none_there}
-use Rattle.spa_student.proofs.Steps.{state_at_start, none_counted, none_there as none_there_yet}
+use Rattle.spa_student.proofs.Start.{nobody_matches, none_counted, none_there as none_there_yet}
 
 -- who finds a project acceptable is a student
 pub acceptable_in_range : (i : Spa) (s p : ℕ) → IsAcceptable i s p → s < length i.choices
@@ -501,7 +501,7 @@ state_at_first i lawful q nobody start no_counts no_counts_l rows cuts rows_l cu
   };
 } where
   matching : IsMatching i (replicate (length i.choices) None)
-  matching = (state_at_start i).holds.matching
+  matching = nobody_matches i
 
   free : (s p : ℕ) → project_of q.projects.items s ≡ Some p → ⊥
   free s p e = let none = none_there_yet (length i.choices) s in let now : project_of (replicate (length i.choices) None) s ≡ Some p = rw nobody at e in cc

@@ -1,7 +1,4 @@
 pub mod Machine
-pub mod Worst
-pub mod Entries
-pub mod Steps
-pub mod Rows
+pub mod Start
 pub mod CutSteps
 pub mod Best

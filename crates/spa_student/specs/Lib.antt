@@ -1,4 +1,3 @@
 pub mod Machine
 pub mod Worst
-pub mod Put
 pub mod Cuts

@@ -1,3 +1,0 @@
-//! Matchings of small instances.
-
-mod matching;

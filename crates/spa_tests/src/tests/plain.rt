@@ -1,0 +1,254 @@
+//! An instance as plain lists, and two judges over it: the blocking pairs found pair by pair, and the
+//! method over lists that get shorter.
+
+use spa_check::Block;
+use spa_model::{Instance, Letter};
+use std::alloc::{AllocError, Global};
+
+/// The lists and capacities of an instance, by number.
+#[derive(Drop)]
+pub(crate) struct Board {
+    choices: Vec<Vec<usize>>,
+    rankings: Vec<Vec<usize>>,
+    /// By project: its lecturer, and its capacity.
+    owners: Vec<usize>,
+    places: Vec<usize>,
+    /// By lecturer: the capacity.
+    rooms: Vec<usize>,
+}
+
+fn row(rows: &[Vec<usize>], at: usize) -> &[usize] {
+    match rows.get(at) {
+        Some(row) => row.as_slice(),
+        None => &[],
+    }
+}
+
+fn number(numbers: &[usize], at: usize) -> usize {
+    numbers.get(at).copied().unwrap_or(0)
+}
+
+fn project(projects: &[Option<usize>], s: usize) -> Option<usize> {
+    match projects.get(s) {
+        Some(own) => *own,
+        None => None,
+    }
+}
+
+fn place(list: &[usize], wanted: usize) -> usize {
+    list.iter().position(|x| *x == wanted).unwrap_or(list.len())
+}
+
+/// The projects that the students have.
+pub(crate) type Places = Vec<Option<usize>>;
+
+impl Board {
+    pub(crate) fn of(alloc: Global, instance: &Instance) -> Result<Board, AllocError> {
+        let mut board = Board {
+            choices: Vec::new(alloc),
+            rankings: Vec::new(alloc),
+            owners: Vec::new(alloc),
+            places: Vec::new(alloc),
+            rooms: Vec::new(alloc),
+        };
+        for s in 0..instance.students() {
+            board
+                .choices
+                .push(Vec::from_slice(alloc, instance.choices(s))?)?;
+        }
+        for p in 0..instance.projects() {
+            board.owners.push(instance.lecturer_of(p))?;
+            board.places.push(instance.project_capacity(p) as usize)?;
+        }
+        for l in 0..instance.lecturers() {
+            board
+                .rankings
+                .push(Vec::from_slice(alloc, instance.ranking(l))?)?;
+            board.rooms.push(instance.lecturer_capacity(l) as usize)?;
+        }
+        Ok(board)
+    }
+
+    fn is_with(&self, own: Option<usize>, l: usize) -> bool {
+        match own {
+            Some(p) => number(&self.owners, p) == l,
+            None => false,
+        }
+    }
+
+    fn count_at(&self, projects: &[Option<usize>], p: usize) -> usize {
+        projects.iter().filter(|own| **own == Some(p)).count()
+    }
+
+    fn count_with(&self, projects: &[Option<usize>], l: usize) -> usize {
+        projects.iter().filter(|own| self.is_with(**own, l)).count()
+    }
+
+    /// The last on the ranking of the students at the project.
+    fn worst_at(&self, projects: &[Option<usize>], p: usize) -> Option<usize> {
+        let ranking = row(&self.rankings, number(&self.owners, p));
+        ranking
+            .iter()
+            .copied()
+            .rev()
+            .find(|t| project(projects, *t) == Some(p))
+    }
+
+    /// The last on the ranking of the lecturer's students.
+    fn worst_with(&self, projects: &[Option<usize>], l: usize) -> Option<usize> {
+        let ranking = row(&self.rankings, l);
+        ranking
+            .iter()
+            .copied()
+            .rev()
+            .find(|t| self.is_with(project(projects, *t), l))
+    }
+
+    /// Whether w is somebody who stands after s on the lecturer's ranking.
+    fn is_worse(&self, l: usize, w: Option<usize>, s: usize) -> bool {
+        let ranking = row(&self.rankings, l);
+        match w {
+            Some(w) => place(ranking, s) < place(ranking, w),
+            None => false,
+        }
+    }
+
+    fn letter(&self, projects: &[Option<usize>], s: usize, p: usize) -> Option<Letter> {
+        let list = row(&self.choices, s);
+        let own = project(projects, s);
+        let kept = match own {
+            Some(q) => place(list, q),
+            None => list.len(),
+        };
+        if place(list, p) >= kept {
+            return None;
+        }
+        let l = number(&self.owners, p);
+        if self.count_at(projects, p) >= number(&self.places, p) {
+            return match self.is_worse(l, self.worst_at(projects, p), s) {
+                true => Some(Letter::C),
+                false => None,
+            };
+        }
+        if self.count_with(projects, l) < number(&self.rooms, l) {
+            return Some(Letter::A);
+        }
+        if self.is_with(own, l) || self.is_worse(l, self.worst_with(projects, l), s) {
+            return Some(Letter::B);
+        }
+        None
+    }
+
+    /// All pairs that block, by student, then by project.
+    pub(crate) fn blocks(
+        &self,
+        alloc: Global,
+        projects: &[Option<usize>],
+    ) -> Result<Vec<Block>, AllocError> {
+        let mut blocks = Vec::new(alloc);
+        for student in 0..self.choices.len() {
+            for project in 0..self.owners.len() {
+                if let Some(letter) = self.letter(projects, student, project) {
+                    blocks.push(Block {
+                        student,
+                        project,
+                        letter,
+                    })?;
+                }
+            }
+        }
+        Ok(blocks)
+    }
+
+    /// Strikes the projects of `struck` from the lists of those behind w on the lecturer's ranking.
+    fn strike(&mut self, l: usize, w: usize, struck: &[usize]) {
+        let ranking = row(&self.rankings, l);
+        for t in ranking.iter().skip(place(ranking, w).saturating_add(1)) {
+            if let Some(list) = self.choices.get_mut(*t) {
+                list.retain(|p| !struck.contains(p));
+            }
+        }
+    }
+
+    /// One student is put at the first project of the list, somebody is let go where there is no room,
+    /// and who stands behind the worst of a full project or lecturer is struck.
+    fn round(
+        &mut self,
+        alloc: Global,
+        projects: &mut Places,
+        s: usize,
+        p: usize,
+    ) -> Result<(), AllocError> {
+        let l = number(&self.owners, p);
+        set(projects, s, Some(p));
+        if self.count_at(projects, p) > number(&self.places, p) {
+            let worst = self.worst_at(projects, p);
+            self.let_go(projects, worst, p);
+        } else if self.count_with(projects, l) > number(&self.rooms, l) {
+            let worst = self.worst_with(projects, l);
+            self.let_go(projects, worst, p);
+        }
+        if self.count_at(projects, p) == number(&self.places, p) {
+            if let Some(w) = self.worst_at(projects, p) {
+                self.strike(l, w, &[p]);
+            }
+        }
+        if self.count_with(projects, l) == number(&self.rooms, l) {
+            if let Some(w) = self.worst_with(projects, l) {
+                let mut offered = Vec::new(alloc);
+                for q in 0..self.owners.len() {
+                    if number(&self.owners, q) == l {
+                        offered.push(q)?;
+                    }
+                }
+                self.strike(l, w, &offered);
+            }
+        }
+        Ok(())
+    }
+
+    /// The student leaves the own project, which goes from the list.
+    fn let_go(&mut self, projects: &mut Places, w: Option<usize>, p: usize) {
+        let Some(w) = w else {
+            return;
+        };
+        let own = project(projects, w).unwrap_or(p);
+        set(projects, w, None);
+        if let Some(list) = self.choices.get_mut(w) {
+            list.retain(|q| *q != own);
+        }
+    }
+
+    /// A free student with a project left, and the first such project.
+    fn next(&self, projects: &[Option<usize>]) -> Option<(usize, usize)> {
+        for s in 0..self.choices.len() {
+            if project(projects, s).is_none() {
+                if let Some(p) = row(&self.choices, s).first() {
+                    return Some((s, *p));
+                }
+            }
+        }
+        None
+    }
+
+    /// The students' best matching, by the method over lists that get shorter.
+    pub(crate) fn solve(mut self, alloc: Global) -> Result<Places, AllocError> {
+        let mut projects = Vec::new(alloc);
+        for _ in 0..self.choices.len() {
+            projects.push(None)?;
+        }
+        for _ in 0..10_000 {
+            let Some((s, p)) = self.next(&projects) else {
+                return Ok(projects);
+            };
+            self.round(alloc, &mut projects, s, p)?;
+        }
+        Ok(projects)
+    }
+}
+
+fn set(projects: &mut Places, s: usize, own: Option<usize>) {
+    if let Some(place) = projects.get_mut(s) {
+        *place = own;
+    }
+}

@@ -1,0 +1,97 @@
+//! Each fault of an instance by the smallest records.
+
+use super::made::lines_of;
+use spa_model::{BadInstance, Instance, InstanceFault};
+use std::alloc::Global;
+use std::process::Abort;
+use std::test::Fail;
+
+/// One lecturer, one project and one student, who list one another.
+const THREE_LINES: &str = "L,L1,1,S1\nP,P1,1,L1\nS,S1,,P1\n";
+
+/// What the records are refused for, if they are.
+fn refusal(rt: &impl Abort, alloc: Global, records: &str) -> Option<BadInstance> {
+    let (rows, _) = lines_of(rt, alloc, records);
+    Instance::build(alloc, rows).err()
+}
+
+fn bad(fault: InstanceFault, row: u32) -> Option<BadInstance> {
+    Some(BadInstance { fault, row })
+}
+
+#[test]
+fn each_fault_is_told_at_its_least_row(rt: HostRuntime) -> Result<(), Fail> {
+    let alloc = rt.alloc();
+    for (more, fault, row) in [
+        ("P,P1,1,L1\n", InstanceFault::KeyTwice, 4),
+        ("P,P1,1,L1\nS,S 2,,P1\n", InstanceFault::BadKey, 5),
+        ("S,S1,,P1\nL,L1,1,S1\n", InstanceFault::KeyTwice, 4),
+        ("P,P2,0,L1\n", InstanceFault::BadCapacity, 4),
+        ("P,P2,201,L1\n", InstanceFault::BadCapacity, 4),
+        ("P,P2,1,L2\nP,P3,1,L3\n", InstanceFault::NoSuchLecturer, 4),
+        ("S,S2,,P1 P2\n", InstanceFault::NoSuchProject, 4),
+        ("S,S2,,P1 P1\n", InstanceFault::RepeatInList, 4),
+        ("L,L2,1,S9 S9\n", InstanceFault::RepeatInList, 4),
+        ("L,L2,1,S9\n", InstanceFault::NotApplicant, 4),
+        ("L,L2,1,S1\n", InstanceFault::NotApplicant, 4),
+        ("S,S2,,P1\n", InstanceFault::ApplicantMissing, 1),
+    ] {
+        let records = format!(in alloc; "{THREE_LINES}{more}").expect(&rt, "memory");
+        assert_eq!(rt;
+            refusal(&rt, alloc, records.as_str()),
+            bad(fault, row),
+            "{more}"
+        );
+    }
+    Ok(())
+}
+
+#[test]
+fn no_lines_and_three_lines_pass(rt: HostRuntime) -> Result<(), Fail> {
+    let alloc = rt.alloc();
+    assert_eq!(rt; refusal(&rt, alloc, ""), None);
+    assert_eq!(rt; refusal(&rt, alloc, THREE_LINES), None);
+    let more = format!(in alloc; "{THREE_LINES}P,P2,1,L1\nP,P3,200,L1\n").expect(&rt, "memory");
+    assert_eq!(rt; refusal(&rt, alloc, more.as_str()), None);
+    Ok(())
+}
+
+#[test]
+fn there_are_at_most_300_lecturers(rt: HostRuntime) -> Result<(), Fail> {
+    let alloc = rt.alloc();
+    let mut records = format!(in alloc; "{THREE_LINES}").expect(&rt, "memory");
+    for number in 2..301 {
+        let line = format!(in alloc; "L,L{number},1,\n").expect(&rt, "memory");
+        records.push_str(line.as_str()).expect(&rt, "memory");
+    }
+    assert_eq!(rt; refusal(&rt, alloc, records.as_str()), None);
+    records.push_str("L,L301,1,\n").expect(&rt, "memory");
+    assert_eq!(rt;
+        refusal(&rt, alloc, records.as_str()),
+        bad(InstanceFault::TooMany, 0)
+    );
+    Ok(())
+}
+
+#[test]
+fn lists_have_at_most_20_projects(rt: HostRuntime) -> Result<(), Fail> {
+    let alloc = rt.alloc();
+    let mut records = format!(in alloc; "L,L1,1,S2\n").expect(&rt, "memory");
+    let mut list = format!(in alloc; "P10").expect(&rt, "memory");
+    for number in 10..31 {
+        let line = format!(in alloc; "P,P{number},1,L1\n").expect(&rt, "memory");
+        records.push_str(line.as_str()).expect(&rt, "memory");
+    }
+    for number in 11..30 {
+        let word = format!(in alloc; " P{number}").expect(&rt, "memory");
+        list.push_str(word.as_str()).expect(&rt, "memory");
+    }
+    let twenty = format!(in alloc; "{records}S,S2,,{list}\n").expect(&rt, "memory");
+    assert_eq!(rt; refusal(&rt, alloc, twenty.as_str()), None);
+    let more = format!(in alloc; "{records}S,S2,,{list} P30\n").expect(&rt, "memory");
+    assert_eq!(rt;
+        refusal(&rt, alloc, more.as_str()),
+        bad(InstanceFault::ListTooLong, 23)
+    );
+    Ok(())
+}

@@ -1,0 +1,86 @@
+//! The solver and the method over lists that get shorter: on worked examples, on a family, and on
+//! generated instances.
+
+use super::chance::{Chance, generated, words};
+use super::made::instance_of;
+use super::plain::Board;
+use spa_check::is_stable;
+use spa_student::solve;
+use std::alloc::Global;
+use std::process::Abort;
+use std::test::Fail;
+
+/// The projects that both give to the students, in which nothing blocks.
+fn solved(rt: &impl Abort, alloc: Global, records: &str) -> Vec<Option<usize>> {
+    let instance = instance_of(rt, alloc, records);
+    let matching = solve(alloc, &instance).expect(rt, "memory");
+    let board = Board::of(alloc, &instance).expect(rt, "memory");
+    let judged = board.solve(alloc).expect(rt, "memory");
+    assert!(rt; is_stable(&instance, &matching), "{records}");
+    assert!(rt; judged.len() == instance.students());
+    for (s, project) in judged.iter().enumerate() {
+        if s < instance.students() {
+            assert!(rt; instance.project_of(&matching, s) == *project, "{records}");
+        }
+    }
+    judged
+}
+
+#[test]
+fn seven_students(rt: HostRuntime) -> Result<(), Fail> {
+    let lecturers = "L,L1,3,S7 S4 S1 S3 S2 S5 S6\nL,L2,2,S3 S2 S6 S7 S5\nL,L3,2,S1 S7\n";
+    let projects =
+        "P,P1,2,L1\nP,P2,1,L1\nP,P3,1,L1\nP,P4,1,L2\nP,P5,1,L2\nP,P6,1,L2\nP,P7,1,L3\nP,P8,1,L3\n";
+    let students =
+        "S,S1,,P1 P7\nS,S2,,P1 P2 P3 P4 P5 P6\nS,S3,,P2 P1 P4\nS,S4,,P2\nS,S5,,P1 P2 P3 P4\nS,S6,,P2 P3 P4 P5 P6\nS,S7,,P5 P3 P8\n";
+    let alloc = rt.alloc();
+    let records = format!(in alloc; "{lecturers}{projects}{students}").expect(&rt, "memory");
+    let projects = solved(&rt, alloc, records.as_str());
+    let wanted = [Some(0), Some(4), Some(3), Some(1), None, None, Some(2)];
+    assert!(rt; projects.as_slice() == wanted.as_slice());
+    Ok(())
+}
+
+#[test]
+fn two_stable_matchings_and_a_full_lecturer(rt: HostRuntime) -> Result<(), Fail> {
+    let alloc = rt.alloc();
+    let two = "L,L1,1,S2 S1\nL,L2,1,S1 S2\nP,P1,1,L1\nP,P2,1,L2\nS,S1,,P1 P2\nS,S2,,P2 P1\n";
+    assert!(rt; solved(&rt, alloc, two).as_slice() == [Some(0), Some(1)].as_slice());
+    let full = "L,L1,2,S3 S1 S2\nP,P1,5,L1\nS,S1,,P1\nS,S2,,P1\nS,S3,,P1\n";
+    assert!(rt; solved(&rt, alloc, full).as_slice() == [Some(0), None, Some(0)].as_slice());
+    Ok(())
+}
+
+/// Everybody lists everything in one order: each student is put where those before are full.
+#[test]
+fn one_order_for_all(rt: HostRuntime) -> Result<(), Fail> {
+    let alloc = rt.alloc();
+    let mut all = Vec::new(alloc);
+    let mut wanted = Vec::new(alloc);
+    for n in 0..20u64 {
+        all.push(n).expect(&rt, "memory");
+        wanted.push(Some(n as usize)).expect(&rt, "memory");
+        let students = words(alloc, "S", &all).expect(&rt, "memory");
+        let projects = words(alloc, "P", &all).expect(&rt, "memory");
+        let mut records = String::new(alloc);
+        for m in 10..n.wrapping_add(11) {
+            let lines = format!(in alloc;
+                "L,L{m},1,{students}\nP,P{m},1,L{m}\nS,S{m},,{projects}\n"
+            ).expect(&rt, "memory");
+            records.push_str(lines.as_str()).expect(&rt, "memory");
+        }
+        assert!(rt; solved(&rt, alloc, records.as_str()).as_slice() == wanted.as_slice());
+    }
+    Ok(())
+}
+
+#[test]
+fn both_agree_on_generated_instances(rt: HostRuntime) -> Result<(), Fail> {
+    let alloc = rt.alloc();
+    let mut chance = Chance { state: 20 };
+    for _ in 0..400 {
+        let records = generated(alloc, &mut chance).expect(&rt, "memory");
+        let _projects = solved(&rt, alloc, records.as_str());
+    }
+    Ok(())
+}
