@@ -1,15 +1,7 @@
 //! The portal's program.
 #![tactic(auto)]
 
-mod answer;
-mod blocking;
-mod input;
-mod run;
-mod solution;
-#[cfg(test)]
-mod tests;
-mod told;
-
+use portal_run::{run, say};
 use std::env::Env;
 use std::process::ExitCode;
 use std::{env, io};
@@ -22,8 +14,8 @@ fn words_of(rt: &(impl Env + AllocGlobal)) -> Option<Vec<String>> {
 fn main(rt: HostRuntime) -> ExitCode {
     let mut writer = io::writer(&rt);
     let status = match words_of(&rt) {
-        Some(words) => run::run(&rt, words.as_slice(), &mut rt.reader(), &mut writer),
-        None => run::say(&mut writer, b"fault memory\n", 3),
+        Some(words) => run(&rt, words.as_slice(), &mut rt.reader(), &mut writer),
+        None => say(&mut writer, b"fault memory\n", 3),
     };
     ExitCode::from(status)
 }

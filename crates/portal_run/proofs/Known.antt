@@ -4,10 +4,10 @@ use Rattle.std.specs.Prelude.{IfSome}
 use Rattle.std.specs.Io.KnownBytes.{Appends}
 use Rattle.std.proofs.lemmas.Bool.{cases_lt, lt-ltb, le-ltb}
 use Rattle.std.proofs.lemmas.List.{length-take, take_all}
-use Rattle.portal.specs.Told.{Text, Told}
-use Rattle.portal.specs.Answer.{IfLonger, IsAnswer}
-use Rattle.portal.specs.Run.{Answers}
-use Rattle.portal.specs.declared.answer.Task.{Task}
+use Rattle.portal_run.specs.Told.{Text, Told}
+use Rattle.portal_run.specs.Answer.{IfLonger, IsAnswer}
+use Rattle.portal_run.specs.Run.{Answers}
+use Rattle.portal_run.specs.declared.answer.Task.{Task}
 
 -- a reader that is cut at a limit
 pub cut_known : (k : Option Text) (n m : ℕ) (out : Text) → n ≡ m → IfSome (option_map (take n) k) (λ xs. out ≡ xs) → IfSome k (λ b. out ≡ take m b)

@@ -1,9 +1,9 @@
 -- What one run of the program does, over an input and an output that are known.
 use Rattle.std.specs.Prelude.{◌≡◌, ℕ, Option, IfSome}
 use Rattle.std.specs.Io.KnownBytes.{Appends}
-use Rattle.portal.specs.Told.{Text, Told}
-use Rattle.portal.specs.Answer.{IsAnswer}
-use Rattle.portal.specs.declared.answer.Task.{Task}
+use Rattle.portal_run.specs.Told.{Text, Told}
+use Rattle.portal_run.specs.Answer.{IsAnswer}
+use Rattle.portal_run.specs.declared.answer.Task.{Task}
 
 -- an answer to the whole input was written, and its status is given
 abbrev pub Answers : Task → Option Text → ℕ → Option Text → Option Text → Type 0

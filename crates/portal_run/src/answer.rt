@@ -2,7 +2,7 @@
 
 ghost use Rattle.std.specs.Prelude.{IfOk};
 ghost use Rattle.spa_model.specs.Spa.{IsMatching};
-ghost use Rattle.portal.specs.Answer.{IsAnswer, OfPairs, Tells};
+ghost use Rattle.portal_run.specs.Answer.{IsAnswer, OfPairs, Tells};
 
 use crate::blocking::checked;
 use crate::solution::solved;

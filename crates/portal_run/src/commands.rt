@@ -2,7 +2,7 @@
 
 ghost use Rattle.std.specs.Prelude.{◌≡◌, ◌<◌, ◌∷◌, [], codes, drop, map};
 ghost use Rattle.std.specs.Io.KnownBytes.{Appends};
-ghost use Rattle.portal.specs.Run.{Answers};
+ghost use Rattle.portal_run.specs.Run.{Answers};
 
 use crate::answer::{Task, answer_to};
 use crate::input::{InputFault, bytes_of};
@@ -14,7 +14,7 @@ use std::io::{Read, Write};
 use std::rt::Files;
 
 /// Writes a text, and gives its status, or 3 where the writer refused it.
-pub(crate) fn say<W: Write>(writer: &mut W, text: &[u8], status: u8) -> u8
+pub fn say<W: Write>(writer: &mut W, text: &[u8], status: u8) -> u8
     ensures { result < 3 → (result ≡ status) × Appends (W.contents writer.old) (W.contents writer.new) text.now }
 {
     if writer.write_all(text).is_ok() && writer.flush().is_ok() {
@@ -53,7 +53,7 @@ fn answer_file<T: Files + AllocGlobal, W: Write>(
 }
 
 /// Does what the words ask for, and gives the exit status.
-pub(crate) fn run<T: Files + AllocGlobal, S: AsStr, R: Read, W: Write>(
+pub fn run<T: Files + AllocGlobal, S: AsStr, R: Read, W: Write>(
     rt: &T,
     words: &[S],
     reader: &mut R,

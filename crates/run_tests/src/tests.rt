@@ -5,8 +5,9 @@ mod devices;
 mod generated;
 mod refusals;
 mod solves;
+mod words;
 
-use crate::run::run;
+use portal_run::run;
 use std::alloc::AllocError;
 
 /// The status and the bytes that a command gives for a text on its input.

@@ -1,6 +1,6 @@
 //! Words, readers and writers that fail.
 
-use crate::run::run;
+use portal_run::run;
 use std::io;
 use std::io::{Read, Write};
 use std::test::Fail;

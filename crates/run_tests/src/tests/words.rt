@@ -1,4 +1,6 @@
-use crate::{Asked, Command, command_of};
+//! What the words ask for.
+
+use portal_words::{Asked, Command, command_of};
 use std::test::Fail;
 
 #[test]

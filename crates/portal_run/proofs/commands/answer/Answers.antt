@@ -1,8 +1,8 @@
 use Rattle.std.proofs.Common.{◌≡◌, subst}
 use Rattle.std.specs.Io.KnownBytes.{Appends}
-use Rattle.portal.specs.Told.{Told}
-use Rattle.portal.proofs.Known.{said}
-use Rattle.portal.proofs.run.answer.Goals as goal
+use Rattle.portal_run.specs.Told.{Told}
+use Rattle.portal_run.proofs.Known.{said}
+use Rattle.portal_run.proofs.commands.answer.Goals as goal
 
 pub returns-in-Ok-answer_to : goal.returns-in-Ok-answer_to
 returns-in-Ok-answer_to g c small =
