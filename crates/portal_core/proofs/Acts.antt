@@ -1,23 +1,28 @@
 -- What each decision does, and what one change leaves of a caller.
 use Rattle.std.proofs.Common.{◌≡◌, Bool, true, false, cond, List, [], refl, sym, ◌∙◌, ap, subst}
-use Rattle.std.specs.Prelude.{map, Option, Some, None, option_map}
+use Rattle.std.specs.Prelude.{map, Option, Some, None, option_map, not, if◌then◌else◌}
 use Rattle.std.specs.List.{find, filter_map}
 use Rattle.serde_json.specs.Data.{Data}
-use Rattle.portal_core.specs.Words.{Key, is}
+use Rattle.portal_core.specs.Words.{Key, is, is_empty}
 use Rattle.portal_core.specs.World as rows
 use Rattle.portal_core.specs.World.{World, is_choosing, is_ranking, is_published, is_from_ranking}
-use Rattle.portal_core.specs.Change.{Choices, Ranks, changed, with_choice, with_ranking}
+use Rattle.portal_core.specs.Change.{Change, Choices, Ranks, Lecturers, Projects, Students, Fill, changed, with_choice, with_ranking}
+use Rattle.portal_core.specs.declared.phase.Phase.{Phase}
+use Rattle.portal_core.specs.declared.phase.Phase.TheVariants.{Setup, Choosing, Ranking, Published}
 use Rattle.portal_core.specs.Sight.{OfficeSees}
 use Rattle.portal_core.specs.declared.view.View.{View as Sight}
 use Rattle.portal_core.specs.declared.view.View.TheVariants.{Nobody, Office, Lecturer, Student}
 use Rattle.portal_core.specs.View.{Caller, NoCaller, OfficeCaller, LecturerCaller, StudentCaller, caller_among, lecturer_with, student_with, caller, sight_of, view, name_in, listing_with, catalogue, student_sees, lecturer_sees, office_sees}
 use Rattle.portal_core.specs.Ask.{Ask}
-use Rattle.portal_core.specs.Answer.{Decision, Nothing, only, applies, decision, to_office, own, with_own, unless}
+use Rattle.portal_core.specs.declared.decision.Sheet.{Sheet}
+use Rattle.portal_core.specs.Answer.{Said, Answer, Decision, Nothing, Apply, Publish, refuses, only, applies, renders, fills, added, moves, decision, to_office, own, with_own, unless}
 use Rattle.portal_core.specs.Faults.{ListFault, choice_fault, ranking_fault}
+use Rattle.portal_core.specs.Rolls.{Taken, Faulty, Took, take_rows, lecturer_roll, project_roll, student_roll}
 use Rattle.portal_core.specs.Bodies.{projects_body, students_body}
 use Rattle.portal_core.specs.Run.{Leaves, Calls}
 use Rattle.portal_core.specs.Heard.{is_move_or_add}
 use Rattle.portal_core.proofs.Keys.{is_own, find_map}
+use Rattle.portal_core.proofs.Fills.{view_filled}
 
 -- a change of a list keeps the row
 
@@ -108,22 +113,6 @@ pub only_quiet : (b : Bool) (d : Decision) → d.act ≡ Nothing → (only b d).
 only_quiet true d e = e
 only_quiet false d e = refl
 
-pub office_quiet : (v : OfficeSees) (ask : Ask) → is_move_or_add (Calls ask) ≡ false → (to_office v ask).act ≡ Nothing
-office_quiet v Ask.Me e = refl
-office_quiet v Ask.Catalogue e = refl
-office_quiet v Ask.Allocation e = only_quiet (is_published v.phase) _ refl
-office_quiet v Ask.Status e = refl
-office_quiet v Ask.ShowChoices e = refl
-office_quiet v (Ask.SetChoices list) e = refl
-office_quiet v Ask.Applicants e = refl
-office_quiet v Ask.ShowRanking e = refl
-office_quiet v (Ask.SetRanking list) e = refl
-office_quiet v Ask.Result e = refl
-office_quiet v (Ask.AddLecturers rs) e = cc
-office_quiet v (Ask.AddProjects rs) e = cc
-office_quiet v (Ask.AddStudents rs) e = cc
-office_quiet v (Ask.Move phase) e = cc
-
 pub with_own_nothing : (v : Sight) → with_own v Nothing ≡ v
 with_own_nothing Nobody = refl
 with_own_nothing (Office v) = refl
@@ -152,10 +141,37 @@ ranked_kept w w' c l e body list false fault left = stays w w' c (LecturerCaller
 ranked_kept w w' c l e body list true (Some fault) left = stays w w' c (LecturerCaller l) e left
 ranked_kept w w' c l e body list true None left = ap (λ u. view u c) left ∙ view_ranked w c l list e
 
+-- the office's calls, but for Move and Add
+
+rendered_kept : (w w' : World) (c : Key) (e : caller w c ≡ OfficeCaller) (text : Said) (sheet : Sheet) (b : Bool)
+    → Leaves w (only b (renders text sheet)).act w' → view w' c ≡ with_own (Office (office_sees w)) (only b (renders text sheet)).act
+rendered_kept w w' c e text sheet true left = stays w w' c OfficeCaller e left
+rendered_kept w w' c e text sheet false left = stays w w' c OfficeCaller e left
+
+filled_kept : (w w' : World) (c : Key) (e : caller w c ≡ OfficeCaller) (b : Bool)
+    → Leaves w (only b (fills (office_sees w))).act w' → view w' c ≡ with_own (Office (office_sees w)) (only b (fills (office_sees w))).act
+filled_kept w w' c e false left = stays w w' c OfficeCaller e left
+filled_kept w w' c e true left = some_to_rank (is_empty (office_sees w).still_to_rank) left
+  where
+    some_to_rank : (none : Bool) → Leaves w (if none then Nothing else Apply Fill) w' → view w' c ≡ with_own (Office (office_sees w)) (if none then Nothing else Apply Fill)
+    some_to_rank true left = stays w w' c OfficeCaller e left
+    some_to_rank false left = ap (λ u. view u c) left ∙ view_filled w c e
+
+office_kept : (w w' : World) (c : Key) (e : caller w c ≡ OfficeCaller) (ask : Ask) → is_move_or_add (Calls ask) ≡ false → Leaves w (to_office (office_sees w) ask).act w' → view w' c ≡ own (Office (office_sees w)) ask
+office_kept w w' c e Ask.Allocation calm left = quiet w w' c OfficeCaller e Ask.Allocation (only_quiet (is_published w.phase) _ refl) left
+office_kept w w' c e Ask.AllocationCsv calm left = rendered_kept w w' c e _ _ (is_published w.phase) left
+office_kept w w' c e Ask.Report calm left = rendered_kept w w' c e _ _ (is_published w.phase) left
+office_kept w w' c e Ask.FillRankings calm left = filled_kept w w' c e (is_ranking w.phase) left
+office_kept w w' c e (Ask.AddLecturers rs) calm left = cc
+office_kept w w' c e (Ask.AddProjects rs) calm left = cc
+office_kept w w' c e (Ask.AddStudents rs) calm left = cc
+office_kept w w' c e (Ask.Move phase) calm left = cc
+office_kept w w' c e ask calm left = stays w w' c OfficeCaller e left
+
 -- after a call that is no Move and no Add, the caller sees what `own` says
 pub own_kept : (w w' : World) (c : Key) (x : Caller) (e : caller w c ≡ x) (ask : Ask) → is_move_or_add (Calls ask) ≡ false → Leaves w (decision (sight_of w x) ask).act w' → view w' c ≡ own (sight_of w x) ask
 own_kept w w' c NoCaller e ask calm left = stays w w' c NoCaller e left
-own_kept w w' c OfficeCaller e ask calm left = quiet w w' c OfficeCaller e ask (office_quiet (office_sees w) ask calm) left
+own_kept w w' c OfficeCaller e ask calm left = office_kept w w' c e ask calm left
 own_kept w w' c (LecturerCaller l) e (Ask.SetRanking list) calm left = ranked_kept w w' c l e (students_body (Some list)) list (is_ranking w.phase) (ranking_fault (lecturer_sees w l).applicants 1 [] list) left
 own_kept w w' c (LecturerCaller l) e Ask.Applicants calm left = quiet w w' c (LecturerCaller l) e Ask.Applicants (only_quiet _ _ refl) left
 own_kept w w' c (LecturerCaller l) e Ask.ShowRanking calm left = quiet w w' c (LecturerCaller l) e Ask.ShowRanking (only_quiet _ _ refl) left
@@ -166,9 +182,33 @@ own_kept w w' c (StudentCaller s) e Ask.Result calm left = quiet w w' c (Student
 own_kept w w' c (StudentCaller s) e ask calm left = stays w w' c (StudentCaller s) e left
 
 -- a Move and an Add call are no change of one's own list
+
+own_added : {X : Type 0} (v : OfficeSees) (change : List X → Change) → ((new : List X) → with_own (Office v) (Apply (change new)) ≡ Office v) → (b : Bool) (t : Taken X) → with_own (Office v) (only b (added change t)).act ≡ Office v
+own_added v change k false t = refl
+own_added v change k true (Faulty f) = refl
+own_added {X} v change k true (Took new n) = elim (is_empty new) as (λ b. with_own (Office v) (if b then Nothing else Apply (change new)) ≡ Office v) [ true ↦ refl | false ↦ k new ]
+
+own_moved : (v : OfficeSees) (p q : Phase) → with_own (Office v) (moves v p q).act ≡ Office v
+own_moved v Ranking Published = either (is_empty v.still_to_rank) _ _
+  where
+    either : (b : Bool) (reply refusal : Answer) → with_own (Office v) (if b then record { reply = reply; act = Publish } else refuses refusal).act ≡ Office v
+    either true reply refusal = refl
+    either false reply refusal = refl
+own_moved v Setup Setup = refl
+own_moved v Setup Choosing = refl
+own_moved v Choosing Choosing = refl
+own_moved v Choosing Ranking = refl
+own_moved v Ranking Ranking = refl
+own_moved v Published Published = refl
+own_moved v _ _ = refl
+
 pub own_move : (v : Sight) (ask : Ask) → is_move_or_add (Calls ask) ≡ true → own v ask ≡ v
 own_move Nobody ask e = refl
-own_move (Office v) ask e = refl
+own_move (Office v) (Ask.Move phase) e = own_moved v v.phase phase
+own_move (Office v) (Ask.AddLecturers rs) e = own_added v Lecturers (λ new. refl) (not (is_from_ranking v.phase)) (take_rows (lecturer_roll v) 1 v.lecturers rs)
+own_move (Office v) (Ask.AddProjects rs) e = own_added v Projects (λ new. refl) (not (is_from_ranking v.phase)) (take_rows (project_roll v) 1 v.projects rs)
+own_move (Office v) (Ask.AddStudents rs) e = own_added v Students (λ new. refl) (not (is_from_ranking v.phase)) (take_rows (student_roll v) 1 v.students rs)
+own_move (Office v) _ e = cc
 own_move (Lecturer v) (Ask.Move phase) e = refl
 own_move (Lecturer v) (Ask.AddLecturers rs) e = refl
 own_move (Lecturer v) (Ask.AddProjects rs) e = refl

@@ -1,9 +1,14 @@
 -- Laws of what holds of each element, and of tests.
 use Rattle.std.proofs.Common.{◌≡◌, suc, Bool, true, false, cond, List, [], ◌∷◌, ◌++◌, length, refl, sym, ◌∙◌, ap, subst}
-use Rattle.std.specs.Prelude.{map, filter, Option, Some, None, ◌||◌}
+use Rattle.std.specs.Prelude.{map, filter, Option, Some, None, Result, Ok, Err, IfOk, ◌||◌}
 use Rattle.std.specs.List.{list_any, filter_map, cons_option, AllByRecursion}
 use Rattle.portal_core.specs.Words.{Key, is, has, is_empty}
 use Rattle.portal_core.proofs.Keys.{is_same, is_own}
+
+-- more of what an Ok holds
+pub if_ok : {X E : Type 0} (P Q : X → Type 0) → ((x : X) → P x → Q x) → (r : Result X E) → IfOk r P → IfOk r Q
+if_ok P Q k (Ok x) h = k x h
+if_ok P Q k (Err e) h = tt
 
 pub all_map : {X Y : Type 0} (P : Y → Type 0) (f : X → Y) (xs : List X) → AllByRecursion (λ x. P (f x)) xs → AllByRecursion P (map f xs)
 all_map P f [] all = tt
@@ -43,9 +48,6 @@ is_sym a b = go (is a b) (is b a) refl refl
 pub or_parts : (s t : Bool) → (s || t) ≡ false → (s ≡ false) × (t ≡ false)
 or_parts true t h = cc
 or_parts false t h = (refl, h)
-
-or_cases : (s t : Bool) → (s || t) ≡ true → (s ≡ false) → t ≡ true
-or_cases s t h e = cc
 
 pub any_append : {X : Type 0} (p : X → Bool) (xs ys : List X) → list_any p (xs ++ ys) ≡ (list_any p xs || list_any p ys)
 any_append p [] ys = refl

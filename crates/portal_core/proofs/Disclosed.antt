@@ -5,7 +5,8 @@ use Rattle.std.specs.List.{AllZip}
 use Rattle.serde_json.specs.Data.{Data}
 use Rattle.portal_core.specs.Words.{Key, is_empty}
 use Rattle.portal_core.specs.World.{World, is_choosing, is_ranking, is_published, is_from_ranking}
-use Rattle.portal_core.specs.Change.{Change, Choices, Ranks, Lecturers, Projects, Students, changed}
+use Rattle.portal_core.specs.Change.{Change, Choices, Ranks, Lecturers, Projects, Students, Fill, changed}
+use Rattle.portal_core.specs.declared.decision.Sheet.{Sheet}
 use Rattle.portal_core.specs.declared.phase.Phase.{Phase}
 use Rattle.portal_core.specs.declared.phase.Phase.TheVariants.{Setup, Choosing, Ranking, Published}
 use Rattle.portal_core.specs.declared.rows.Listing.{Listing}
@@ -17,7 +18,7 @@ use Rattle.portal_core.specs.Ask.{Ask}
 use Rattle.portal_core.specs.Bodies.{projects_body, students_body}
 use Rattle.portal_core.specs.Faults.{ListFault, choice_fault, ranking_fault}
 use Rattle.portal_core.specs.Rolls.{Taken, Faulty, Took, take_rows, lecturer_roll, project_roll, student_roll}
-use Rattle.portal_core.specs.Answer.{Answer, Act, Nothing, Apply, Publish, only, unless, applies, answered, refuses, added, moves, decision, answer, to_student}
+use Rattle.portal_core.specs.Answer.{Answer, Said, Act, Nothing, Apply, Publish, Render, renders, fills, only, unless, applies, answered, refuses, added, moves, decision, answer, to_student}
 use Rattle.portal_core.specs.Run.{Leaves, Step, Wish, Calls, Refused, Request, unavailable, Answers, Serves, Run, AllAnswered}
 use Rattle.portal_core.specs.Places.{Reordered, SameButPlaces, SameWish, equal, sets, SameRequest, has_places, opens_result, Unless, AlikeUntilPublished}
 use Rattle.portal_core.proofs.Acts.{only_quiet}
@@ -91,6 +92,14 @@ quiet_added false change t = refl
 quiet_added true change (Faulty f) = refl
 quiet_added true change (Took new n) = elim (is_empty new) as (λ b. is_publish (if b then Nothing else Apply (change new)) ≡ false) [ true ↦ refl | false ↦ refl ]
 
+pub quiet_sheet : (b : Bool) (text : Said) (sheet : Sheet) → is_publish (only b (renders text sheet)).act ≡ false
+quiet_sheet true text sheet = refl
+quiet_sheet false text sheet = refl
+
+pub quiet_fill : (b : Bool) (v : OfficeSees) → is_publish (only b (fills v)).act ≡ false
+quiet_fill false v = refl
+quiet_fill true v = elim (is_empty v.still_to_rank) as (λ b. is_publish (if b then Nothing else Apply Fill) ≡ false) [ true ↦ refl | false ↦ refl ]
+
 never : (x : Sight) (ask : Ask) → is_publish (decision x ask).act ≡ false → is_publish (decision x ask).act ≡ true → opens_result (Calls ask) (answer x ask) ≡ true
 never x ask e f = let e' : true ≡ false = sym f ∙ e in cc
 
@@ -124,6 +133,9 @@ publishes_opens (Office v) (Ask.AddLecturers rs) e = never (Office v) (Ask.AddLe
 publishes_opens (Office v) (Ask.AddProjects rs) e = never (Office v) (Ask.AddProjects rs) (quiet_added (not (is_from_ranking v.phase)) Projects (take_rows (project_roll v) 1 v.projects rs)) e
 publishes_opens (Office v) (Ask.AddStudents rs) e = never (Office v) (Ask.AddStudents rs) (quiet_added (not (is_from_ranking v.phase)) Students (take_rows (student_roll v) 1 v.students rs)) e
 publishes_opens (Office v) Ask.Allocation e = never (Office v) Ask.Allocation (ap is_publish (only_quiet (is_published v.phase) _ refl)) e
+publishes_opens (Office v) Ask.AllocationCsv e = never (Office v) Ask.AllocationCsv (quiet_sheet (is_published v.phase) _ _) e
+publishes_opens (Office v) Ask.Report e = never (Office v) Ask.Report (quiet_sheet (is_published v.phase) _ _) e
+publishes_opens (Office v) Ask.FillRankings e = never (Office v) Ask.FillRankings (quiet_fill (is_ranking v.phase) v) e
 publishes_opens (Office v) _ e = cc
 
 -- one request
@@ -131,6 +143,7 @@ publishes_opens (Office v) _ e = cc
 after : (v w v' w' : World) (a b : Act) → SameButPlaces v w → SameAct a b → is_publish a ≡ false → Leaves v a v' → Leaves w b w' → SameButPlaces v' w'
 after v w v' w' _ _ s (same_act Nothing) e l m = subst (λ x. SameButPlaces x w') (sym l) (subst (λ x. SameButPlaces v x) (sym m) s)
 after v w v' w' _ _ s (same_act (Apply change)) e l m = subst (λ x. SameButPlaces x w') (sym l) (subst (λ x. SameButPlaces (changed v change) x) (sym m) (both_changed v w change s))
+after v w v' w' _ _ s (same_act (Render sheet)) e l m = subst (λ x. SameButPlaces x w') (sym l) (subst (λ x. SameButPlaces v x) (sym m) s)
 after v w v' w' _ _ s (same_act Publish) e l m = cc
 after v w v' w' _ _ s (reorders k {ks} {ls} r) e l m = subst (λ x. SameButPlaces x w') (sym l) (subst (λ x. SameButPlaces (changed v (Choices k ks)) x) (sym m) (both_choose v w k ks ls r s))
 

@@ -299,11 +299,11 @@ union_any q ps ss =
     ∙ sym (filtered_any (λ s. q (student_key s)) (λ s. list_any (λ p. has s.choice p.key) ps) ss)
     ∙ sym (any_map q student_key (filter (λ s. list_any (λ p. has s.choice p.key) ps) ss))
 
-record Ranked (ps : List (Key × List Person)) (earlier list : List Key) : Type 0 where
-  only : AllByRecursion (λ k. is_applicant ps k ≡ true) list
-  once : AreDistinct list
-  new : AllByRecursion (λ k. has earlier k ≡ false) list
-  all : lacks_one ps (earlier ++ list) ≡ false
+pub record Ranked (ps : List (Key × List Person)) (earlier list : List Key) : Type 0 where
+  pub only : AllByRecursion (λ k. is_applicant ps k ≡ true) list
+  pub once : AreDistinct list
+  pub new : AllByRecursion (λ k. has earlier k ≡ false) list
+  pub all : lacks_one ps (earlier ++ list) ≡ false
 
 no_rank_fault : (ps : List (Key × List Person)) (at : ℕ) (earlier list : List Key) → ranking_fault ps at earlier list ≡ None → Ranked ps earlier list
 no_rank_fault ps at earlier [] e = record { only = tt; once = tt; new = tt; all = rw append-nil (whole (lacks_one ps earlier) _ e) }
@@ -340,7 +340,7 @@ none_lacks list (k ∷ ks) e = step (has list k) refl (λ h. none_lacks list ks 
     step false e rest h = cc
 
 -- what the lecturer is shown while rankings are made
-abbrev shown_sets : World → Key → Bool → List (Key × List Person)
+abbrev pub shown_sets : World → Key → Bool → List (Key × List Person)
 shown_sets w l closed = map (λ p. (p.key, if closed then persons (applicants_to w p.key) else [])) (projects_of w l)
 
 ranks_all : (w : World) (l : Key) (list : List Key) → ranking_fault (shown_sets w l true) 1 [] list ≡ None → IsRanking (map student_key (applicants_of w l)) list

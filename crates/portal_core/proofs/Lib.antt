@@ -3,6 +3,8 @@ pub mod Keys
 pub mod AllLaws
 pub mod Persons
 pub mod Puts
+pub mod Fills
+pub mod Numbers
 pub mod Acts
 pub mod Told
 pub mod Unseen
@@ -10,9 +12,11 @@ pub mod Kept
 pub mod Adds
 pub mod Enrol
 pub mod Steps
+mod Runs
 pub mod Once
 pub mod Whole
 pub mod Reorder
+mod Taken
 pub mod Similar
 pub mod Disclosed
 pub mod Example

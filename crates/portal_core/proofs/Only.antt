@@ -14,7 +14,7 @@ use Rattle.portal_core.specs.Change.{Places, place_in, with_place, changed}
 use Rattle.portal_core.specs.Instance.{instance, matching_of, project_keys}
 use Rattle.portal_core.specs.View.{view}
 use Rattle.portal_core.specs.Ask.{Ask}
-use Rattle.portal_core.specs.Answer.{Answer, Act, Nothing, Apply, Publish, decision}
+use Rattle.portal_core.specs.Answer.{Answer, Act, Nothing, Apply, Publish, Render, decision}
 use Rattle.portal_core.specs.Good.{Good, IsChoice}
 use Rattle.portal_core.specs.Run.{Leaves, Step}
 use Rattle.portal_core.proofs.Keys.{is_same}
@@ -84,6 +84,7 @@ published_once w p q g a b =
 one_end : (w v u : World) (a : Act) → Good w → Leaves w a v → Leaves w a u → v ≡ u
 one_end w v u Nothing g l m = l ∙ sym m
 one_end w v u (Apply change) g l m = l ∙ sym m
+one_end w v u (Render sheet) g l m = l ∙ sym m
 one_end w v u Publish g l m =
     l.1
     ∙ published_once w l.0 m.0 g (subst (λ x. IsBest (instance w) (matching_of x)) l.1 l.2) (subst (λ x. IsBest (instance w) (matching_of x)) m.1 m.2)

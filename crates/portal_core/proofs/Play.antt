@@ -1,12 +1,10 @@
 -- What is decided in a good world may be done.
-use Rattle.std.proofs.Common.{◌≡◌, Bool, true, false, List, [], refl, sym, ◌∙◌, ap, subst}
+use Rattle.std.proofs.Common.{◌≡◌, Bool, true, false, [], refl, sym, ◌∙◌, ap, subst}
 use Rattle.std.specs.Prelude.{Some, not, if◌then◌else◌}
 use Rattle.serde_json.specs.Data.{Data}
-use Rattle.spa_model.specs.Spa.{IsBest}
 use Rattle.portal_core.specs.Words.{Key, is_empty}
 use Rattle.portal_core.specs.World.{World, is_choosing, is_ranking, is_published, is_from_ranking}
-use Rattle.portal_core.specs.Change.{Change, Choices, Ranks, Lecturers, Projects, Students, Places, changed}
-use Rattle.portal_core.specs.Instance.{instance, matching_of}
+use Rattle.portal_core.specs.Change.{Change, Choices, Ranks, Lecturers, Projects, Students, changed}
 use Rattle.portal_core.specs.declared.phase.Phase.{Phase}
 use Rattle.portal_core.specs.declared.phase.Phase.TheVariants.{Setup, Choosing, Ranking, Published}
 use Rattle.portal_core.specs.View.{Caller, NoCaller, OfficeCaller, LecturerCaller, StudentCaller, caller, sight_of, view, catalogue, office_sees, lecturer_sees}
@@ -20,20 +18,13 @@ use Rattle.portal_core.specs.Run.{Leaves, HasForm}
 use Rattle.portal_core.proofs.Acts.{only_quiet}
 use Rattle.portal_core.proofs.Kept.{all_ranked}
 use Rattle.portal_core.proofs.Steps.{step_good}
-use Rattle.portal_core.proofs.Disclosed.{is_publish, quiet_set, quiet_added}
+use Rattle.portal_core.proofs.Disclosed.{is_publish, quiet_set, quiet_added, quiet_sheet, quiet_fill}
 
 -- a change that is decided leaves a good world
 pub can_apply : (w : World) (code : Key) (ask : Ask) (change : Change) → Good w → HasForm ask → (decision (view w code) ask).act ≡ Apply change → Good (changed w change)
 can_apply w code ask change g form e =
     step_good w (changed w change) code ask (answer (view w code) ask) g
     (record { form = form; told = refl; left = subst (λ a. Leaves w a (changed w change)) (sym e) refl })
-
--- so do the pairs of the best matching
-pub published_good : (w : World) (code : Key) (ask : Ask) (pairs : List (Key × Key)) → Good w → HasForm ask → (decision (view w code) ask).act ≡ Publish
-    → IsBest (instance w) (matching_of (changed w (Places pairs))) → Good (changed w (Places pairs))
-published_good w code ask pairs g form e best =
-    step_good w (changed w (Places pairs)) code ask (answer (view w code) ask) g
-    (record { form = form; told = refl; left = subst (λ a. Leaves w a (changed w (Places pairs))) (sym e) (pairs, refl, best) })
 
 -- publishing is decided where nobody is still to rank
 module _ (w : World) where
@@ -61,6 +52,9 @@ module _ (w : World) where
   called OfficeCaller (Ask.AddProjects rs) e = never _ (quiet_added (not (is_from_ranking w.phase)) Projects (take_rows (project_roll (office_sees w)) 1 (office_sees w).projects rs)) e
   called OfficeCaller (Ask.AddStudents rs) e = never _ (quiet_added (not (is_from_ranking w.phase)) Students (take_rows (student_roll (office_sees w)) 1 (office_sees w).students rs)) e
   called OfficeCaller Ask.Allocation e = never _ (ap is_publish (only_quiet (is_published w.phase) _ refl)) e
+  called OfficeCaller Ask.AllocationCsv e = never _ (quiet_sheet (is_published w.phase) _ _) e
+  called OfficeCaller Ask.Report e = never _ (quiet_sheet (is_published w.phase) _ _) e
+  called OfficeCaller Ask.FillRankings e = never _ (quiet_fill (is_ranking w.phase) (office_sees w)) e
   called OfficeCaller ask e = never _ refl e
   called (LecturerCaller l) (Ask.SetRanking list) e = never _ (quiet_set (is_ranking w.phase) (ranking_fault (lecturer_sees w l).applicants 1 [] list) (students_body (Some list)) (Ranks l.row.key list)) e
   called (LecturerCaller l) Ask.Applicants e = never _ (ap is_publish (only_quiet (is_from_ranking w.phase) _ refl)) e

@@ -5,7 +5,7 @@ use Rattle.std.specs.List.{list_any, find, filter_map, cons_option, AllZip}
 use Rattle.portal_core.specs.Words.{Key, is, has, is_empty, is_before, put, put_all}
 use Rattle.portal_core.specs.World as rows
 use Rattle.portal_core.specs.World.{World, lecturer_key, project_key, student_key, applicants_to, projects_of, applicants_of, placed_at, is_at, pairs_of, is_still_to_rank, is_published, is_from_ranking}
-use Rattle.portal_core.specs.Change.{Change, Choices, Ranks, Lecturers, Projects, Students, To, Places, changed, with_choice, with_ranking, with_place, place_in, new_lecturer, new_student}
+use Rattle.portal_core.specs.Change.{Change, Choices, Ranks, Lecturers, Projects, Students, To, Places, Fill, changed, with_choice, with_ranking, with_place, with_fill, place_in, new_lecturer, new_student}
 use Rattle.portal_core.specs.declared.rows.Person.{Person}
 use Rattle.portal_core.specs.declared.view.View.{View as Sight}
 use Rattle.portal_core.specs.declared.view.View.TheVariants.{Office, Lecturer, Student}
@@ -107,12 +107,16 @@ module _ (w : World) (ss ts : List rows.Student) (z : AllZip SameStudent ss ts) 
   same_any : (s t : rows.Student) → SameStudent s t → (l : Key) → list_any (λ p. has s.choice p.key) (projects_of w l) ≡ list_any (λ p. has t.choice p.key) (projects_of w l)
   same_any s t same l = λ i. list_any (λ p. any_reordered (is p.key) s.choice t.choice same.choice i) (projects_of w l)
 
+  keys_same : (l : Key) → map student_key (applicants_of one l) ≡ map student_key (applicants_of other l)
+  keys_same l = zip_filter student_key (λ s. list_any (λ p. has s.choice p.key) (projects_of w l)) (λ s t same. ap (λ r. r.key) same.row) (λ s t same. same_any s t same l) ss ts z
+
   ranked_same : (l : rows.Lecturer) → is_still_to_rank one l ≡ is_still_to_rank other l
   ranked_same l =
       ap (λ b. not b && is_none l.ranking)
-      (sym (empty_map student_key (applicants_of one l.row.key))
-      ∙ ap is_empty (zip_filter student_key (λ s. list_any (λ p. has s.choice p.key) (projects_of w l.row.key)) (λ s t same. ap (λ r. r.key) same.row) (λ s t same. same_any s t same l.row.key) ss ts z)
-      ∙ empty_map student_key (applicants_of other l.row.key))
+      (sym (empty_map student_key (applicants_of one l.row.key)) ∙ ap is_empty (keys_same l.row.key) ∙ empty_map student_key (applicants_of other l.row.key))
+
+  pub fill_same : map (with_fill one) w.lecturers ≡ map (with_fill other) w.lecturers
+  fill_same = λ i. map (λ l. cond (ranked_same l i) (record l { ranking = Some (keys_same l.row.key i) }) l) w.lecturers
 
   office_same : office_sees one ≡ office_sees other
   office_same = λ i. record (office_sees one) {
@@ -172,6 +176,14 @@ both_changed v w (Lecturers rows) s = record { phase = s.phase; office = s.offic
 both_changed v w (Projects rows) s = record { phase = s.phase; office = s.office; lecturers = s.lecturers; projects = ap (put_all project_key rows) s.projects; students = s.students }
 both_changed v w (Students rows) s = record { phase = s.phase; office = s.office; lecturers = s.lecturers; projects = s.projects; students = zip_put_all (map new_student rows) v.students w.students s.students }
 both_changed v w (To phase) s = record { phase = refl; office = s.office; lecturers = s.lecturers; projects = s.projects; students = s.students }
+both_changed v w Fill s =
+    record {
+      phase = s.phase;
+      office = s.office;
+      lecturers = subst (λ u. map (with_fill u) u.lecturers ≡ map (with_fill w) w.lecturers) (sym (but_students v w s)) (fill_same w v.students w.students s.students);
+      projects = s.projects;
+      students = s.students;
+    }
 both_changed v w (Places pairs) s = record { phase = refl; office = s.office; lecturers = s.lecturers; projects = s.projects; students = zip_with (with_place pairs) (with_place pairs) each v.students w.students s.students }
   where
     each : (s t : rows.Student) → SameStudent s t → SameStudent (with_place pairs s) (with_place pairs t)

@@ -5,7 +5,8 @@ use Rattle.serde_json.specs.Data.{Data}
 use Rattle.portal_core.specs.Words.{Key, is_empty}
 use Rattle.portal_core.specs.World as rows
 use Rattle.portal_core.specs.World.{World, is_setup, is_choosing, is_ranking, is_published, is_from_ranking}
-use Rattle.portal_core.specs.Change.{Change, Students, Lecturers, Projects, Choices, Ranks, To, Places, changed}
+use Rattle.portal_core.specs.Change.{Change, Students, Lecturers, Projects, Choices, Ranks, To, Places, Fill, changed}
+use Rattle.portal_core.specs.declared.decision.Sheet.{Sheet}
 use Rattle.portal_core.specs.declared.phase.Phase.{Phase}
 use Rattle.portal_core.specs.declared.phase.Phase.TheVariants.{Setup, Choosing, Ranking, Published}
 use Rattle.portal_core.specs.View.{Caller, NoCaller, OfficeCaller, LecturerCaller, StudentCaller, caller, sight_of, catalogue, office_sees, lecturer_sees}
@@ -13,13 +14,14 @@ use Rattle.portal_core.specs.Ask.{Ask}
 use Rattle.portal_core.specs.Bodies.{projects_body, students_body}
 use Rattle.portal_core.specs.Faults.{ListFault, choice_fault, ranking_fault}
 use Rattle.portal_core.specs.Rolls.{Taken, Faulty, Took, take_rows, lecturer_roll, project_roll, student_roll}
-use Rattle.portal_core.specs.Answer.{Answer, Json, added, Act, Nothing, Apply, Publish, only, unless, applies, refuses, moves, decision}
+use Rattle.portal_core.specs.Answer.{Answer, Said, Json, added, renders, fills, Act, Nothing, Apply, Publish, only, unless, applies, refuses, moves, decision}
 use Rattle.portal_core.specs.Good.{Good}
 use Rattle.spa_model.specs.Spa.{IsBest}
 use Rattle.portal_core.specs.Instance.{instance, matching_of}
 use Rattle.portal_core.specs.Run.{Leaves, Step, HasForm}
 use Rattle.portal_core.proofs.Acts.{only_quiet}
 use Rattle.portal_core.proofs.Kept.{not_published, to_choosing, to_ranking, to_published, all_ranked, choosing, ranking}
+use Rattle.portal_core.proofs.Fills.{filling}
 use Rattle.portal_core.proofs.Enrol.{open_phase, lecturers_added, projects_added, students_added}
 
 choosing_open : (phase : Phase) → is_choosing phase ≡ true → is_published phase ≡ false
@@ -74,6 +76,18 @@ module _ (w v : World) (g : Good w) where
   ranked l body list true at (Some f) none left = same left
   ranked l body list false at fault none left = same left
 
+  rendered : (text : Said) (sheet : Sheet) (b : Bool) → Leaves w (only b (renders text sheet)).act v → Good v
+  rendered text sheet true left = same left
+  rendered text sheet false left = same left
+
+  filled : (b : Bool) → is_ranking w.phase ≡ b → Leaves w (only b (fills (office_sees w))).act v → Good v
+  filled false at left = same left
+  filled true at left = some_to_rank (is_empty (office_sees w).still_to_rank) left
+    where
+      some_to_rank : (none : Bool) → Leaves w (if none then Nothing else Apply Fill) v → Good v
+      some_to_rank true left = same left
+      some_to_rank false left = becomes _ (not_published (changed w Fill) (filling w g.sound at) (ranking_open w.phase at)) left
+
   -- a roll, by what one that is taken leaves
   added_case : {X : Type 0} (change : List X → Change) (t : Taken X) (closed : Bool) → is_from_ranking w.phase ≡ closed
       → ((new : List X) (n : ℕ) → is_from_ranking w.phase ≡ false → t ≡ Took new n → Good (changed w (change new)))
@@ -98,6 +112,9 @@ module _ (w v : World) (g : Good w) where
   step_case (StudentCaller s) ask form left = same left
   step_case OfficeCaller (Ask.Move phase) form left = moved w.phase phase refl left
   step_case OfficeCaller Ask.Allocation form left = idle _ (only_quiet (is_published w.phase) _ refl) left
+  step_case OfficeCaller Ask.AllocationCsv form left = rendered _ _ (is_published w.phase) left
+  step_case OfficeCaller Ask.Report form left = rendered _ _ (is_published w.phase) left
+  step_case OfficeCaller Ask.FillRankings form left = filled (is_ranking w.phase) refl left
   step_case OfficeCaller (Ask.AddLecturers rs) form left =
       added_case Lecturers (take_rows (lecturer_roll (office_sees w)) 1 (office_sees w).lecturers rs) (is_from_ranking w.phase) refl
       (λ new n early e. not_published (changed w (Lecturers new)) (lecturers_added w early rs new n g.sound form e) (open_phase w.phase early)) left

@@ -12,12 +12,12 @@ use Rattle.portal_core.specs.Sight.{LecturerSees}
 use Rattle.portal_core.specs.declared.view.View.TheVariants.{Lecturer, Student}
 use Rattle.portal_core.specs.View.{Caller, NoCaller, OfficeCaller, LecturerCaller, StudentCaller, caller_among, lecturer_with, student_with, caller, sight_of, view, catalogue, student_sees, lecturer_sees, persons}
 use Rattle.portal_core.specs.Ask.{Ask}
-use Rattle.portal_core.specs.Answer.{Answer, Act, Nothing, only, unless, applies, decision}
+use Rattle.portal_core.specs.Answer.{Answer, Act, Nothing, Apply, Publish, Render, only, unless, applies, decision}
 use Rattle.portal_core.specs.Faults.{ListFault, choice_fault, ranking_fault}
 use Rattle.portal_core.specs.Bodies.{projects_body, students_body}
 use Rattle.portal_core.specs.Good.{Good}
 use Rattle.portal_core.specs.Run.{Leaves, Step, Serves, Answers, Run, Request, Wish, Calls, Refused, end_of}
-use Rattle.portal_core.specs.Heard.{IsMember, IsIdle, IsIdleWish, replies_to}
+use Rattle.portal_core.specs.Heard.{IsMember, IsIdle, IsIdleAct, IsIdleWish, replies_to}
 use Rattle.portal_core.proofs.Keys.{is_same, is_own, found_passes, one_row}
 use Rattle.portal_core.proofs.Acts.{caller_chosen, caller_ranked, re_chosen, re_ranked, catalogue_ranked, only_quiet}
 
@@ -158,8 +158,14 @@ others w v c d ask reply good step member other office = member_case w v c d goo
 
 -- an idle request may be struck out
 
+idle_act : (w v : World) (act : Act) → IsIdleAct act → Leaves w act v → v ≡ w
+idle_act w v Nothing idle left = left
+idle_act w v (Render sheet) idle left = left
+idle_act w v (Apply change) idle left = absurd idle
+idle_act w v Publish idle left = absurd idle
+
 idle_wish : (w v : World) (r : Request) (a : Answer) (wish : Wish) → Answers w r wish a v → IsIdleWish w r.code wish → v ≡ w
-idle_wish w v r a (Calls ask) s idle = subst (λ x. Leaves w x v) idle s.left
+idle_wish w v r a (Calls ask) s idle = idle_act w v (decision (view w r.code) ask).act idle s.left
 idle_wish w v r a (Refused refusal) s idle = s.1
 
 idle_stays : (w v : World) (r : Request) (a : Answer) → Serves w r a v → IsIdle w r → v ≡ w

@@ -1,17 +1,21 @@
 -- What is answered to a caller who sees this, and what is to be done. No world is in it.
-use Rattle.std.specs.Prelude.{ℕ, Bool, not, if◌then◌else◌, codes, List, [], ◌∷◌, length, Option, Some, None}
+use Rattle.std.specs.Prelude.{◌≡◌, ℕ, Bool, false, not, if◌then◌else◌, codes, List, [], ◌∷◌, length, Option, Some, None}
 use Rattle.serde_json.specs.Data.{Data, string}
+use Rattle.serde_json.specs.Written.{has_float}
 use Rattle.portal_core.specs.declared.phase.Phase.{Phase}
 use Rattle.portal_core.specs.declared.phase.Phase.TheVariants.{Setup, Choosing, Ranking, Published}
 use Rattle.portal_core.specs.Words.{Key, is_empty}
 use Rattle.portal_core.specs.World.{is_choosing, is_ranking, is_published, is_from_ranking}
-use Rattle.portal_core.specs.Change.{Change, Choices, Ranks, Lecturers, Projects, Students, To}
+use Rattle.portal_core.specs.Change.{Change, Choices, Ranks, Lecturers, Projects, Students, To, Fill}
 use Rattle.portal_core.specs.Sight.{StudentSees, LecturerSees, OfficeSees}
 use Rattle.portal_core.specs.declared.view.View.{View as Sight}
 use Rattle.portal_core.specs.declared.view.View.TheVariants.{Nobody, Office, Lecturer, Student}
+use Rattle.portal_core.specs.declared.decision.Sheet.{Sheet}
+use Rattle.portal_core.specs.declared.decision.Sheet.TheVariants as sheet
 use Rattle.portal_core.specs.Ask.{Ask}
 use Rattle.portal_core.specs.Json.{dictionary, texts, count}
-use Rattle.portal_core.specs.Bodies.{catalogue_body, projects_body, students_body, applicants_body, placed_body, project_body, phase_body, student_me, lecturer_me, office_me, roll_body, status_body, allocation_body}
+use Rattle.portal_core.specs.Bodies.{catalogue_body, projects_body, students_body, applicants_body, placed_body, project_body, phase_body, student_me, lecturer_me, office_me, roll_body, status_body, allocation_body, filled_body}
+use Rattle.portal_core.specs.Sheets.{csv_text, report_text}
 use Rattle.portal_core.specs.Faults.{ListFault, choice_fault, ranking_fault}
 use Rattle.portal_core.specs.Rolls.{Taken, Faulty, Took, take_rows, lecturer_roll, project_roll, student_roll}
 
@@ -27,10 +31,12 @@ pub record Answer : Type 0 where
   pub allow : List ℕ
   pub body : Said
 
+-- a sheet shows the result and changes nothing
 pub data Act : Type 0 where
   Nothing : Act
   Apply : Change → Act
   Publish : Act
+  Render : Sheet → Act
 
 pub record Decision : Type 0 where
   pub reply : Answer
@@ -44,6 +50,9 @@ shows body = record { reply = answered 200 body; act = Nothing }
 
 abbrev pub applies : Data → Change → Decision
 applies body change = record { reply = answered 200 body; act = Apply change }
+
+abbrev pub renders : Said → Sheet → Decision
+renders text sheet = record { reply = record { status = 200; allow = []; body = text }; act = Render sheet }
 
 abbrev pub refuses : Answer → Decision
 refuses answer = record { reply = answer; act = Nothing }
@@ -133,6 +142,14 @@ moves v Ranking Published = publishes v
 moves v Published Published = shows (phase_body Published)
 moves v _ _ = wrong_phase
 
+-- each lecturer still to rank gets a ranking; where nobody is there is nothing to do
+abbrev pub fills : OfficeSees → Decision
+fills v =
+    record {
+      reply = answered 200 (filled_body v.still_to_rank);
+      act = if is_empty v.still_to_rank then Nothing else Apply Fill;
+    }
+
 abbrev pub to_office : OfficeSees → Ask → Decision
 to_office v Ask.Me = shows (office_me v)
 to_office v Ask.Catalogue = shows (catalogue_body v.catalogue)
@@ -142,6 +159,9 @@ to_office v (Ask.AddStudents rows) = only (is_open_to_rolls v.phase) (added Stud
 to_office v (Ask.Move phase) = moves v v.phase phase
 to_office v Ask.Status = shows (status_body v)
 to_office v Ask.Allocation = only (is_published v.phase) (shows (allocation_body v.pairs))
+to_office v Ask.AllocationCsv = only (is_published v.phase) (renders (Csv (csv_text v)) sheet.Csv)
+to_office v Ask.Report = only (is_published v.phase) (renders (Plain (report_text v)) sheet.Report)
+to_office v Ask.FillRankings = only (is_ranking v.phase) (fills v)
 to_office v _ = not_yours
 
 -- all callers
@@ -155,10 +175,28 @@ decision (Student v) ask = to_student v ask
 abbrev pub answer : Sight → Ask → Answer
 answer v ask = (decision v ask).reply
 
--- the caller's own list in what the caller sees
+-- a decision whose sheet is still to be written
+abbrev pub blank : Sheet → Said
+blank sheet.Csv = Csv []
+blank sheet.Report = Plain []
+
+abbrev pub unwritten : Act → Said → Said
+unwritten (Render sheet) text = blank sheet
+unwritten act text = text
+
+abbrev pub emptied : Decision → Decision
+emptied d = record d { reply = record d.reply { body = unwritten d.act d.reply.body } }
+
+-- JSON with whole numbers, or a sheet
+abbrev pub IsWhole : Said → Type 0
+IsWhole (Json body) = has_float body ≡ false
+IsWhole _ = Unit {0}
+
+-- the caller's own list, or the office's, in what the caller sees
 abbrev pub with_own : Sight → Act → Sight
 with_own (Student v) (Apply (Choices k list)) = Student (record v { choices = list })
 with_own (Lecturer v) (Apply (Ranks k list)) = Lecturer (record v { ranking = Some list })
+with_own (Office v) (Apply Fill) = Office (record v { still_to_rank = [] })
 with_own v _ = v
 
 -- what the caller sees after a call by which nothing else of it may change

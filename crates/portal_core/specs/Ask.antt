@@ -20,3 +20,6 @@ pub data Ask : Type 0 where
   Move : Phase → Ask
   Status : Ask
   Allocation : Ask
+  AllocationCsv : Ask
+  Report : Ask
+  FillRankings : Ask

@@ -69,5 +69,8 @@ status_body v =
     ++ (if is_published v.phase then (codes "unassigned", texts (unassigned v)) ∷ [] else [])
     ++ (codes "without_list", texts v.without_list) ∷ [])
 
+abbrev pub filled_body : List Key → Data
+filled_body ks = dictionary ((codes "filled", texts ks) ∷ [])
+
 abbrev pub allocation_body : List (Key × Key) → Data
 allocation_body pairs = dictionary ((codes "pairs", several (map (λ (x : Key × Key). dictionary ((codes "project", string x.1) ∷ (codes "student", string x.0) ∷ [])) pairs)) ∷ [])

@@ -7,9 +7,10 @@ use Rattle.portal_core.specs.declared.rows.LecturerRow.{LecturerRow}
 use Rattle.portal_core.specs.declared.rows.ProjectRow.{ProjectRow}
 use Rattle.portal_core.specs.declared.rows.StudentRow.{StudentRow}
 use Rattle.portal_core.specs.Words.{Key, is, put_all}
-use Rattle.portal_core.specs.World.{World, Lecturer, Student, lecturer_key, project_key, student_key}
+use Rattle.portal_core.specs.World.{World, Lecturer, Student, lecturer_key, project_key, student_key, applicants_of, is_still_to_rank}
 
--- a student's list; a lecturer's ranking; new rows of a roll; the phase; the result, as pairs of a student and a project
+-- a student's list; a lecturer's ranking; new rows of a roll; the phase; the result, as pairs of a student and a project;
+-- the missing rankings
 pub data Change : Type 0 where
   Choices : Key → List Key → Change
   Ranks : Key → List Key → Change
@@ -18,6 +19,7 @@ pub data Change : Type 0 where
   Students : List StudentRow → Change
   To : Phase → Change
   Places : List (Key × Key) → Change
+  Fill : Change
 
 abbrev pub with_choice : Key → List Key → Student → Student
 with_choice k list s = if is s.row.key k then record s { choice = list } else s
@@ -39,6 +41,10 @@ place_in pairs s = option_map (λ (x : Key × Key). x.1) (find (λ x. is x.0 s) 
 abbrev pub with_place : List (Key × Key) → Student → Student
 with_place pairs s = record s { placed = place_in pairs s.row.key }
 
+-- a lecturer who is still to rank gets the applicants in the order of their keys
+abbrev pub with_fill : World → Lecturer → Lecturer
+with_fill w l = if is_still_to_rank w l then record l { ranking = Some (map student_key (applicants_of w l.row.key)) } else l
+
 -- the world with one change
 abbrev pub changed : World → Change → World
 changed w (Choices k list) = record w { students = map (with_choice k list) w.students }
@@ -48,3 +54,4 @@ changed w (Projects rows) = record w { projects = put_all project_key rows w.pro
 changed w (Students rows) = record w { students = put_all student_key (map new_student rows) w.students }
 changed w (To phase) = record w { phase = phase }
 changed w (Places pairs) = record w { phase = Published; students = map (with_place pairs) w.students }
+changed w Fill = record w { lecturers = map (with_fill w) w.lecturers }

@@ -6,7 +6,7 @@ use Rattle.portal_core.specs.declared.view.View.{View as Sight}
 use Rattle.portal_core.specs.declared.view.View.TheVariants.{Lecturer, Student}
 use Rattle.portal_core.specs.View.{view}
 use Rattle.portal_core.specs.Ask.{Ask}
-use Rattle.portal_core.specs.Answer.{Answer, Nothing, decision}
+use Rattle.portal_core.specs.Answer.{Answer, Act, Nothing, Render, decision}
 use Rattle.portal_core.specs.Run.{Wish, Calls, Refused, Request}
 
 -- the caller's own request with its marks, or what the caller sees from now on
@@ -57,10 +57,15 @@ IsMember (Lecturer v) = Unit {0}
 IsMember (Student v) = Unit {0}
 IsMember _ = ⊥
 
+abbrev pub IsIdleAct : Act → Type 0
+IsIdleAct Nothing = Unit {0}
+IsIdleAct (Render sheet) = Unit {0}
+IsIdleAct _ = ⊥
+
 abbrev pub IsIdleWish : World → Key → Wish → Type 0
-IsIdleWish w code (Calls ask) = (decision (view w code) ask).act ≡ Nothing
+IsIdleWish w code (Calls ask) = IsIdleAct (decision (view w code) ask).act
 IsIdleWish w code (Refused refusal) = Unit {0}
 
--- a showing call, a refusal, a move to the current phase or a roll that is all there
+-- a showing call, a refusal, a move to the current phase, a roll that is all there or a fill that fills nobody
 abbrev pub IsIdle : World → Request → Type 0
 IsIdle w r = IsIdleWish w r.code r.wish

@@ -15,9 +15,9 @@ use Rattle.portal_core.specs.declared.decision.Change.TheVariants as change
 use Rattle.portal_core.specs.declared.decision.Act as done
 use Rattle.portal_core.specs.declared.decision.Act.TheVariants as act
 use Rattle.portal_core.specs.declared.decision.Decision as taken
-use Rattle.portal_core.specs.Change.{Change, Choices, Ranks, Lecturers, Projects, Students, To, Places}
+use Rattle.portal_core.specs.Change.{Change, Choices, Ranks, Lecturers, Projects, Students, To, Places, Fill}
 use Rattle.portal_core.specs.Ask.{Ask}
-use Rattle.portal_core.specs.Answer.{Answer, Said, Json, Csv, Plain, Unavailable, Act, Nothing, Apply, Publish, Decision}
+use Rattle.portal_core.specs.Answer.{Answer, Said, Json, Csv, Plain, Unavailable, Act, Nothing, Apply, Publish, Render, Decision}
 
 -- the texts of a list as it came
 abbrev pub texts_of : List (Vec ℕ Global) → List (List ℕ)
@@ -42,6 +42,9 @@ asked (call.AddStudents rows) = Ask.AddStudents rows.items
 asked (call.Move phase) = Ask.Move phase
 asked call.Status = Ask.Status
 asked call.Allocation = Ask.Allocation
+asked call.AllocationCsv = Ask.AllocationCsv
+asked call.Report = Ask.Report
+asked call.FillRankings = Ask.FillRankings
 
 abbrev pub said : Body → Said
 said (body.Json value) = Json (json.view value)
@@ -60,11 +63,13 @@ meant (change.Projects rows) = Projects rows.items
 meant (change.Students rows) = Students rows.items
 meant (change.Phase phase) = To phase
 meant (change.Result pairs) = Places pairs.items
+meant change.Fill = Fill
 
 abbrev pub does : done.Act → Act
 does act.Nothing = Nothing
 does (act.Apply change) = Apply (meant change)
 does act.Publish = Publish
+does (act.Render sheet) = Render sheet
 
 abbrev pub decided : taken.Decision → Decision
 decided d = record { reply = told d.reply; act = does d.act }

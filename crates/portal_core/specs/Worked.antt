@@ -1,16 +1,17 @@
 -- A small world in each phase: two lecturers, three projects and three students.
-use Rattle.std.specs.Prelude.{◌≡◌, ℕ, if◌then◌else◌, List, [], ◌∷◌, codes, Option, Some, None}
+use Rattle.std.specs.Prelude.{◌≡◌, ℕ, if◌then◌else◌, List, [], ◌∷◌, ◌++◌, codes, Option, Some, None}
+use Rattle.std.specs.List.{flat_map}
 use Rattle.serde_json.specs.Data.{Data, null, string}
 use Rattle.portal_core.specs.declared.phase.Phase.{Phase}
 use Rattle.portal_core.specs.declared.phase.Phase.TheVariants.{Setup, Choosing, Ranking, Published}
 use Rattle.portal_core.specs.declared.rows.StudentRow.{StudentRow}
 use Rattle.portal_core.specs.Words.{Key}
 use Rattle.portal_core.specs.World.{World, is_setup, is_published}
-use Rattle.portal_core.specs.Change.{Choices, Ranks, changed}
+use Rattle.portal_core.specs.Change.{Choices, Ranks, Fill, changed}
 use Rattle.portal_core.specs.View.{view}
 use Rattle.portal_core.specs.Ask.{Ask}
 use Rattle.portal_core.specs.Json.{dictionary, several, texts, count}
-use Rattle.portal_core.specs.Answer.{Answer, answer, answered}
+use Rattle.portal_core.specs.Answer.{Answer, Said, Csv, Plain, answer, answered}
 
 -- lists are made after setup, and rankings and places stand in published
 abbrev pub choice_in : Phase → List Key → List Key
@@ -129,3 +130,57 @@ pub record TellsResult : Type 0 where
   pub status : reply Published office Ask.Status ≡ body (
       (codes "assigned", count 2) ∷ (codes "lecturers", count 2) ∷ (codes "phase", string (codes "published")) ∷ (codes "projects", count 3) ∷ (codes "still_to_rank", texts [])
       ∷ (codes "students", count 3) ∷ (codes "unassigned", texts (codes "S3" ∷ [])) ∷ (codes "without_list", texts (codes "S3" ∷ [])) ∷ [])
+
+abbrev pub lines : List (List ℕ) → List ℕ
+lines texts = flat_map (λ line. line ++ 10 ∷ []) texts
+
+abbrev pub sheet : Said → Answer
+sheet text = record { status = 200; allow = []; body = text }
+
+-- the result as CSV and as a text, to the office alone and once it is published
+pub record TellsSheets : Type 0 where
+  pub csv : reply Published office Ask.AllocationCsv ≡ sheet (Csv (lines (
+      codes "student,name,project,title,lecturer"
+      ∷ codes "S1,Ann,P2,Kites,L1"
+      ∷ codes "S2,\"Roe, Bea\",P1,Tides,L1"
+      ∷ codes "S3,Cyr,,,"
+      ∷ [])))
+  pub text : reply Published office Ask.Report ≡ sheet (Plain (lines (
+      codes "S1                P2                L1"
+      ∷ codes "S2                P1                L1"
+      ∷ codes "S3                (none)"
+      ∷ []
+      ∷ codes "P1                 1 of    1"
+      ∷ codes "P2                 1 of    1"
+      ∷ codes "P3                 0 of    1"
+      ∷ []
+      ∷ codes "assigned 2 of 3"
+      ∷ [])))
+  pub too_early : reply Ranking office Ask.AllocationCsv ≡ refusal 409 (word (codes "wrong_phase") ∷ [])
+  pub text_too_early : reply Ranking office Ask.Report ≡ refusal 409 (word (codes "wrong_phase") ∷ [])
+  pub to_a_student : reply Published ann Ask.AllocationCsv ≡ refusal 403 (word (codes "not_yours") ∷ [])
+  pub text_to_a_student : reply Published ann Ask.Report ≡ refusal 403 (word (codes "not_yours") ∷ [])
+
+-- the world in ranking, once the first lecturer has ranked
+abbrev pub one_ranked : World
+one_ranked = changed (worked Ranking) (Ranks (codes "L1") (codes "S2" ∷ codes "S1" ∷ []))
+
+abbrev pub moe : Key
+moe = codes "moe-code-02"
+
+abbrev pub filled : List Key → Answer
+filled keys = body ((codes "filled", texts keys) ∷ [])
+
+abbrev pub ranked : List Key → Answer
+ranked keys = body ((codes "students", texts keys) ∷ [])
+
+-- each missing ranking becomes the applicants by key, and one that is there stays
+pub record TellsFill : Type 0 where
+  pub one : answer (view one_ranked office) Ask.FillRankings ≡ filled (codes "L2" ∷ [])
+  pub again : answer (view (changed one_ranked Fill) office) Ask.FillRankings ≡ filled []
+  pub filled_one : answer (view (changed one_ranked Fill) moe) Ask.ShowRanking ≡ ranked (codes "S2" ∷ [])
+  pub kept_one : answer (view (changed one_ranked Fill) lee) Ask.ShowRanking ≡ ranked (codes "S2" ∷ codes "S1" ∷ [])
+  pub both : reply Ranking office Ask.FillRankings ≡ filled (codes "L1" ∷ codes "L2" ∷ [])
+  pub by_key : answer (view (changed (worked Ranking) Fill) lee) Ask.ShowRanking ≡ ranked (codes "S1" ∷ codes "S2" ∷ [])
+  pub too_early : reply Choosing office Ask.FillRankings ≡ refusal 409 (word (codes "wrong_phase") ∷ [])
+  pub by_a_lecturer : reply Ranking lee Ask.FillRankings ≡ refusal 403 (word (codes "not_yours") ∷ [])

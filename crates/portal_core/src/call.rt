@@ -23,4 +23,10 @@ pub enum Call {
     Move(Phase),
     Status,
     Allocation,
+    /// The result as CSV.
+    AllocationCsv,
+    /// The result as a text.
+    Report,
+    /// Gives a ranking to each lecturer still to rank: the applicants in the order of their keys.
+    FillRankings,
 }

@@ -1,5 +1,9 @@
 //! What is answered, and what is to be done.
 
+ghost use Rattle.std.specs.Prelude.{◌≡◌};
+ghost use Rattle.portal_core.specs.Meaning.{told};
+ghost use Rattle.portal_core.specs.Run as run;
+
 use crate::phase::Phase;
 use crate::rows::{LecturerRow, ProjectRow, StudentRow};
 use serde_json::Value;
@@ -23,6 +27,19 @@ pub struct Reply {
     pub body: Body,
 }
 
+impl Reply {
+    /// The reply where memory or the store failed; it takes no memory.
+    pub fn unavailable() -> Reply
+        ensures { told result ≡ run.unavailable }
+    {
+        Reply {
+            status: 503,
+            allow: "",
+            body: Body::Unavailable,
+        }
+    }
+}
+
 /// A change of the world.
 #[derive(Drop)]
 pub enum Change {
@@ -37,6 +54,15 @@ pub enum Change {
     Phase(Phase),
     /// The result, as pairs of a student and a project; the phase becomes published.
     Result(Vec<(Key, Key)>),
+    /// Each lecturer still to rank gets the applicants in the order of their keys.
+    Fill,
+}
+
+/// What shows the result to the office.
+#[derive(Clone, Copy, Debug, PartialEq, Eq)]
+pub enum Sheet {
+    Csv,
+    Report,
 }
 
 /// What is to be done.
@@ -46,6 +72,8 @@ pub enum Act {
     Apply(Change),
     /// Solves the world's instance and publishes the matching.
     Publish,
+    /// Writes the sheet into the reply's body, which is empty and of the sheet's kind.
+    Render(Sheet),
 }
 
 /// What is answered, and what is to be done.

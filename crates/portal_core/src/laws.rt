@@ -1,20 +1,26 @@
 //! Laws over the definitions alone: what each caller may learn, whatever a keeper does.
 
-ghost use Rattle.std.specs.Prelude.{◌≡◌, ◌++◌, ◌∷◌, List, map, true, false};
+ghost use Rattle.std.specs.Prelude.{◌≡◌, ◌++◌, ◌∷◌, [], List, map, true, false, Some, None};
 ghost use Rattle.portal_core.specs.Words.{Key, is, has};
-ghost use Rattle.portal_core.specs.World.{World};
-ghost use Rattle.portal_core.specs.Good.{Good, codes_of};
+ghost use Rattle.portal_core.specs.World.{World, Lecturer, student_key, applicants_of, is_from_ranking};
+ghost use Rattle.portal_core.specs.Good.{Good, codes_of, IsChoice, IsRanking};
+ghost use Rattle.portal_core.specs.Faults.{ListFault, choice_fault, ranking_fault};
+ghost use Rattle.portal_core.specs.Rolls.{Took, take_rows, lecturer_roll, project_roll, student_roll};
+ghost use Rattle.portal_core.specs.Legal.{AreFresh, IsFirstAt};
+ghost use Rattle.portal_core.specs.Sight.{OfficeSees};
+ghost use Rattle.portal_core.specs.declared.rows.LecturerRow.{LecturerRow};
+ghost use Rattle.portal_core.specs.declared.rows.StudentRow.{StudentRow};
 ghost use Rattle.portal_core.specs.Ask.{Ask};
 ghost use Rattle.portal_core.specs.Answer.{Answer, own};
 ghost use Rattle.portal_core.specs.View.{view, catalogue, office_sees, lecturer_sees, student_sees};
-ghost use Rattle.portal_core.specs.declared.view.View.TheVariants.{Nobody, Office, Lecturer, Student};
+ghost use Rattle.portal_core.specs.declared.view.View.TheVariants as sees;
 ghost use Rattle.portal_core.specs.declared.rows.Listing.{Listing};
 ghost use Rattle.portal_core.specs.declared.rows.ProjectRow.{ProjectRow};
 ghost use Rattle.portal_core.specs.Run.{Request, Step, Serves, Calls, Run, AllAnswered, end_of};
 ghost use Rattle.portal_core.specs.Heard.{IsMember, IsIdle, is_move_or_add, Item, Heard, replies_to};
 ghost use Rattle.portal_core.specs.Places.{SameButPlaces, SameRequest, AlikeUntilPublished};
 ghost use Rattle.std.specs.List.{AllZip, AllByRecursion};
-ghost use Rattle.portal_core.specs.Worked.{worked, TellsWho, TellsApplicants, TellsLists, TellsMoves, TellsResult};
+ghost use Rattle.portal_core.specs.Worked.{worked, TellsWho, TellsApplicants, TellsLists, TellsMoves, TellsResult, TellsSheets, TellsFill};
 ghost use Rattle.portal_core.specs.declared.phase.Phase as phases;
 
 /// Two runs in which a caller starts with the same view and hears the same give the caller the same
@@ -55,10 +61,35 @@ pub fn step_good()
     ensures { (w v : World) (code : Key) (ask : Ask) (reply : Answer) → Good w → Step w code ask reply v → Good v }
 {}
 
+/// Each world that a run reaches from a good world is good, so that every published result is stable.
+pub fn run_good()
+    ensures { (w : World) (asked : List Request) (told : List Answer) (after : List World)
+        → Good w → Run w asked told after → AllByRecursion Good after }
+{}
+
 /// A step of a good world has one reply and leaves one world.
 pub fn step_once()
     ensures { (w v u : World) (code : Key) (ask : Ask) (a b : Answer)
         → Good w → Step w code ask a v → Step w code ask b u → (a ≡ b) × (v ≡ u) }
+{}
+
+/// What is legal is taken: a list of at most 20 known projects, none twice; a ranking that lists each
+/// applicant once, and no other; new rows that are not bad, within the limit. A fault of a student's
+/// list is told at the first faulty position.
+pub fn legal_is_taken()
+    ensures choices { (catalogue : List Listing) (list : List Key)
+        → IsChoice (map (λ (l : Listing). l.key) catalogue) list → choice_fault catalogue 1 [] list ≡ None }
+    ensures first_fault { (catalogue : List Listing) (list : List Key) (fault : ListFault)
+        → choice_fault catalogue 1 [] list ≡ Some fault → IsFirstAt (choice_fault catalogue 1 []) list fault.at }
+    ensures rankings { (w : World) (l : Lecturer) (list : List Key)
+        → is_from_ranking w.phase ≡ true → IsRanking (map student_key (applicants_of w l.row.key)) list
+        → ranking_fault (lecturer_sees w l).applicants 1 [] list ≡ None }
+    ensures lecturers { (v : OfficeSees) (rows : List LecturerRow)
+        → AreFresh (lecturer_roll v) v.lecturers rows → take_rows (lecturer_roll v) 1 v.lecturers rows ≡ Took rows 0 }
+    ensures projects { (v : OfficeSees) (rows : List ProjectRow)
+        → AreFresh (project_roll v) v.projects rows → take_rows (project_roll v) 1 v.projects rows ≡ Took rows 0 }
+    ensures students { (v : OfficeSees) (rows : List StudentRow)
+        → AreFresh (student_roll v) v.students rows → take_rows (student_roll v) 1 v.students rows ≡ Took rows 0 }
 {}
 
 /// In a good world the catalogue shows each project.
@@ -78,10 +109,10 @@ pub fn places_unseen()
 
 /// In a good world a code names its own row, by role, and any other code nobody.
 pub fn named_by_code()
-    ensures office { (w : World) → Good w → view w w.office ≡ Office (office_sees w) }
-    ensures lecturers { (w : World) → Good w → AllByRecursion (λ l. view w l.row.code ≡ Lecturer (lecturer_sees w l)) w.lecturers }
-    ensures students { (w : World) → Good w → AllByRecursion (λ s. view w s.row.code ≡ Student (student_sees w s)) w.students }
-    ensures others { (w : World) (c : Key) → Good w → has (codes_of w) c ≡ false → view w c ≡ Nobody }
+    ensures office { (w : World) → Good w → view w w.office ≡ sees.Office (office_sees w) }
+    ensures lecturers { (w : World) → Good w → AllByRecursion (λ l. view w l.row.code ≡ sees.Lecturer (lecturer_sees w l)) w.lecturers }
+    ensures students { (w : World) → Good w → AllByRecursion (λ s. view w s.row.code ≡ sees.Student (student_sees w s)) w.students }
+    ensures others { (w : World) (c : Key) → Good w → has (codes_of w) c ≡ false → view w c ≡ sees.Nobody }
 {}
 
 /// There is a good world in each phase: the small world is one.
@@ -96,4 +127,6 @@ pub fn worked_replies()
     ensures lists { TellsLists }
     ensures moves { TellsMoves }
     ensures result { TellsResult }
+    ensures sheets { TellsSheets }
+    ensures fill { TellsFill }
 {}

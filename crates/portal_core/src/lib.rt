@@ -9,16 +9,15 @@ mod keeper;
 pub mod laws;
 mod name;
 mod phase;
+mod placing;
 mod rows;
-#[cfg(test)]
-mod tests;
 mod text;
 mod view;
 
 pub use call::Call;
 pub use code::{Code, CodeFault};
 pub use deciding::decide;
-pub use decision::{Act, Body, Change, Decision, Reply};
+pub use decision::{Act, Body, Change, Decision, Reply, Sheet};
 pub use keeper::{KeepFault, Keeper};
 pub use name::{Name, NameFault};
 pub use phase::Phase;

@@ -5,12 +5,13 @@ use crate::phase::Phase;
 use crate::rows::{LecturerRow, Listing, Person, ProjectRow, StudentRow};
 use spa_rows::Key;
 use std::marker::Model;
+use std::rc::Rc;
 
 #[derive(Drop)]
 pub struct StudentView {
     pub phase: Phase,
     pub me: Person,
-    pub catalogue: Vec<Listing>,
+    pub catalogue: Rc<Vec<Listing>>,
     pub choices: Vec<Key>,
     pub result: Option<Key>,
 }
@@ -20,7 +21,7 @@ impl Model for StudentView {
 
     ghost Value = { StudentSees };
 
-    ghost view = { λ v. record { phase = v.phase; me = v.me; catalogue = v.catalogue.items; choices = v.choices.items; result = v.result } };
+    ghost view = { λ v. record { phase = v.phase; me = v.me; catalogue = v.catalogue.value.items; choices = v.choices.items; result = v.result } };
 }
 
 #[derive(Drop)]
@@ -28,7 +29,7 @@ pub struct LecturerView {
     pub phase: Phase,
     pub me: Person,
     pub capacity: u32,
-    pub catalogue: Vec<Listing>,
+    pub catalogue: Rc<Vec<Listing>>,
     pub applicants: Vec<(Key, Vec<Person>)>,
     pub ranking: Option<Vec<Key>>,
     pub placed: Vec<(Key, Vec<Person>)>,
@@ -44,7 +45,7 @@ impl Model for LecturerView {
       phase = v.phase;
       me = v.me;
       capacity = v.capacity;
-      catalogue = v.catalogue.items;
+      catalogue = v.catalogue.value.items;
       applicants = map (λ p. (p.0, p.1.items)) v.applicants.items;
       ranking = option_map (λ r. r.items) v.ranking;
       placed = map (λ p. (p.0, p.1.items)) v.placed.items;
@@ -58,7 +59,7 @@ pub struct OfficeView {
     pub lecturers: Vec<LecturerRow>,
     pub projects: Vec<ProjectRow>,
     pub students: Vec<StudentRow>,
-    pub catalogue: Vec<Listing>,
+    pub catalogue: Rc<Vec<Listing>>,
     pub without_list: Vec<Key>,
     pub still_to_rank: Vec<Key>,
     pub pairs: Vec<(Key, Key)>,
@@ -75,7 +76,7 @@ impl Model for OfficeView {
       lecturers = v.lecturers.items;
       projects = v.projects.items;
       students = v.students.items;
-      catalogue = v.catalogue.items;
+      catalogue = v.catalogue.value.items;
       without_list = v.without_list.items;
       still_to_rank = v.still_to_rank.items;
       pairs = v.pairs.items;

@@ -14,6 +14,6 @@ pub mod Pigeons
 pub mod Steps
 pub mod Ranked
 pub mod Parted
-pub mod Pairs
-pub mod Play
 pub mod Fresh
+pub mod Shared
+pub mod Filled

@@ -24,7 +24,7 @@ student_keys_are w = map_map (λ r. r.key) (λ s. s.row) w.students
 codes_are : (w : World) → codes_in w.office (rows_of w).lecturers (rows_of w).students ≡ codes_of w
 codes_are w = λ i. w.office ∷ map_map (λ r. r.code) (λ l. l.row) w.lecturers i ++ map_map (λ r. r.code) (λ s. s.row) w.students i
 
-applicants_are : (w : World) (l : Key) → applicant_keys w.projects w.students l ≡ map student_key (applicants_of w l)
+pub applicants_are : (w : World) (l : Key) → applicant_keys w.projects w.students l ≡ map student_key (applicants_of w l)
 applicants_are w l = λ i. map student_key (filter (λ s. laws.any_map (λ p. has s.choice p) project_key (projects_of w l) i) w.students)
 
 still : (xs : List Student) (o : Option (List Key)) → (not (is_empty xs) && is_none o) ≡ false → o ≡ None → map student_key xs ≡ []

@@ -3,4 +3,4 @@ pub mod Shown
 pub mod Rows
 pub mod Fit
 pub mod Parts
-pub mod Play
+pub mod Fill

@@ -5,12 +5,14 @@ ghost use Rattle.portal_core.specs.Words.{Rise};
 ghost use Rattle.portal_core.specs.World.{student_key, lecturer_key};
 ghost use Rattle.portal_core.specs.Change.{with_choice, with_ranking};
 
+mod fill;
 mod places;
 mod rolls;
 
 use crate::by_key::place_of;
 use crate::copies::keys_of;
 use crate::entries::{LecturerEntry, StudentEntry};
+pub(crate) use fill::fill_rankings;
 pub(crate) use places::place_all;
 pub(crate) use rolls::{add_lecturers, add_projects, add_students};
 use spa_rows::Key;

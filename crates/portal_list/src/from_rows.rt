@@ -115,6 +115,7 @@ fn fitted(alloc: Global, rows: WorldRows) -> Result<Option<ListKeeper>, AllocErr
         lecturers,
         projects,
         students,
+        catalogue: None,
     }))
 }
 

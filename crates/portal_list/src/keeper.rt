@@ -10,15 +10,19 @@ ghost use Rattle.portal_core.specs.Change.{changed};
 ghost use Rattle.portal_core.specs.Meaning.{meant};
 
 use crate::changes::{
-    add_lecturers, add_projects, add_students, place_all, replace_choice, replace_ranking,
+    add_lecturers, add_projects, add_students, fill_rankings, place_all, replace_choice,
+    replace_ranking,
 };
 use crate::entries::{LecturerEntry, StudentEntry};
 use crate::instance::instance_of;
-use crate::views::{lecturer_view, lecturer_with, office_view, student_view, student_with};
-use portal_core::{Change, Code, KeepFault, Keeper, Phase, ProjectRow, View};
+use crate::views::{
+    catalogue_of, lecturer_view, lecturer_with, office_view, student_view, student_with,
+};
+use portal_core::{Change, Code, KeepFault, Keeper, Listing, Phase, ProjectRow, View};
 use spa_model::Instance;
 use std::alloc::{AllocError, Global};
 use std::marker::Model;
+use std::rc::Rc;
 
 /// A world in vectors, whose rows stand by rising key.
 #[derive(Drop)]
@@ -28,14 +32,20 @@ pub struct ListKeeper {
     pub(crate) lecturers: Vec<LecturerEntry>,
     pub(crate) projects: Vec<ProjectRow>,
     pub(crate) students: Vec<StudentEntry>,
+    /// The catalogue of the rolls, once it was asked for.
+    pub(crate) catalogue: Option<Rc<Vec<Listing>>>,
 }
 
 impl Model for ListKeeper {
+    ghost use Rattle.std.specs.Prelude.{◌≡◌, IfSome};
     ghost use Rattle.portal_core.specs.World.{World};
+    ghost use Rattle.portal_core.specs.View.{listings};
 
     ghost Value = { World };
 
     ghost view = { λ k. record { phase = k.phase; office = k.office; lecturers = k.lecturers.items; projects = k.projects.items; students = k.students.items } };
+
+    ghost invariant = { λ k. IfSome k.catalogue (λ shared. shared.value.items ≡ listings k.lecturers.items k.projects.items) };
 }
 
 impl ListKeeper {
@@ -51,7 +61,28 @@ impl ListKeeper {
             lecturers: Vec::new(alloc),
             projects: Vec::new(alloc),
             students: Vec::new(alloc),
+            catalogue: None,
         }
+    }
+
+    /// The catalogue of the rolls, shared where it is kept.
+    pub(crate) fn catalogue(&self, alloc: Global) -> Result<Rc<Vec<Listing>>, AllocError>
+        ensures { IfOk result (λ shared. shared.value.items ≡ seen.catalogue self.now) }
+    {
+        match &self.catalogue {
+            Some(shared) => shared.clone(),
+            None => Ok(Rc::new(alloc, catalogue_of(alloc, &self.lecturers, &self.projects)?)?),
+        }
+    }
+
+    /// Makes the catalogue, where it is not kept.
+    fn keep_catalogue(&mut self, alloc: Global) -> Result<(), AllocError>
+        ensures { self.new ≡ self.old }
+    {
+        if self.catalogue.is_none() {
+            self.catalogue = Some(self.catalogue(alloc)?);
+        }
+        Ok(())
     }
 
     /// What the caller with this code sees.
@@ -70,6 +101,15 @@ impl ListKeeper {
         }
     }
 
+    /// What the caller with this code sees; the catalogue is kept.
+    fn show(&mut self, alloc: Global, code: &[u8]) -> Result<View, AllocError>
+        ensures shown { IfOk result (λ view. view ≡ seen.view self.old code.now) }
+        ensures same { self.new ≡ self.old }
+    {
+        self.keep_catalogue(alloc)?;
+        self.shown_to(alloc, code)
+    }
+
     /// Makes one change, or leaves all as it was where memory is short.
     pub(crate) fn make(&mut self, alloc: Global, change: &Change) -> Result<(), AllocError>
         requires lecturers { Rise (lecturer_keys self.old) }
@@ -84,8 +124,16 @@ impl ListKeeper {
             Change::Ranking { lecturer, students } => {
                 replace_ranking(alloc, &mut self.lecturers, lecturer, students)
             }
-            Change::Lecturers(rows) => add_lecturers(alloc, &mut self.lecturers, rows),
-            Change::Projects(rows) => add_projects(alloc, &mut self.projects, rows),
+            Change::Lecturers(rows) => {
+                add_lecturers(alloc, &mut self.lecturers, rows)?;
+                self.catalogue = None;
+                Ok(())
+            }
+            Change::Projects(rows) => {
+                add_projects(alloc, &mut self.projects, rows)?;
+                self.catalogue = None;
+                Ok(())
+            }
             Change::Students(rows) => add_students(alloc, &mut self.students, rows),
             Change::Phase(phase) => {
                 self.phase = *phase;
@@ -96,6 +144,7 @@ impl ListKeeper {
                 self.phase = Phase::Published;
                 Ok(())
             }
+            Change::Fill => fill_rankings(alloc, &mut self.lecturers, &self.projects, &self.students),
         }
     }
 }
@@ -112,7 +161,7 @@ impl Keeper for ListKeeper {
         // There is no store that could fail.
         ensures memory { IfErr result (λ fault. fault ≡ KeepFault.Memory) }
     {
-        self.shown_to(alloc, code).map_err(|_| KeepFault::Memory)
+        self.show(alloc, code).map_err(|_| KeepFault::Memory)
     }
 
     fn instance(&mut self, alloc: Global) -> Result<Instance, KeepFault>

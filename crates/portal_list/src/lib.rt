@@ -13,8 +13,6 @@ mod keeper;
 mod keyed;
 mod lists;
 mod rolls;
-#[cfg(test)]
-mod tests;
 mod views;
 
 pub use from_rows::{RowsFault, WorldRows};

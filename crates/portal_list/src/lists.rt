@@ -158,7 +158,7 @@ fn wanting_students<'a>(
 }
 
 /// The keys of the lecturer's applicants.
-fn applicants<'a>(
+pub(crate) fn applicants<'a>(
     alloc: Global,
     projects: &[ProjectRow],
     students: &'a [StudentEntry],

@@ -14,7 +14,7 @@ use crate::copies::{keys_of, person_of, project_rows_of};
 use crate::entries::{LecturerEntry, StudentEntry};
 use crate::keeper::ListKeeper;
 use by_project::{applicants_by_project, placed_by_project};
-use catalogue::catalogue_of;
+pub(crate) use catalogue::catalogue_of;
 use office::{lecturer_rows, pairs_of, still_to_rank, student_rows, without_list};
 use portal_core::{LecturerView, OfficeView, Phase, StudentView};
 use spa_rows::Key;
@@ -90,7 +90,7 @@ pub(crate) fn student_view(
     Ok(StudentView {
         phase: keeper.phase,
         me: person_of(alloc, &student.row.key, &student.row.name)?,
-        catalogue: catalogue_of(alloc, &keeper.lecturers, &keeper.projects)?,
+        catalogue: keeper.catalogue(alloc)?,
         choices: keys_of(alloc, &student.choice)?,
         result: shown_place(alloc, keeper.phase, &student.placed)?,
     })
@@ -120,7 +120,7 @@ pub(crate) fn lecturer_view(
         phase: keeper.phase,
         me: person_of(alloc, &row.key, &row.name)?,
         capacity: row.capacity,
-        catalogue: catalogue_of(alloc, &keeper.lecturers, &keeper.projects)?,
+        catalogue: keeper.catalogue(alloc)?,
         applicants: applicants_by_project(
             alloc,
             closed,
@@ -150,7 +150,7 @@ pub(crate) fn office_view(alloc: Global, keeper: &ListKeeper) -> Result<OfficeVi
         lecturers: lecturer_rows(alloc, &keeper.lecturers)?,
         projects: project_rows_of(alloc, &keeper.projects)?,
         students: student_rows(alloc, &keeper.students)?,
-        catalogue: catalogue_of(alloc, &keeper.lecturers, &keeper.projects)?,
+        catalogue: keeper.catalogue(alloc)?,
         without_list: without_list(alloc, &keeper.students)?,
         still_to_rank: still_to_rank(
             alloc,

@@ -1,6 +1,7 @@
 //! Reading CSV: the rolls, and instance files.
 #![tactic(auto)]
 
+mod allocation;
 mod fault;
 mod fields;
 mod instance;
@@ -9,9 +10,7 @@ mod reading;
 mod record;
 mod rolls;
 
+pub use allocation::write_allocation;
 pub use fault::RollFault;
 pub use instance::read_instance;
 pub use rolls::{read_lecturers, read_projects, read_students};
-
-#[cfg(test)]
-mod tests;

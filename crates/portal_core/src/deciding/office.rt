@@ -4,24 +4,25 @@ ghost use Rattle.std.specs.Prelude.{◌≡◌, ◌∷◌, [], length, map, codes
 ghost use Rattle.serde_json.specs.View as json;
 ghost use Rattle.serde_json.specs.Data.{string};
 ghost use Rattle.portal_core.specs.Words.{Key, is_empty};
-ghost use Rattle.portal_core.specs.World.{phase_word, is_published};
+ghost use Rattle.portal_core.specs.World.{phase_word, is_published, is_ranking};
 ghost use Rattle.portal_core.specs.Json as form;
 ghost use Rattle.portal_core.specs.Json.{dictionary, members, count};
 ghost use Rattle.portal_core.specs.Bodies as shown;
 ghost use Rattle.portal_core.specs.Rolls as rolls;
 ghost use Rattle.portal_core.specs.Rolls.{Took};
 ghost use Rattle.portal_core.specs.Answer as answer;
-ghost use Rattle.portal_core.specs.Answer.{Nothing, Apply, only, is_open_to_rolls, row_fault, publishes, moves, to_office};
+ghost use Rattle.portal_core.specs.Answer.{Nothing, Apply, only, is_open_to_rolls, row_fault, publishes, moves, to_office, blank, emptied};
+ghost use Rattle.portal_core.specs.Change.{Fill};
 ghost use Rattle.portal_core.specs.Meaning.{asked, told, does, decided};
 
 use crate::call::Call;
 use crate::deciding::bodies::{catalogue_body, key_value, phase_body, texts};
 use crate::deciding::kinds::{LecturerRoll, ProjectRoll, StudentRoll};
 use crate::deciding::replies::{
-    applies, json_reply, not_yours, refused, refuses, shows, wrong_phase,
+    applies, json_reply, not_yours, refused, refuses, renders, shows, wrong_phase,
 };
 use crate::deciding::rolls::{Added, Roll, RollFault, take_rows};
-use crate::decision::{Act, Change, Decision, Reply};
+use crate::decision::{Act, Change, Decision, Reply, Sheet};
 use crate::phase::Phase;
 use crate::view::OfficeView;
 use serde_json::{Map, Value, json, put};
@@ -267,13 +268,55 @@ fn allocation(alloc: Global, view: &OfficeView) -> Result<Decision, AllocError>
     Ok(shows(allocation_body(alloc, &view.pairs)?))
 }
 
+/// The result as a sheet, once it is published; its text is still to be written.
+fn sheet(alloc: Global, view: &OfficeView, sheet: Sheet) -> Result<Decision, AllocError>
+    ensures { IfOk result (λ decision. decided decision ≡ only (is_published view.now.phase) (answer.renders (blank sheet) sheet)) }
+{
+    if view.phase != Phase::Published {
+        return wrong_phase(alloc);
+    }
+    Ok(renders(alloc, sheet))
+}
+
+/// The lecturers who get a ranking.
+fn filled_body(alloc: Global, keys: &[Key]) -> Result<Value, AllocError>
+    ensures { IfOk result (λ body. json.view body ≡ shown.filled_body keys.now) }
+{
+    let filled = texts(alloc, keys)?;
+    json!(in alloc; {"filled": filled})
+}
+
+/// The missing rankings are made, where any is missing.
+fn fill_act(view: &OfficeView) -> Act
+    ensures { does result ≡ (if is_empty view.now.still_to_rank then Nothing else Apply Fill) }
+{
+    if view.still_to_rank.is_empty() {
+        return Act::Nothing;
+    }
+    Act::Apply(Change::Fill)
+}
+
+/// Fills the missing rankings, while the lecturers rank.
+fn fill_rankings(alloc: Global, view: &OfficeView) -> Result<Decision, AllocError>
+    ensures { IfOk result (λ decision. decided decision ≡ only (is_ranking view.now.phase) (answer.fills view.now)) }
+{
+    if view.phase != Phase::Ranking {
+        return wrong_phase(alloc);
+    }
+    let body = filled_body(alloc, &view.still_to_rank)?;
+    Ok(Decision {
+        reply: json_reply(200, body),
+        act: fill_act(view),
+    })
+}
+
 /// What is answered to the office, and what is to be done.
 pub(crate) fn decide_office(
     alloc: Global,
     view: &OfficeView,
     call: &Call,
 ) -> Result<Decision, AllocError>
-    ensures { IfOk result (λ decision. decided decision ≡ to_office view.now (asked call.now)) }
+    ensures { IfOk result (λ decision. decided decision ≡ emptied (to_office view.now (asked call.now))) }
 {
     let phase = view.phase;
     match call {
@@ -291,6 +334,9 @@ pub(crate) fn decide_office(
         Call::Move(phase) => move_to(alloc, view, *phase),
         Call::Status => Ok(shows(status_body(alloc, view)?)),
         Call::Allocation => allocation(alloc, view),
+        Call::AllocationCsv => sheet(alloc, view, Sheet::Csv),
+        Call::Report => sheet(alloc, view, Sheet::Report),
+        Call::FillRankings => fill_rankings(alloc, view),
         _ => not_yours(alloc),
     }
 }

@@ -3,10 +3,10 @@
 ghost use Rattle.std.specs.Prelude.{◌≡◌, codes, IfOk};
 ghost use Rattle.serde_json.specs.View as json;
 ghost use Rattle.portal_core.specs.Answer as answer;
-ghost use Rattle.portal_core.specs.Answer.{answered, by_word};
+ghost use Rattle.portal_core.specs.Answer.{answered, by_word, blank};
 ghost use Rattle.portal_core.specs.Meaning.{told, meant, decided};
 
-use crate::decision::{Act, Body, Change, Decision, Reply};
+use crate::decision::{Act, Body, Change, Decision, Reply, Sheet};
 use serde_json::{Value, json};
 use std::alloc::{AllocError, Global};
 
@@ -38,6 +38,25 @@ pub(crate) fn applies(body: Value, change: Change) -> Decision
     Decision {
         reply: json_reply(200, body),
         act: Act::Apply(change),
+    }
+}
+
+/// The sheet is to be written into the body.
+pub(crate) fn renders(alloc: Global, sheet: Sheet) -> Decision
+    ensures { decided result ≡ answer.renders (blank sheet) sheet }
+{
+    let text = Vec::new(alloc);
+    let body = match sheet {
+        Sheet::Csv => Body::Csv(text),
+        Sheet::Report => Body::Plain(text),
+    };
+    Decision {
+        reply: Reply {
+            status: 200,
+            allow: "",
+            body,
+        },
+        act: Act::Render(sheet),
     }
 }
 

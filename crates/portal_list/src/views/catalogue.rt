@@ -46,7 +46,7 @@ fn listing_among(
 }
 
 /// Each project with its lecturer's name.
-pub(super) fn catalogue_of(
+pub(crate) fn catalogue_of(
     alloc: Global,
     lecturers: &[LecturerEntry],
     projects: &[ProjectRow],

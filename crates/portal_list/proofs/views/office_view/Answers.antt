@@ -1,9 +1,9 @@
-use Rattle.std.proofs.Common.{◌≡◌, Bool, cond, List, [], map, ◌∙◌, ap}
+use Rattle.std.proofs.Common.{◌≡◌, Bool, cond, List, [], map, ◌∙◌, ap, sym}
 use Rattle.std.specs.Prelude.{filter}
 use Rattle.portal_core.specs.Words.{Key, is_empty}
 use Rattle.portal_core.specs.World.{World, Lecturer, Student, is_still_to_rank, is_from_ranking}
 use Rattle.portal_core.specs.declared.rows.ProjectRow.{ProjectRow}
-use Rattle.portal_core.specs.View.{office_sees, listings}
+use Rattle.portal_core.specs.View.{office_sees, catalogue}
 use Rattle.portal_list.specs.Shown.{is_waiting, pairs_in}
 use Rattle.portal_list.proofs.Waiting.{waiting_lecturers}
 use Rattle.portal_list.proofs.views.office_view.Goals as goal
@@ -23,9 +23,9 @@ returns c =
       lecturers = (c.in_ok-lecturer_rows.ensures ∙ ap (map (λ (l : Lecturer). l.row)) c.deref.ensures.value) i;
       projects = (c.in_ok-project_rows_of.ensures ∙ c.deref-2.ensures.value) i;
       students = (c.in_ok-student_rows.ensures ∙ ap (map (λ (s : Student). s.row)) c.deref-3.ensures.value) i;
-      catalogue = (c.in_ok-catalogue_of.ensures ∙ λ j. listings (c.deref-4.ensures.value j) (c.deref-5.ensures.value j)) i;
-      without_list = (c.in_ok-without_list.ensures ∙ ap (λ ss. map (λ (s : Student). s.row.key) (filter (λ s. is_empty s.choice) ss)) c.deref-6.ensures.value) i;
-      still_to_rank = (c.in_ok-still_to_rank.ensures ∙ waiting w _ _ _ _ c.are_closed-closed.ensures c.deref-7.ensures.value c.deref-8.ensures.value c.deref-9.ensures.value) i;
-      pairs = (c.in_ok-pairs_of.ensures ∙ λ j. cond (c.is_shown-published.ensures j) (pairs_in (c.deref-10.ensures.value j)) []) i;
+      catalogue = (c.in_ok-catalogue.ensures ∙ ap catalogue (sym c.keeper.view_is)) i;
+      without_list = (c.in_ok-without_list.ensures ∙ ap (λ ss. map (λ (s : Student). s.row.key) (filter (λ s. is_empty s.choice) ss)) c.deref-4.ensures.value) i;
+      still_to_rank = (c.in_ok-still_to_rank.ensures ∙ waiting w _ _ _ _ c.are_closed-closed.ensures c.deref-5.ensures.value c.deref-6.ensures.value c.deref-7.ensures.value) i;
+      pairs = (c.in_ok-pairs_of.ensures ∙ λ j. cond (c.is_shown-published.ensures j) (pairs_in (c.deref-8.ensures.value j)) []) i;
     })
     ∙ ap office_sees c.keeper.view_is

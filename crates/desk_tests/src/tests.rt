@@ -1,0 +1,11 @@
+//! A desk over a keeper in vectors, by the bytes of its requests and replies.
+
+mod calls;
+mod devices;
+mod failing;
+mod frames;
+mod lists;
+mod portal;
+mod result;
+mod streams;
+mod wire;

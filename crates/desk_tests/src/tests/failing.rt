@@ -1,0 +1,81 @@
+//! A store that fails.
+
+use crate::tests::portal::fresh_keeper;
+use portal_core::{Change, KeepFault, Keeper, View};
+use portal_desk::{Cause, Counted, Desk};
+use portal_list::ListKeeper;
+use spa_model::Instance;
+use std::alloc::Global;
+use std::process::Abort;
+
+/// Shows what a keeper in vectors shows, so many times, and then fails.
+#[derive(Drop)]
+struct Failing {
+    kept: ListKeeper,
+    left: u32,
+}
+
+impl Keeper for Failing {
+    ghost world = { λ failing. failing.kept };
+
+    ghost clean = { λ failing. ⊥ };
+
+    fn view(&mut self, alloc: Global, code: &[u8]) -> Result<View, KeepFault> {
+        if self.left == 0 {
+            return Err(KeepFault::Store);
+        }
+        self.left -= 1;
+        self.kept.view(alloc, code)
+    }
+
+    fn instance(&mut self, alloc: Global) -> Result<Instance, KeepFault> {
+        let _alloc = alloc;
+        Err(KeepFault::Store)
+    }
+
+    fn apply(&mut self, alloc: Global, change: &Change) -> Result<(), KeepFault> {
+        let _alloc = alloc;
+        let _change = change;
+        Err(KeepFault::Store)
+    }
+}
+
+const TWO: &str = "GET /me HTTP/1.1\r\nHost: h\r\n\r\nGET /me HTTP/1.1\r\nHost: h\r\n\r\n";
+
+const FIRST: &str = "HTTP/1.1 403 Forbidden\r\ncontent-type: application/json\r\ncontent-length: 21\r\n\r\n{\"error\":\"no_caller\"}";
+
+const LOST: &str = "HTTP/1.1 503 Service Unavailable\r\ncontent-type: application/json\r\ncontent-length: 23\r\nconnection: close\r\n\r\n{\"error\":\"unavailable\"}";
+
+/// A call of `serve` ends by the store's fault, and this is written.
+fn fails(
+    rt: &(impl Abort + AllocGlobal),
+    desk: &mut Desk<Failing>,
+    requests: u32,
+    output: &[u8],
+) {
+    let mut source = Counted::new(TWO.as_bytes());
+    let mut sink = Counted::new(Vec::new(rt.alloc()));
+    match desk.serve(rt.alloc(), &mut source, &mut sink) {
+        Ok(_) => assert!(rt; false, "served"),
+        Err(fault) => {
+            assert_eq!(rt; fault.cause, Cause::Store);
+            assert_eq!(rt; fault.requests, requests);
+        }
+    }
+    let text = sink.into_inner();
+    assert_eq!(rt; text.as_slice(), output);
+    assert!(rt; desk.failed());
+}
+
+#[test]
+fn the_desk_has_failed_from_then_on(rt: HostRuntime) {
+    let mut desk = Desk::new(Failing {
+        kept: fresh_keeper(&rt),
+        left: 1,
+    });
+    let mut both = Vec::new(rt.alloc());
+    both.extend_from_slice(FIRST.as_bytes()).expect(&rt, "memory");
+    both.extend_from_slice(LOST.as_bytes()).expect(&rt, "memory");
+    fails(&rt, &mut desk, 2, both.as_slice());
+    fails(&rt, &mut desk, 1, LOST.as_bytes());
+}

@@ -1,0 +1,179 @@
+-- What the office's fill leaves of each caller, and that it keeps the rows sound.
+use Rattle.std.proofs.Common.{◌≡◌, Bool, true, false, cond, List, [], ◌∷◌, ◌++◌, length, refl, sym, ◌∙◌, ap, subst, arith}
+use Rattle.std.specs.Prelude.{map, filter, Option, Some, None, option_map, IfSome, not, ◌||◌, ◌&&◌}
+use Rattle.std.specs.List.{find, filter_map, AllByRecursion}
+use Rattle.portal_core.specs.Words.{Key, is, has, is_before, is_empty, Rise, AreDistinct}
+use Rattle.portal_core.specs.World as rows
+use Rattle.portal_core.specs.World.{World, lecturer_key, student_key, applicants_of, is_still_to_rank, is_setup, is_ranking, is_published, is_from_ranking}
+use Rattle.portal_core.specs.Change.{Fill, changed, with_fill}
+use Rattle.portal_core.specs.declared.phase.Phase.{Phase}
+use Rattle.portal_core.specs.declared.phase.Phase.TheVariants.{Setup, Choosing, Ranking, Published}
+use Rattle.portal_core.specs.declared.view.View.TheVariants.{Office}
+use Rattle.portal_core.specs.View.{Caller, OfficeCaller, LecturerCaller, caller_among, lecturer_with, student_with, caller, sight_of, view, name_in, listing_with, catalogue, office_sees}
+use Rattle.portal_core.specs.Good.{Sound, IsRanking, IsLecturer}
+use Rattle.portal_core.proofs.Keys.{is_same, is_own, find_map, not_before_itself}
+use Rattle.portal_core.proofs.AllLaws.{all_map, all_weaker, map_same, length_same}
+
+-- the rows stay, and so do whom a code names and what the catalogue shows
+
+module _ (w : World) where
+  abbrev pub given : rows.Lecturer → rows.Lecturer
+  given l = record l { ranking = Some (map student_key (applicants_of w l.row.key)) }
+
+  pub fill_row : (l : rows.Lecturer) → (with_fill w l).row ≡ l.row
+  fill_row l = elim (is_still_to_rank w l) as (λ b. (cond b (given l) l).row ≡ l.row) [ true ↦ refl | false ↦ refl ]
+
+  abbrev pub re_filled : Caller → Caller
+  re_filled (LecturerCaller l) = LecturerCaller (with_fill w l)
+  re_filled x = x
+
+  among_filled : (l : Option rows.Lecturer) (s : Option rows.Student) → caller_among (option_map (with_fill w) l) s ≡ re_filled (caller_among l s)
+  among_filled (Some l) s = refl
+  among_filled None (Some s) = refl
+  among_filled None None = refl
+
+  if_filled : (b : Bool) (x : Caller) → cond b OfficeCaller (re_filled x) ≡ re_filled (cond b OfficeCaller x)
+  if_filled true x = refl
+  if_filled false x = refl
+
+  pub caller_filled : (c : Key) → caller (changed w Fill) c ≡ re_filled (caller w c)
+  caller_filled c =
+      let found : find (λ (l : rows.Lecturer). is l.row.code c) (map (with_fill w) w.lecturers) ≡ option_map (with_fill w) (lecturer_with w c)
+      = find_map (with_fill w) (λ l. is l.row.code c) (λ l. is l.row.code c) (λ l. ap (λ r. is r.code c) (fill_row l)) w.lecturers in
+      ap (λ o. cond (is w.office c) OfficeCaller (caller_among o (student_with w c))) found
+      ∙ ap (cond (is w.office c) OfficeCaller) (among_filled (lecturer_with w c) (student_with w c))
+      ∙ if_filled (is w.office c) _
+
+  name_filled : (o : Option rows.Lecturer) → option_map (λ (l : rows.Lecturer). l.row.name) (option_map (with_fill w) o) ≡ option_map (λ (l : rows.Lecturer). l.row.name) o
+  name_filled None = refl
+  name_filled (Some l) = ap (λ r. Some r.name) (fill_row l)
+
+  names_filled : (q : Key) → name_in (changed w Fill).lecturers q ≡ name_in w.lecturers q
+  names_filled q =
+      ap (option_map (λ (l : rows.Lecturer). l.row.name)) (find_map (with_fill w) (λ l. is l.row.key q) (λ l. is l.row.key q) (λ l. ap (λ r. is r.key q) (fill_row l)) w.lecturers)
+      ∙ name_filled (find (λ l. is l.row.key q) w.lecturers)
+
+  pub catalogue_filled : catalogue (changed w Fill) ≡ catalogue w
+  catalogue_filled = λ i. filter_map (λ p. option_map (listing_with p) (names_filled p.lecturer i)) w.projects
+
+  -- nobody is still to rank
+
+  pub now_ranked : (l : rows.Lecturer) → is_still_to_rank (changed w Fill) (with_fill w l) ≡ false
+  now_ranked l = go (is_still_to_rank w l) refl
+    where
+      never : (b : Bool) → (b && false) ≡ false
+      never true = refl
+      never false = refl
+
+      go : (b : Bool) → is_still_to_rank w l ≡ b → is_still_to_rank (changed w Fill) (cond b (given l) l) ≡ false
+      go true e = never (not (is_empty (applicants_of w l.row.key)))
+      go false e = e
+
+  none_left : (ls : List rows.Lecturer) → filter (is_still_to_rank (changed w Fill)) (map (with_fill w) ls) ≡ []
+  none_left [] = refl
+  none_left (l ∷ ls) = rw (now_ranked l) (none_left ls)
+
+  pub office_filled : office_sees (changed w Fill) ≡ record (office_sees w) { still_to_rank = [] }
+  office_filled = λ i. record (office_sees w) {
+    lecturers = map_same (λ (l : rows.Lecturer). l.row) (with_fill w) fill_row w.lecturers i;
+    catalogue = catalogue_filled i;
+    still_to_rank = left (is_from_ranking w.phase) i;
+  }
+    where
+      left : (b : Bool) → cond b (map (λ (l : rows.Lecturer). l.row.key) (filter (is_still_to_rank (changed w Fill)) (map (with_fill w) w.lecturers))) [] ≡ []
+      left true = ap (map (λ (l : rows.Lecturer). l.row.key)) (none_left w.lecturers)
+      left false = refl
+
+  pub view_filled : (c : Key) → caller w c ≡ OfficeCaller → view (changed w Fill) c ≡ Office (record (office_sees w) { still_to_rank = [] })
+  view_filled c e = ap (sight_of (changed w Fill)) (caller_filled c ∙ ap re_filled e) ∙ ap Office office_filled
+
+-- the applicants by key are a ranking
+
+or_right : (b : Bool) → (b || true) ≡ true
+or_right true = refl
+or_right false = refl
+
+all_there : (ks ls : List Key) → ((k : Key) → has ks k ≡ true → has ls k ≡ true) → AllByRecursion (λ k. has ls k ≡ true) ks
+all_there [] ls k = tt
+all_there (x ∷ ks) ls k = (k x (ap (λ b. b || has ks x) (is_own x)), all_there ks ls (λ l h. k l (ap (λ b. is l x || b) h ∙ or_right (is l x))))
+
+before_other : (k l : Key) → is_before k l ≡ true → is k l ≡ false
+before_other k l h =
+    (elim (is k l) as (λ b. is k l ≡ b → b ≡ false) [
+      | true ↦ λ e. absurd (not_before_itself k (subst (λ x. is_before k x ≡ true) (sym (is_same k l e)) h))
+      | false ↦ λ e. refl
+    ]) refl
+
+none_same : (k : Key) (ks : List Key) → AllByRecursion (λ l. is_before k l ≡ true) ks → has ks k ≡ false
+none_same k [] all = refl
+none_same k (l ∷ ks) all = ap (λ b. b || has ks k) (before_other k l all.0) ∙ none_same k ks all.1
+
+pub rise_distinct : (ks : List Key) → Rise ks → AreDistinct ks
+rise_distinct [] rise = tt
+rise_distinct (k ∷ ks) rise = (none_same k ks rise.0, rise_distinct ks rise.1)
+
+module _ {X : Type 0} (key : X → Key) (p : X → Bool) where
+  all_kept : (P : Key → Type 0) (xs : List X) → AllByRecursion P (map key xs) → AllByRecursion P (map key (filter p xs))
+  all_kept P [] all = tt
+  all_kept P (x ∷ xs) all =
+      elim (p x) as (λ b. AllByRecursion P (map key (cond b (x ∷ filter p xs) (filter p xs)))) [
+        | true ↦ (all.0, all_kept P xs all.1)
+        | false ↦ all_kept P xs all.1
+      ]
+
+  pub rise_kept : (xs : List X) → Rise (map key xs) → Rise (map key (filter p xs))
+  rise_kept [] rise = tt
+  rise_kept (x ∷ xs) rise =
+      elim (p x) as (λ b. Rise (map key (cond b (x ∷ filter p xs) (filter p xs)))) [
+        | true ↦ (all_kept (λ l. is_before (key x) l ≡ true) xs rise.0, rise_kept xs rise.1)
+        | false ↦ rise_kept xs rise.1
+      ]
+
+pub ranks_by_key : (ks : List Key) → Rise ks → IsRanking ks ks
+ranks_by_key ks rise = record { all = all_there ks ks (λ k h. h); only = all_there ks ks (λ k h. h); once = rise_distinct ks rise }
+
+-- each missing ranking is made, and each other one stays
+rankings_filled : (w : World) → Rise (map student_key w.students) → (ls : List rows.Lecturer)
+    → AllByRecursion (λ l. IfSome l.ranking (IsRanking (map student_key (applicants_of w l.row.key)))) ls
+    → AllByRecursion (λ l. IfSome l.ranking (IsRanking (map student_key (applicants_of w l.row.key)))) (map (with_fill w) ls)
+rankings_filled w rise [] all = tt
+rankings_filled w rise (l ∷ ls) all = (
+  elim (is_still_to_rank w l) as (λ b. IfSome (cond b (given w l) l).ranking (IsRanking (map student_key (applicants_of w (cond b (given w l) l).row.key)))) [
+    | true ↦ ranks_by_key (map student_key (applicants_of w l.row.key)) (rise_kept student_key _ w.students rise)
+    | false ↦ all.0
+  ],
+  rankings_filled w rise ls all.1,
+)
+
+pub filling : (w : World) → Sound w → is_ranking w.phase ≡ true → Sound (changed w Fill)
+filling w g e =
+    let keys : map lecturer_key (map (with_fill w) w.lecturers) ≡ map lecturer_key w.lecturers = map_same lecturer_key (with_fill w) (λ l. ap (λ r. r.key) (fill_row w l)) w.lecturers in
+    let codes : map (λ (l : rows.Lecturer). l.row.code) (map (with_fill w) w.lecturers) ≡ map (λ l. l.row.code) w.lecturers = map_same _ (with_fill w) (λ l. ap (λ r. r.code) (fill_row w l)) w.lecturers in
+    let long : length (map (with_fill w) w.lecturers) ≡ length w.lecturers = length_same (with_fill w) w.lecturers in
+    let now : (is_from_ranking w.phase ≡ true) × (is_published w.phase ≡ false) = only_ranking w.phase e in
+    record {
+      lecturers_rise = subst Rise (sym keys) g.lecturers_rise;
+      projects_rise = g.projects_rise;
+      students_rise = g.students_rise;
+      lecturer_forms = all_map _ (with_fill w) w.lecturers (all_weaker _ _ (λ l h. subst IsLecturer (sym (fill_row w l)) h) w.lecturers g.lecturer_forms);
+      project_forms = g.project_forms;
+      student_forms = g.student_forms;
+      office_form = g.office_form;
+      few_lecturers = let few = g.few_lecturers in omega arith;
+      few_projects = g.few_projects;
+      few_students = g.few_students;
+      codes = subst (λ cs. AreDistinct (w.office ∷ cs ++ map (λ (s : rows.Student). s.row.code) w.students)) (sym codes) g.codes;
+      lecturers_known = subst (λ ks. AllByRecursion (λ p. has ks p.lecturer ≡ true) w.projects) (sym keys) g.lecturers_known;
+      choices = g.choices;
+      no_choices_yet = g.no_choices_yet;
+      no_rankings_yet = λ h. cc;
+      rankings = rankings_filled w g.students_rise w.lecturers g.rankings;
+      no_result_yet = g.no_result_yet;
+      all_ranked = λ h. cc;
+    }
+  where
+    only_ranking : (phase : Phase) → is_ranking phase ≡ true → (is_from_ranking phase ≡ true) × (is_published phase ≡ false)
+    only_ranking Setup e = cc
+    only_ranking Choosing e = cc
+    only_ranking Ranking e = (refl, refl)
+    only_ranking Published e = cc

@@ -1,0 +1,150 @@
+-- Each body is JSON with whole numbers, or a sheet.
+use Rattle.std.proofs.Common.{◌≡◌, ℕ, Bool, true, false, List, [], ◌∷◌, refl, sym, subst}
+use Rattle.std.specs.Prelude.{Option, Some, None, map, codes}
+use Rattle.serde_json.specs.Data.{Data, string}
+use Rattle.serde_json.specs.View.{items_of}
+use Rattle.serde_json.specs.Written.{has_float, items_have_float}
+use Rattle.portal_core.specs.declared.phase.Phase.{Phase}
+use Rattle.portal_core.specs.declared.phase.Phase.TheVariants.{Setup, Choosing, Ranking, Published}
+use Rattle.portal_core.specs.declared.rows.Person.{Person}
+use Rattle.portal_core.specs.declared.decision.Sheet.TheVariants as sheet
+use Rattle.portal_core.specs.Words.{Key, is_empty}
+use Rattle.portal_core.specs.World.{is_choosing, is_ranking, is_published, is_from_ranking}
+use Rattle.portal_core.specs.Change.{Change, Lecturers, Projects, Students}
+use Rattle.portal_core.specs.Sight.{StudentSees, LecturerSees, OfficeSees}
+use Rattle.portal_core.specs.Ask.{Ask}
+use Rattle.portal_core.specs.Json.{texts_or_null, text_or_null, dictionary, several}
+use Rattle.portal_core.specs.Bodies.{listing, person, status_body, unassigned, applicants_body, placed_body, allocation_body}
+use Rattle.portal_core.specs.Faults.{ListFault, choice_fault, ranking_fault}
+use Rattle.portal_core.specs.Rolls.{Taken, Faulty, Took, take_rows, lecturer_roll, project_roll, student_roll}
+use Rattle.portal_core.specs.Answer.{Said, Act, Nothing, Apply, Publish, Render, Decision, only, unless, added, row_fault, moves, publishes, to_student, to_lecturer, to_office, unwritten, emptied, IsWhole}
+
+-- no body has a number that is not whole
+
+none_of : {X : Type 0} (f : X → Data) → ((x : X) → has_float (f x) ≡ false) → (xs : List X) → items_have_float (items_of (map f xs)) ≡ false
+none_of f each [] = refl
+none_of f each (x ∷ xs) = rw (each x, none_of f each xs) refl
+
+of_texts : (ks : List (List ℕ)) → items_have_float (items_of (map string ks)) ≡ false
+of_texts ks = none_of string (λ k. refl) ks
+
+of_option : (o : Option (List (List ℕ))) → has_float (texts_or_null o) ≡ false
+of_option None = refl
+of_option (Some ks) = of_texts ks
+
+of_one : (o : Option (List ℕ)) → has_float (text_or_null o) ≡ false
+of_one None = refl
+of_one (Some k) = refl
+
+only_whole : (b : Bool) (d : Decision) → IsWhole d.reply.body → IsWhole (only b d).reply.body
+only_whole true d e = e
+only_whole false d e = refl
+
+unless_whole : (o : Option ListFault) (d : Decision) → IsWhole d.reply.body → IsWhole (unless o d).reply.body
+unless_whole None d e = e
+unless_whole (Some fault) d e = refl
+
+student_whole : (v : StudentSees) (ask : Ask) → IsWhole (to_student v ask).reply.body
+student_whole v Ask.Catalogue = rw (none_of listing (λ l. refl) v.catalogue) refl
+student_whole v Ask.ShowChoices = rw (of_texts v.choices) refl
+student_whole v (Ask.SetChoices list) = only_whole (is_choosing v.phase) _ (unless_whole (choice_fault v.catalogue 1 [] list) _ (rw (of_texts list) refl))
+student_whole v Ask.Result = only_whole (is_published v.phase) _ (rw (of_one v.result) refl)
+student_whole v _ = refl
+
+with_applicants : Key × List Person → Data
+with_applicants p = dictionary ((codes "applicants", several (map person p.1)) ∷ (codes "id", string p.0) ∷ [])
+
+with_students : Key × List Person → Data
+with_students p = dictionary ((codes "id", string p.0) ∷ (codes "students", several (map person p.1)) ∷ [])
+
+each_applicants : (p : Key × List Person) → has_float (with_applicants p) ≡ false
+unfolding with_applicants
+each_applicants p = rw (none_of person (λ s. refl) p.1) refl
+
+each_students : (p : Key × List Person) → has_float (with_students p) ≡ false
+unfolding with_students
+each_students p = rw (none_of person (λ s. refl) p.1) refl
+
+applicants_whole : (ps : List (Key × List Person)) → has_float (applicants_body ps) ≡ false
+unfolding with_applicants
+applicants_whole ps = rw (none_of with_applicants each_applicants ps) refl
+
+placed_whole : (ps : List (Key × List Person)) → has_float (placed_body ps) ≡ false
+unfolding with_students
+placed_whole ps = rw (none_of with_students each_students ps) refl
+
+lecturer_whole : (v : LecturerSees) (ask : Ask) → IsWhole (to_lecturer v ask).reply.body
+lecturer_whole v Ask.Catalogue = rw (none_of listing (λ l. refl) v.catalogue) refl
+lecturer_whole v Ask.Applicants = only_whole (is_from_ranking v.phase) _ (applicants_whole v.applicants)
+lecturer_whole v Ask.ShowRanking = only_whole (is_from_ranking v.phase) _ (rw (of_option v.ranking) refl)
+lecturer_whole v (Ask.SetRanking list) = only_whole (is_ranking v.phase) _ (unless_whole (ranking_fault v.applicants 1 [] list) _ (rw (of_texts list) refl))
+lecturer_whole v Ask.Result = only_whole (is_published v.phase) _ (placed_whole v.placed)
+lecturer_whole v _ = refl
+
+row_whole : (status : ℕ) (word : List ℕ) (row : Option ℕ) → IsWhole (row_fault status word row).body
+row_whole status word None = refl
+row_whole status word (Some n) = refl
+
+added_whole : {X : Type 0} (change : List X → Change) (t : Taken X) → IsWhole (added change t).reply.body
+added_whole change (Faulty fault) = row_whole fault.status fault.word fault.row
+added_whole change (Took new same) = refl
+
+publishes_whole : (v : OfficeSees) (b : Bool) → is_empty v.still_to_rank ≡ b → IsWhole (publishes v).reply.body
+publishes_whole v true e = rw e refl
+publishes_whole v false e = rw (e, of_texts v.still_to_rank) refl
+
+moves_whole : (v : OfficeSees) (old new : Phase) → IsWhole (moves v old new).reply.body
+moves_whole v Ranking Published = publishes_whole v (is_empty v.still_to_rank) refl
+moves_whole v Setup Setup = refl
+moves_whole v Setup Choosing = refl
+moves_whole v Choosing Choosing = refl
+moves_whole v Choosing Ranking = refl
+moves_whole v Ranking Ranking = refl
+moves_whole v Published Published = refl
+moves_whole v _ _ = refl
+
+status_whole : (v : OfficeSees) (b : Bool) → is_published v.phase ≡ b → has_float (status_body v) ≡ false
+status_whole v true e = rw (e, of_texts v.still_to_rank, of_texts (unassigned v), of_texts v.without_list) refl
+status_whole v false e = rw (e, of_texts v.still_to_rank, of_texts v.without_list) refl
+
+as_pair : Key × Key → Data
+as_pair x = dictionary ((codes "project", string x.1) ∷ (codes "student", string x.0) ∷ [])
+
+each_pair : (x : Key × Key) → has_float (as_pair x) ≡ false
+unfolding as_pair
+each_pair x = refl
+
+pairs_whole : (xs : List (Key × Key)) → has_float (allocation_body xs) ≡ false
+unfolding as_pair
+pairs_whole xs = rw (none_of as_pair each_pair xs) refl
+
+office_whole : (v : OfficeSees) (ask : Ask) → IsWhole (to_office v ask).reply.body
+office_whole v Ask.Catalogue = rw (none_of listing (λ l. refl) v.catalogue) refl
+office_whole v (Ask.AddLecturers rows) = only_whole _ _ (added_whole Lecturers (take_rows (lecturer_roll v) 1 v.lecturers rows))
+office_whole v (Ask.AddProjects rows) = only_whole _ _ (added_whole Projects (take_rows (project_roll v) 1 v.projects rows))
+office_whole v (Ask.AddStudents rows) = only_whole _ _ (added_whole Students (take_rows (student_roll v) 1 v.students rows))
+office_whole v (Ask.Move phase) = moves_whole v v.phase phase
+office_whole v Ask.Status = status_whole v (is_published v.phase) refl
+office_whole v Ask.Allocation = only_whole (is_published v.phase) _ (pairs_whole v.pairs)
+office_whole v Ask.AllocationCsv = only_whole (is_published v.phase) _ tt
+office_whole v Ask.Report = only_whole (is_published v.phase) _ tt
+office_whole v Ask.FillRankings = only_whole (is_ranking v.phase) _ (rw (of_texts v.still_to_rank) refl)
+office_whole v _ = refl
+
+unwritten_whole : (a : Act) (s : Said) → IsWhole s → IsWhole (unwritten a s)
+unwritten_whole Nothing s e = e
+unwritten_whole (Apply change) s e = e
+unwritten_whole Publish s e = e
+unwritten_whole (Render sheet.Csv) s e = tt
+unwritten_whole (Render sheet.Report) s e = tt
+
+-- what is decided for each role
+
+pub whole_office : (v : OfficeSees) (ask : Ask) (d : Decision) → d ≡ emptied (to_office v ask) → IsWhole d.reply.body
+whole_office v ask d e = subst (λ (x : Decision). IsWhole x.reply.body) (sym e) (unwritten_whole (to_office v ask).act (to_office v ask).reply.body (office_whole v ask))
+
+pub whole_lecturer : (v : LecturerSees) (ask : Ask) (d : Decision) → d ≡ to_lecturer v ask → IsWhole d.reply.body
+whole_lecturer v ask d e = subst (λ (x : Decision). IsWhole x.reply.body) (sym e) (lecturer_whole v ask)
+
+pub whole_student : (v : StudentSees) (ask : Ask) (d : Decision) → d ≡ to_student v ask → IsWhole d.reply.body
+whole_student v ask d e = subst (λ (x : Decision). IsWhole x.reply.body) (sym e) (student_whole v ask)

@@ -1,0 +1,134 @@
+-- What is legal is taken, and a fault is told at the first faulty position.
+use Rattle.std.proofs.Common.{◌≡◌, ℕ, ◌+◌, ◌<◌, Bool, true, false, cond, List, [], ◌∷◌, ◌++◌, length, refl, sym, ◌∙◌, ap, subst, arith, append_assoc, append-nil}
+use Rattle.std.specs.Prelude.{map, Some, None, not, ◌||◌, ◌==◌, nat_le, codes, if◌then◌else◌}
+use Rattle.std.specs.List.{list_any, find, AllByRecursion}
+use Rattle.std.proofs.lemmas.Bool.Decides.{nat_tests}
+use Rattle.portal_core.specs.Words.{Key, is, has, AreDistinct}
+use Rattle.portal_core.specs.World.{World, student_key, applicants_of, projects_of, is_from_ranking}
+use Rattle.portal_core.specs.World as rows
+use Rattle.portal_core.specs.declared.rows.Listing.{Listing}
+use Rattle.portal_core.specs.declared.rows.Person.{Person}
+use Rattle.portal_core.specs.View.{lecturer_sees}
+use Rattle.portal_core.specs.Faults.{ListFault, fault_at, choice_fault, ranking_fault, in_catalogue, is_applicant, lacks_one}
+use Rattle.portal_core.specs.Rolls.{Roll, Took, take_rows}
+use Rattle.portal_core.specs.Good.{IsChoice, IsRanking}
+use Rattle.portal_core.specs.Legal.{AreFresh, IsFirstAt}
+use Rattle.portal_core.proofs.AllLaws.{all_weaker, all_both, any_map, any_alike, any_append, is_sym, or_parts}
+use Rattle.portal_core.proofs.Kept.{Ranked, shown_sets, union_any}
+use Rattle.portal_core.proofs.Reorder.{taken}
+
+-- a student's list
+
+none_yet : (ks : List Key) → AllByRecursion (λ k. has [] k ≡ false) ks
+none_yet [] = tt
+none_yet (k ∷ ks) = (refl, none_yet ks)
+
+pub choice_taken : (catalogue : List Listing) (list : List Key) → IsChoice (map (λ (l : Listing). l.key) catalogue) list → choice_fault catalogue 1 [] list ≡ None
+choice_taken catalogue list c =
+    taken catalogue 1 [] list
+    (record {
+      few = let few = c.few in omega arith;
+      known = all_weaker _ _ (λ k h. sym (any_map (is k) (λ (l : Listing). l.key) catalogue ∙ any_alike _ _ (λ l. is_sym k l.key) catalogue) ∙ h) list c.known;
+      once = c.once;
+      new = none_yet list;
+    })
+
+module _ (catalogue : List Listing) where
+  abbrev Found : ℕ → List Key → List Key → ℕ → Type 0
+  Found at earlier list place = (front : List Key) × (k : Key) × (rest : List Key) × (list ≡ front ++ k ∷ rest) × (place ≡ at + length front) × (choice_fault catalogue at earlier front ≡ None)
+
+  first : (at : ℕ) (earlier list : List Key) (f : ListFault) → choice_fault catalogue at earlier list ≡ Some f → Found at earlier list f.at
+  first at earlier [] f e = cc
+  first at earlier (k ∷ ks) f e = go (λ h. first (at + 1) (earlier ++ k ∷ []) ks f h) (at == 21) (in_catalogue catalogue k) (has earlier k) refl refl refl _ _ _ e
+    where
+      here : (word : List ℕ) → Some (fault_at at word) ≡ Some f → Found at earlier (k ∷ ks) f.at
+      here word e =
+          let same : fault_at at word ≡ f = cc in
+          let place : at ≡ f.at = ap (λ (x : ListFault). x.at) same in
+          ([], k, ks, refl, (omega arith), refl)
+
+      passed : (full known twice : Bool) → full ≡ false → known ≡ true → twice ≡ false → (a b d : ListFault) (front : List Key)
+          → choice_fault catalogue (at + 1) (earlier ++ k ∷ []) front ≡ None
+          → (if full then Some a else if not known then Some b else if twice then Some d else choice_fault catalogue (at + 1) (earlier ++ k ∷ []) front) ≡ None
+      passed full known twice f e t a b d front h = rw (f, e, t) h
+
+      later : (at == 21) ≡ false → in_catalogue catalogue k ≡ true → has earlier k ≡ false → Found (at + 1) (earlier ++ k ∷ []) ks f.at → Found at earlier (k ∷ ks) f.at
+      later ef ek et r =
+          let place = r.4 in
+          (k ∷ r.0, r.1, r.2, ap (λ l. k ∷ l) r.3, (omega arith), passed (at == 21) (in_catalogue catalogue k) (has earlier k) ef ek et _ _ _ r.0 r.5)
+
+      go : (choice_fault catalogue (at + 1) (earlier ++ k ∷ []) ks ≡ Some f → Found (at + 1) (earlier ++ k ∷ []) ks f.at) → (full known twice : Bool) → (at == 21) ≡ full → in_catalogue catalogue k ≡ known → has earlier k ≡ twice → (a b c : List ℕ)
+          → (if full then Some (fault_at at a) else if not known then Some (fault_at at b) else if twice then Some (fault_at at c) else choice_fault catalogue (at + 1) (earlier ++ k ∷ []) ks) ≡ Some f
+          → Found at earlier (k ∷ ks) f.at
+      go again true known twice ef ek et a b c h = here a h
+      go again false false twice ef ek et a b c h = here b h
+      go again false true true ef ek et a b c h = here c h
+      go again false true false ef ek et a b c h = later ef ek et (again h)
+
+  pub first_fault : (list : List Key) (f : ListFault) → choice_fault catalogue 1 [] list ≡ Some f → IsFirstAt (choice_fault catalogue 1 []) list f.at
+  first_fault list f e =
+      let r : Found 1 [] list f.at = first 1 [] list f e in
+      let place = r.4 in
+      (r.0, r.1, r.2, r.3, (omega arith), r.5)
+
+-- a lecturer's ranking
+
+ranking_fits : (ps : List (Key × List Person)) (at : ℕ) (earlier list : List Key) → Ranked ps earlier list → ranking_fault ps at earlier list ≡ None
+ranking_fits ps at earlier [] r = ap (λ b. if b then Some (fault_at 0 (codes "missing")) else None) (subst (λ ks. lacks_one ps ks ≡ false) (append-nil earlier) r.all)
+ranking_fits ps at earlier (k ∷ ks) r = step (is_applicant ps k) (has earlier k) r.only.0 r.new.0 _ _ (ranking_fits ps (at + 1) (earlier ++ k ∷ []) ks rest)
+  where
+    none_after : (l : Key) (xs : List Key) → has xs l ≡ false → is l k ≡ false → has (xs ++ k ∷ []) l ≡ false
+    none_after l xs h e = any_append (is l) xs (k ∷ []) ∙ ap (λ b. b || (is l k || false)) h ∙ ap (λ b. b || false) e
+
+    not_first : (l : Key) (xs : List Key) → AreDistinct (l ∷ xs) → AllByRecursion (λ m. is m l ≡ false) xs
+    not_first l [] d = tt
+    not_first l (m ∷ xs) d = (is_sym m l ∙ (or_parts (is l m) (has xs l) d.0).0, not_first l xs ((or_parts (is l m) (has xs l) d.0).1, d.1.1))
+
+    rest : Ranked ps (earlier ++ k ∷ []) ks
+    rest =
+        record {
+          only = r.only.1;
+          once = r.once.1;
+          new = all_weaker _ _ (λ l h. none_after l earlier h.0 h.1) ks (all_both _ _ ks r.new.1 (not_first k ks r.once));
+          all = subst (λ xs. lacks_one ps xs ≡ false) (sym (append_assoc earlier (k ∷ []) ks)) r.all;
+        }
+
+    step : (known twice : Bool) → known ≡ true → twice ≡ false → (a b : ListFault) → ranking_fault ps (at + 1) (earlier ++ k ∷ []) ks ≡ None
+        → (if not known then Some a else if twice then Some b else ranking_fault ps (at + 1) (earlier ++ k ∷ []) ks) ≡ None
+    step known twice e t a b h = rw (e, t) h
+
+lacks_none : (list ks : List Key) → AllByRecursion (λ k. has list k ≡ true) ks → list_any (λ k. not (has list k)) ks ≡ false
+lacks_none list [] all = refl
+lacks_none list (k ∷ ks) all = ap (λ b. not b || list_any (λ k. not (has list k)) ks) all.0 ∙ lacks_none list ks all.1
+
+pub ranking_taken : (w : World) (l : rows.Lecturer) (list : List Key) → is_from_ranking w.phase ≡ true → IsRanking (map student_key (applicants_of w l.row.key)) list → ranking_fault (lecturer_sees w l).applicants 1 [] list ≡ None
+ranking_taken w l list closed r =
+    subst (λ b. ranking_fault (shown_sets w l.row.key b) 1 [] list ≡ None) (sym closed)
+    (ranking_fits (shown_sets w l.row.key true) 1 [] list (record {
+      only = all_weaker _ _ (λ k h.
+          (any_map (λ (p : Key × List Person). list_any (λ s. is s.key k) p.1) _ (projects_of w l.row.key) ∙ union_any (λ s. is s k) (projects_of w l.row.key) w.students)
+          ∙ sym (any_alike (is k) (λ s. is s k) (λ s. is_sym k s) (map student_key (applicants_of w l.row.key))) ∙ h) list r.only;
+      once = r.once;
+      new = none_yet list;
+      all = any_map (λ (p : Key × List Person). list_any (λ s. not (has list s.key)) p.1) _ (projects_of w l.row.key)
+          ∙ union_any (λ k. not (has list k)) (projects_of w l.row.key) w.students
+          ∙ lacks_none list (map student_key (applicants_of w l.row.key)) r.all;
+    }))
+
+-- rows
+
+none_found : {X : Type 0} (p : X → Bool) (xs : List X) → list_any p xs ≡ false → find p xs ≡ None
+none_found p [] e = refl
+none_found {X} p (x ∷ xs) e =
+    (elim (p x) as (λ b. (b || list_any p xs) ≡ false → cond b (Some x) (find p xs) ≡ None) [
+      | true ↦ λ h. cc
+      | false ↦ λ h. none_found p xs h
+    ]) e
+
+has_room : (limit n : ℕ) → n < limit → nat_le limit n ≡ false
+has_room limit n h = grind (arith, nat_tests)
+
+pub rows_taken : {X : Type 0} (roll : Roll X) (at : ℕ) (there rows : List X) → AreFresh roll there rows → take_rows roll at there rows ≡ Took rows 0
+rows_taken roll at there [] f = refl
+rows_taken roll at there (r ∷ rs) f =
+    rw (none_found (λ x. is (roll.key x) (roll.key r)) there f.0, f.1, has_room roll.limit (length there) f.2, rows_taken roll (at + 1) (r ∷ there) rs f.3) refl

@@ -1,0 +1,78 @@
+-- What a frame of the buffer says of the stream.
+use Rattle.std.proofs.Common.{◌≡◌, ℕ, ◌<◌, inl, inr, Bool, true, false, List, [], ◌++◌, length, take, drop, refl, sym, ap, ◌∙◌, subst, append-nil, arith}
+use Rattle.std.specs.Prelude.{Option, Some, None, IsTrue, ◌≢◌, nat_le, if◌then◌else◌, IfErr, Result, Ok, Err}
+use Rattle.std.proofs.lemmas.Bool.{leb-true}
+use Rattle.httparse.specs.Grammar.{RequestHead}
+use Rattle.httparse.proofs.GrammarLemmas.{request_unique}
+use Rattle.portal_desk.specs.declared.reading.Lack.{Lack}
+use Rattle.portal_desk.specs.declared.reading.Lack.TheVariants as lack
+use Rattle.portal_frame.specs.declared.types.Frame.{Frame}
+use Rattle.portal_frame.specs.declared.types.Frame.TheVariants as frame
+use Rattle.portal_frame.specs.Stream.{Framed, IsWithinLimits, Opens, whole, fault, over, seen, refused, Asked, item_of, after_lines, asked_of, is_head, lines_of, body_length, bad_head, bad_length}
+use Rattle.portal_desk.specs.Reading.{Reads, Stays, Heads, Follows, IsWithin, NoneWhole, HoldsNone}
+
+heads : (stream after rest : List ℕ) (ended : Bool) (f : Frame) → after ++ rest ≡ stream → (IsTrue ended → rest ≡ [])
+    → Framed after ended f → f ≢ frame.Need → Heads stream after rest f
+heads stream after rest ended frame.Need e last framed not_need = not_need refl
+heads stream after rest ended frame.End e last framed not_need =
+    let all : after ≡ stream = sym (append-nil after) ∙ (ap (λ r. after ++ r) (sym (last framed.0)) ∙ e) in
+    subst (λ s. Opens s over) all framed.1
+heads stream after rest ended (frame.Request request used) e last framed not_need =
+    subst (λ s. Opens s (whole (seen request) (drop used after ++ rest))) e (framed rest)
+heads stream after rest ended (frame.Bad refusal head_only) e last framed not_need =
+    subst (λ s. Opens s (fault (refused refusal) head_only)) e (framed rest last)
+
+pub follows : (old new : Option (List ℕ)) (before after : List ℕ) (ended : Bool) (f : Frame) → Reads old new before after ended
+    → Framed after ended f → f ≢ frame.Need → Follows old new before after f
+follows None new before after ended f reads framed not_need = tt
+follows (Some more) new before after ended f (rest, known, same, last) framed not_need =
+    (rest, known, same, heads (before ++ more) after rest ended f same last framed not_need)
+
+pub within : (buffer : List ℕ) (f : Frame) → IsWithinLimits buffer f → IsWithin buffer f
+within buffer frame.Need limits = tt
+within buffer frame.End limits = tt
+within buffer (frame.Request request used) limits = (limits.1, limits.2)
+within buffer (frame.Bad refusal head_only) limits = tt
+
+headless_not : (b : Bool) (a : Asked) (after : List ℕ) → whole a after ≡ (if b then over else fault bad_head false) → ⊥
+headless_not true a after e = absurd (cc)
+headless_not false a after e = absurd (cc)
+
+too_short : (n : ℕ) (rest : List ℕ) (short : length rest < n) (h : RequestHead) (b : Bool) (a : Asked) (after : List ℕ) → nat_le n (length rest) ≡ b
+    → whole a after ≡ (if b then whole (asked_of h (take n rest)) (drop n rest) else fault bad_length (is_head h.method)) → ⊥
+too_short n rest short h true a after le e = omega (arith, short, leb-true n (length rest) le)
+too_short n rest short h false a after le e = absurd (cc)
+
+sized : (h : RequestHead) (n : ℕ) (rest : List ℕ) (r : _) → length rest < n → r ≡ Ok n → (a : Asked) (after : List ℕ)
+    → whole a after ≡ after_lines h r rest → ⊥
+sized h n rest (Ok m) short e a after is =
+    too_short n rest short h (nat_le n (length rest)) a after refl (subst (λ r. whole a after ≡ after_lines h r rest) e is)
+sized h n rest (Err x) short e a after is = absurd (cc)
+
+pub none_whole : (bytes : List ℕ) (ended : Bool) → Framed bytes ended frame.Need → NoneWhole bytes
+none_whole bytes ended (on, inl waits) a after (inl (h, rest, takes, e)) = waits.none h rest takes
+none_whole bytes ended (on, inl waits) a after (inr (nothing, e)) = headless_not _ a after e
+none_whole bytes ended (on, inr (h, rest, n, takes, size, short)) a after (inl (k, other, took, e)) =
+    let same = request_unique bytes h k rest other takes.reads took.reads in
+    sized h n rest (body_length h.minor (lines_of h)) short size a after
+    (subst (λ r. whole a after ≡ item_of h r) (sym same.1) (subst (λ (x : RequestHead). whole a after ≡ item_of x other) (sym same.0) e))
+none_whole bytes ended (on, inr (h, rest, n, takes, size, short)) a after (inr (nothing, e)) = nothing h rest takes
+
+pub holds_none : (l : Lack) (bytes : List ℕ) → NoneWhole bytes → HoldsNone l bytes
+holds_none lack.Read bytes none = none
+holds_none lack.Memory bytes none = tt
+
+-- what was read so far, and a failed read
+pub stays : (old mid new : Option (List ℕ)) (before during after : List ℕ) (ended : Bool) → Reads old mid before during ended → Stays mid new during after → Stays old new before after
+stays None mid new before during after ended reads stay = tt
+stays (Some more) mid new before during after ended (rest, known, same, last) stay =
+    let s = subst (λ o. Stays o new during after) known stay in
+    (s.0, s.1, s.2 ∙ same)
+
+pub stays-start : (old : Option (List ℕ)) (before : List ℕ) → Reads old old before before false
+stays-start None before = tt
+stays-start (Some more) before = (more, refl, refl, λ never. absurd (cc))
+
+pub holds_err : {A : Type 0} (r : Result A Lack) (bytes : List ℕ) → NoneWhole bytes → IfErr r (λ l. HoldsNone l bytes)
+holds_err (Ok a) bytes none = tt
+holds_err (Err l) bytes none = holds_none l bytes none

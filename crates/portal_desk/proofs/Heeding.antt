@@ -1,0 +1,137 @@
+-- The bytes of the replies to one caller.
+use Rattle.std.proofs.Common.{◌≡◌, ℕ, inl, inr, Bool, true, false, List, [], ◌∷◌, ◌++◌, refl, sym, ap, ◌∙◌, subst}
+use Rattle.std.specs.Prelude.{if◌then◌else◌}
+use Rattle.std.specs.List.{AllZip}
+use Rattle.portal_core.specs.Words.{Key, is}
+use Rattle.portal_core.specs.World.{World}
+use Rattle.portal_core.specs.View.{view}
+use Rattle.portal_core.specs.declared.view.View.{View as Sight}
+use Rattle.portal_core.specs.Answer.{Answer}
+use Rattle.portal_core.specs.Run.{Run, end_of, AllAnswered}
+use Rattle.portal_core.specs.Heard.{Item, Asked, Sees, own_item, SeenIf, Heard, replies_to}
+use Rattle.portal_core.specs.Places.{SameButPlaces, SameRequest, AlikeUntilPublished, Unless, has_places, opens_result}
+use Rattle.portal_core.proofs.Told.{same_replies}
+use Rattle.portal_core.proofs.Disclosed.{places_unseen}
+use Rattle.portal_wire.specs.Text.{reply_text}
+use Rattle.portal_wire.specs.Conversation.{Exchange, asked_in, told_in, text, text_of}
+use Rattle.portal_desk.specs.Visits.{Visit, IsVisit, AreVisits, AreAnswered, exchanges_of, worlds_of, Hears, texts_to, replies_in, AlikeTexts, Session, AreServed, TellsOf, AllTellOf}
+
+-- the marks of the caller's own requests
+marks : List Item → List (Bool × Bool)
+marks [] = []
+marks (Asked head closes wish ∷ items) = (head, closes) ∷ marks items
+marks (Sees v ∷ items) = marks items
+
+-- replies written by such marks
+texts_by : List (Bool × Bool) → List Answer → List (List ℕ)
+texts_by [] answers = []
+texts_by (m ∷ ms) [] = []
+texts_by (m ∷ ms) (a ∷ answers) = reply_text a m.0 m.1 ∷ texts_by ms answers
+
+unmarked : (b : Bool) (old new : Sight) (seen rest : List Item) → SeenIf b old new seen → marks (seen ++ rest) ≡ marks rest
+unfolding marks
+unmarked true old new seen rest (inl x) = ap (λ s. marks (s ++ rest)) x.1
+unmarked true old new seen rest (inr x) = ap (λ s. marks (s ++ rest)) x.1
+unmarked false old new seen rest e = ap (λ s. marks (s ++ rest)) e
+
+one : (b : Bool) (e : Exchange) (seen rest : List Item) (texts : List (List ℕ)) (answers : List Answer) → marks (seen ++ rest) ≡ marks rest
+    → texts ≡ texts_by (marks rest) answers
+    → (if b then text_of e ∷ texts else texts)
+    ≡ texts_by (marks (((if b then Asked e.request.head e.request.closes e.request.wish ∷ [] else []) ++ seen) ++ rest)) (if b then e.reply ∷ answers else answers)
+unfolding marks texts_by
+one true e seen rest texts answers none same = ap (λ ts. text_of e ∷ ts) (same ∙ ap (λ ms. texts_by ms answers) (sym none))
+one false e seen rest texts answers none same = same ∙ ap (λ ms. texts_by ms answers) (sym none)
+
+texts_heard : (c : Key) (w : World) (es : List Exchange) (worlds : List World) (items : List Item) → Run w (asked_in es) (told_in es) worlds
+    → Heard c w (asked_in es) worlds items → texts_to c es ≡ texts_by (marks items) (replies_to c (asked_in es) (told_in es))
+unfolding marks texts_by
+texts_heard c w [] [] items run heard = ap (λ xs. texts_by (marks xs) []) (sym heard)
+texts_heard c w [] (v ∷ worlds) items run heard = absurd run
+texts_heard c w (e ∷ es) [] items run heard = absurd run
+texts_heard c w (e ∷ es) (v ∷ worlds) items run (first, rest, (seen, see, is_first), later, all) =
+    let none = unmarked _ (view w c) (view v c) seen rest see in
+    let more = texts_heard c v es worlds rest run.1 later in
+    let whole : items ≡ (own_item c e.request ++ seen) ++ rest = all ∙ ap (λ f. f ++ rest) is_first in
+    one (is e.request.code c) e seen rest (texts_to c es) (replies_to c (asked_in es) (told_in es)) none more
+    ∙ ap (λ xs. texts_by (marks xs) (replies_to c (asked_in (e ∷ es)) (told_in (e ∷ es)))) (sym whole)
+
+-- one list of exchanges after another
+
+Run-append : (w : World) (es fs : List Exchange) (us vs : List World) → Run w (asked_in es) (told_in es) us
+    → Run (end_of w us) (asked_in fs) (told_in fs) vs → Run w (asked_in (es ++ fs)) (told_in (es ++ fs)) (us ++ vs)
+Run-append w [] fs [] vs run next = next
+Run-append w [] fs (u ∷ us) vs run next = absurd run
+Run-append w (e ∷ es) fs [] vs run next = absurd run
+Run-append w (e ∷ es) fs (u ∷ us) vs run next = (run.0, Run-append u es fs us vs run.1 next)
+
+whole_run : (w : World) (vs : List Visit) → AreVisits w vs → Run w (asked_in (exchanges_of vs)) (told_in (exchanges_of vs)) (worlds_of vs)
+whole_run w [] visits = tt
+whole_run w (v ∷ vs) (first, rest) = Run-append w v.exchanges (exchanges_of vs) v.worlds (worlds_of vs) first.run (whole_run (end_of w v.worlds) vs rest)
+
+pub same_bytes : (c : Key) (w v : World) (visits others : List Visit) (items : List Item)
+    → AreVisits w visits → AreAnswered visits → Hears c w visits items → AreVisits v others → AreAnswered others → Hears c v others items → view w c ≡ view v c
+    → (replies_in c visits ≡ replies_in c others) × (view (end_of w (worlds_of visits)) c ≡ view (end_of v (worlds_of others)) c)
+same_bytes c w v visits others items are all heard were also listened same =
+    let a = whole_run w visits are in
+    let b = whole_run v others were in
+    let told = same_replies c w v _ _ _ _ (worlds_of visits) (worlds_of others) items a all heard b also listened same in
+    let left = texts_heard c w (exchanges_of visits) (worlds_of visits) items a heard in
+    let right = texts_heard c v (exchanges_of others) (worlds_of others) items b listened in
+    (left ∙ (ap (texts_by (marks items)) told.0 ∙ sym right), told.1)
+
+unless_map : (b : Bool) (P Q : Type 0) → (P → Q) → Unless b P → Unless b Q
+unless_map true P Q f u = tt
+unless_map false P Q f u = f u
+
+text_same : (e f : Exchange) → SameRequest e.request f.request → e.reply ≡ f.reply → text_of e ≡ text_of f
+text_same e f same is =
+    ap (λ a. reply_text a e.request.head e.request.closes) is
+    ∙ (ap (λ h. reply_text f.reply h e.request.closes) same.head ∙ ap (λ x. reply_text f.reply f.request.head x) same.closes)
+
+alike : (es fs : List Exchange) → AllZip SameRequest (asked_in es) (asked_in fs) → AlikeUntilPublished (asked_in es) (told_in es) (told_in fs) → AlikeTexts es fs
+alike [] fs zip told = tt
+alike (e ∷ es) [] zip told = tt
+alike (e ∷ es) (f ∷ fs) zip told = (
+  unless_map (has_places e.request.wish) _ _ (text_same e f zip.0) told.0,
+  unless_map (opens_result e.request.wish e.reply) _ _ (alike es fs zip.1) told.1,
+)
+
+pub same_places : (w v : World) (visits others : List Visit) → SameButPlaces w v
+    → AllZip SameRequest (asked_in (exchanges_of visits)) (asked_in (exchanges_of others))
+    → AreVisits w visits → AreAnswered visits → AreVisits v others → AreAnswered others → AlikeTexts (exchanges_of visits) (exchanges_of others)
+same_places w v visits others same zip are all were also =
+    alike (exchanges_of visits) (exchanges_of others) zip
+    (places_unseen w v _ _ _ _ (worlds_of visits) (worlds_of others) same zip (whole_run w visits are) all (whole_run v others were) also)
+
+-- what was told of streams that were served one after another
+pub are_visits : {K : Type 0} (clean : K → Type 0) (world : K → World) (k : K) (ss : List (Session K)) → AreServed clean world k ss
+    → (vs : List Visit) × AllTellOf ss vs × AreVisits (world k) vs
+are_visits clean world k [] served = ([], tt, tt)
+are_visits clean world k (s ∷ ss) (same, is_clean, tells, later) =
+    let r = tells.3.reaches is_clean in
+    let v : Visit = record { bytes = s.bytes; written = text tells.0 ++ tells.2; ending = s.ending; exchanges = tells.0; worlds = r.0 } in
+    let more = are_visits clean world s.new ss later in (
+      v ∷ more.0,
+      (record { bytes = refl; ending = refl; count = tells.3.counted; written = tells.5 }, more.1),
+      (
+        subst (λ w. IsVisit w v) same (record { closing = tells.2; requests = (tells.1, tells.3.leads, tells.4); run = r.1; text = refl }),
+        subst (λ w. AreVisits w more.0) (r.2 ∙ ap (λ w. end_of w r.0) same) more.2,
+      ),
+    )
+
+pub equal : {K L : Type 0} (clean : K → Type 0) (world : K → World) (spotless : L → Type 0) (realm : L → World) (c : Key) (k : K) (l : L)
+    (ss : List (Session K)) (ts : List (Session L)) → AreServed clean world k ss → AreServed spotless realm l ts → view (world k) c ≡ view (realm l) c
+    → (first second : List Visit) × AllTellOf ss first × AreVisits (world k) first × AllTellOf ts second × AreVisits (realm l) second
+    × ((items : List Item) → AreAnswered first → AreAnswered second → Hears c (world k) first items → Hears c (realm l) second items
+    → replies_in c first ≡ replies_in c second)
+equal clean world spotless realm c k l ss ts served others same =
+    let a = are_visits clean world k ss served in
+    let b = are_visits spotless realm l ts others in (
+      a.0,
+      b.0,
+      a.1,
+      a.2,
+      b.1,
+      b.2,
+      λ items all also heard listened. (same_bytes c (world k) (realm l) a.0 b.0 items a.2 all heard b.2 also listened same).0,
+    )

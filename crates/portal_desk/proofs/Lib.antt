@@ -1,0 +1,10 @@
+pub mod Known
+pub mod Pairs
+pub mod Sheet
+pub mod Played
+pub mod Steps
+pub mod Framing
+pub mod Taking
+pub mod Sent
+pub mod Telling
+pub mod Heeding

@@ -1,0 +1,32 @@
+-- What was written of one reply.
+use Rattle.std.proofs.Common.{◌≡◌, ℕ, Bool, true, false, List, [], sym, subst, append-nil}
+use Rattle.std.specs.Prelude.{Option, Some, None, ◌||◌}
+use Rattle.std.specs.Io.KnownBytes.{Appends}
+use Rattle.portal_core.specs.Answer.{Answer}
+use Rattle.portal_core.specs.Run.{unavailable}
+use Rattle.portal_desk.specs.declared.served.Cause.{Cause}
+use Rattle.portal_desk.specs.declared.served.Cause.TheVariants as cause
+use Rattle.portal_wire.specs.Text.{reply_text}
+use Rattle.portal_desk.specs.Serving.{Partly, Broke}
+
+pub Appends-nil : (a : Option (List ℕ)) → Appends a a []
+Appends-nil None = tt
+Appends-nil (Some a) = sym (append-nil a)
+
+pub broke : (why : Cause) (failed : Bool) (reply : Answer) (head closes : Bool) (before after : Option (List ℕ))
+    → Partly why before after (reply_text reply head (closes || failed)) → Broke why failed reply head closes before after
+broke cause.Read failed reply head closes before after p = p
+broke cause.Write failed reply head closes before after p = p
+broke cause.Memory failed reply head closes before after p = p
+broke cause.Store failed reply head closes before after p = absurd p
+
+pub still : (before after : Option (List ℕ)) (reply : Answer) (head closes failed : Bool) → failed ≡ false
+    → Appends before after (reply_text reply head (closes || failed)) → Appends before after (reply_text reply head closes)
+still before after reply head true failed e adds = adds
+still before after reply head false failed e adds = subst (λ b. Appends before after (reply_text reply head b)) e adds
+
+pub shut : (before after : Option (List ℕ)) (reply : Answer) (head closes failed : Bool) → failed ≡ true → reply ≡ unavailable
+    → Appends before after (reply_text reply head (closes || failed)) → Appends before after (reply_text unavailable head true)
+shut before after reply head true failed e same adds = subst (λ r. Appends before after (reply_text r head true)) same adds
+shut before after reply head false failed e same adds =
+    subst (λ r. Appends before after (reply_text r head true)) same (subst (λ b. Appends before after (reply_text reply head b)) e adds)

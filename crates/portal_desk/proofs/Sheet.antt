@@ -1,0 +1,160 @@
+-- A decision whose sheet is written is the whole decision.
+use Rattle.std.proofs.Common.{◌≡◌, ℕ, Bool, true, false, List, [], refl, sym, ◌∙◌, ap, subst}
+use Rattle.std.specs.Prelude.{Option, Some, None, if◌then◌else◌}
+use Rattle.serde_json.specs.Data.{Data}
+use Rattle.portal_core.specs.declared.phase.Phase.{Phase}
+use Rattle.portal_core.specs.declared.phase.Phase.TheVariants.{Setup, Choosing, Ranking, Published}
+use Rattle.portal_core.specs.Words.{Key, is_empty}
+use Rattle.portal_core.specs.World.{is_choosing, is_ranking, is_published, is_from_ranking}
+use Rattle.portal_core.specs.Change.{Change, Lecturers, Projects, Students, Fill}
+use Rattle.portal_core.specs.Sight.{StudentSees, LecturerSees, OfficeSees}
+use Rattle.portal_core.specs.declared.view.View.{View as Sight}
+use Rattle.portal_core.specs.declared.view.View.TheVariants.{Nobody, Office, Lecturer, Student}
+use Rattle.portal_core.specs.declared.decision.Sheet.{Sheet}
+use Rattle.portal_core.specs.declared.decision.Sheet.TheVariants as sheet
+use Rattle.portal_core.specs.Ask.{Ask}
+use Rattle.portal_core.specs.Faults.{ListFault, choice_fault, ranking_fault}
+use Rattle.portal_core.specs.Rolls.{Taken, Faulty, Took, take_rows, lecturer_roll, project_roll, student_roll}
+use Rattle.portal_core.specs.Answer.{Answer, Said, Json, Csv, Plain, Unavailable, Act, Nothing, Apply, Publish, Render, Decision, decision, emptied, unwritten, only, unless, added, row_fault, moves, publishes, fills, is_open_to_rolls, to_student, to_lecturer, to_office}
+use Rattle.portal_core.specs.Answer.{IsWhole}
+use Rattle.portal_desk.specs.Play.{with_sheet, sheet_text, IsTold}
+
+-- another body than that of 503
+abbrev pub IsSaid : Said → Type 0
+IsSaid Unavailable = ⊥
+IsSaid _ = Unit {0}
+
+-- writing the sheet of what the emptied decision left gives the reply again, which is no 503
+abbrev pub IsFilled : Sight → Decision → Type 0
+IsFilled v d = (with_sheet v (emptied d).act (emptied d).reply ≡ d.reply) × IsSaid d.reply.body
+
+only_filled : (v : Sight) (b : Bool) (d : Decision) → IsFilled v d → IsFilled v (only b d)
+only_filled (Office o) true d e = e
+only_filled (Office o) false d e = (refl, tt)
+only_filled (Student o) true d e = e
+only_filled (Student o) false d e = (refl, tt)
+only_filled (Lecturer o) true d e = e
+only_filled (Lecturer o) false d e = (refl, tt)
+only_filled Nobody true d e = e
+only_filled Nobody false d e = (refl, tt)
+
+unless_filled : (v : Sight) (o : Option ListFault) (d : Decision) → IsFilled v d → IsFilled v (unless o d)
+unless_filled v None d e = e
+unless_filled (Office o) (Some fault) d e = (refl, tt)
+unless_filled (Student o) (Some fault) d e = (refl, tt)
+unless_filled (Lecturer o) (Some fault) d e = (refl, tt)
+unless_filled Nobody (Some fault) d e = (refl, tt)
+
+student_filled : (v : StudentSees) (ask : Ask) → IsFilled (Student v) (to_student v ask)
+student_filled v Ask.Me = (refl, tt)
+student_filled v Ask.Catalogue = (refl, tt)
+student_filled v Ask.ShowChoices = (refl, tt)
+student_filled v (Ask.SetChoices list) = only_filled (Student v) (is_choosing v.phase) _ (unless_filled (Student v) (choice_fault v.catalogue 1 [] list) _ (refl, tt))
+student_filled v Ask.Result = only_filled (Student v) (is_published v.phase) _ (refl, tt)
+student_filled v Ask.Applicants = (refl, tt)
+student_filled v Ask.ShowRanking = (refl, tt)
+student_filled v (Ask.SetRanking list) = (refl, tt)
+student_filled v (Ask.AddLecturers rows) = (refl, tt)
+student_filled v (Ask.AddProjects rows) = (refl, tt)
+student_filled v (Ask.AddStudents rows) = (refl, tt)
+student_filled v (Ask.Move phase) = (refl, tt)
+student_filled v Ask.Status = (refl, tt)
+student_filled v Ask.Allocation = (refl, tt)
+student_filled v Ask.AllocationCsv = (refl, tt)
+student_filled v Ask.Report = (refl, tt)
+student_filled v Ask.FillRankings = (refl, tt)
+
+lecturer_filled : (v : LecturerSees) (ask : Ask) → IsFilled (Lecturer v) (to_lecturer v ask)
+lecturer_filled v Ask.Me = (refl, tt)
+lecturer_filled v Ask.Catalogue = (refl, tt)
+lecturer_filled v Ask.Applicants = only_filled (Lecturer v) (is_from_ranking v.phase) _ (refl, tt)
+lecturer_filled v Ask.ShowRanking = only_filled (Lecturer v) (is_from_ranking v.phase) _ (refl, tt)
+lecturer_filled v (Ask.SetRanking list) = only_filled (Lecturer v) (is_ranking v.phase) _ (unless_filled (Lecturer v) (ranking_fault v.applicants 1 [] list) _ (refl, tt))
+lecturer_filled v Ask.Result = only_filled (Lecturer v) (is_published v.phase) _ (refl, tt)
+lecturer_filled v Ask.ShowChoices = (refl, tt)
+lecturer_filled v (Ask.SetChoices list) = (refl, tt)
+lecturer_filled v (Ask.AddLecturers rows) = (refl, tt)
+lecturer_filled v (Ask.AddProjects rows) = (refl, tt)
+lecturer_filled v (Ask.AddStudents rows) = (refl, tt)
+lecturer_filled v (Ask.Move phase) = (refl, tt)
+lecturer_filled v Ask.Status = (refl, tt)
+lecturer_filled v Ask.Allocation = (refl, tt)
+lecturer_filled v Ask.AllocationCsv = (refl, tt)
+lecturer_filled v Ask.Report = (refl, tt)
+lecturer_filled v Ask.FillRankings = (refl, tt)
+
+idle_or_applied : (v : OfficeSees) (b : Bool) (body : Data) (change : Change)
+    → IsFilled (Office v) (record { reply = record { status = 200; allow = []; body = Json body }; act = if b then Nothing else Apply change })
+idle_or_applied v true body change = (refl, tt)
+idle_or_applied v false body change = (refl, tt)
+
+row_said : (status : ℕ) (word : List ℕ) (row : Option ℕ) → IsSaid (row_fault status word row).body
+row_said status word None = tt
+row_said status word (Some n) = tt
+
+added_filled : {X : Type 0} (v : OfficeSees) (change : List X → Change) (t : Taken X) → IsFilled (Office v) (added change t)
+added_filled v change (Faulty fault) = (refl, row_said fault.status fault.word fault.row)
+added_filled v change (Took new same) = idle_or_applied v (is_empty new) _ (change new)
+
+publishes_filled : (v : OfficeSees) (b : Bool) → is_empty v.still_to_rank ≡ b → IsFilled (Office v) (publishes v)
+publishes_filled v true e = rw e (refl, tt)
+publishes_filled v false e = rw e (refl, tt)
+
+moves_filled : (v : OfficeSees) (old new : Phase) → IsFilled (Office v) (moves v old new)
+moves_filled v Setup Setup = (refl, tt)
+moves_filled v Setup Choosing = (refl, tt)
+moves_filled v Setup Ranking = (refl, tt)
+moves_filled v Setup Published = (refl, tt)
+moves_filled v Choosing Setup = (refl, tt)
+moves_filled v Choosing Choosing = (refl, tt)
+moves_filled v Choosing Ranking = (refl, tt)
+moves_filled v Choosing Published = (refl, tt)
+moves_filled v Ranking Setup = (refl, tt)
+moves_filled v Ranking Choosing = (refl, tt)
+moves_filled v Ranking Ranking = (refl, tt)
+moves_filled v Ranking Published = publishes_filled v (is_empty v.still_to_rank) refl
+moves_filled v Published Setup = (refl, tt)
+moves_filled v Published Choosing = (refl, tt)
+moves_filled v Published Ranking = (refl, tt)
+moves_filled v Published Published = (refl, tt)
+
+office_filled : (v : OfficeSees) (ask : Ask) → IsFilled (Office v) (to_office v ask)
+office_filled v Ask.Me = (refl, tt)
+office_filled v Ask.Catalogue = (refl, tt)
+office_filled v (Ask.AddLecturers rows) = only_filled (Office v) (is_open_to_rolls v.phase) _ (added_filled v Lecturers (take_rows (lecturer_roll v) 1 v.lecturers rows))
+office_filled v (Ask.AddProjects rows) = only_filled (Office v) (is_open_to_rolls v.phase) _ (added_filled v Projects (take_rows (project_roll v) 1 v.projects rows))
+office_filled v (Ask.AddStudents rows) = only_filled (Office v) (is_open_to_rolls v.phase) _ (added_filled v Students (take_rows (student_roll v) 1 v.students rows))
+office_filled v (Ask.Move phase) = moves_filled v v.phase phase
+office_filled v Ask.Status = (refl, tt)
+office_filled v Ask.Allocation = only_filled (Office v) (is_published v.phase) _ (refl, tt)
+office_filled v Ask.AllocationCsv = only_filled (Office v) (is_published v.phase) _ (refl, tt)
+office_filled v Ask.Report = only_filled (Office v) (is_published v.phase) _ (refl, tt)
+office_filled v Ask.FillRankings = only_filled (Office v) (is_ranking v.phase) _ (idle_or_applied v (is_empty v.still_to_rank) _ Fill)
+office_filled v Ask.ShowChoices = (refl, tt)
+office_filled v (Ask.SetChoices list) = (refl, tt)
+office_filled v Ask.Applicants = (refl, tt)
+office_filled v Ask.ShowRanking = (refl, tt)
+office_filled v (Ask.SetRanking list) = (refl, tt)
+office_filled v Ask.Result = (refl, tt)
+
+pub decision_filled : (v : Sight) (ask : Ask) → IsFilled v (decision v ask)
+decision_filled Nobody ask = (refl, tt)
+decision_filled (Office v) ask = office_filled v ask
+decision_filled (Lecturer v) ask = lecturer_filled v ask
+decision_filled (Student v) ask = student_filled v ask
+
+-- what is decided once the sheet is written
+pub whole_decision : (v : Sight) (ask : Ask) (d e : Decision) (reply : Answer) → d ≡ emptied (decision v ask) → reply ≡ with_sheet v d.act d.reply → e ≡ record { reply = reply; act = d.act } → e ≡ decision v ask
+whole_decision v ask d e reply is told made =
+    made ∙ (ap (λ r. record { reply = r; act = d.act }) (told ∙ ap (λ (x : Decision). with_sheet v x.act x.reply) is ∙ (decision_filled v ask).0)
+    ∙ ap (λ (x : Decision). record { reply = (decision v ask).reply; act = x.act }) is)
+
+-- the body of a whole decision
+pub told_whole : (v : Sight) (ask : Ask) (d : Decision) → d ≡ decision v ask → IsWhole d.reply.body → IsTold d.reply.body
+told_whole v ask d is whole = join d.reply.body whole (subst (λ (x : Decision). IsSaid x.reply.body) (sym is) (decision_filled v ask).1)
+  where
+    join : (s : Said) → IsWhole s → IsSaid s → IsTold s
+    join (Json body) whole said = whole
+    join (Csv bytes) whole said = tt
+    join (Plain bytes) whole said = tt
+    join Unavailable whole said = absurd said

@@ -1,0 +1,242 @@
+-- What is known at each exit of the serving loop.
+use Rattle.std.proofs.Common.{◌≡◌, ℕ, ◌+◌, ◌-◌, ◌<◌, ◌≤◌, inl, inr, Bool, true, false, List, [], ◌∷◌, ◌++◌, length, drop, take, refl, sym, ap, ◌∙◌, subst, arith, append-nil}
+use Rattle.std.specs.Prelude.{Option, Some, None, IfSome, nat_le, ◌||◌}
+use Rattle.std.specs.Io.KnownBytes.{Appends}
+use Rattle.std.proofs.lemmas.Bool.{leb-false}
+use Rattle.std.proofs.lemmas.List.{length-append}
+use Rattle.portal_core.specs.World.{World}
+use Rattle.portal_core.specs.Answer.{Answer}
+use Rattle.portal_core.specs.Run.{Request as Wanted, Serves}
+use Rattle.portal_frame.specs.declared.types.Frame.{Frame}
+use Rattle.portal_frame.specs.declared.types.Frame.TheVariants as frame
+use Rattle.portal_frame.specs.declared.types.Refusal.{Refusal}
+use Rattle.portal_frame.specs.declared.types.Request.{Request}
+use Rattle.portal_frame.specs.Stream.{Asked, Opens, whole, fault, is_head, seen, refused}
+use Rattle.portal_desk.specs.declared.served.Cause.{Cause}
+use Rattle.portal_desk.specs.declared.served.Cause.TheVariants as cause
+use Rattle.portal_wire.specs.Text.{reply_text}
+use Rattle.portal_wire.specs.Refusals.{answer_to}
+use Rattle.portal_desk.specs.Reading.{Heads, Follows, Stays, NoneWhole}
+use Rattle.portal_wire.specs.Conversation as talk
+use Rattle.portal_wire.specs.Conversation.{request_of, closes_at, last_for, more, shut, Leads, Ends, Exchange, asked_in, text, text_of}
+use Rattle.portal_desk.specs.Serving.{Deals, Tells, Told, Stops, Partly, Replied, Broke}
+use Rattle.portal_desk.specs.Kept.{Kept}
+use Rattle.portal_desk.proofs.Known.{Appends-append}
+use Rattle.portal_desk.proofs.Sent.{Appends-nil}
+use Rattle.portal_desk.proofs.Steps.{text-snoc, Reaches-none, Reaches-snoc, after_one, Leads-snoc}
+
+exchange : Wanted → Answer → Exchange
+exchange r a = record { request = r; reply = a }
+
+pub told_start : (clean : Type 0) (w : World) (before : Option (List ℕ)) (bytes : List ℕ) → Told clean w w before before bytes bytes 0
+told_start clean w before bytes = ([], record { leads = refl; reaches = λ x. Reaches-none w; counted = refl }, Appends-nil before)
+
+-- what the loop knows before a turn
+abbrev pub SoFar : Option (List ℕ) → Option (List ℕ) → Type 0 → World → World → Option (List ℕ) → Option (List ℕ) → List ℕ → ℕ → Type 0
+SoFar src rem clean old mid before w front count =
+    IfSome src (λ bytes. (rest : List ℕ) × (rem ≡ Some rest) × Told clean old mid before w bytes (front ++ rest) count)
+
+pub told_init : (src : Option (List ℕ)) (clean : Type 0) (w : World) (before : Option (List ℕ)) (buffer : List ℕ) → buffer ≡ []
+    → SoFar src src clean w w before before buffer 0
+told_init None clean w before buffer e = tt
+told_init (Some bytes) clean w before buffer e =
+    (bytes, refl, subst (λ b. Told clean w w before before bytes (b ++ bytes) 0) (sym e) (told_start clean w before bytes))
+
+-- what was told, and what the rest of the stream opens with
+abbrev pub Joined : Type 0 → World → World → Option (List ℕ) → Option (List ℕ) → Option (List ℕ) → ℕ → List ℕ → Frame → List ℕ → Type 0
+Joined clean old mid before w known count buffer found bytes =
+    (stream : List ℕ) × (rest : List ℕ) × Told clean old mid before w bytes stream count × (known ≡ Some rest)
+    × (buffer ++ rest ≡ stream) × Heads stream buffer rest found
+
+joined : (bytes : List ℕ) (rem known : Option (List ℕ)) (clean : Type 0) (old mid : World) (before w : Option (List ℕ)) (front buffer : List ℕ) (count : ℕ) (found : Frame)
+    → SoFar (Some bytes) rem clean old mid before w front count → Follows rem known front buffer found
+    → Joined clean old mid before w known count buffer found bytes
+joined bytes rem known clean old mid before w front buffer count found (rest, e, told) follows =
+    let f = subst (λ o. Follows o known front buffer found) e follows in
+    (front ++ rest, f.0, told, f.1, f.2, f.3)
+
+pub end_known : (src rem known : Option (List ℕ)) (clean : Type 0) (old mid : World) (before w : Option (List ℕ)) (front buffer : List ℕ) (count : ℕ)
+    → SoFar src rem clean old mid before w front count → Follows rem known front buffer frame.End
+    → IfSome src (λ bytes. Tells clean old mid before w bytes count talk.End)
+end_known None rem known clean old mid before w front buffer count told follows = tt
+end_known (Some bytes) rem known clean old mid before w front buffer count told follows =
+    let x = joined bytes rem known clean old mid before w front buffer count frame.End told follows in
+    (x.2.0, more x.0, [], x.2.1, (x.5, refl), subst (Appends before w) (sym (append-nil (text x.2.0))) x.2.2)
+
+pub bad_known : (src rem known : Option (List ℕ)) (clean : Type 0) (old mid : World) (before w now : Option (List ℕ)) (front buffer : List ℕ) (count : ℕ)
+    (refusal : Refusal) (head_only : Bool)
+    → SoFar src rem clean old mid before w front count → Follows rem known front buffer (frame.Bad refusal head_only)
+    → Appends w now (reply_text (answer_to (refused refusal)) head_only true)
+    → IfSome src (λ bytes. Tells clean old mid before now bytes count (talk.Refused refusal.word.now))
+bad_known None rem known clean old mid before w now front buffer count refusal head_only told follows adds = tt
+bad_known (Some bytes) rem known clean old mid before w now front buffer count refusal head_only told follows adds =
+    let x = joined bytes rem known clean old mid before w front buffer count (frame.Bad refusal head_only) told follows in
+    let closing = reply_text (answer_to (refused refusal)) head_only true in
+    (x.2.0, more x.0, closing, x.2.1, (refused refusal, head_only, x.5, refl, refl), Appends-append before w now (text x.2.0) closing x.2.2 adds)
+
+cut_by : (why : Cause) (failed clean : _) (old mid : World) (left before w now : Option (List ℕ)) (bytes stream : List ℕ) (count : ℕ) (refusal : Refusal) (head_only : Bool)
+    → Told clean old mid before w bytes stream count → Opens stream (fault (refused refusal) head_only) → Partly why w now (reply_text (answer_to (refused refusal)) head_only true)
+    → Stops why failed clean old mid left before now bytes count
+cut_by cause.Read failed clean old mid left before w now bytes stream count refusal head_only told opens part = absurd part
+cut_by cause.Write failed clean old mid left before w now bytes stream count refusal head_only (es, deals, written) opens (k, adds) =
+    let closing = reply_text (answer_to (refused refusal)) head_only true in
+    (es, more stream, deals, inr (talk.Refused refusal.word.now, closing, k, (refused refusal, head_only, opens, refl, refl), Appends-append before w now (text es) (take k closing) written adds))
+cut_by cause.Memory failed clean old mid left before w now bytes stream count refusal head_only (es, deals, written) opens adds =
+    (es, more stream, deals, inr (subst (Appends before now) (append-nil (text es)) (Appends-append before w now (text es) [] written adds)))
+cut_by cause.Store failed clean old mid left before w now bytes stream count refusal head_only told opens part = absurd part
+
+pub cut_known : (src rem known : Option (List ℕ)) (why : Cause) (failed : Bool) (clean : Type 0) (old mid : World) (left before w now : Option (List ℕ)) (front buffer : List ℕ) (count : ℕ)
+    (refusal : Refusal) (head_only : Bool)
+    → SoFar src rem clean old mid before w front count → Follows rem known front buffer (frame.Bad refusal head_only)
+    → Partly why w now (reply_text (answer_to (refused refusal)) head_only true)
+    → IfSome src (λ bytes. Stops why failed clean old mid left before now bytes count)
+cut_known None rem known why failed clean old mid left before w now front buffer count refusal head_only told follows part = tt
+cut_known (Some bytes) rem known why failed clean old mid left before w now front buffer count refusal head_only told follows part =
+    let x = joined bytes rem known clean old mid before w front buffer count (frame.Bad refusal head_only) told follows in
+    cut_by why failed clean old mid left before w now bytes x.0 count refusal head_only x.2 x.5 part
+
+pub lack_known : (src rem : Option (List ℕ)) (failed : Bool) (clean : Type 0) (old mid : World) (left before w : Option (List ℕ)) (front : List ℕ) (count : ℕ)
+    → SoFar src rem clean old mid before w front count → IfSome src (λ bytes. Stops cause.Memory failed clean old mid left before w bytes count)
+lack_known None rem failed clean old mid left before w front count told = tt
+lack_known (Some bytes) rem failed clean old mid left before w front count (rest, e, (es, deals, written)) = (es, more (front ++ rest), deals, inr written)
+
+pub read_known : (src rem : Option (List ℕ)) (failed : Bool) (clean : Type 0) (old mid : World) (left before w : Option (List ℕ)) (front buffer : List ℕ) (count : ℕ)
+    → SoFar src rem clean old mid before w front count → Stays rem left front buffer → NoneWhole buffer
+    → IfSome src (λ bytes. Stops cause.Read failed clean old mid left before w bytes count)
+read_known None rem failed clean old mid left before w front buffer count told stays none = tt
+read_known (Some bytes) rem failed clean old mid left before w front buffer count (rest, e, (es, deals, written)) stays none =
+    let s = subst (λ o. Stays o left front buffer) e stays in
+    (es, more (front ++ rest), deals, ((buffer, s.0, ap more (sym s.2), s.1, none), written))
+
+Deals-snoc : (clean now : Type 0) (old mid new : World) (bytes left after : List ℕ) (count : ℕ) (es : List Exchange) (a : Asked) (closes : Bool) (reply : Answer)
+    → Deals clean old mid bytes count es (more left) → (now → clean) → Opens left (whole a after) → closes ≡ closes_at (256 - count) a
+    → (now → Serves mid (request_of closes a) reply new)
+    → Deals now old new bytes (count + 1) (es ++ exchange (request_of closes a) reply ∷ []) (after_one closes a after)
+unfolding exchange
+Deals-snoc clean now old mid new bytes left after count es a closes reply deals back opens at serves =
+    let e : Exchange = exchange (request_of closes a) reply in
+    record {
+      leads = subst (λ b. Leads 256 bytes (asked_in (es ++ e ∷ [])) (after_one b a after)) (sym at)
+          (Leads-snoc 256 (256 - count) bytes es left e a after deals.leads opens (ap (λ n. 256 - n) deals.counted) (ap (λ b. request_of b a) at));
+      reaches = λ x. Reaches-snoc old mid new es e (deals.reaches (back x)) (serves x);
+      counted = one_longer count es e deals.counted;
+    }
+  where
+    one_longer : (n : ℕ) (es : List Exchange) (e : Exchange) → n ≡ length es → n + 1 ≡ length (es ++ e ∷ [])
+    one_longer n es e same = rw (length-append es (e ∷ [])) (omega (arith, same))
+
+-- what one answer did
+abbrev pub Did : Type 0 → World → World → Asked → Bool → Option (List ℕ) → Option (List ℕ) → Type 0
+Did clean mid new a closes w now =
+    Replied clean mid new (request_of closes a) (λ reply. Appends w now (reply_text reply (is_head a.method) closes))
+
+Told-snoc : (clean later : Type 0) (old mid new : World) (before w now : Option (List ℕ)) (bytes left after : List ℕ) (count : ℕ) (a : Asked) (closes : Bool)
+    → Told clean old mid before w bytes left count → (later → clean) → Opens left (whole a after) → closes ≡ closes_at (256 - count) a
+    → Did later mid new a closes w now
+    → (es : List Exchange) × Deals later old new bytes (count + 1) es (after_one closes a after) × Appends before now (text es)
+unfolding exchange
+Told-snoc clean later old mid new before w now bytes left after count a closes (es, deals, written) back opens at (reply, serves, adds) =
+    let e : Exchange = exchange (request_of closes a) reply in (
+      es ++ e ∷ [],
+      Deals-snoc clean later old mid new bytes left after count es a closes reply deals back opens at serves,
+      subst (Appends before now) (sym (text-snoc es e)) (Appends-append before w now (text es) (text_of e) written adds),
+    )
+
+ends_shut : (close : Bool) → Ends (shut close) (last_for close) []
+ends_shut true = refl
+ends_shut false = refl
+
+pub closes_known : (src rem known : Option (List ℕ)) (clean later : Type 0) (old mid new : World) (before w now : Option (List ℕ)) (front buffer : List ℕ) (count : ℕ)
+    (request : Request) (used : ℕ) (closes : Bool)
+    → SoFar src rem clean old mid before w front count → (later → clean) → Follows rem known front buffer (frame.Request request used)
+    → Did later mid new (seen request) closes w now → closes ≡ true → closes ≡ closes_at (256 - count) (seen request)
+    → IfSome src (λ bytes. Tells later old new before now bytes (count + 1) (last_for request.close))
+closes_known None rem known clean later old mid new before w now front buffer count request used closes told back follows did shuts at = tt
+closes_known (Some bytes) rem known clean later old mid new before w now front buffer count request used closes told back follows did shuts at =
+    let x = joined bytes rem known clean old mid before w front buffer count (frame.Request request used) told follows in
+    let a : Asked = seen request in
+    let after = drop used buffer ++ x.1 in
+    let t = Told-snoc clean later old mid new before w now bytes x.0 after count a closes x.2 back x.5 at did in (
+      t.0,
+      shut a.close,
+      [],
+      subst (λ b. Deals later old new bytes (count + 1) t.0 (after_one b a after)) shuts t.1,
+      ends_shut a.close,
+      subst (Appends before now) (sym (append-nil (text t.0))) t.2,
+    )
+
+pub more_known : (src rem known : Option (List ℕ)) (clean later : Type 0) (old mid new : World) (before w now : Option (List ℕ)) (front buffer kept : List ℕ) (count : ℕ)
+    (request : Request) (used : ℕ) (closes : Bool)
+    → SoFar src rem clean old mid before w front count → (later → clean) → Follows rem known front buffer (frame.Request request used)
+    → Did later mid new (seen request) closes w now → closes ≡ false → closes ≡ closes_at (256 - count) (seen request)
+    → kept ≡ drop used buffer
+    → SoFar src known later old new before now kept (count + 1)
+more_known None rem known clean later old mid new before w now front buffer kept count request used closes told back follows did stays at e = tt
+more_known (Some bytes) rem known clean later old mid new before w now front buffer kept count request used closes told back follows did stays at e =
+    let x = joined bytes rem known clean old mid before w front buffer count (frame.Request request used) told follows in
+    let a : Asked = seen request in
+    let after = drop used buffer ++ x.1 in
+    let t = Told-snoc clean later old mid new before w now bytes x.0 after count a closes x.2 back x.5 at did in (
+      x.1,
+      x.3,
+      subst (λ k. Told later old new before now bytes (k ++ x.1) (count + 1)) (sym e)
+          (t.0, subst (λ b. Deals later old new bytes (count + 1) t.0 (after_one b a after)) stays t.1, t.2),
+    )
+
+broke_by : (why : Cause) (failed : Bool) (clean later : Type 0) (old mid new : World) (left before w now : Option (List ℕ)) (bytes stream after : List ℕ) (count : ℕ) (a : Asked) (closes : Bool) (reply : Answer)
+    → Told clean old mid before w bytes stream count → (later → clean) → Opens stream (whole a after) → closes ≡ closes_at (256 - count) a
+    → (later → Serves mid (request_of closes a) reply new) → Broke why failed reply (is_head a.method) closes w now
+    → Stops why failed later old new left before now bytes (count + 1)
+unfolding exchange
+broke_by cause.Read failed clean later old mid new left before w now bytes stream after count a closes reply told back opens at serves broke = absurd broke
+broke_by cause.Write failed clean later old mid new left before w now bytes stream after count a closes reply (es, deals, written) back opens at serves (k, adds) =
+    let e : Exchange = exchange (request_of closes a) reply in (
+      es ++ e ∷ [],
+      after_one closes a after,
+      Deals-snoc clean later old mid new bytes stream after count es a closes reply deals back opens at serves,
+      inl (es, e, k, refl, Appends-append before w now (text es) _ written adds),
+    )
+broke_by cause.Memory failed clean later old mid new left before w now bytes stream after count a closes reply (es, deals, written) back opens at serves adds =
+    let e : Exchange = exchange (request_of closes a) reply in (
+      es ++ e ∷ [],
+      after_one closes a after,
+      Deals-snoc clean later old mid new bytes stream after count es a closes reply deals back opens at serves,
+      inl (es, e, refl, subst (Appends before now) (append-nil (text es)) (Appends-append before w now (text es) [] written adds)),
+    )
+broke_by cause.Store failed clean later old mid new left before w now bytes stream after count a closes reply (es, deals, written) back opens at serves (is_failed, same, adds) =
+    let e : Exchange = exchange (request_of closes a) reply in (
+      es ++ e ∷ [],
+      after_one closes a after,
+      Deals-snoc clean later old mid new bytes stream after count es a closes reply deals back opens at serves,
+      (is_failed, es, e, refl, same, Appends-append before w now (text es) _ written adds),
+    )
+
+pub broke_known : (src rem known : Option (List ℕ)) (why : Cause) (failed : Bool) (clean later : Type 0) (old mid new : World) (left before w now : Option (List ℕ)) (front buffer : List ℕ) (count : ℕ)
+    (request : Request) (used : ℕ) (closes : Bool)
+    → SoFar src rem clean old mid before w front count → (later → clean) → Follows rem known front buffer (frame.Request request used)
+    → closes ≡ closes_at (256 - count) (seen request)
+    → Replied later mid new (request_of closes (seen request)) (λ reply. Broke why failed reply (is_head request.method.items) closes w now)
+    → IfSome src (λ bytes. Stops why failed later old new left before now bytes (count + 1))
+broke_known None rem known why failed clean later old mid new left before w now front buffer count request used closes told back follows at did = tt
+broke_known (Some bytes) rem known why failed clean later old mid new left before w now front buffer count request used closes told back follows at (reply, serves, broke) =
+    let x = joined bytes rem known clean old mid before w front buffer count (frame.Request request used) told follows in
+    broke_by why failed clean later old mid new left before w now bytes x.0 (drop used buffer ++ x.1) count (seen request) closes reply x.2 back x.5 at serves broke
+
+pub goes_on : (count : ℕ) (asked : Asked) (closes : Bool) → count < 256 → closes ≡ false → closes ≡ closes_at (256 - count) asked → count + 1 < 256
+goes_on count asked closes small stays at = last asked.close (nat_le (256 - count) 1) refl (sym at ∙ stays)
+  where
+    last : (close few : Bool) → nat_le (256 - count) 1 ≡ few → (close || few) ≡ false → count + 1 < 256
+    last true few e f = absurd (cc)
+    last false true e f = absurd (cc)
+    last false false e f = omega (arith, small, leb-false (256 - count) 1 e)
+
+pub clash : (b : Bool) → b ≡ true → b ≡ false → ⊥
+clash true e f = absurd (cc)
+clash false e f = absurd (cc)
+
+-- a desk that had failed is as it was, and so it cannot have answered
+pub still_failed : {K : Type 0} (first now next : Kept K) → (first.failed ≡ true → now ≡ first) → (now.failed ≡ true → next ≡ now) → next.failed ≡ false
+    → first.failed ≡ true → ⊥
+still_failed {K = K} first now next waits stays calm failed =
+    let was = ap (λ (k : Kept K). k.failed) (waits failed) ∙ failed in
+    clash next.failed (ap (λ (k : Kept K). k.failed) (stays was) ∙ was) calm

@@ -1,0 +1,20 @@
+use Rattle.std.proofs.Common.{◌≡◌, true, ◌-◌, ◌<◌, ◌≤◌, length}
+use Rattle.portal_desk.proofs.Taking.{TakenBy}
+use Rattle.portal_desk.proofs.Telling.{SoFar}
+use Rattle.portal_desk.proofs.desk.Desk.serve.Given as goal
+
+abbrev pub decreases-loop-found : goal.decreases-loop-found
+decreases-loop-found g l = 256 - l.done
+
+abbrev pub invariant-loop-found : goal.invariant-loop-found
+invariant-loop-found g l = record {
+  bound : l.done < 256;
+  clean : g.K.Keeper.clean l.self.keeper → g.K.Keeper.clean l.initial.self.keeper;
+  reader : g.R.Source.failed l.source ≡ g.R.Source.failed l.initial.source;
+  writer : g.W.Sink.failed l.sink ≡ g.W.Sink.failed l.initial.sink;
+  waits : l.initial.self.failed ≡ true → (l.done ≡ 0) × (l.self ≡ l.initial.self);
+  held : length l.buffer.items ≤ 1064960;
+  taken : TakenBy l.done (length l.buffer.items) (g.R.Source.remaining l.initial.source) (g.R.Source.remaining l.source);
+  told : SoFar (g.R.Source.remaining l.initial.source) (g.R.Source.remaining l.source) (g.K.Keeper.clean l.self.keeper)
+      (g.K.Keeper.world l.initial.self.keeper) (g.K.Keeper.world l.self.keeper) (g.W.Sink.contents l.initial.sink) (g.W.Sink.contents l.sink) l.buffer.items l.done;
+}

@@ -1,0 +1,5 @@
+use Rattle.portal_desk.proofs.Heeding as heeding
+use Rattle.portal_desk.proofs.laws.same_bytes.Goals as goal
+
+pub returns : goal.returns
+returns c = record { replies = heeding.same_bytes; places = heeding.same_places }

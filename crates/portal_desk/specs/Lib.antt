@@ -1,0 +1,7 @@
+pub mod Kept
+pub mod Devices
+pub mod Play
+pub mod Outcome
+pub mod Serving
+pub mod Reading
+pub mod Visits

@@ -1,0 +1,43 @@
+-- What a buffer and a source hold of a stream.
+use Rattle.std.specs.Prelude.{◌≡◌, ℕ, ◌≤◌, Bool, IsTrue, List, [], ◌++◌, length, drop, Option, Some, IfSome}
+use Rattle.portal_frame.specs.declared.types.Frame.{Frame}
+use Rattle.portal_frame.specs.declared.types.Frame.TheVariants as frame
+use Rattle.portal_frame.specs.Stream.{Asked, Opens, whole, fault, over, seen, refused}
+use Rattle.portal_desk.specs.declared.reading.Lack.{Lack}
+use Rattle.portal_desk.specs.declared.reading.Lack.TheVariants as lack
+
+-- the buffer and what the source has left are still the stream; at the end nothing is left
+abbrev pub Reads : Option (List ℕ) → Option (List ℕ) → List ℕ → List ℕ → Bool → Type 0
+Reads old new before after ended =
+    IfSome old (λ more. (rest : List ℕ) × (new ≡ Some rest) × (after ++ rest ≡ before ++ more) × (IsTrue ended → rest ≡ []))
+
+-- the same where reading failed
+abbrev pub Stays : Option (List ℕ) → Option (List ℕ) → List ℕ → List ℕ → Type 0
+Stays old new before after = IfSome old (λ more. (rest : List ℕ) × (new ≡ Some rest) × (after ++ rest ≡ before ++ more))
+
+-- what the stream opens with, where the first bytes of it are in the buffer
+abbrev pub Heads : List ℕ → List ℕ → List ℕ → Frame → Type 0
+Heads stream buffer rest frame.Need = ⊥
+Heads stream buffer rest frame.End = Opens stream over
+Heads stream buffer rest (frame.Request request used) =
+    Opens stream (whole (seen request) (drop used buffer ++ rest))
+Heads stream buffer rest (frame.Bad refusal head_only) = Opens stream (fault (refused refusal) head_only)
+
+-- the same, of what a source has left
+abbrev pub Follows : Option (List ℕ) → Option (List ℕ) → List ℕ → List ℕ → Frame → Type 0
+Follows old new before after found =
+    IfSome old (λ more. (rest : List ℕ) × (new ≡ Some rest) × (after ++ rest ≡ before ++ more) × Heads (before ++ more) after rest found)
+
+-- a request's bytes are in the buffer, and no more than the longest request
+abbrev pub IsWithin : List ℕ → Frame → Type 0
+IsWithin buffer (frame.Request request used) = (used ≤ length buffer) × (used ≤ 1064960)
+IsWithin buffer found = Unit {0}
+
+-- no request stands whole there
+abbrev pub NoneWhole : List ℕ → Type 0
+NoneWhole bytes = (a : Asked) → (after : List ℕ) → ¬ (Opens bytes (whole a after))
+
+-- where reading failed, nothing whole was held
+abbrev pub HoldsNone : Lack → List ℕ → Type 0
+HoldsNone lack.Read buffer = NoneWhole buffer
+HoldsNone lack.Memory buffer = Unit {0}

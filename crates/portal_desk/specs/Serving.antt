@@ -1,0 +1,95 @@
+-- What a desk did for a stream.
+use Rattle.std.specs.Prelude.{◌≡◌, ◌⊎◌, ℕ, ◌≤◌, Bool, true, ◌||◌, List, [], ◌∷◌, ◌++◌, length, take, Option, Some}
+use Rattle.std.specs.Io.KnownBytes.{Appends}
+use Rattle.portal_core.specs.World.{World}
+use Rattle.portal_core.specs.Answer.{Answer}
+use Rattle.portal_core.specs.Run.{Request, Serves, unavailable}
+use Rattle.portal_frame.specs.Stream.{Asked, Opens, whole}
+use Rattle.portal_desk.specs.Devices.{FailsAfter}
+use Rattle.portal_desk.specs.declared.served.Cause.{Cause}
+use Rattle.portal_desk.specs.declared.served.Cause.TheVariants as cause
+use Rattle.portal_wire.specs.Text.{reply_text}
+use Rattle.portal_wire.specs.Conversation.{Rest, more, Leads, Last, Ends, Exchange, asked_in, text, Reaches}
+
+-- the first requests of the stream, their replies, and the world that they lead to, where the keeper is clean
+pub record Deals (clean : Type 0) (old new : World) (bytes : List ℕ) (count : ℕ) (es : List Exchange) (rest : Rest) : Type 0 where
+  pub leads : Leads 256 bytes (asked_in es) rest
+  pub reaches : clean → Reaches old es new
+  pub counted : count ≡ length es
+
+-- the whole stream, and all of the replies' text
+abbrev pub Tells : Type 0 → World → World → Option (List ℕ) → Option (List ℕ) → List ℕ → ℕ → Last → Type 0
+Tells clean old new before after bytes count end =
+    (es : List Exchange) × (rest : Rest) × (closing : List ℕ) × Deals clean old new bytes count es rest
+    × Ends rest end closing × Appends before after (text es ++ closing)
+
+-- so far, with the bytes that are left
+abbrev pub Told : Type 0 → World → World → Option (List ℕ) → Option (List ℕ) → List ℕ → List ℕ → ℕ → Type 0
+Told clean old new before after bytes left count =
+    (es : List Exchange) × Deals clean old new bytes count es (more left) × Appends before after (text es)
+
+-- the replies of all but the last, and of the last a first part; after a fault of the store the last closes
+abbrev pub CutsLast : Bool → List Exchange → Option (List ℕ) → Option (List ℕ) → Type 0
+CutsLast failed es before after =
+    (front : List Exchange) × (e : Exchange) × (k : ℕ) × (es ≡ front ++ e ∷ [])
+    × Appends before after (text front ++ take k (reply_text e.reply e.request.head (e.request.closes || failed)))
+
+-- the replies of all but the last
+abbrev pub LacksLast : List Exchange → Option (List ℕ) → Option (List ℕ) → Type 0
+LacksLast es before after = (front : List Exchange) × (e : Exchange) × (es ≡ front ++ e ∷ []) × Appends before after (text front)
+
+-- all replies, and a first part of the refusal that stands next
+abbrev pub CutsClosing : List Exchange → Rest → Option (List ℕ) → Option (List ℕ) → Type 0
+CutsClosing es rest before after =
+    (end : Last) × (closing : List ℕ) × (k : ℕ) × Ends rest end closing × Appends before after (text es ++ take k closing)
+
+-- no request stands whole in what was read, and the rest is still unread
+abbrev pub AllSeen : Rest → Option (List ℕ) → Type 0
+AllSeen rest left =
+    (held unread : List ℕ) × (rest ≡ more (held ++ unread)) × (left ≡ Some unread)
+    × ((a : Asked) → (after : List ℕ) → ¬ (Opens held (whole a after)))
+
+-- what was written, by the cause of the fault
+abbrev pub Wrote : Cause → Bool → List Exchange → Rest → Option (List ℕ) → Option (List ℕ) → Option (List ℕ) → Type 0
+Wrote cause.Read failed es rest left before after = AllSeen rest left × Appends before after (text es)
+Wrote cause.Write failed es rest left before after = CutsLast failed es before after ⊎ CutsClosing es rest before after
+Wrote cause.Memory failed es rest left before after = LacksLast es before after ⊎ Appends before after (text es)
+Wrote cause.Store failed es rest left before after =
+    (failed ≡ true) × (front : List Exchange) × (e : Exchange) × (es ≡ front ++ e ∷ []) × (e.reply ≡ unavailable)
+    × Appends before after (text front ++ reply_text unavailable e.request.head true)
+
+-- a part of the stream
+abbrev pub Stops : Cause → Bool → Type 0 → World → World → Option (List ℕ) → Option (List ℕ) → Option (List ℕ) → List ℕ → ℕ → Type 0
+Stops why failed clean old new left before after bytes count =
+    (es : List Exchange) × (rest : Rest) × Deals clean old new bytes count es rest × Wrote why failed es rest left before after
+
+-- the device that is blamed failed in this call
+abbrev pub Blames : Cause → ℕ → ℕ → ℕ → ℕ → Type 0
+Blames cause.Read source_old source_new sink_old sink_new = FailsAfter source_old source_new
+Blames cause.Write source_old source_new sink_old sink_new = FailsAfter sink_old sink_new
+Blames _ source_old source_new sink_old sink_new = Unit {0}
+
+-- a first part of a text that could not be written whole
+abbrev pub Partly : Cause → Option (List ℕ) → Option (List ℕ) → List ℕ → Type 0
+Partly cause.Write before after text = (k : ℕ) × Appends before after (take k text)
+Partly cause.Memory before after text = Appends before after []
+Partly _ before after text = ⊥
+
+-- some reply, as the step of the run, with a fact
+abbrev pub Replied : Type 0 → World → World → Request → (Answer → Type 0) → Type 0
+Replied clean old new r P = (reply : Answer) × (clean → Serves old r reply new) × P reply
+
+-- what one answer that failed wrote
+abbrev pub Broke : Cause → Bool → Answer → Bool → Bool → Option (List ℕ) → Option (List ℕ) → Type 0
+Broke cause.Read failed reply head closes before after = ⊥
+Broke cause.Write failed reply head closes before after =
+    (k : ℕ) × Appends before after (take k (reply_text reply head (closes || failed)))
+Broke cause.Memory failed reply head closes before after = Appends before after []
+Broke cause.Store failed reply head closes before after =
+    (failed ≡ true) × (reply ≡ unavailable) × Appends before after (reply_text unavailable head true)
+
+-- how many requests were taken on a desk that had failed before: the first ends the call
+abbrev pub AtFirst : Cause → ℕ → Type 0
+AtFirst cause.Read count = count ≡ 0
+AtFirst cause.Store count = count ≡ 1
+AtFirst _ count = count ≤ 1

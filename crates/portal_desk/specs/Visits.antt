@@ -1,0 +1,89 @@
+-- Streams that are served one after another, and the texts of the replies to one caller.
+use Rattle.std.specs.Prelude.{◌≡◌, if◌then◌else◌, ℕ, List, [], ◌∷◌, ◌++◌, length, Some}
+use Rattle.portal_core.specs.Words.{Key, is}
+use Rattle.portal_core.specs.World.{World}
+use Rattle.portal_core.specs.Run.{Run, AllAnswered, end_of}
+use Rattle.portal_core.specs.Heard.{Item, Heard}
+use Rattle.portal_core.specs.Places.{Unless, has_places, opens_result}
+use Rattle.portal_wire.specs.Conversation.{Last, Requests, Exchange, asked_in, told_in, text, text_of}
+use Rattle.portal_desk.specs.Serving.{Tells}
+
+-- a stream, what was written for it, how it ended, what was asked and answered, and the worlds after each
+pub record Visit : Type 0 where
+  pub bytes : List ℕ
+  pub written : List ℕ
+  pub ending : Last
+  pub exchanges : List Exchange
+  pub worlds : List World
+
+-- it is what a desk does for the stream in this world
+pub record IsVisit (w : World) (v : Visit) : Type 0 where
+  pub closing : List ℕ
+  pub requests : Requests v.bytes (asked_in v.exchanges) v.ending closing
+  pub run : Run w (asked_in v.exchanges) (told_in v.exchanges) v.worlds
+  pub text : v.written ≡ text v.exchanges ++ closing
+
+-- one stream after another
+abbrev pub AreVisits : World → List Visit → Type 0
+AreVisits w [] = Unit {0}
+AreVisits w (v ∷ vs) = IsVisit w v × AreVisits (end_of w v.worlds) vs
+
+abbrev pub exchanges_of : List Visit → List Exchange
+exchanges_of [] = []
+exchanges_of (v ∷ vs) = v.exchanges ++ exchanges_of vs
+
+abbrev pub worlds_of : List Visit → List World
+worlds_of [] = []
+worlds_of (v ∷ vs) = v.worlds ++ worlds_of vs
+
+-- no reply is 503
+abbrev pub AreAnswered : List Visit → Type 0
+AreAnswered vs = AllAnswered (told_in (exchanges_of vs))
+
+-- what one caller hears of them, in order
+abbrev pub Hears : Key → World → List Visit → List Item → Type 0
+Hears c w vs items = Heard c w (asked_in (exchanges_of vs)) (worlds_of vs) items
+
+-- the texts of the replies to one caller, in order
+abbrev pub texts_to : Key → List Exchange → List (List ℕ)
+texts_to c [] = []
+texts_to c (e ∷ es) = if is e.request.code c then text_of e ∷ texts_to c es else texts_to c es
+
+abbrev pub replies_in : Key → List Visit → List (List ℕ)
+replies_in c vs = texts_to c (exchanges_of vs)
+
+-- equal texts, up to and with the first accepted move to published, but for those that have a student's list
+abbrev pub AlikeTexts : List Exchange → List Exchange → Type 0
+AlikeTexts (e ∷ es) (f ∷ fs) =
+    Unless (has_places e.request.wish) (text_of e ≡ text_of f) × Unless (opens_result e.request.wish e.reply) (AlikeTexts es fs)
+AlikeTexts _ _ = Unit {0}
+
+-- a call of `serve` that served a stream to its end: the keeper and what the writer held, before and after
+pub record Session (K : Type 0) : Type 0 where
+  pub old : K
+  pub new : K
+  pub bytes : List ℕ
+  pub before : List ℕ
+  pub after : List ℕ
+  pub count : ℕ
+  pub ending : Last
+
+-- the streams were served one after another, from what this keeper keeps, and each left its keeper clean
+abbrev pub AreServed : {K : Type 0} → (K → Type 0) → (K → World) → K → List (Session K) → Type 0
+AreServed clean world k [] = Unit {0}
+AreServed clean world k (s ∷ ss) =
+    (world s.old ≡ world k) × clean s.new
+    × Tells (clean s.new) (world s.old) (world s.new) (Some s.before) (Some s.after) s.bytes s.count s.ending
+    × AreServed clean world s.new ss
+
+-- the visit is that of the session
+pub record TellsOf {K : Type 0} (s : Session K) (v : Visit) : Type 0 where
+  pub bytes : v.bytes ≡ s.bytes
+  pub ending : v.ending ≡ s.ending
+  pub count : s.count ≡ length v.exchanges
+  pub written : s.after ≡ s.before ++ v.written
+
+abbrev pub AllTellOf : {K : Type 0} → List (Session K) → List Visit → Type 0
+AllTellOf [] [] = Unit {0}
+AllTellOf (s ∷ ss) (v ∷ vs) = TellsOf s v × AllTellOf ss vs
+AllTellOf _ _ = ⊥

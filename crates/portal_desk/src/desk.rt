@@ -1,0 +1,250 @@
+//! Acts on requests, and serves streams of them.
+
+ghost use Rattle.std.specs.Prelude.{◌≡◌, ◌||◌, ℕ, ◌+◌, ◌*◌, ◌-◌, ◌<◌, ◌≤◌, true, false, List, IfSome, IfOk, OnOk, IfErr, MatchResult};
+ghost use Rattle.std.specs.Io.KnownBytes.{Appends};
+ghost use Rattle.portal_frame.specs.Stream.{seen, is_head};
+ghost use Rattle.portal_core.specs.Good.{Good};
+ghost use Rattle.portal_core.specs.Meaning.{told, said};
+ghost use Rattle.portal_core.specs.Run.{Serves, unavailable};
+ghost use Rattle.portal_wire.specs.Conversation.{request_of, closes_at, last, last_for};
+ghost use Rattle.portal_wire.specs.Text.{reply_text};
+ghost use Rattle.portal_core.specs.Answer.{IsWhole};
+ghost use Rattle.portal_desk.specs.Devices.{FailsAfter, TakesAtMost};
+ghost use Rattle.portal_desk.specs.Outcome.{is_store, TurnsAway};
+ghost use Rattle.portal_desk.specs.Serving.{Tells, Stops, Blames, Broke, Replied, AtFirst};
+ghost use Rattle.portal_desk.specs.declared.served.Cause.TheVariants.{Write as WriteFailed};
+
+use crate::devices::{Sink, Source};
+use crate::playing::play;
+use crate::reading::{Lack, cut_front, next_frame};
+use crate::sending::{either, send_refusal, send_reply};
+use crate::served::{Cause, ServeFault, Served};
+use portal_core::{KeepFault, Keeper, Reply};
+use portal_frame::{Frame, Refusal, Request};
+use portal_wire::{Ending, call_of, reply_of};
+use std::alloc::Global;
+use std::marker::Model;
+
+/// Acts on requests over what keeps a world.
+#[derive(Drop)]
+pub struct Desk<K: Keeper> {
+    keeper: K,
+    failed: bool,
+}
+
+impl<K: Keeper> Model for Desk<K> {
+    ghost use Rattle.portal_core.specs.Good.{Good};
+    ghost use Rattle.portal_desk.specs.Kept.{Kept};
+
+    ghost Value = { Kept K };
+
+    ghost view = { λ desk. record { keeper = desk.keeper; failed = desk.failed } };
+
+    ghost invariant = { λ desk. K.clean desk.keeper → Good (K.world desk.keeper) };
+}
+
+impl<K: Keeper> Desk<K> {
+    /// Takes what keeps a world, a good one where it is clean.
+    pub fn new(keeper: K) -> Desk<K>
+        requires { K.clean keeper → Good (K.world keeper) }
+        ensures keeper { result.keeper ≡ keeper }
+        ensures calm { result.failed ≡ false }
+    {
+        Desk {
+            keeper,
+            failed: false,
+        }
+    }
+
+    /// Whether the store failed.
+    pub fn failed(&self) -> bool
+        ensures failed { result ≡ self.now.failed }
+        ensures good { K.clean self.now.keeper → Good (K.world self.now.keeper) }
+    {
+        self.failed
+    }
+
+    /// Gives back what keeps the world.
+    pub fn into_keeper(self) -> K
+        ensures same { result ≡ self.keeper }
+        ensures good { K.clean result → Good (K.world result) }
+    {
+        let Desk { keeper, failed: _ } = self;
+        keeper
+    }
+
+    /// Takes what came of a call: after a fault of the store, and only then, the desk has failed.
+    fn settle(&mut self, outcome: Result<Reply, KeepFault>) -> Reply
+        ensures keeper { self.new.keeper ≡ self.old.keeper }
+        ensures failed { self.new.failed ≡ (self.old.failed || is_store outcome) }
+        ensures reply { MatchResult outcome (λ reply. result ≡ reply) (λ _. told result ≡ unavailable) }
+    {
+        match outcome {
+            Ok(told) => told,
+            Err(KeepFault::Memory) => Reply::unavailable(),
+            Err(KeepFault::Store) => {
+                self.failed = true;
+                Reply::unavailable()
+            }
+        }
+    }
+
+    /// Acts on one request, as one step of the world. Where memory or the store fails the reply is 503,
+    /// and once the store has failed every later reply is.
+    pub fn respond(&mut self, alloc: Global, request: &Request) -> Reply
+        ensures clean { K.clean self.new.keeper → K.clean self.old.keeper }
+        ensures serves { K.clean self.new.keeper → Serves (K.world self.old.keeper) (request_of request.now.close (seen request.now)) (told result) (K.world self.new.keeper) }
+        ensures good { K.clean self.new.keeper → Good (K.world self.new.keeper) }
+        ensures same { K.clean self.new.keeper → told result ≡ unavailable → K.world self.new.keeper ≡ K.world self.old.keeper }
+        ensures stays { self.old.failed ≡ true → self.new ≡ self.old }
+        ensures failed { self.new.failed ≡ true → told result ≡ unavailable }
+        ensures whole { IsWhole (said result.body) }
+    {
+        if self.failed {
+            return Reply::unavailable();
+        }
+        match call_of(alloc, request) {
+            Ok((code, call)) => {
+                let outcome = play(alloc, &mut self.keeper, code.as_slice(), &call);
+                self.settle(outcome)
+            }
+            Err(refusal) => turn_away(alloc, &refusal),
+        }
+    }
+
+    /// Acts on one request, and then writes the whole reply.
+    fn answer<W: Sink>(
+        &mut self,
+        alloc: Global,
+        request: &Request,
+        closes: bool,
+        sink: &mut W,
+    ) -> Result<(), Cause>
+        ensures clean { K.clean self.new.keeper → K.clean self.old.keeper }
+        ensures ok { OnOk result (Replied (K.clean self.new.keeper) (K.world self.old.keeper) (K.world self.new.keeper) (request_of closes (seen request.now))
+            (λ reply. (self.new.failed ≡ false) × Appends (W.contents sink.old) (W.contents sink.new) (reply_text reply (is_head request.now.method.items) closes))) }
+        ensures err { IfErr result (λ cause. Replied (K.clean self.new.keeper) (K.world self.old.keeper) (K.world self.new.keeper) (request_of closes (seen request.now))
+            (λ reply. Broke cause self.new.failed reply (is_head request.now.method.items) closes (W.contents sink.old) (W.contents sink.new))) }
+        ensures stays { self.old.failed ≡ true → self.new ≡ self.old }
+        ensures calm { OnOk result (W.failed sink.new ≡ W.failed sink.old) }
+        ensures counts { IfErr result (λ cause. cause ≡ WriteFailed → FailsAfter (W.failed sink.old) (W.failed sink.new)) }
+    {
+        let reply = self.respond(alloc, request);
+        let lost = self.failed();
+        let shut = either(closes, lost);
+        match send_reply(alloc, &reply, asks_head(request), shut, sink) {
+            Ok(()) => {}
+            Err(cause) => return Err(cause),
+        }
+        if lost {
+            return Err(Cause::Store);
+        }
+        Ok(())
+    }
+
+    /// Serves the requests of a stream, one after another: each acts, and its reply is written whole,
+    /// before more is read.
+    ///
+    /// # Errors
+    ///
+    /// The reader or the writer failed, memory ran out, or the store failed.
+    pub fn serve<R: Source, W: Sink>(
+        &mut self,
+        alloc: Global,
+        source: &mut R,
+        sink: &mut W,
+    ) -> Result<Served, ServeFault>
+        ensures clean { K.clean self.new.keeper → K.clean self.old.keeper }
+        ensures served { IfOk result (λ served. IfSome (R.remaining source.old) (λ bytes.
+            Tells (K.clean self.new.keeper) (K.world self.old.keeper) (K.world self.new.keeper) (W.contents sink.old) (W.contents sink.new) bytes served.requests (last served.ending))) }
+        ensures stopped { IfErr result (λ fault. IfSome (R.remaining source.old) (λ bytes.
+            Stops fault.cause self.new.failed (K.clean self.new.keeper) (K.world self.old.keeper) (K.world self.new.keeper) (R.remaining source.new) (W.contents sink.old) (W.contents sink.new) bytes fault.requests)) }
+        ensures blames { IfErr result (λ fault. Blames fault.cause (R.failed source.old) (R.failed source.new) (W.failed sink.old) (W.failed sink.new)) }
+        ensures taken { TakesAtMost (256 * 1064960) (R.remaining source.old) (R.remaining source.new) }
+        ensures stays { self.old.failed ≡ true → self.new ≡ self.old }
+        ensures none { IfOk result (λ served. self.old.failed ≡ true → served.requests ≡ 0) }
+        ensures first { IfErr result (λ fault. self.old.failed ≡ true → AtFirst fault.cause fault.requests) }
+    {
+        let mut buffer = Vec::new(alloc);
+        let mut done = 0u32;
+        loop {
+            let found = match next_frame(alloc, source, &mut buffer) {
+                Ok(found) => found,
+                Err(Lack::Read) => return Err(stopped(Cause::Read, done)),
+                Err(Lack::Memory) => return Err(stopped(Cause::Memory, done)),
+            };
+            match found {
+                Frame::Need => return Err(stopped(Cause::Memory, done)),
+                Frame::End => return Ok(served(done, Ending::End)),
+                Frame::Bad { refusal, head_only } => {
+                    match send_refusal(alloc, &refusal, head_only, sink) {
+                        Ok(()) => {}
+                        Err(cause) => return Err(stopped(cause, done)),
+                    }
+                    return Ok(served(done, Ending::Refused(refusal.word)));
+                }
+                Frame::Request(request, used) => {
+                    let closes = closes_now(&request, done);
+                    match self.answer(alloc, &request, closes, sink) {
+                        Ok(()) => {}
+                        Err(cause) => return Err(stopped(cause, done + 1)),
+                    }
+                    done += 1;
+                    if closes {
+                        return Ok(served(done, ending_of(request.close)));
+                    }
+                    cut_front(&mut buffer, used);
+                }
+            }
+        }
+    }
+}
+
+/// The reply to a request that makes no call, or 503 for want of memory.
+fn turn_away(alloc: Global, refusal: &Refusal) -> Reply
+    ensures told { TurnsAway refusal.now (told result) }
+    ensures whole { IsWhole (said result.body) }
+{
+    match reply_of(alloc, refusal) {
+        Ok(reply) => reply,
+        Err(_) => Reply::unavailable(),
+    }
+}
+
+/// Whether the method is HEAD.
+fn asks_head(request: &Request) -> bool
+    ensures { result ≡ is_head request.now.method.items }
+{
+    request.method.as_slice() == b"HEAD".as_slice()
+}
+
+/// Whether the reply to a request closes, after so many others.
+fn closes_now(request: &Request, done: u32) -> bool
+    requires { done < 256 }
+    ensures { result ≡ closes_at (256 - done) (seen request.now) }
+{
+    request.close || 256 - done <= 1
+}
+
+/// The ending after a reply that closes.
+fn ending_of(close: bool) -> Ending
+    ensures { last result ≡ last_for close }
+{
+    if close { Ending::Closed } else { Ending::Limit }
+}
+
+/// A stream that was served to its end.
+fn served(requests: u32, ending: Ending) -> Served
+    ensures requests { result.requests ≡ requests }
+    ensures ending { result.ending ≡ ending }
+{
+    Served { requests, ending }
+}
+
+/// A stream that was served in part.
+fn stopped(cause: Cause, requests: u32) -> ServeFault
+    ensures cause { result.cause ≡ cause }
+    ensures requests { result.requests ≡ requests }
+{
+    ServeFault { cause, requests }
+}

@@ -1,0 +1,149 @@
+//! Where bytes come from and where they go, with a count of what failed.
+
+ghost use Rattle.std.specs.Prelude.{◌≡◌, ℕ, ◌<◌, List, Option, take, length, OnOk, OnErr, IfOk};
+ghost use Rattle.std.specs.Io.KnownBytes.{ReadConsumes, WriteAppends, Appends};
+ghost use Rattle.std.specs.Io.{ReadsAtMost, WritesAtMost};
+ghost use Rattle.portal_desk.specs.Devices.{Counts, FailsAfter};
+
+use std::io::{Read, Write};
+use std::marker::Model;
+
+/// A device did not do what was asked.
+#[derive(Clone, Copy, Debug, PartialEq, Eq, Drop)]
+pub struct Failed;
+
+/// What gives bytes.
+pub trait Source {
+    /// The bytes that are left, where they are told.
+    ghost remaining: { Self → Option (List ℕ) };
+
+    /// How many calls failed, or the greatest number.
+    ghost failed: { Self → ℕ };
+
+    /// Reads some bytes, none only at the end or with no room. A call that fails counts once, and
+    /// moves no byte.
+    fn read(&mut self, buf: &mut [u8]) -> Result<usize, Failed>
+        ensures bound { ReadsAtMost result buf.new }
+        ensures bytes { ReadConsumes (remaining self.old) (remaining self.new) result buf.new }
+        ensures counts { Counts result (failed self.old) (failed self.new) };
+
+    /// How many calls failed.
+    fn failures(&self) -> u64
+        ensures { result ≡ failed self.now };
+}
+
+/// What takes bytes.
+pub trait Sink {
+    /// The bytes that it holds, where they are told.
+    ghost contents: { Self → Option (List ℕ) };
+
+    /// How many calls failed, or the greatest number.
+    ghost failed: { Self → ℕ };
+
+    /// Takes some bytes, at least one where there is one. A call that fails counts once, and moves no
+    /// byte.
+    fn write(&mut self, buf: &[u8]) -> Result<usize, Failed>
+        ensures bound { WritesAtMost result buf.now }
+        ensures some { IfOk result (λ n. 0 < length buf.now → 0 < n) }
+        ensures bytes { WriteAppends (contents self.old) (contents self.new) result buf.now }
+        ensures counts { Counts result (failed self.old) (failed self.new) };
+
+    /// How many calls failed.
+    fn failures(&self) -> u64
+        ensures { result ≡ failed self.now };
+}
+
+/// A reader or a writer of std, with a count of the calls that failed: it passes on what the reader or
+/// writer answers, and only an error of it, or a write that takes none of some bytes, is `Failed`.
+#[derive(Drop)]
+pub struct Counted<T> {
+    inner: T,
+    failures: u64,
+}
+
+impl<T> Model for Counted<T> {
+    ghost use Rattle.portal_desk.specs.Kept.{Metered};
+
+    ghost Value = { Metered T };
+
+    ghost view = { λ counted. record { inner = counted.inner; failures = counted.failures } };
+}
+
+impl<T> Counted<T> {
+    /// Counts from none on.
+    pub fn new(inner: T) -> Counted<T>
+        ensures inner { result.inner ≡ inner }
+        ensures none { result.failures ≡ 0 }
+    {
+        Counted { inner, failures: 0 }
+    }
+
+    /// Gives back what was counted.
+    pub fn into_inner(self) -> T
+        ensures { result ≡ self.inner }
+    {
+        let Counted { inner, failures: _ } = self;
+        inner
+    }
+}
+
+impl<T: Read> Source for Counted<T> {
+    ghost remaining = { λ c. T.remaining c.inner };
+
+    ghost failed = { λ c. c.failures };
+
+    fn read(&mut self, buf: &mut [u8]) -> Result<usize, Failed> {
+        match self.inner.read(buf) {
+            Ok(n) => Ok(n),
+            Err(_) => {
+                self.failures = self.failures.saturating_add(1);
+                Err(Failed)
+            }
+        }
+    }
+
+    fn failures(&self) -> u64 {
+        self.failures
+    }
+}
+
+impl<T: Write> Sink for Counted<T> {
+    ghost contents = { λ c. T.contents c.inner };
+
+    ghost failed = { λ c. c.failures };
+
+    fn write(&mut self, buf: &[u8]) -> Result<usize, Failed> {
+        match self.inner.write(buf) {
+            Ok(n) => {
+                if n == 0 && !buf.is_empty() {
+                    self.failures = self.failures.saturating_add(1);
+                    return Err(Failed);
+                }
+                Ok(n)
+            }
+            Err(_) => {
+                self.failures = self.failures.saturating_add(1);
+                Err(Failed)
+            }
+        }
+    }
+
+    fn failures(&self) -> u64 {
+        self.failures
+    }
+}
+
+/// Writes all the bytes, or some first part of them that lacks the last.
+pub(crate) fn write_whole<W: Sink>(sink: &mut W, bytes: &[u8]) -> Result<(), Failed>
+    ensures whole { OnOk result (Appends (W.contents sink.old) (W.contents sink.new) bytes.now) }
+    ensures part { OnErr result ((k : ℕ) × (k < length bytes.now) × Appends (W.contents sink.old) (W.contents sink.new) (take k bytes.now)) }
+    ensures counts { OnErr result (FailsAfter (W.failed sink.old) (W.failed sink.new)) }
+    ensures calm { OnOk result (W.failed sink.new ≡ W.failed sink.old) }
+{
+    let mut at = 0;
+    while at < bytes.len() {
+        let (_, rest) = bytes.split_at(at);
+        at += sink.write(rest)?;
+    }
+    Ok(())
+}

@@ -1,0 +1,45 @@
+//! Laws over the definitions alone: what the bytes of replies tell a caller.
+
+ghost use Rattle.std.specs.Prelude.{◌≡◌, ℕ, List, Some, ◌++◌};
+ghost use Rattle.std.specs.List.{AllZip};
+ghost use Rattle.portal_core.specs.Words.{Key};
+ghost use Rattle.portal_core.specs.World.{World};
+ghost use Rattle.portal_core.specs.View.{view};
+ghost use Rattle.portal_core.specs.Run.{end_of};
+ghost use Rattle.portal_core.specs.Heard.{Item};
+ghost use Rattle.portal_core.specs.Places.{SameButPlaces, SameRequest};
+ghost use Rattle.portal_wire.specs.Conversation.{asked_in};
+ghost use Rattle.portal_desk.specs.Visits.{Visit, AreVisits, AreAnswered, exchanges_of, worlds_of, Hears, replies_in, AlikeTexts, Session, AreServed, AllTellOf};
+
+use portal_core::Keeper;
+
+/// Of any two lists of streams, each served stream after stream with no reply 503: where a caller
+/// starts with the same view and hears the same, the replies to the caller are the same bytes, and so
+/// is the last view. And where two worlds differ at most in the order within students' lists, and what
+/// is asked too, the replies are the same bytes, up to and with the first accepted move to published,
+/// but for the replies to a student's own list.
+pub fn same_bytes()
+    ensures replies { (c : Key) (w v : World) (visits others : List Visit) (items : List Item)
+        → AreVisits w visits → AreAnswered visits → Hears c w visits items → AreVisits v others → AreAnswered others → Hears c v others items → view w c ≡ view v c
+        → (replies_in c visits ≡ replies_in c others) × (view (end_of w (worlds_of visits)) c ≡ view (end_of v (worlds_of others)) c) }
+    ensures places { (w v : World) (visits others : List Visit)
+        → SameButPlaces w v → AllZip SameRequest (asked_in (exchanges_of visits)) (asked_in (exchanges_of others))
+        → AreVisits w visits → AreAnswered visits → AreVisits v others → AreAnswered others → AlikeTexts (exchanges_of visits) (exchanges_of others) }
+{}
+
+/// What `serve` tells of streams that were served one after another over a clean keeper are visits.
+pub fn served_is_visit<K: Keeper>()
+    ensures { (k : K) (sessions : List (Session K)) → AreServed K.clean K.world k sessions
+        → (visits : List Visit) × AllTellOf sessions visits × AreVisits (K.world k) visits }
+{}
+
+/// Two lists of streams that any two desks have served, over keepers of any kind. What they wrote is
+/// told by visits; and where no reply in them is 503, and a caller starts with the same view and hears
+/// the same in both, the replies to that caller are equal byte for byte.
+pub fn equal_byte_for_byte<K: Keeper, L: Keeper>()
+    ensures { (c : Key) (k : K) (l : L) (sessions : List (Session K)) (others : List (Session L))
+        → AreServed K.clean K.world k sessions → AreServed L.clean L.world l others → view (K.world k) c ≡ view (L.world l) c
+        → (first second : List Visit) × AllTellOf sessions first × AreVisits (K.world k) first × AllTellOf others second × AreVisits (L.world l) second
+        × ((items : List Item) → AreAnswered first → AreAnswered second → Hears c (K.world k) first items → Hears c (L.world l) second items
+        → replies_in c first ≡ replies_in c second) }
+{}

@@ -1,0 +1,16 @@
+//! The desk: acts on requests over any keeper of a world, and serves streams of them.
+#![tactic(auto)]
+
+mod desk;
+mod devices;
+pub mod laws;
+mod playing;
+mod reading;
+mod sending;
+mod served;
+
+pub use crate::desk::Desk;
+pub use crate::devices::{Counted, Failed, Sink, Source};
+pub use crate::playing::play;
+pub use crate::served::{Cause, ServeFault, Served};
+pub use portal_wire::Ending;

@@ -1,0 +1,159 @@
+//! Calls played over any keeper: the desk looks, decides and does.
+
+ghost use Rattle.std.specs.Prelude.{◌≡◌, IfOk, OnOk, OnErr};
+ghost use Rattle.spa_model.specs.Spa.{IsMatching};
+ghost use Rattle.portal_core.specs.Answer as answer;
+ghost use Rattle.portal_core.specs.Answer.{Publish};
+ghost use Rattle.portal_core.specs.Good.{Good, CanPublish};
+ghost use Rattle.portal_core.specs.Instance.{pairs_by};
+ghost use Rattle.portal_core.specs.Meaning.{asked, decided, does, told, said};
+ghost use Rattle.portal_core.specs.Run.{HasForm, Leaves, Step};
+ghost use Rattle.portal_core.specs.View as seen;
+ghost use Rattle.portal_core.specs.Answer.{IsWhole};
+ghost use Rattle.portal_desk.specs.Play.{CanDo, IsSolved, IsTold, sheet_text, with_sheet};
+
+use portal_core::{
+    Act, Body, Call, Change, Decision, KeepFault, Keeper, OfficeView, Reply, Sheet, View, decide,
+};
+use portal_reports::allocation_text;
+use portal_rolls::write_allocation;
+use spa_model::{Instance, Key, Matching};
+use spa_student::solve;
+use std::alloc::{AllocError, Global};
+
+/// The body that has the text of a sheet.
+fn sheet_body(alloc: Global, view: &OfficeView, sheet: Sheet) -> Result<Body, AllocError>
+    ensures { IfOk result (λ body. said body ≡ sheet_text view.now sheet) }
+{
+    match sheet {
+        Sheet::Csv => Ok(Body::Csv(write_allocation(alloc, view)?)),
+        Sheet::Report => Ok(Body::Plain(allocation_text(alloc, view)?)),
+    }
+}
+
+/// The reply with its sheet written, where the office is given one.
+fn written(alloc: Global, view: &View, act: &Act, reply: Reply) -> Result<Reply, AllocError>
+    requires { IsWhole (said reply.body) }
+    ensures told { IfOk result (λ whole. told whole ≡ with_sheet view.now (does act.now) (told reply)) }
+    ensures whole { IfOk result (λ whole. IsWhole (said whole.body)) }
+{
+    let View::Office(office) = view else {
+        return Ok(reply);
+    };
+    let Act::Render(sheet) = act else {
+        return Ok(reply);
+    };
+    let body = sheet_body(alloc, office, *sheet)?;
+    Ok(Reply {
+        status: reply.status,
+        allow: reply.allow,
+        body,
+    })
+}
+
+/// What is decided for a caller who sees this, its sheet written.
+fn decide_whole(alloc: Global, view: &View, call: &Call) -> Result<Decision, AllocError>
+    ensures decided { IfOk result (λ d. decided d ≡ answer.decision view.now (asked call.now)) }
+    ensures whole { IfOk result (λ d. IsTold (decided d).reply.body) }
+{
+    let Decision { reply, act } = decide(alloc, view, call)?;
+    let reply = written(alloc, view, &act, reply)?;
+    Ok(Decision { reply, act })
+}
+
+/// What is decided for the caller with this code.
+fn ask<K: Keeper>(
+    alloc: Global,
+    keeper: &mut K,
+    code: &[u8],
+    call: &Call,
+) -> Result<Decision, KeepFault>
+    ensures clean { K.clean keeper.new → K.clean keeper.old }
+    ensures decided { IfOk result (λ d. K.clean keeper.new → Good (K.world keeper.old) → decided d ≡ answer.decision (seen.view (K.world keeper.old) code.now) (asked call.now)) }
+    ensures whole { IfOk result (λ d. IsTold (decided d).reply.body) }
+    ensures same { K.clean keeper.new → K.world keeper.new ≡ K.world keeper.old }
+{
+    let view = keeper.view(alloc, code)?;
+    match decide_whole(alloc, &view, call) {
+        Ok(decision) => Ok(decision),
+        Err(_) => Err(KeepFault::Memory),
+    }
+}
+
+/// The pairs of a matching, by student.
+fn pairs_of(
+    alloc: Global,
+    instance: &Instance,
+    matching: &Matching,
+) -> Result<Vec<(Key, Key)>, AllocError>
+    requires { IsMatching instance.now matching.now }
+    ensures { IfOk result (λ pairs. pairs.items ≡ pairs_by instance.now.student_keys instance.now.project_keys matching.now) }
+{
+    let mut pairs = Vec::new(alloc);
+    for s in 0..instance.students() {
+        if let Some(p) = instance.project_of(matching, s) {
+            let student = instance.student_key(s).copy(alloc)?;
+            let project = instance.project_key(p).copy(alloc)?;
+            pairs.push((student, project))?;
+        }
+    }
+    Ok(pairs)
+}
+
+/// The pairs of the students' best matching.
+fn solved(alloc: Global, instance: &Instance) -> Result<Vec<(Key, Key)>, AllocError>
+    ensures { IfOk result (λ pairs. IsSolved instance.now pairs.items) }
+{
+    let matching = solve(alloc, instance)?;
+    pairs_of(alloc, instance, &matching)
+}
+
+/// Solves the world's instance and publishes the matching.
+fn publish<K: Keeper>(alloc: Global, keeper: &mut K) -> Result<(), KeepFault>
+    requires good { K.clean keeper.old → Good (K.world keeper.old) }
+    requires ready { K.clean keeper.old → CanPublish (K.world keeper.old) }
+    ensures clean { K.clean keeper.new → K.clean keeper.old }
+    ensures made { OnOk result (K.clean keeper.new → Leaves (K.world keeper.old) Publish (K.world keeper.new)) }
+    ensures same { OnErr result (K.clean keeper.new → K.world keeper.new ≡ K.world keeper.old) }
+{
+    let instance = keeper.instance(alloc)?;
+    match solved(alloc, &instance) {
+        Ok(pairs) => keeper.apply(alloc, &Change::Result(pairs)),
+        Err(_) => Err(KeepFault::Memory),
+    }
+}
+
+/// Does what was decided.
+fn carry_out<K: Keeper>(alloc: Global, keeper: &mut K, act: Act) -> Result<(), KeepFault>
+    requires good { K.clean keeper.old → Good (K.world keeper.old) }
+    requires can { K.clean keeper.old → CanDo (K.world keeper.old) (does act) }
+    ensures clean { K.clean keeper.new → K.clean keeper.old }
+    ensures made { OnOk result (K.clean keeper.new → Leaves (K.world keeper.old) (does act) (K.world keeper.new)) }
+    ensures same { OnErr result (K.clean keeper.new → K.world keeper.new ≡ K.world keeper.old) }
+{
+    match act {
+        Act::Nothing | Act::Render(_) => Ok(()),
+        Act::Apply(change) => keeper.apply(alloc, &change),
+        Act::Publish => publish(alloc, keeper),
+    }
+}
+
+/// Plays one call, as a step of the world that is kept.
+pub fn play<K: Keeper>(
+    alloc: Global,
+    keeper: &mut K,
+    code: &[u8],
+    call: &Call,
+) -> Result<Reply, KeepFault>
+    requires good { K.clean keeper.old → Good (K.world keeper.old) }
+    requires form { HasForm (asked call.now) }
+    ensures clean { K.clean keeper.new → K.clean keeper.old }
+    ensures step { IfOk result (λ r. K.clean keeper.new → Step (K.world keeper.old) code.now (asked call.now) (told r) (K.world keeper.new)) }
+    ensures same { OnErr result (K.clean keeper.new → K.world keeper.new ≡ K.world keeper.old) }
+    ensures good { K.clean keeper.new → Good (K.world keeper.new) }
+    ensures whole { IfOk result (λ r. IsTold (said r.body)) }
+{
+    let Decision { reply, act } = ask(alloc, keeper, code, call)?;
+    carry_out(alloc, keeper, act)?;
+    Ok(reply)
+}

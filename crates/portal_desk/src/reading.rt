@@ -1,0 +1,95 @@
+//! Reads a stream up to its next request.
+
+ghost use Rattle.std.specs.Prelude.{◌≡◌, ◌≢◌, ℕ, ◌+◌, ◌-◌, ◌<◌, ◌≤◌, List, length, drop, IfOk, OnErr, IfErr, OnOk, if◌then◌else◌};
+ghost use Rattle.portal_desk.specs.Devices.{FailsAfter, TakesAtMost};
+ghost use Rattle.portal_desk.specs.Reading.{Reads, Follows, IsWithin, Stays, HoldsNone};
+ghost use Rattle.portal_desk.specs.declared.reading.Lack.TheVariants.{Memory as OutOfMemory, Read as ReadFailed};
+
+use crate::devices::{Failed, Source};
+use portal_frame::{Frame, frame};
+use std::alloc::{AllocError, Global};
+
+/// The longest head and the longest body together.
+const LONGEST: usize = 1_064_960;
+
+/// Why no more was read.
+#[derive(Clone, Copy, Debug, PartialEq, Eq, Drop)]
+pub(crate) enum Lack {
+    Read,
+    Memory,
+}
+
+impl From<AllocError> for Lack {
+    ghost from_gives = { λ _ lack. lack ≡ OutOfMemory };
+
+    fn from(_: AllocError) -> Lack {
+        Lack::Memory
+    }
+}
+
+impl From<Failed> for Lack {
+    ghost from_gives = { λ _ lack. lack ≡ ReadFailed };
+
+    fn from(_: Failed) -> Lack {
+        Lack::Read
+    }
+}
+
+/// Reads a piece into the buffer, and says whether the input has ended.
+fn read_piece<R: Source>(source: &mut R, buffer: &mut Vec<u8>) -> Result<bool, Lack>
+    requires { length buffer.old.items < 1064960 }
+    ensures bytes { IfOk result (Reads (R.remaining source.old) (R.remaining source.new) buffer.old.items buffer.new.items) }
+    ensures more { IfOk result (λ ended. length buffer.old.items + (if ended then 0 else 1) ≤ length buffer.new.items) }
+    ensures held { length buffer.new.items ≤ 1064960 }
+    ensures none_lost { OnErr result (buffer.new.items ≡ buffer.old.items) }
+    ensures left { IfErr result (λ lack. lack ≡ ReadFailed → Stays (R.remaining source.old) (R.remaining source.new) buffer.old.items buffer.new.items) }
+    ensures taken { OnErr result (TakesAtMost (1064960 - length buffer.old.items) (R.remaining source.old) (R.remaining source.new)) }
+    ensures calm { OnOk result (R.failed source.new ≡ R.failed source.old) }
+    ensures counts { IfErr result (λ lack. lack ≡ ReadFailed → FailsAfter (R.failed source.old) (R.failed source.new)) }
+{
+    let mut piece = [0u8; 4096];
+    let room = (LONGEST - buffer.len()).min(4096);
+    let n = source.read(&mut piece[..room])?;
+    if n == 0 {
+        return Ok(true);
+    }
+    buffer.extend_from_slice(&piece[..n])?;
+    Ok(false)
+}
+
+/// Reads until the bytes begin with a request, a refusal or the end.
+pub(crate) fn next_frame<R: Source>(
+    alloc: Global,
+    source: &mut R,
+    buffer: &mut Vec<u8>,
+) -> Result<Frame, Lack>
+    requires { length buffer.old.items ≤ 1064960 }
+    ensures follows { IfOk result (Follows (R.remaining source.old) (R.remaining source.new) buffer.old.items buffer.new.items) }
+    ensures found { IfOk result (λ f. f ≢ Frame.Need) }
+    ensures held { length buffer.new.items ≤ 1064960 }
+    ensures within { IfOk result (IsWithin buffer.new.items) }
+    ensures stays { IfErr result (λ lack. lack ≡ ReadFailed → Stays (R.remaining source.old) (R.remaining source.new) buffer.old.items buffer.new.items) }
+    ensures none { IfErr result (λ lack. HoldsNone lack buffer.new.items) }
+    ensures taken { OnErr result (TakesAtMost (1064960 - length buffer.old.items) (R.remaining source.old) (R.remaining source.new)) }
+    ensures calm { OnOk result (R.failed source.new ≡ R.failed source.old) }
+    ensures counts { IfErr result (λ lack. lack ≡ ReadFailed → FailsAfter (R.failed source.old) (R.failed source.new)) }
+{
+    let mut ended = false;
+    loop {
+        match frame(alloc, buffer.as_slice(), ended)? {
+            Frame::Need => {}
+            found => return Ok(found),
+        }
+        ended = read_piece(source, buffer)?;
+    }
+}
+
+/// Drops the first bytes.
+pub(crate) fn cut_front(buffer: &mut Vec<u8>, used: usize)
+    requires { used ≤ length buffer.old.items }
+    ensures { buffer.new.items ≡ drop used buffer.old.items }
+{
+    let kept = buffer.len() - used;
+    buffer.rotate_left(used);
+    buffer.truncate(kept);
+}

@@ -1,0 +1,77 @@
+//! Writes replies.
+
+ghost use Rattle.std.specs.Prelude.{◌≡◌, ◌||◌, true, OnOk, IfErr, OnErr};
+ghost use Rattle.std.specs.Io.KnownBytes.{Appends};
+ghost use Rattle.portal_core.specs.Meaning.{told, said};
+ghost use Rattle.portal_frame.specs.Stream.{refused};
+ghost use Rattle.portal_wire.specs.Refusals.{answer_to};
+ghost use Rattle.portal_wire.specs.Text.{reply_text};
+ghost use Rattle.portal_core.specs.Answer.{IsWhole};
+ghost use Rattle.portal_desk.specs.Devices.{FailsAfter};
+ghost use Rattle.portal_desk.specs.Serving.{Partly};
+ghost use Rattle.portal_desk.specs.declared.served.Cause.TheVariants.{Write as WriteFailed};
+
+use crate::devices::{Sink, write_whole};
+use crate::served::Cause;
+use portal_core::Reply;
+use portal_frame::Refusal;
+use portal_wire::{reply_bytes, reply_of};
+use std::alloc::Global;
+
+/// Whether one of the two is true.
+pub(crate) fn either(a: bool, b: bool) -> bool
+    ensures { result ≡ (a || b) }
+{
+    a || b
+}
+
+/// Writes bytes whole.
+fn send<W: Sink>(bytes: &[u8], sink: &mut W) -> Result<(), Cause>
+    ensures ok { OnOk result (Appends (W.contents sink.old) (W.contents sink.new) bytes.now) }
+    ensures err { IfErr result (λ cause. Partly cause (W.contents sink.old) (W.contents sink.new) bytes.now) }
+    ensures calm { OnOk result (W.failed sink.new ≡ W.failed sink.old) }
+    ensures counts { IfErr result (λ cause. cause ≡ WriteFailed → FailsAfter (W.failed sink.old) (W.failed sink.new)) }
+{
+    match write_whole(sink, bytes) {
+        Ok(()) => Ok(()),
+        Err(_) => Err(Cause::Write),
+    }
+}
+
+/// Writes a reply whole.
+pub(crate) fn send_reply<W: Sink>(
+    alloc: Global,
+    reply: &Reply,
+    head_only: bool,
+    close: bool,
+    sink: &mut W,
+) -> Result<(), Cause>
+    requires { IsWhole (said reply.now.body) }
+    ensures ok { OnOk result (Appends (W.contents sink.old) (W.contents sink.new) (reply_text (told reply.now) head_only close)) }
+    ensures err { IfErr result (λ cause. Partly cause (W.contents sink.old) (W.contents sink.new) (reply_text (told reply.now) head_only close)) }
+    ensures calm { OnOk result (W.failed sink.new ≡ W.failed sink.old) }
+    ensures counts { IfErr result (λ cause. cause ≡ WriteFailed → FailsAfter (W.failed sink.old) (W.failed sink.new)) }
+{
+    match reply_bytes(alloc, reply, head_only, close) {
+        Ok(bytes) => send(bytes.as_slice(), sink),
+        Err(_) => Err(Cause::Memory),
+    }
+}
+
+/// Writes the reply to the refusal that a stream ends in.
+pub(crate) fn send_refusal<W: Sink>(
+    alloc: Global,
+    refusal: &Refusal,
+    head_only: bool,
+    sink: &mut W,
+) -> Result<(), Cause>
+    ensures ok { OnOk result (Appends (W.contents sink.old) (W.contents sink.new) (reply_text (answer_to (refused refusal.now)) head_only true)) }
+    ensures err { IfErr result (λ cause. Partly cause (W.contents sink.old) (W.contents sink.new) (reply_text (answer_to (refused refusal.now)) head_only true)) }
+    ensures calm { OnOk result (W.failed sink.new ≡ W.failed sink.old) }
+    ensures counts { IfErr result (λ cause. cause ≡ WriteFailed → FailsAfter (W.failed sink.old) (W.failed sink.new)) }
+{
+    match reply_of(alloc, refusal) {
+        Ok(reply) => send_reply(alloc, &reply, head_only, true, sink),
+        Err(_) => Err(Cause::Memory),
+    }
+}

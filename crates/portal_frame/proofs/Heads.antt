@@ -1,0 +1,248 @@
+-- Heads at the front of a stream, cut and continued.
+use Rattle.std.proofs.Common.{◌≡◌, ℕ, ◌+◌, ◌-◌, ◌<◌, ◌≤◌, inl, inr, Bool, true, false, List, [], ◌∷◌, ◌++◌, length, take, drop, refl, sym, ap, ◌∙◌, arith, rules, append_assoc, append-nil, subst}
+use Rattle.std.specs.Prelude.{◌==◌, ◌&&◌, ◌||◌, if◌then◌else◌, Ok, Err, Result}
+use Rattle.std.proofs.Math.Seq.{take-append-add}
+use Rattle.std.proofs.lemmas.Bool.{eqb-true, le-leb, lt-leb, cases_lt}
+use Rattle.std.proofs.lemmas.Grind.{common_steps}
+use Rattle.std.proofs.lemmas.List.{take-append-le, drop-append-le, take-append-drop, drop-drop, length-append, length-take-le, length-take, length-map, take_all}
+use Rattle.std.proofs.lemmas.List.Elements.{All-cons, All-nil}
+use Rattle.std.specs.Prelude.{IsTrue, nat_lt, nat_le}
+use Rattle.std.specs.Char.{encode_utf8}
+use Rattle.httparse.specs.Grammar.{RequestHead, IsRequestHead, ReadsRequest, HasNoRequest, print_request, LineEnd, lf, crlf, print_blank, print_version, is_token_byte, is_uri_byte, Field, IsField}
+use Rattle.httparse.specs.Spans.{RequestOverflows}
+use Rattle.httparse.proofs.GrammarLemmas.{ReadsRequest-append, print_request-append}
+use Rattle.portal_frame.specs.declared.types.Fault.{Fault}
+use Rattle.portal_frame.specs.Stream.{Refuses, body_length, told, bad_head, bad_length, Takes, HasNoHead, Asked, whole, fault, over, asked_of, after_lines, lines_of, is_head, Opens, headless, is_blank, IsHead}
+use Rattle.httparse.specs.Spans.{IsRequestAt, IsRequestWithin, header_bytes, name_and_value}
+use Rattle.httparse.specs.declared.spans.HeaderSpan.{HeaderSpan}
+use Rattle.httparse.specs.declared.spans.RequestSpans.{RequestSpans}
+use Rattle.std.specs.Prelude.{map, min}
+
+pub Takes-append : (bytes more : List ℕ) (h : RequestHead) (rest : List ℕ) → Takes bytes h rest
+    → Takes (bytes ++ more) h (rest ++ more)
+Takes-append bytes more h rest t = record {
+  reads = ReadsRequest-append bytes h rest more t.reads;
+  few = t.few;
+  short = t.short;
+}
+
+split_number : (n k : ℕ) → k ≤ n → n ≡ k + (n - k)
+split_number n k le = omega (arith, le)
+
+cut : (n : ℕ) (bytes p rest : List ℕ) → bytes ≡ p ++ rest → length p ≤ n → take n bytes ≡ p ++ take (n - length p) rest
+cut n bytes p rest e le =
+    ap (take n) e ∙ (ap (λ k. take k (p ++ rest)) (split_number n (length p) le) ∙ take-append-add p rest (n - length p))
+
+pub none_so_far : (bytes : List ℕ) → HasNoRequest (take 16384 bytes) → HasNoHead bytes
+none_so_far bytes none h rest t =
+    none h (take (16384 - length (print_request h)) rest) (t.reads.0, cut 16384 bytes (print_request h) rest t.reads.1 t.short)
+
+pub none_later : (bytes more : List ℕ) → HasNoRequest (take 16384 bytes) → 16384 ≤ length bytes → HasNoHead (bytes ++ more)
+none_later bytes more none full =
+    none_so_far (bytes ++ more) (rw (take-append-le 16384 bytes more full) none)
+
+pub overflows_on : (bytes more : List ℕ) → RequestOverflows 32 bytes → RequestOverflows 32 (bytes ++ more)
+overflows_on bytes more overflows after h rest reads =
+    overflows (more ++ after) h rest (reads.0, sym (append_assoc bytes more after) ∙ reads.1)
+
+pub overflows_all : (bytes : List ℕ) → RequestOverflows 32 (take 16384 bytes) → RequestOverflows 32 bytes
+overflows_all bytes overflows =
+    subst (RequestOverflows 32) (take-append-drop 16384 bytes) (overflows_on (take 16384 bytes) (drop 16384 bytes) overflows)
+
+pub none_ever : (bytes more : List ℕ) → RequestOverflows 32 bytes → HasNoHead (bytes ++ more)
+none_ever bytes more overflows h rest t =
+    let over : 32 < length h.fields = overflows more h rest t.reads in
+    omega (arith, over, t.few)
+
+pub none_now : (bytes : List ℕ) → RequestOverflows 32 bytes → HasNoHead bytes
+none_now bytes overflows = subst HasNoHead (append-nil bytes) (none_ever bytes [] overflows)
+
+-- empty lines can go on to a head
+abbrev GoesOn : List ℕ → Type 0
+GoesOn bytes = (more : List ℕ) × (ends : List LineEnd) × (bytes ++ more ≡ print_blank ends)
+
+last_byte : (b : ℕ) (is_lf is_cr : Bool) → (b == 10) ≡ is_lf → (b == 13) ≡ is_cr → (is_lf || is_cr) ≡ true → GoesOn (b ∷ [])
+last_byte b true is_cr f g h = ([], lf ∷ [], ap (λ x. x ∷ []) (eqb-true b 10 f))
+last_byte b false true f g h = (10 ∷ [], crlf ∷ [], ap (λ x. x ∷ 10 ∷ []) (eqb-true b 13 g))
+last_byte b false false f g h = absurd (cc)
+
+two_bytes : (b c : ℕ) (bytes : List ℕ) (is_lf is_cr then_lf : Bool) → (b == 10) ≡ is_lf → (b == 13) ≡ is_cr → (c == 10) ≡ then_lf
+    → (is_blank (c ∷ bytes) ≡ true → GoesOn (c ∷ bytes)) → (is_blank bytes ≡ true → GoesOn bytes)
+    → (if is_lf then is_blank (c ∷ bytes) else (is_cr && then_lf && is_blank bytes)) ≡ true → GoesOn (b ∷ c ∷ bytes)
+two_bytes b c bytes true is_cr then_lf f g k one two h =
+    let r = one h in
+    (r.0, lf ∷ r.1, ap (λ x. x ∷ ((c ∷ bytes) ++ r.0)) (eqb-true b 10 f) ∙ ap (λ xs. 10 ∷ xs) r.2)
+two_bytes b c bytes false true true f g k one two h =
+    let r = two h in
+    (r.0, crlf ∷ r.1, ap (λ x. x ∷ c ∷ (bytes ++ r.0)) (eqb-true b 13 g) ∙ (ap (λ x. 13 ∷ x ∷ (bytes ++ r.0)) (eqb-true c 10 k) ∙ ap (λ xs. 13 ∷ 10 ∷ xs) r.2))
+two_bytes b c bytes false true false f g k one two h = absurd (cc)
+two_bytes b c bytes false false then_lf f g k one two h = absurd (cc)
+
+blank_ends : (bytes : List ℕ) → is_blank bytes ≡ true → GoesOn bytes
+blank_ends [] e = ([], [], refl)
+blank_ends (b ∷ []) e = last_byte b (b == 10) (b == 13) refl refl e
+blank_ends (b ∷ c ∷ bytes) e =
+    two_bytes b c bytes (b == 10) (b == 13) (c == 10) refl refl refl (blank_ends (c ∷ bytes)) (blank_ends bytes) e
+
+abbrev least : List LineEnd → RequestHead
+least ends = record { blank = ends; method = 71 ∷ []; target = 47 ∷ []; minor = 1; line_end = lf; fields = []; last = lf }
+
+least_valid : (ends : List LineEnd) → IsRequestHead (least ends)
+unfolding is_token_byte encode_utf8
+least_valid ends = record {
+  method = (omega arith, All-cons (λ b. IsTrue (is_token_byte b)) 71 [] (search rules) (All-nil (λ b. IsTrue (is_token_byte b))));
+  target = (omega arith, All-cons (λ b. IsTrue (is_uri_byte b)) 47 [] (search rules) (All-nil (λ b. IsTrue (is_uri_byte b))));
+  target_text = (47 ∷ [], (refl, refl));
+  minor = omega arith;
+  fields = All-nil IsField;
+}
+
+-- what follows the empty lines of the least head
+abbrev tail_of_least : List ℕ
+tail_of_least = 71 ∷ 32 ∷ 47 ∷ 32 ∷ (print_version 1 ++ (10 ∷ 10 ∷ []))
+
+least_reads : (bytes more : List ℕ) (ends : List LineEnd) → bytes ++ more ≡ print_blank ends
+    → ReadsRequest (bytes ++ (more ++ tail_of_least)) (least ends) []
+least_reads bytes more ends e = (
+  least_valid ends,
+  sym (append_assoc bytes more tail_of_least) ∙ (ap (λ xs. xs ++ tail_of_least) e ∙ sym (print_request-append (least ends) [])),
+)
+
+never_blank : (bytes : List ℕ) → RequestOverflows 32 bytes → is_blank bytes ≡ true → ⊥
+never_blank bytes overflows blank =
+    let r = blank_ends bytes blank in
+    let over : 32 < 0 = overflows (r.0 ++ tail_of_least) (least r.1) [] (least_reads bytes r.0 r.1 r.2) in
+    omega (arith, over)
+
+not_over : (bytes : List ℕ) (b : Bool) → is_blank bytes ≡ b → (is_blank bytes ≡ true → ⊥) → headless bytes ≡ fault bad_head false
+not_over bytes true e never = absurd (never e)
+not_over bytes false e never = ap (λ b. if b && nat_lt (length bytes) 16384 then over else fault bad_head false) e
+
+-- no head can come: the stream is refused, however it goes on
+pub opens_never : (bytes more : List ℕ) → RequestOverflows 32 bytes → Opens (bytes ++ more) (fault bad_head false)
+opens_never bytes more overflows =
+    inr (none_ever bytes more overflows, sym (not_over (bytes ++ more) _ refl (never_blank (bytes ++ more) (overflows_on bytes more overflows))))
+
+-- what is refused, by the refusal that is told
+pub as_told : (bytes : List ℕ) (given wanted : Refuses) (head_only : Bool) → given ≡ wanted
+    → Opens bytes (fault wanted head_only) → Opens bytes (fault given head_only)
+as_told bytes given wanted head_only e opens = subst (λ r. Opens bytes (fault r head_only)) (sym e) opens
+
+-- the longest head is passed, and none stands there
+pub opens_full : (bytes more : List ℕ) → HasNoHead (bytes ++ more) → 16384 ≤ length bytes → Opens (bytes ++ more) (fault bad_head false)
+opens_full bytes more none full =
+    inr (none, sym (too_long (bytes ++ more) (is_blank (bytes ++ more)) (lt-leb-not bytes more full)))
+  where
+    lt-leb-not : (bytes more : List ℕ) → 16384 ≤ length bytes → nat_lt (length (bytes ++ more)) 16384 ≡ false
+    lt-leb-not bytes more full = rw (length-append bytes more) (grind (arith, common_steps, full))
+
+    too_long : (bytes : List ℕ) (blank : Bool) → nat_lt (length bytes) 16384 ≡ false
+        → (if blank && nat_lt (length bytes) 16384 then over else fault bad_head false) ≡ fault bad_head false
+    too_long bytes true e = ap (λ b. if b then over else fault bad_head false) e
+    too_long bytes false e = refl
+
+-- ---- after a head
+
+pub after_err : (bytes more : List ℕ) (h : RequestHead) (rest : List ℕ) (why : Fault) → Takes bytes h rest
+    → body_length h.minor (lines_of h) ≡ Err why
+    → Opens (bytes ++ more) (fault (told why) (is_head h.method))
+after_err bytes more h rest why t e =
+    inl (h, rest ++ more, Takes-append bytes more h rest t, sym (ap (λ r. after_lines h r (rest ++ more)) e))
+
+-- the item for a length that the head announces
+sized : (h : RequestHead) (n : ℕ) (rest : List ℕ) (enough : Bool) → nat_le n (length rest) ≡ enough
+    → after_lines h (Ok n) rest ≡ (if enough then whole (asked_of h (take n rest)) (drop n rest) else fault bad_length (is_head h.method))
+sized h n rest enough e = ap (λ b. if b then whole (asked_of h (take n rest)) (drop n rest) else fault bad_length (is_head h.method)) e
+
+pub after_short : (bytes : List ℕ) (h : RequestHead) (rest : List ℕ) (n : ℕ) → Takes bytes h rest
+    → body_length h.minor (lines_of h) ≡ Ok n → length rest < n
+    → Opens bytes (fault bad_length (is_head h.method))
+after_short bytes h rest n t e short =
+    inl (h, rest, t, sym (ap (λ r. after_lines h r rest) e ∙ sized h n rest false (lt-leb n (length rest) short)))
+
+pub after_whole : (bytes more : List ℕ) (h : RequestHead) (len n : ℕ) → Takes bytes h (drop len bytes)
+    → body_length h.minor (lines_of h) ≡ Ok n → n ≤ length (drop len bytes)
+    → Opens (bytes ++ more) (whole (asked_of h (take n (drop len bytes))) (drop (len + n) bytes ++ more))
+after_whole bytes more h len n t e enough =
+    let rest = drop len bytes in
+    inl (
+      h,
+      rest ++ more,
+      Takes-append bytes more h rest t,
+      sym (
+          ap (λ r. after_lines h r (rest ++ more)) e
+          ∙ (sized h n (rest ++ more) true (le-leb n (length (rest ++ more)) (longer n rest more enough))
+          ∙ (ap (λ body. whole (asked_of h body) (drop n (rest ++ more))) (take-append-le n rest more enough)
+          ∙ ap (whole (asked_of h (take n rest))) (drop-append-le n rest more enough ∙ ap (λ xs. xs ++ more) (drop-drop n len bytes))))
+          ),
+    )
+  where
+    longer : (n : ℕ) (rest more : List ℕ) → n ≤ length rest → n ≤ length (rest ++ more)
+    longer n rest more le = rw (length-append rest more) (omega (arith, le))
+
+-- the lines as the spans have them
+pub lines_same : (bytes front : List ℕ) (spans : RequestSpans) (headers : List HeaderSpan) (h : RequestHead) (r : Result ℕ Fault)
+    → IsHead bytes front spans headers h → body_length spans.version (map (header_bytes front) headers) ≡ r
+    → body_length h.minor (lines_of h) ≡ r
+lines_same bytes front spans headers h r x e =
+    ap (λ v. body_length v (lines_of h)) (sym x.version) ∙ (ap (body_length spans.version) (sym x.lines) ∙ e)
+
+pub same_asked : (a b : Asked) → a.method ≡ b.method → a.path ≡ b.path → a.code ≡ b.code → a.close ≡ b.close → a.body ≡ b.body → a ≡ b
+same_asked a b m p c l d = λ i. record { method = m i; path = p i; code = c i; close = l i; body = d i }
+
+reads_whole : (bytes front back : List ℕ) (len : ℕ) (h : RequestHead) → front ++ back ≡ bytes → len ≤ length front
+    → ReadsRequest front h (drop len front) → ReadsRequest bytes h (drop len bytes)
+reads_whole bytes front back len h e fits reads =
+    let longer : ReadsRequest (front ++ back) h (drop len (front ++ back)) =
+    rw (drop-append-le len front back fits) (ReadsRequest-append front h (drop len front) back reads) in
+    subst (λ b. ReadsRequest b h (drop len b)) e longer
+
+pub head_of : (bytes front back : List ℕ) (headers : List HeaderSpan) (spans : RequestSpans) (h : RequestHead)
+    → front ++ back ≡ bytes → length front ≤ 16384 → length headers ≤ 32
+    → IsRequestAt front headers spans h → IsRequestWithin front headers spans
+    → IsHead bytes front spans (take spans.headers headers) h
+head_of bytes front back headers spans h e short few at within =
+    let fits : spans.len ≤ length front = within.section.len_fits in
+    let len : length bytes ≡ length front + length back = ap length (sym e) ∙ length-append front back in
+    let count : length h.fields ≤ 32 =
+    omega (
+      arith,
+      few,
+      within.section.count_fits,
+      length-take-le spans.headers headers within.section.count_fits,
+      same_length _ _ _ at.fields,
+    ) in
+    record {
+      takes = record {
+        reads = reads_whole bytes front back spans.len h e fits at.reads;
+        few = count;
+        short = omega (arith, at.len, fits, short);
+      };
+      len_fits = omega (arith, fits, len);
+      len = at.len;
+      method = at.method;
+      path = at.path;
+      version = at.version;
+      lines = at.fields;
+      method_within = (within.method.0, omega (arith, fits, within.method.1));
+      path_within = (within.path.0, omega (arith, fits, within.path.1));
+      headers_within = λ k d lt.
+          let w = within.section.headers_fit k d lt in
+          ((w.0.0, omega (arith, fits, w.0.1)), (w.1.0, omega (arith, fits, w.1.1)));
+    }
+  where
+    same_length : (front : List ℕ) (hs : List HeaderSpan) (fs : List Field)
+        → map (header_bytes front) hs ≡ map name_and_value fs → length hs ≡ length fs
+    same_length front hs fs e = sym (length-map hs (header_bytes front)) ∙ (ap length e ∙ length-map fs name_and_value)
+
+pub front_is : (n : ℕ) (bytes : List ℕ) → n ≡ min (length bytes) 16384 → take n bytes ≡ take 16384 bytes
+front_is n bytes e = elim (cases_lt (length bytes) 16384) [
+  | inl small ↦ take_all n bytes (omega (arith, e, small)) ∙ sym (take_all 16384 bytes (omega (arith, small)))
+  | inr large ↦ let same : n ≡ 16384 = omega (arith, e, large) in ap (λ k. take k bytes) same
+]
+
+pub length_front : (n : ℕ) (bytes : List ℕ) → n ≡ min (length bytes) 16384 → length (take n bytes) ≤ 16384
+length_front n bytes e = rw (length-take n bytes) (omega (arith, e))
+
+pub front_all : (n : ℕ) (bytes : List ℕ) → n ≡ min (length bytes) 16384 → length bytes < 16384 → take n bytes ≡ bytes
+front_all n bytes e short = take_all n bytes (omega (arith, e, short))

@@ -1,0 +1,4 @@
+pub mod Heads
+pub mod Limits
+pub mod Overlong
+pub mod Unique

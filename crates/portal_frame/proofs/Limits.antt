@@ -1,0 +1,62 @@
+-- How long what is waited for can be.
+use Rattle.std.proofs.Common.{◌≡◌, ℕ, ◌+◌, ◌<◌, ◌≤◌, Bool, true, false, List, [], ◌∷◌, ◌++◌, length, refl, ap, ◌∙◌, arith}
+use Rattle.std.specs.Prelude.{Result, Ok, Err, if◌then◌else◌, nat_lt, codes}
+use Rattle.std.specs.Str.Parse.{digits_value}
+use Rattle.std.proofs.lemmas.Bool.{ltb-false}
+use Rattle.std.proofs.lemmas.List.{length-append}
+use Rattle.httparse.specs.Grammar.{RequestHead, print_request, print_section, print_end, print_version, print_blank}
+use Rattle.portal_frame.specs.declared.types.Fault.{Fault}
+use Rattle.portal_frame.specs.declared.types.Fault.TheVariants as faults
+use Rattle.portal_frame.specs.Heads.{is_length, has_bad_host, has_any, values_of}
+use Rattle.portal_frame.specs.Stream.{body_length, length_of, WaitsForBody, lines_of}
+
+ok_same : (d n : ℕ) → ◌≡◌ {A = Result ℕ Fault} (Ok d) (Ok n) → d ≡ n
+ok_same d n e = cc
+
+pick : (is_len over : Bool) (d n : ℕ) → nat_lt 1048576 d ≡ over
+    → ◌≡◌ {A = Result ℕ Fault} (if is_len then (if over then Err faults.TooLarge else Ok d) else Err faults.BadLength) (Ok n) → n ≤ 1048576
+pick true true d n o e = absurd (cc)
+pick true false d n o e = omega (arith, ok_same d n e, ltb-false 1048576 d o)
+pick false over d n o e = absurd (cc)
+
+length_of-le : (values : List (List ℕ)) (n : ℕ) → length_of values ≡ Ok n → n ≤ 1048576
+length_of-le [] n e = omega (arith, ok_same 0 n e)
+length_of-le (value ∷ []) n e = pick (is_length value) (nat_lt 1048576 (digits_value 10 value)) (digits_value 10 value) n refl e
+length_of-le (value ∷ other ∷ values) n e = absurd (cc)
+
+after_host : (bad coded : Bool) (values : List (List ℕ)) (n : ℕ)
+    → (if bad then Err faults.BadHost else (if coded then Err faults.CodedBody else length_of values)) ≡ Ok n → n ≤ 1048576
+after_host true coded values n e = absurd (cc)
+after_host false true values n e = absurd (cc)
+after_host false false values n e = length_of-le values n e
+
+pub body_length-le : (minor : ℕ) (lines : List (List ℕ × List ℕ)) (n : ℕ) → body_length minor lines ≡ Ok n → n ≤ 1048576
+body_length-le minor lines n e =
+    after_host (has_bad_host minor (values_of (codes "host") lines)) (has_any (values_of (codes "transfer-encoding") lines)) (values_of (codes "content-length") lines) n e
+
+-- what is waited for is shorter than the longest head and the longest body
+pub body-short : (bytes : List ℕ) → WaitsForBody bytes → length bytes < 1064960
+body-short bytes (h, rest, n, takes, sized, short) =
+    let parts : length bytes ≡ length (print_request h) + length rest = ap length takes.reads.1 ∙ length-append (print_request h) rest in
+    let most : n ≤ 1048576 = body_length-le h.minor (lines_of h) n sized in
+    omega (arith, parts, most, short, takes.short)
+
+some_left : (xs ys : List ℕ) → 0 < length xs → 0 < length (xs ++ ys)
+some_left xs ys some = rw (length-append xs ys) (omega (arith, some))
+
+some_right : (xs ys : List ℕ) → 0 < length ys → 0 < length (xs ++ ys)
+some_right xs ys some = rw (length-append xs ys) (omega (arith, some))
+
+head-some : (h : RequestHead) → 0 < length (print_request h)
+unfolding print_request
+head-some h =
+    some_left _ (print_section h.fields h.last) (some_left _ (print_end h.line_end) (some_left _ (32 ∷ print_version h.minor)
+    (some_right (print_blank h.blank ++ h.method) (32 ∷ h.target) (omega arith))))
+
+-- what a request takes
+pub whole-within : (h : RequestHead) (len n : ℕ) → len ≡ length (print_request h) → length (print_request h) ≤ 16384
+    → body_length h.minor (lines_of h) ≡ Ok n → (0 < len + n) × (len + n ≤ 1064960)
+whole-within h len n same short sized =
+    let some = head-some h in
+    let most = body_length-le h.minor (lines_of h) n sized in
+    (omega (arith, same, some), omega (arith, same, short, most))

@@ -1,0 +1,165 @@
+-- A head of at most 32 fields has an empty line among its first 34.
+use Rattle.std.proofs.Common.{◌≡◌, ℕ, ◌+◌, ◌<◌, ◌≤◌, Bool, true, false, List, [], ◌∷◌, ◌++◌, length, refl, sym, ap, ◌∙◌, subst, arith, rules, append_assoc, zero-add}
+use Rattle.std.specs.Prelude.{if◌then◌else◌, ◌==◌, IsTrue}
+use Rattle.std.specs.List.{All, flat_map, AllByRecursion}
+use Rattle.std.proofs.lemmas.Bool.{leb-true, eqb-true}
+use Rattle.std.proofs.lemmas.List.Elements.{All-head, All-tail}
+use Rattle.httparse.specs.Grammar.{RequestHead, IsRequestHead, print_request, print_blank, print_end, print_version, print_field, print_section, LineEnd, crlf, lf, Field, IsField, AllPass, is_token_byte, is_uri_byte, is_value_byte}
+use Rattle.httparse.specs.Spans.{RequestOverflows}
+use Rattle.portal_frame.specs.Stream.{Opens, fault, bad_head}
+use Rattle.portal_frame.proofs.Heads.{opens_never}
+use Rattle.portal_frame.specs.declared.counting.At.{At}
+use Rattle.portal_frame.specs.declared.counting.At.TheVariants.{Leading, Fresh, Inside}
+use Rattle.portal_frame.specs.Lines.{step, stops, counts, lines_from, is_overlong}
+
+pub lines-append : (at : At) (xs ys : List ℕ) → lines_from at xs ≤ lines_from at (xs ++ ys)
+lines-append at [] ys = omega arith
+lines-append at (b ∷ xs) ys = more (stops at b) (counts at b) _ _ (lines-append (step at b) xs ys)
+  where
+    more : (s : Bool) (n x y : ℕ) → x ≤ y → (if s then 0 else n + x) ≤ (if s then 0 else n + y)
+    more true n x y le = omega arith
+    more false n x y le = omega (arith, le)
+
+-- no LF
+abbrev pub NoLf : List ℕ → Type 0
+NoLf xs = AllByRecursion (λ b. b == 10 ≡ false) xs
+
+-- neither LF nor CR comes first
+abbrev pub Starts : List ℕ → Type 0
+Starts [] = ⊥
+Starts (b ∷ xs) = (b == 10 ≡ false) × (b == 13 ≡ false) × NoLf xs
+
+no_lf-append : (xs ys : List ℕ) → NoLf xs → NoLf ys → NoLf (xs ++ ys)
+no_lf-append [] ys a b = b
+no_lf-append (x ∷ xs) ys a b = (a.0, no_lf-append xs ys a.1 b)
+
+-- a line that is being read
+inside : (xs : List ℕ) (e : LineEnd) (rest : List ℕ) → NoLf xs → lines_from Inside (xs ++ (print_end e ++ rest)) ≡ 1 + lines_from Fresh rest
+inside [] crlf rest none = zero-add (1 + lines_from Fresh rest)
+inside [] lf rest none = refl
+inside (x ∷ xs) e rest none = rw none.0 (zero-add (lines_from Inside (xs ++ (print_end e ++ rest))) ∙ inside xs e rest none.1)
+
+fresh : (xs : List ℕ) (e : LineEnd) (rest : List ℕ) → Starts xs → lines_from Fresh (xs ++ (print_end e ++ rest)) ≡ 1 + lines_from Fresh rest
+fresh [] e rest starts = absurd starts
+fresh (x ∷ xs) e rest starts = rw (starts.0, starts.1) (zero-add (lines_from Inside (xs ++ (print_end e ++ rest))) ∙ inside xs e rest starts.2)
+
+leading : (xs : List ℕ) (e : LineEnd) (rest : List ℕ) → Starts xs → lines_from Leading (xs ++ (print_end e ++ rest)) ≡ 1 + lines_from Fresh rest
+leading [] e rest starts = absurd starts
+leading (x ∷ xs) e rest starts = rw (starts.0, starts.1) (zero-add (lines_from Inside (xs ++ (print_end e ++ rest))) ∙ inside xs e rest starts.2)
+
+blanks : (ends : List LineEnd) (rest : List ℕ) → lines_from Leading (print_blank ends ++ rest) ≡ lines_from Leading rest
+blanks [] rest = refl
+blanks (crlf ∷ ends) rest = zero-add (0 + lines_from Leading (print_blank ends ++ rest)) ∙ (zero-add (lines_from Leading (print_blank ends ++ rest)) ∙ blanks ends rest)
+blanks (lf ∷ ends) rest = zero-add (lines_from Leading (print_blank ends ++ rest)) ∙ blanks ends rest
+
+empty_line : (e : LineEnd) (rest : List ℕ) → lines_from Fresh (print_end e ++ rest) ≡ 0
+empty_line crlf rest = refl
+empty_line lf rest = refl
+
+-- the lines of fields
+abbrev pub FieldLines : List Field → Type 0
+FieldLines fields = AllByRecursion (λ f. Starts (f.name ++ 58 ∷ f.raw)) fields
+
+field_text : (f : Field) (rest : List ℕ) → print_field f ++ rest ≡ (f.name ++ 58 ∷ f.raw) ++ (print_end f.end ++ rest)
+field_text f rest = ap (λ xs. xs ++ rest) (append_line f.name f.raw (print_end f.end)) ∙ append_assoc (f.name ++ 58 ∷ f.raw) (print_end f.end) rest
+  where
+    append_line : (a b c : List ℕ) → a ++ 58 ∷ b ++ c ≡ (a ++ 58 ∷ b) ++ c
+    append_line a b c = refl
+
+section_lines : (fields : List Field) (last : LineEnd) (rest : List ℕ) → FieldLines fields
+    → lines_from Fresh (print_section fields last ++ rest) ≡ length fields
+section_lines [] last rest lines = empty_line last rest
+section_lines (f ∷ fields) last rest lines =
+    ap (lines_from Fresh) (append_assoc (print_field f ++ flat_map print_field fields) (print_end last) rest
+    ∙ (append_assoc (print_field f) (flat_map print_field fields) (print_end last ++ rest) ∙ field_text f (flat_map print_field fields ++ (print_end last ++ rest))))
+    ∙ (fresh (f.name ++ 58 ∷ f.raw) f.end (flat_map print_field fields ++ (print_end last ++ rest)) lines.0
+    ∙ ap (λ n. 1 + n) (ap (lines_from Fresh) (sym (append_assoc (flat_map print_field fields) (print_end last) rest)) ∙ section_lines fields last rest lines.1) ∙ one_more f fields)
+  where
+    one_more : (f : Field) (fields : List Field) → 1 + length fields ≡ length (f ∷ fields)
+    one_more f fields = omega arith
+
+shape : (b m t v e s r : List ℕ) → (b ++ m ++ t ++ v ++ e ++ s) ++ r ≡ b ++ ((m ++ t ++ v) ++ (e ++ (s ++ r)))
+shape b m t v e s r =
+    append_assoc (b ++ m ++ t ++ v ++ e) s r
+    ∙ (append_assoc (b ++ m ++ t ++ v) e (s ++ r)
+    ∙ (ap (λ x. x ++ (e ++ (s ++ r))) (ap (λ x. x ++ v) (append_assoc b m t) ∙ append_assoc b (m ++ t) v)
+    ∙ append_assoc b (m ++ t ++ v) (e ++ (s ++ r))))
+
+-- the start line and the field lines are no empty lines
+pub record IsLined (h : RequestHead) : Type 0 where
+  pub start : Starts (h.method ++ 32 ∷ h.target ++ 32 ∷ print_version h.minor)
+  pub lines : FieldLines h.fields
+
+pub head_lines : (h : RequestHead) (rest : List ℕ) → IsLined h → lines_from Leading (print_request h ++ rest) ≡ 1 + length h.fields
+unfolding print_request
+head_lines h rest lined =
+    let start = h.method ++ 32 ∷ h.target ++ 32 ∷ print_version h.minor in
+    let after = print_section h.fields h.last ++ rest in
+    ap (lines_from Leading) (shape (print_blank h.blank) h.method (32 ∷ h.target) (32 ∷ print_version h.minor) (print_end h.line_end) (print_section h.fields h.last) rest)
+    ∙ (blanks h.blank (start ++ (print_end h.line_end ++ after))
+    ∙ (leading start h.line_end after lined.start
+    ∙ ap (λ n. 1 + n) (section_lines h.fields h.last rest lined.lines)))
+
+-- from tests of each byte
+
+differs : (test : ℕ → Bool) (x c : ℕ) (b : Bool) → IsTrue (test x) → test c ≡ false → x == c ≡ b → b ≡ false
+differs test x c true yes_x not e = absurd (never (test c) (subst (λ z. IsTrue (test z)) (eqb-true x c e) yes_x) not)
+  where
+    never : (b : Bool) → IsTrue b → b ≡ false → ⊥
+    never true t f = absurd (cc)
+    never false t f = absurd (search (rules, t))
+differs test x c false yes_x not e = refl
+
+no_lf : (test : ℕ → Bool) (xs : List ℕ) → AllPass test xs → test 10 ≡ false → NoLf xs
+no_lf test [] all not = tt
+no_lf test (x ∷ xs) all not =
+    (differs test x 10 (x == 10) (All-head (λ b. IsTrue (test b)) x xs all) not refl, no_lf test xs (All-tail (λ b. IsTrue (test b)) x xs all) not)
+
+token_lf : is_token_byte 10 ≡ false
+unfolding is_token_byte
+token_lf = refl
+
+token_cr : is_token_byte 13 ≡ false
+unfolding is_token_byte
+token_cr = refl
+
+starts : (name more : List ℕ) → 0 < length name → AllPass is_token_byte name → NoLf more → Starts (name ++ more)
+starts [] more some all none = absurd (omega (arith, some))
+starts (x ∷ xs) more some all none =
+    let first = All-head (λ b. IsTrue (is_token_byte b)) x xs all in (
+      differs is_token_byte x 10 (x == 10) first token_lf refl,
+      differs is_token_byte x 13 (x == 13) first token_cr refl,
+      no_lf-append xs more (no_lf is_token_byte xs (All-tail (λ b. IsTrue (is_token_byte b)) x xs all) token_lf) none,
+    )
+
+version_lf : (minor : ℕ) → minor ≤ 1 → NoLf (32 ∷ print_version minor)
+version_lf minor le = (refl, (refl, (refl, (refl, (refl, (refl, (refl, (refl, (last minor le (48 + minor == 10) refl, tt)))))))))
+  where
+    last : (minor : ℕ) → minor ≤ 1 → (b : Bool) → (48 + minor == 10) ≡ b → (48 + minor == 10) ≡ false
+    last minor le true e = absurd (omega (arith, eqb-true (48 + minor) 10 e))
+    last minor le false e = e
+
+field_lines : (fields : List Field) → All IsField fields → FieldLines fields
+field_lines [] all = tt
+field_lines (f ∷ fields) all =
+    let is = All-head IsField f fields all in
+    (starts f.name (58 ∷ f.raw) is.name.0 is.name.1 (refl, no_lf is_value_byte f.raw is.raw refl), field_lines fields (All-tail IsField f fields all))
+
+lined : (h : RequestHead) → IsRequestHead h → IsLined h
+lined h is =
+    record {
+      start = subst Starts (sym (append_assoc h.method (32 ∷ h.target) (32 ∷ print_version h.minor)))
+          (starts h.method (32 ∷ h.target ++ 32 ∷ print_version h.minor) is.method.0 is.method.1
+          (no_lf-append (32 ∷ h.target) (32 ∷ print_version h.minor) (refl, no_lf is_uri_byte h.target is.target.1 refl) (version_lf h.minor is.minor)));
+      lines = field_lines h.fields is.fields;
+    }
+
+-- where the lines are too many each head has more than 32 fields, whatever follows
+pub overlong : (bytes : List ℕ) → 34 ≤ lines_from Leading bytes → RequestOverflows 32 bytes
+overlong bytes long more h rest reads =
+    let most = head_lines h rest (lined h reads.0) in
+    let same : lines_from Leading (bytes ++ more) ≡ 1 + length h.fields = ap (lines_from Leading) reads.1 ∙ most in
+    omega (arith, long, lines-append Leading bytes more, same)
+
+pub opens_overlong : (bytes more : List ℕ) → is_overlong bytes ≡ true → Opens (bytes ++ more) (fault bad_head false)
+opens_overlong bytes more long = opens_never bytes more (overlong bytes (leb-true 34 (lines_from Leading bytes) long))

@@ -1,0 +1,10 @@
+use Rattle.std.proofs.Common.{◌≡◌, drop}
+use Rattle.std.specs.Prelude.{map, codes}
+use Rattle.httparse.specs.Spans.{header_bytes}
+use Rattle.portal_frame.specs.Heads.{values_of}
+use Rattle.portal_frame.specs.Connection.{asks_close}
+use Rattle.portal_frame.proofs.closing.asks_to_close.Given as goal
+
+abbrev pub invariant-loop-header : goal.invariant-loop-header
+invariant-loop-header l = asks_close (values_of (codes "connection") (map (header_bytes l.bytes) (drop l.header-index l.headers)))
+    ≡ asks_close (values_of (codes "connection") (map (header_bytes l.bytes) l.headers))

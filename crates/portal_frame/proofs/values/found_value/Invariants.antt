@@ -1,0 +1,7 @@
+use Rattle.std.proofs.Common.{take, map}
+use Rattle.httparse.specs.Spans.{header_bytes}
+use Rattle.portal_frame.specs.Heads.{values_of, IsFound}
+use Rattle.portal_frame.proofs.values.found_value.Given as goal
+
+abbrev pub invariant-loop-header : goal.invariant-loop-header
+invariant-loop-header l = IsFound l.found (values_of l.name (map (header_bytes l.bytes) (take l.header-index l.headers)))

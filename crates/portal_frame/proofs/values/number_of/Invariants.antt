@@ -1,0 +1,12 @@
+use Rattle.std.proofs.Common.{◌≡◌, ◌<◌, ◌^◌, take, true}
+use Rattle.std.specs.Str.Parse.{digits_value}
+use Rattle.std.specs.List.{list_all}
+use Rattle.std.specs.Char.{is_ascii_digit}
+use Rattle.portal_frame.proofs.values.number_of.Given as goal
+
+abbrev pub invariant-loop-digit : goal.invariant-loop-digit
+invariant-loop-digit l = record {
+  value_is : l.number ≡ digits_value 10 (take l.digit-index l.value);
+  small : l.number < 10 ^ l.digit-index;
+  digits : list_all is_ascii_digit (take l.digit-index l.value) ≡ true;
+}

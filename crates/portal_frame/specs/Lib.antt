@@ -1,0 +1,4 @@
+pub mod Heads
+pub mod Connection
+pub mod Lines
+pub mod Stream

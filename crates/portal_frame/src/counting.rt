@@ -1,0 +1,94 @@
+//! The lines of a head, counted.
+
+ghost use Rattle.std.specs.Prelude.{◌≡◌, ◌≤◌};
+ghost use Rattle.portal_frame.specs.Lines.{lines_from, is_overlong, step as step_of, stops as stops_at, counts as counted};
+
+/// A place in the lines of a head.
+#[derive(Clone, Copy, Debug, PartialEq, Eq, Drop)]
+pub(crate) enum At {
+    /// Before the first line that is not empty.
+    Leading,
+    /// There, after a CR.
+    LeadingCr,
+    /// At the start of a line.
+    Fresh,
+    /// There, after a CR.
+    FreshCr,
+    /// Inside a line.
+    Inside,
+}
+
+/// The place after one more byte.
+fn step(at: At, byte: u8) -> At
+    ensures { result ≡ step_of at byte }
+{
+    match at {
+        At::Leading => {
+            if byte == b'\n' {
+                At::Leading
+            } else if byte == b'\r' {
+                At::LeadingCr
+            } else {
+                At::Inside
+            }
+        }
+        At::LeadingCr => if byte == b'\n' {
+            At::Leading
+        } else {
+            At::Inside
+        },
+        At::Fresh => if byte == b'\r' {
+            At::FreshCr
+        } else {
+            At::Inside
+        },
+        At::FreshCr => At::Inside,
+        At::Inside => if byte == b'\n' { At::Fresh } else { At::Inside },
+    }
+}
+
+/// Whether the byte ends an empty line.
+fn stops(at: At, byte: u8) -> bool
+    ensures { result ≡ stops_at at byte }
+{
+    match at {
+        At::Fresh => byte == b'\n',
+        At::FreshCr => byte == b'\n',
+        _ => false,
+    }
+}
+
+/// How many lines the byte ends.
+fn counts(at: At, byte: u8) -> usize
+    ensures exact { result ≡ counted at byte }
+    ensures few { result ≤ 1 }
+{
+    if at == At::Inside && byte == b'\n' {
+        1
+    } else {
+        0
+    }
+}
+
+/// How many whole lines stand there before the first empty one, after the leading empty ones.
+fn lines_in(bytes: &[u8]) -> usize
+    ensures { result ≡ lines_from At.Leading bytes.now }
+{
+    let mut at = At::Leading;
+    let mut lines = 0usize;
+    for byte in bytes {
+        if stops(at, *byte) {
+            return lines;
+        }
+        lines += counts(at, *byte);
+        at = step(at, *byte);
+    }
+    lines
+}
+
+/// Whether 34 lines follow the leading empty ones, and none of them is empty.
+pub(crate) fn is_overlong_head(bytes: &[u8]) -> bool
+    ensures { result ≡ is_overlong bytes.now }
+{
+    lines_in(bytes) >= 34
+}

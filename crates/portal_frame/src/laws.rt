@@ -1,0 +1,25 @@
+//! Laws over the definitions alone.
+
+ghost use Rattle.std.specs.Prelude.{◌≡◌, ℕ, List};
+ghost use Rattle.portal_frame.specs.Stream.{Item, Opens};
+
+use httparse::Status;
+use httparse::spans::{EMPTY_HEADER_SPAN, parse_request};
+
+/// What stands at the front of the rest of a stream is one thing.
+pub fn opens_once()
+    ensures { (bytes : List ℕ) (one other : Item) → Opens bytes one → Opens bytes other → one ≡ other }
+{}
+
+/// Something stands at the front of each rest: a request, a fault or the end.
+pub fn opens_some(bytes: &[u8])
+    ensures { (item : Item) × Opens bytes.now item }
+{
+    let mut headers = [EMPTY_HEADER_SPAN; 32];
+    let front = &bytes[..bytes.len().min(16384)];
+    match parse_request(front, &mut headers) {
+        Ok(Status::Complete(_)) => {}
+        Ok(Status::Partial) => {}
+        Err(_) => {}
+    }
+}

@@ -1,0 +1,142 @@
+//! The framing of requests: a stream of bytes, cut anywhere, as the requests that it is.
+#![tactic(auto)]
+
+ghost use Rattle.std.specs.Prelude.{◌≡◌, ℕ, ◌<◌, ◌≤◌, ◌⊎◌, List, ◌++◌, length, IfOk};
+ghost use Rattle.httparse.specs.Grammar.{MayBecomeRequest, RequestHead};
+ghost use Rattle.httparse.specs.Spans.{RequestExceeds};
+ghost use Rattle.portal_frame.specs.Stream.{Framed, IsDue, IsWithinLimits, HasNoHead, IsHead, is_blank};
+
+mod closing;
+mod counting;
+pub mod laws;
+mod types;
+mod values;
+
+use crate::closing::ends_after;
+use crate::counting::is_overlong_head;
+use crate::types::Fault;
+pub use crate::types::{Frame, Refusal, Request};
+use crate::values::{check_lines, code_of, copied, path_in};
+use httparse::spans::{EMPTY_HEADER_SPAN, HeaderSpan, RequestSpans, parse_request};
+use httparse::{Error, Status};
+use std::alloc::{AllocError, Global};
+
+/// Whether the bytes are empty lines alone, the last of which may lack its LF.
+fn is_all_blank(bytes: &[u8]) -> bool
+    ensures { result ≡ is_blank bytes.now }
+{
+    let mut rest = bytes;
+    while !rest.is_empty() {
+        match rest {
+            [b'\n', after @ ..] => rest = after,
+            [b'\r', b'\n', after @ ..] => rest = after,
+            [b'\r'] => return true,
+            _ => return false,
+        }
+    }
+    true
+}
+
+/// What bytes are that have no head at their front.
+fn frame_open(bytes: &[u8], ended: bool) -> Frame
+    requires none { HasNoHead bytes.now }
+    requires full { 16384 ≤ length bytes.now → (more : List ℕ) → HasNoHead (bytes.now ++ more) }
+    requires may { length bytes.now < 16384 → MayBecomeRequest bytes.now ⊎ RequestExceeds 32 bytes.now }
+    ensures framed { Framed bytes.now ended result }
+    ensures due { IsDue bytes.now ended result }
+    ensures limits { IsWithinLimits bytes.now result }
+{
+    if bytes.len() >= 16384 {
+        return Frame::Bad {
+            refusal: Fault::BadHead.refusal(),
+            head_only: false,
+        };
+    }
+    if is_overlong_head(bytes) {
+        return Frame::Bad {
+            refusal: Fault::BadHead.refusal(),
+            head_only: false,
+        };
+    }
+    if !ended {
+        return Frame::Need;
+    }
+    if is_all_blank(bytes) {
+        return Frame::End;
+    }
+    Frame::Bad {
+        refusal: Fault::BadHead.refusal(),
+        head_only: false,
+    }
+}
+
+/// What bytes are that begin with a head.
+fn frame_head(
+    alloc: Global,
+    bytes: &[u8],
+    front: &[u8],
+    spans: RequestSpans,
+    headers: &[HeaderSpan],
+    ended: bool,
+) -> Result<Frame, AllocError>
+    requires { (h : RequestHead) × IsHead bytes.now front.now spans headers.now h }
+    ensures framed { IfOk result (Framed bytes.now ended) }
+    ensures due { IfOk result (IsDue bytes.now ended) }
+    ensures limits { IfOk result (IsWithinLimits bytes.now) }
+{
+    let method = spans.method.of(front);
+    let head_only = method == b"HEAD".as_slice();
+    let n = match check_lines(front, headers, spans.version) {
+        Ok(n) => n,
+        Err(fault) => return Ok(Frame::Bad {
+            refusal: fault.refusal(),
+            head_only,
+        }),
+    };
+    let (_, rest) = bytes.split_at(spans.len);
+    if rest.len() < n {
+        if ended {
+            return Ok(Frame::Bad {
+                refusal: Fault::BadLength.refusal(),
+                head_only,
+            });
+        }
+        return Ok(Frame::Need);
+    }
+    let (body, _) = rest.split_at(n);
+    let request = Request {
+        method: copied(alloc, method)?,
+        path: path_in(alloc, spans.path.of(front))?,
+        code: code_of(alloc, front, headers)?,
+        close: ends_after(spans.version, front, headers),
+        body: copied(alloc, body)?,
+    };
+    Ok(Frame::Request(request, spans.len + n))
+}
+
+/// What the bytes of a stream so far are, which may go on unless it has ended.
+///
+/// Answers `Need` while a head or a body is not whole, `End` where nothing is left, a request and how
+/// many bytes it takes, or the refusal of the first fault. Each answer but `Need` stands however the
+/// stream goes on. An error is want of memory alone.
+pub fn frame(alloc: Global, bytes: &[u8], ended: bool) -> Result<Frame, AllocError>
+    ensures framed { IfOk result (Framed bytes.now ended) }
+    ensures due { IfOk result (IsDue bytes.now ended) }
+    ensures limits { IfOk result (IsWithinLimits bytes.now) }
+{
+    let mut headers = [EMPTY_HEADER_SPAN; 32];
+    let front = &bytes[..bytes.len().min(16384)];
+    match parse_request(front, &mut headers) {
+        Ok(Status::Complete(spans)) => {
+            frame_head(alloc, bytes, front, spans, &headers[..spans.headers], ended)
+        }
+        Ok(Status::Partial) => Ok(frame_open(bytes, ended)),
+        Err(error) => match error {
+            Error::TooManyHeaders => Ok(frame_open(bytes, ended)),
+            _ => Ok(Frame::Bad {
+                refusal: Fault::BadHead.refusal(),
+                head_only: false,
+            }),
+        },
+    }
+}

@@ -1,0 +1,124 @@
+//! What the lines of a head say.
+
+ghost use Rattle.std.specs.Prelude.{◌≡◌, length, map, All, IfOk, codes, ◌∷◌, []};
+ghost use Rattle.httparse.specs.Spans.{IsHeaderWithin, header_bytes};
+ghost use Rattle.portal_frame.specs.Heads.{same_name, values_of, IsFound, only, path_of};
+ghost use Rattle.portal_frame.specs.Stream.{length_of, body_length};
+
+use crate::types::Fault;
+use httparse::spans::HeaderSpan;
+use std::alloc::{AllocError, Global};
+
+/// The values of one name.
+#[derive(Clone, Copy, Drop)]
+pub(crate) enum Found<'b> {
+    Nothing,
+    One(&'b [u8]),
+    Many,
+}
+
+/// Whether a line has this name.
+fn is_named(name: &[u8], wanted: &[u8]) -> bool
+    ensures { result ≡ same_name name.now wanted.now }
+{
+    name.eq_ignore_ascii_case(wanted)
+}
+
+/// The values of the lines with this name.
+pub(crate) fn found_value<'b>(bytes: &'b [u8], headers: &[HeaderSpan], name: &[u8]) -> Found<'b>
+    requires { All (IsHeaderWithin (length bytes.now)) headers.now }
+    ensures { IsFound result (values_of name.now (map (header_bytes bytes.now) headers.now)) }
+{
+    let mut found = Found::Nothing;
+    for header in headers {
+        if is_named(header.name.of(bytes), name) {
+            found = match found {
+                Found::Nothing => Found::One(header.value.of(bytes)),
+                Found::One(_) => Found::Many,
+                Found::Many => Found::Many,
+            };
+        }
+    }
+    found
+}
+
+/// The number that the value of Content-Length writes.
+fn number_of(value: &[u8]) -> Result<usize, Fault>
+    ensures { result ≡ length_of (value.now ∷ []) }
+{
+    if value.is_empty() || value.len() > 18 {
+        return Err(Fault::BadLength);
+    }
+    let mut number = 0u64;
+    for digit in value {
+        if !digit.is_ascii_digit() {
+            return Err(Fault::BadLength);
+        }
+        number = number * 10 + (*digit - b'0') as u64;
+    }
+    if number > 1_048_576 {
+        return Err(Fault::TooLarge);
+    }
+    Ok(number as usize)
+}
+
+/// The first fault of the lines, or the length of the body.
+pub(crate) fn check_lines(bytes: &[u8], headers: &[HeaderSpan], minor: u8) -> Result<usize, Fault>
+    requires { All (IsHeaderWithin (length bytes.now)) headers.now }
+    ensures { result ≡ body_length minor (map (header_bytes bytes.now) headers.now) }
+{
+    match found_value(bytes, headers, b"host") {
+        Found::Nothing => {
+            if minor == 1 {
+                return Err(Fault::BadHost);
+            }
+        }
+        Found::One(_) => {}
+        Found::Many => return Err(Fault::BadHost),
+    }
+    match found_value(bytes, headers, b"transfer-encoding") {
+        Found::Nothing => {}
+        _ => return Err(Fault::CodedBody),
+    }
+    match found_value(bytes, headers, b"content-length") {
+        Found::Nothing => Ok(0),
+        Found::One(value) => number_of(value),
+        Found::Many => Err(Fault::BadLength),
+    }
+}
+
+/// The code of a request: the value of the only such line.
+pub(crate) fn code_of(
+    alloc: Global,
+    bytes: &[u8],
+    headers: &[HeaderSpan],
+) -> Result<Vec<u8>, AllocError>
+    requires { All (IsHeaderWithin (length bytes.now)) headers.now }
+    ensures { IfOk result (λ code. code.items ≡ only (values_of (codes "portal-code") (map (header_bytes bytes.now) headers.now))) }
+{
+    match found_value(bytes, headers, b"portal-code") {
+        Found::One(value) => Vec::from_slice(alloc, value),
+        _ => Ok(Vec::new(alloc)),
+    }
+}
+
+/// The same bytes in a vector of their own.
+pub(crate) fn copied(alloc: Global, bytes: &[u8]) -> Result<Vec<u8>, AllocError>
+    ensures { IfOk result (λ copy. copy.items ≡ bytes.now) }
+{
+    Vec::from_slice(alloc, bytes)
+}
+
+/// The target up to its first question mark.
+pub(crate) fn path_in(alloc: Global, target: &[u8]) -> Result<Vec<u8>, AllocError>
+    ensures { IfOk result (λ path. path.items ≡ path_of target.now) }
+{
+    let mut path = Vec::new(alloc);
+    for byte in target {
+        if *byte == b'?' {
+            return Ok(path);
+        }
+        path.push(*byte)?;
+    }
+    Ok(path)
+}

@@ -1,0 +1,31 @@
+-- The state of the round as a text.
+use Rattle.std.specs.Prelude.{ℕ, Bool, ◌&&◌, nat_lt, nat_le, if◌then◌else◌, codes, decimal, List, [], ◌++◌, length}
+use Rattle.std.specs.List.{list_all}
+use Rattle.portal_core.specs.declared.phase.Phase.{Phase}
+use Rattle.portal_core.specs.World.{phase_word, is_published}
+use Rattle.portal_core.specs.Sight.{OfficeSees}
+use Rattle.portal_core.specs.Sheets.{padded_left, padded_right, line_feed}
+
+-- at most 16 bytes of ASCII
+abbrev pub is_short : List ℕ → Bool
+is_short text = nat_le (length text) 16 && list_all (λ b. nat_lt b 128) text
+
+unfoldable pub number_line : List ℕ → ℕ → List ℕ
+number_line label number = padded_left 16 label ++ padded_right 6 (decimal number) ++ line_feed
+
+unfoldable pub phase_line : Phase → List ℕ
+phase_line phase = padded_left 16 (codes "phase") ++ phase_word phase ++ line_feed
+
+-- how many have a project, once that is known
+abbrev pub assigned_number : OfficeSees → List ℕ
+assigned_number v = if is_published v.phase then number_line (codes "assigned") (length v.pairs) else []
+
+abbrev pub status_text : OfficeSees → List ℕ
+status_text v =
+    phase_line v.phase
+    ++ number_line (codes "lecturers") (length v.lecturers)
+    ++ number_line (codes "projects") (length v.projects)
+    ++ number_line (codes "students") (length v.students)
+    ++ number_line (codes "without list") (length v.without_list)
+    ++ number_line (codes "still to rank") (length v.still_to_rank)
+    ++ assigned_number v

@@ -1,0 +1,69 @@
+//! The result as a text.
+
+ghost use Rattle.std.specs.Prelude.{◌≡◌, ◌++◌, IfOk, OnOk, string_bytes};
+ghost use Rattle.std.specs.List.{flat_map};
+ghost use Rattle.portal_core.specs.Sheets as sheet;
+
+use crate::lines::{assigned_line, placed_line, project_line, unplaced_line};
+use portal_core::{OfficeView, StudentRow};
+use spa_rows::Key;
+use std::alloc::{AllocError, Global};
+
+/// How many students the pairs give to the project.
+fn students_at(pairs: &[(Key, Key)], project: &Key) -> usize
+    ensures { result ≡ sheet.students_at pairs.now project.now }
+{
+    pairs.iter().filter(|pair| pair.1 == *project).count()
+}
+
+/// The line of a student.
+fn student_line(
+    alloc: Global,
+    view: &OfficeView,
+    student: &StudentRow,
+) -> Result<String, AllocError>
+    ensures { IfOk result (λ line. string_bytes line ≡ sheet.student_line view.now student.now) }
+{
+    match view.project_of(student) {
+        Some(project) => placed_line(alloc, &student.key, project),
+        None => unplaced_line(alloc, &student.key),
+    }
+}
+
+/// Adds the lines of the students.
+fn put_students(text: &mut Vec<u8>, alloc: Global, view: &OfficeView) -> Result<(), AllocError>
+    ensures { OnOk result (text.new.items ≡ text.old.items ++ flat_map (sheet.student_line view.now) view.now.students) }
+{
+    for student in &view.students {
+        let line = student_line(alloc, view, student)?;
+        text.extend_from_slice(line.as_bytes())?;
+    }
+    Ok(())
+}
+
+/// Adds the lines of the projects.
+fn put_projects(text: &mut Vec<u8>, alloc: Global, view: &OfficeView) -> Result<(), AllocError>
+    ensures { OnOk result (text.new.items ≡ text.old.items ++ flat_map (sheet.project_line view.now) view.now.projects) }
+{
+    for project in &view.projects {
+        let students = students_at(&view.pairs, &project.key);
+        let line = project_line(alloc, project, students)?;
+        text.extend_from_slice(line.as_bytes())?;
+    }
+    Ok(())
+}
+
+/// The result: a line for each student by key, a line for each project by key, and how many students
+/// have a project. An error is want of memory.
+pub fn allocation_text(alloc: Global, view: &OfficeView) -> Result<Vec<u8>, AllocError>
+    ensures { IfOk result (λ text. text.items ≡ sheet.report_text view.now) }
+{
+    let mut text = Vec::new(alloc);
+    put_students(&mut text, alloc, view)?;
+    text.push(b'\n')?;
+    put_projects(&mut text, alloc, view)?;
+    text.push(b'\n')?;
+    let last = assigned_line(alloc, view.pairs.len(), view.students.len())?;
+    text.extend_from_slice(last.as_bytes())?;
+    Ok(text)
+}

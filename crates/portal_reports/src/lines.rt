@@ -1,0 +1,78 @@
+//! The lines of the office's texts.
+
+ghost use Rattle.std.specs.Prelude.{◌≡◌, ◌++◌, IfOk, IsTrue, Some, None, codes, decimal, string_bytes};
+ghost use Rattle.portal_core.specs.Sheets as sheet;
+ghost use Rattle.portal_reports.specs.Status as spec;
+
+use portal_core::{Phase, ProjectRow};
+use spa_rows::Key;
+use std::alloc::{AllocError, Global};
+
+/// The text of a key, which is short.
+fn short(key: &Key) -> &str
+    ensures text { result.now ≡ key.now }
+    ensures short { IsTrue (spec.is_short key.now) }
+{
+    let _form = key.as_bytes();
+    key.as_str()
+}
+
+/// A label, and a number.
+pub(crate) fn number_line(alloc: Global, label: &str, number: usize) -> Result<String, AllocError>
+    requires { IsTrue (spec.is_short label.now) }
+    ensures { IfOk result (λ line. string_bytes line ≡ spec.number_line label.now number) }
+{
+    format!(in alloc; "{label:<16}{number:>6}\n")
+}
+
+/// The line of the phase.
+pub(crate) fn phase_line(alloc: Global, phase: Phase) -> Result<String, AllocError>
+    ensures { IfOk result (λ line. string_bytes line ≡ spec.phase_line phase) }
+{
+    format!(in alloc; "{:<16}{}\n", "phase", phase.word())
+}
+
+/// The line of a student who has a project.
+pub(crate) fn placed_line(
+    alloc: Global,
+    student: &Key,
+    project: &ProjectRow,
+) -> Result<String, AllocError>
+    ensures { IfOk result (λ line. string_bytes line ≡ sheet.padded_left 16 student.now ++ codes "  " ++ sheet.project_and_lecturer (Some project.now) ++ sheet.line_feed) }
+{
+    let key = short(student);
+    let place = short(&project.key);
+    format!(in alloc; "{key:<16}  {place:<16}  {}\n", project.lecturer.as_str())
+}
+
+/// The line of a student who has none.
+pub(crate) fn unplaced_line(alloc: Global, student: &Key) -> Result<String, AllocError>
+    ensures { IfOk result (λ line. string_bytes line ≡ sheet.padded_left 16 student.now ++ codes "  " ++ sheet.project_and_lecturer None ++ sheet.line_feed) }
+{
+    let key = short(student);
+    format!(in alloc; "{key:<16}  (none)\n")
+}
+
+/// The line of a project that has so many students.
+pub(crate) fn project_line(
+    alloc: Global,
+    project: &ProjectRow,
+    students: usize,
+) -> Result<String, AllocError>
+    ensures { IfOk result (λ line. string_bytes line
+        ≡ sheet.padded_left 16 project.now.key ++ sheet.padded_right 4 (decimal students) ++ codes " of " ++ sheet.padded_right 4 (decimal project.now.capacity) ++ sheet.line_feed) }
+{
+    let key = short(&project.key);
+    format!(in alloc; "{key:<16}{students:>4} of {:>4}\n", project.capacity)
+}
+
+/// The line of how many students have a project.
+pub(crate) fn assigned_line(
+    alloc: Global,
+    assigned: usize,
+    students: usize,
+) -> Result<String, AllocError>
+    ensures { IfOk result (λ line. string_bytes line ≡ codes "assigned " ++ decimal assigned ++ codes " of " ++ decimal students ++ sheet.line_feed) }
+{
+    format!(in alloc; "assigned {assigned} of {students}\n")
+}

@@ -1,0 +1,65 @@
+//! The state of the round as a text.
+
+ghost use Rattle.std.specs.Prelude.{◌≡◌, ◌++◌, IfOk, OnOk, IsTrue, codes, length};
+ghost use Rattle.portal_reports.specs.Status as spec;
+
+use crate::lines::{number_line, phase_line};
+use portal_core::{OfficeView, Phase};
+use std::alloc::{AllocError, Global};
+
+/// Adds a line with a number.
+fn put_number(
+    text: &mut Vec<u8>,
+    alloc: Global,
+    label: &str,
+    number: usize,
+) -> Result<(), AllocError>
+    requires { IsTrue (spec.is_short label.now) }
+    ensures { OnOk result (text.new.items ≡ text.old.items ++ spec.number_line label.now number) }
+{
+    let line = number_line(alloc, label, number)?;
+    text.extend_from_slice(line.as_bytes())
+}
+
+/// Adds the sizes of the rolls.
+fn put_rolls(text: &mut Vec<u8>, alloc: Global, view: &OfficeView) -> Result<(), AllocError>
+    ensures { OnOk result (text.new.items ≡ text.old.items ++ spec.number_line (codes "lecturers") (length view.now.lecturers)
+        ++ spec.number_line (codes "projects") (length view.now.projects) ++ spec.number_line (codes "students") (length view.now.students)) }
+{
+    put_number(text, alloc, "lecturers", view.lecturers.len())?;
+    put_number(text, alloc, "projects", view.projects.len())?;
+    put_number(text, alloc, "students", view.students.len())
+}
+
+/// Adds how many lists and rankings are missing.
+fn put_missing(text: &mut Vec<u8>, alloc: Global, view: &OfficeView) -> Result<(), AllocError>
+    ensures { OnOk result (text.new.items ≡ text.old.items ++ spec.number_line (codes "without list") (length view.now.without_list)
+        ++ spec.number_line (codes "still to rank") (length view.now.still_to_rank)) }
+{
+    put_number(text, alloc, "without list", view.without_list.len())?;
+    put_number(text, alloc, "still to rank", view.still_to_rank.len())?;
+    Ok(())
+}
+
+/// Adds how many students have a project, in published.
+fn put_assigned(text: &mut Vec<u8>, alloc: Global, view: &OfficeView) -> Result<(), AllocError>
+    ensures { OnOk result (text.new.items ≡ text.old.items ++ spec.assigned_number view.now) }
+{
+    match view.phase {
+        Phase::Published => put_number(text, alloc, "assigned", view.pairs.len()),
+        _ => Ok(()),
+    }
+}
+
+/// The state of the round: the phase, the sizes of the rolls, how many lists and rankings are missing,
+/// and in published how many students have a project. An error is want of memory.
+pub fn status_text(alloc: Global, view: &OfficeView) -> Result<Vec<u8>, AllocError>
+    ensures { IfOk result (λ text. text.items ≡ spec.status_text view.now) }
+{
+    let line = phase_line(alloc, view.phase)?;
+    let mut text = Vec::from_slice(alloc, line.as_bytes())?;
+    put_rolls(&mut text, alloc, view)?;
+    put_missing(&mut text, alloc, view)?;
+    put_assigned(&mut text, alloc, view)?;
+    Ok(text)
+}

@@ -1,0 +1,73 @@
+//! The result as CSV.
+
+ghost use Rattle.std.specs.Prelude.{◌≡◌, ◌++◌, ℕ, List, map, IfOk, OnOk};
+ghost use Rattle.portal_core.specs.Sheets as sheet;
+ghost use Rattle.portal_rolls.specs.Written.{Holds};
+
+use csv::Writer;
+use portal_core::{OfficeView, StudentRow};
+use std::alloc::{AllocError, Global};
+
+/// Writes one record of five fields.
+fn put_record(writer: &mut Writer<Vec<u8>>, fields: &[&[u8]; 5]) -> Result<(), AllocError>
+    ensures { OnOk result ((text : List ℕ) → Holds writer.old text → Holds writer.new (text ++ sheet.csv_record (map (λ f. f.now) fields.now))) }
+{
+    let Ok(()) = writer.write_fields(fields.as_slice()) else {
+        return Err(AllocError);
+    };
+    Ok(())
+}
+
+/// Writes the record of a student.
+fn put_student(
+    writer: &mut Writer<Vec<u8>>,
+    view: &OfficeView,
+    student: &StudentRow,
+) -> Result<(), AllocError>
+    ensures { OnOk result ((text : List ℕ) → Holds writer.old text
+        → Holds writer.new (text ++ sheet.csv_record (sheet.student_fields view.now student.now))) }
+{
+    let key = student.key.as_bytes();
+    let name = student.name.as_bytes();
+    match view.project_of(student) {
+        Some(project) => {
+            let title = project.title.as_bytes();
+            put_record(
+                writer,
+                &[
+                    key,
+                    name,
+                    project.key.as_bytes(),
+                    title,
+                    project.lecturer.as_bytes(),
+                ],
+            )
+        }
+        None => put_record(writer, &[key, name, b"", b"", b""]),
+    }
+}
+
+/// The text that a writer holds.
+fn text_of(writer: Writer<Vec<u8>>) -> Result<Vec<u8>, AllocError>
+    ensures { IfOk result (λ v. (text : List ℕ) → Holds writer text → v.items ≡ text) }
+{
+    match writer.into_inner() {
+        Ok(text) => Ok(text),
+        Err(_) => Err(AllocError),
+    }
+}
+
+/// The result as CSV: a header, and a record for each student by key. An error is want of memory alone.
+pub fn write_allocation(alloc: Global, view: &OfficeView) -> Result<Vec<u8>, AllocError>
+    ensures { IfOk result (λ text. text.items ≡ sheet.csv_text view.now) }
+{
+    let mut writer = Writer::from_writer(Vec::new(alloc));
+    put_record(
+        &mut writer,
+        &[b"student", b"name", b"project", b"title", b"lecturer"],
+    )?;
+    for student in &view.students {
+        put_student(&mut writer, view, student)?;
+    }
+    text_of(writer)
+}

@@ -1,4 +1,0 @@
-//! Instance files and rolls, and the first fault of each kind.
-
-mod instances;
-mod rolls;

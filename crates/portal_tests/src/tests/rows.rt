@@ -1,0 +1,218 @@
+//! Rows of a file, good and bad.
+
+use portal_core::{Code, LecturerRow, Name, Phase, ProjectRow, StudentRow};
+use portal_list::{ListKeeper, RowsFault, WorldRows};
+use spa_rows::Key;
+use std::alloc::Global;
+use std::test::Fail;
+
+fn key(alloc: Global, text: &str) -> Result<Key, Fail> {
+    Ok(Key::parse(alloc, text.as_bytes())?)
+}
+
+fn lecturer(alloc: Global, text: &str, code: &str, capacity: u32) -> Result<LecturerRow, Fail> {
+    Ok(LecturerRow {
+        key: key(alloc, text)?,
+        name: Name::parse(alloc, b"Lee")?,
+        code: Code::parse(alloc, code.as_bytes())?,
+        capacity,
+    })
+}
+
+fn project(alloc: Global, text: &str, lecturer: &str) -> Result<ProjectRow, Fail> {
+    Ok(ProjectRow {
+        key: key(alloc, text)?,
+        lecturer: key(alloc, lecturer)?,
+        title: Name::parse(alloc, b"Tides")?,
+        capacity: 1,
+    })
+}
+
+fn student(alloc: Global, text: &str, code: &str) -> Result<StudentRow, Fail> {
+    Ok(StudentRow {
+        key: key(alloc, text)?,
+        name: Name::parse(alloc, b"Ann")?,
+        code: Code::parse(alloc, code.as_bytes())?,
+    })
+}
+
+fn lecturers(alloc: Global, capacity: u32) -> Result<Vec<LecturerRow>, Fail> {
+    let mut rows = Vec::new(alloc);
+    rows.push(lecturer(alloc, "L1", "lee-code-01", 2)?)?;
+    rows.push(lecturer(alloc, "L2", "moe-code-02", capacity)?)?;
+    Ok(rows)
+}
+
+fn projects(alloc: Global, keys: &[&str]) -> Result<Vec<ProjectRow>, Fail> {
+    let mut rows = Vec::new(alloc);
+    for text in keys {
+        rows.push(project(alloc, *text, "L1")?)?;
+    }
+    rows.push(project(alloc, "P3", "L2")?)?;
+    Ok(rows)
+}
+
+fn students(alloc: Global, code: &str) -> Result<Vec<StudentRow>, Fail> {
+    let mut rows = Vec::new(alloc);
+    rows.push(student(alloc, "S1", code)?)?;
+    rows.push(student(alloc, "S2", "bea-code-2")?)?;
+    Ok(rows)
+}
+
+/// A key, with a list of keys.
+fn list(alloc: Global, owner: &str, texts: &[&str]) -> Result<(Key, Vec<Key>), Fail> {
+    let mut keys = Vec::new(alloc);
+    for text in texts {
+        keys.push(key(alloc, *text)?)?;
+    }
+    Ok((key(alloc, owner)?, keys))
+}
+
+type Lists<'a> = &'a [(&'a str, &'a [&'a str])];
+
+fn lists(alloc: Global, owners: Lists) -> Result<Vec<(Key, Vec<Key>)>, Fail> {
+    let mut lists = Vec::new(alloc);
+    for (owner, texts) in owners {
+        lists.push(list(alloc, *owner, *texts)?)?;
+    }
+    Ok(lists)
+}
+
+fn pairs(alloc: Global, places: &[(&str, &str)]) -> Result<Vec<(Key, Key)>, Fail> {
+    let mut pairs = Vec::new(alloc);
+    for (student, project) in places {
+        pairs.push((key(alloc, *student)?, key(alloc, *project)?))?;
+    }
+    Ok(pairs)
+}
+
+/// A world of two lecturers and two students, and what may be wrong with it.
+#[derive(Clone, Copy)]
+struct Sketch {
+    phase: Phase,
+    capacity: u32,
+    code: &'static str,
+    projects: &'static [&'static str],
+    choices: Lists<'static>,
+    rankings: Lists<'static>,
+    pairs: &'static [(&'static str, &'static str)],
+}
+
+fn in_published() -> Sketch {
+    Sketch {
+        phase: Phase::Published,
+        capacity: 1,
+        code: "ann-code-1",
+        projects: &["P1", "P2"],
+        choices: &[("S1", &["P1", "P2"]), ("S2", &["P1", "P3"])],
+        rankings: &[("L1", &["S2", "S1"]), ("L2", &["S2"])],
+        pairs: &[("S1", "P2"), ("S2", "P1")],
+    }
+}
+
+fn in_ranking() -> Sketch {
+    let mut sketch = in_published();
+    sketch.phase = Phase::Ranking;
+    sketch.pairs = &[];
+    sketch
+}
+
+fn in_choosing() -> Sketch {
+    let mut sketch = in_ranking();
+    sketch.phase = Phase::Choosing;
+    sketch.rankings = &[];
+    sketch
+}
+
+fn in_setup() -> Sketch {
+    let mut sketch = in_choosing();
+    sketch.phase = Phase::Setup;
+    sketch.choices = &[("S1", &[]), ("S2", &[])];
+    sketch
+}
+
+/// Why the rows give no keeper, if they give none.
+fn fault_of(alloc: Global, sketch: Sketch) -> Result<Option<RowsFault>, Fail> {
+    let rows = WorldRows {
+        phase: sketch.phase,
+        office: Code::parse(alloc, b"office-code-0")?,
+        lecturers: lecturers(alloc, sketch.capacity)?,
+        projects: projects(alloc, sketch.projects)?,
+        students: students(alloc, sketch.code)?,
+        choices: lists(alloc, sketch.choices)?,
+        rankings: lists(alloc, sketch.rankings)?,
+        pairs: pairs(alloc, sketch.pairs)?,
+    };
+    Ok(ListKeeper::from_rows(alloc, rows).err())
+}
+
+#[test]
+fn each_phase_is_taken(rt: HostRuntime) -> Result<(), Fail> {
+    let alloc = rt.alloc();
+    for sketch in [in_setup(), in_choosing(), in_ranking(), in_published()] {
+        assert_eq!(rt; fault_of(alloc, sketch)?, None);
+    }
+    Ok(())
+}
+
+#[test]
+fn too_early_is_refused(rt: HostRuntime) -> Result<(), Fail> {
+    let alloc = rt.alloc();
+    let mut listed = in_choosing();
+    listed.phase = Phase::Setup;
+    let mut ranked = in_ranking();
+    ranked.phase = Phase::Choosing;
+    let mut placed = in_published();
+    placed.phase = Phase::Ranking;
+    for sketch in [listed, ranked, placed] {
+        assert_eq!(rt; fault_of(alloc, sketch)?, Some(RowsFault::NotGood));
+    }
+    Ok(())
+}
+
+#[test]
+fn bad_lists_are_refused(rt: HostRuntime) -> Result<(), Fail> {
+    let alloc = rt.alloc();
+    let mut unknown = in_choosing();
+    unknown.choices = &[("S1", &["P1", "P9x"]), ("S2", &[])];
+    let mut repeated = in_choosing();
+    repeated.choices = &[("S1", &["P1", "P1"]), ("S2", &[])];
+    let mut left_out = in_choosing();
+    left_out.choices = &[("S1", &["P1"])];
+    let mut nobody = in_choosing();
+    nobody.choices = &[("S1", &[]), ("S2", &[]), ("S9", &[])];
+    for sketch in [unknown, repeated, left_out, nobody] {
+        assert_eq!(rt; fault_of(alloc, sketch)?, Some(RowsFault::NotGood));
+    }
+    Ok(())
+}
+
+#[test]
+fn bad_rankings_are_refused(rt: HostRuntime) -> Result<(), Fail> {
+    let alloc = rt.alloc();
+    let mut missing = in_ranking();
+    missing.rankings = &[("L1", &["S2"])];
+    let mut stranger = in_ranking();
+    stranger.rankings = &[("L2", &["S1"])];
+    let mut still_to_rank = in_published();
+    still_to_rank.rankings = &[("L1", &["S2", "S1"])];
+    for sketch in [missing, stranger, still_to_rank] {
+        assert_eq!(rt; fault_of(alloc, sketch)?, Some(RowsFault::NotGood));
+    }
+    Ok(())
+}
+
+#[test]
+fn bad_rolls_are_refused(rt: HostRuntime) -> Result<(), Fail> {
+    let alloc = rt.alloc();
+    let mut falling = in_setup();
+    falling.projects = &["P2", "P1"];
+    let mut one_code = in_setup();
+    one_code.code = "office-code-0";
+    let mut too_large = in_setup();
+    too_large.capacity = 201;
+    for sketch in [falling, one_code, too_large] {
+        assert_eq!(rt; fault_of(alloc, sketch)?, Some(RowsFault::NotGood));
+    }
+    Ok(())
+}

@@ -1,0 +1,67 @@
+//! The office's texts, over the worked world in published.
+
+use portal_core::{Code, OfficeView, Phase};
+use portal_reports::{allocation_text, status_text};
+use portal_rolls::{read_lecturers, read_projects, read_students, write_allocation};
+use spa_rows::Key;
+use std::process::Abort;
+
+fn key(rt: &(impl Abort + AllocGlobal), text: &str) -> Key {
+    Key::parse(rt.alloc(), text.as_bytes()).expect(rt, "a key")
+}
+
+/// The pairs of the result.
+fn pairs(rt: &(impl Abort + AllocGlobal)) -> Vec<(Key, Key)> {
+    let mut pairs = Vec::new(rt.alloc());
+    pairs
+        .push((key(rt, "S1"), key(rt, "P2")))
+        .expect(rt, "memory");
+    pairs
+        .push((key(rt, "S2"), key(rt, "P1")))
+        .expect(rt, "memory");
+    pairs
+}
+
+/// What the office sees of the worked world in published.
+fn worked(rt: &(impl Abort + AllocGlobal)) -> OfficeView {
+    let alloc = rt.alloc();
+    let lecturers = b"id,name,code,capacity\nL1,Lee,lee-code-01,2\nL2,Moe,moe-code-02,1\n";
+    let projects = b"id,lecturer,title,capacity\nP1,L1,Tides,1\nP2,L1,Kites,1\nP3,L2,Bells,1\n";
+    let students =
+        b"id,name,code\nS1,Ann,ann-code-1\nS2,\"Roe, Bea\",bea-code-2\nS3,Cyr,cyr-code-3\n";
+    let mut without_list = Vec::new(alloc);
+    without_list.push(key(rt, "S3")).expect(rt, "memory");
+    OfficeView {
+        phase: Phase::Published,
+        office_code: Code::parse(alloc, b"office-code-0").expect(rt, "a code"),
+        lecturers: read_lecturers(alloc, lecturers).expect(rt, "a roll"),
+        projects: read_projects(alloc, projects).expect(rt, "a roll"),
+        students: read_students(alloc, students).expect(rt, "a roll"),
+        catalogue: Vec::new(alloc),
+        without_list,
+        still_to_rank: Vec::new(alloc),
+        pairs: pairs(rt),
+    }
+}
+
+#[test]
+fn the_result_as_csv_and_as_text(rt: HostRuntime) {
+    let view = worked(&rt);
+    let csv = write_allocation(rt.alloc(), &view).expect(&rt, "memory");
+    let wanted =
+        "student,name,project,title,lecturer\nS1,Ann,P2,Kites,L1\nS2,\"Roe, Bea\",P1,Tides,L1\nS3,Cyr,,,\n";
+    assert!(rt; csv.as_slice() == wanted.as_bytes());
+    let text = allocation_text(rt.alloc(), &view).expect(&rt, "memory");
+    let wanted =
+        "S1                P2                L1\nS2                P1                L1\nS3                (none)\n\nP1                 1 of    1\nP2                 1 of    1\nP3                 0 of    1\n\nassigned 2 of 3\n";
+    assert!(rt; text.as_slice() == wanted.as_bytes());
+}
+
+#[test]
+fn the_state_as_text(rt: HostRuntime) {
+    let view = worked(&rt);
+    let text = status_text(rt.alloc(), &view).expect(&rt, "memory");
+    let wanted =
+        "phase           published\nlecturers            2\nprojects             3\nstudents             3\nwithout list         1\nstill to rank        0\nassigned             2\n";
+    assert!(rt; text.as_slice() == wanted.as_bytes());
+}

@@ -1,0 +1,111 @@
+-- Each stream has a list of requests, an ending and a text of its ending, where something stands at the front of each rest.
+use Rattle.std.proofs.Common.{◌≡◌, ℕ, zero, suc, ◌-◌, ◌<◌, ◌≤◌, inl, inr, Bool, true, false, List, [], ◌∷◌, ◌++◌, length, take, drop, refl, sym, ap, ◌∙◌, subst, append_assoc, arith}
+use Rattle.std.specs.Prelude.{Ok, Err, if◌then◌else◌, nat_le, ◌||◌}
+use Rattle.std.specs.Bool.{MatchBool}
+use Rattle.std.proofs.lemmas.List.{take-append-drop, length-append}
+use Rattle.std.proofs.Math.Seq.{drop-append_seam}
+use Rattle.httparse.specs.Grammar.{RequestHead, print_request}
+use Rattle.portal_core.specs.Run.{Request}
+use Rattle.portal_frame.specs.Stream.{Asked, Item, whole, fault, over, Opens, asked_of, after_lines, body_length, lines_of, bad_length, bad_head, is_head}
+use Rattle.portal_wire.specs.Refusals.{answer_to}
+use Rattle.portal_wire.specs.Text.{reply_text}
+use Rattle.portal_wire.specs.Conversation.{request_of, closes_at, Rest, more, shut, Leads, Ends, Last, End, Refused, last_for}
+
+-- something stands at the front of each rest of the bytes
+abbrev pub Fronts : List ℕ → Type 0
+Fronts bytes = (front rest : List ℕ) → bytes ≡ front ++ rest → (item : Item) × Opens rest item
+
+abbrev pub Ended : ℕ → List ℕ → Type 0
+Ended left bytes = (rs : List Request) × (end : Last) × (closing : List ℕ) × (rest : Rest) × Leads left bytes rs rest × Ends rest end closing
+
+after_body : (h : RequestHead) (n : ℕ) (rest : List ℕ) (a : Asked) (after : List ℕ) (b : Bool)
+    → whole a after ≡ (if b then whole (asked_of h (take n rest)) (drop n rest) else fault bad_length (is_head h.method)) → after ≡ drop n rest
+after_body h n rest a after true e = cc
+after_body h n rest a after false e = absurd (cc)
+
+after_head : (h : RequestHead) (r : _) (rest : List ℕ) (a : Asked) (after : List ℕ) → whole a after ≡ after_lines h r rest
+    → (n : ℕ) × (after ≡ drop n rest)
+after_head h (Err why) rest a after e = absurd (cc)
+after_head h (Ok n) rest a after e = (n, after_body h n rest a after (nat_le n (length rest)) e)
+
+not_headless : (a : Asked) (after : List ℕ) (b : Bool) → whole a after ≡ (if b then over else fault bad_head false) → ⊥
+not_headless a after true e = cc
+not_headless a after false e = cc
+
+-- what is left after a request is a rest of the bytes
+leaves : (bytes : List ℕ) (a : Asked) (after : List ℕ) → Opens bytes (whole a after) → (front : List ℕ) × (bytes ≡ front ++ after)
+leaves bytes a after (inl (h, rest, t, e)) =
+    let cut : (n : ℕ) × (after ≡ drop n rest) = after_head h (body_length h.minor (lines_of h)) rest a after e in (
+      print_request h ++ take cut.0 rest,
+      t.reads.1
+          ∙ (ap (λ r. print_request h ++ r) (sym (take-append-drop cut.0 rest))
+          ∙ (sym (append_assoc (print_request h) (take cut.0 rest) (drop cut.0 rest))
+          ∙ ap (λ r. (print_request h ++ take cut.0 rest) ++ r) (sym cut.1))),
+    )
+leaves bytes a after (inr (none, e)) = absurd (not_headless a after _ e)
+
+fronts_after : (bytes : List ℕ) (a : Asked) (after : List ℕ) → Opens bytes (whole a after) → Fronts bytes → Fronts after
+fronts_after bytes a after opens fronts front rest e =
+    let cut : (f : List ℕ) × (bytes ≡ f ++ after) = leaves bytes a after opens in
+    fronts (cut.0 ++ front) rest (cut.1 ∙ (ap (λ r. cut.0 ++ r) e ∙ sym (append_assoc cut.0 front rest)))
+
+shut_ends : (close : Bool) → Ends (shut close) (last_for close) []
+shut_ends true = refl
+shut_ends false = refl
+
+closes : (b close : Bool) (rs : List Request) (rest : Rest) (P : Type 0) → b ≡ true → rs ≡ [] → rest ≡ shut close
+    → MatchBool b ((rs ≡ []) × (rest ≡ shut close)) P
+closes b close rs rest P e f g = subst (λ c. MatchBool c ((rs ≡ []) × (rest ≡ shut close)) P) (sym e) (f, g)
+
+goes_on : (b close : Bool) (rs : List Request) (rest : Rest) (P : Type 0) → b ≡ false → P → MatchBool b ((rs ≡ []) × (rest ≡ shut close)) P
+goes_on b close rs rest P e p = subst (λ c. MatchBool c ((rs ≡ []) × (rest ≡ shut close)) P) (sym e) p
+
+-- a request that closes, or one after which others come
+first : (left : ℕ) (bytes : List ℕ) (a : Asked) (after : List ℕ) (b : Bool) → closes_at left a ≡ b → Opens bytes (whole a after)
+    → (b ≡ false → Ended (left - 1) after) → Ended left bytes
+first left bytes a after true e opens later = (
+  request_of (closes_at left a) a ∷ [],
+  last_for a.close,
+  [],
+  shut a.close,
+  (a, after, opens, refl, closes (closes_at left a) a.close [] (shut a.close) (Leads (left - 1) after [] (shut a.close)) e refl refl),
+  shut_ends a.close,
+)
+first left bytes a after false e opens later =
+    let others : Ended (left - 1) after = later refl in (
+      request_of (closes_at left a) a ∷ others.0,
+      others.1,
+      others.2,
+      others.3,
+      (a, after, opens, refl, goes_on (closes_at left a) a.close others.0 others.3 (Leads (left - 1) after others.0 others.3) e others.4),
+      others.5,
+    )
+
+step : (left : ℕ) (bytes : List ℕ) (item : Item) → Opens bytes item
+    → ((a : Asked) (after : List ℕ) → Opens bytes (whole a after) → closes_at left a ≡ false → Ended (left - 1) after) → Ended left bytes
+step left bytes over opens later = ([], End, [], more bytes, refl, (opens, refl))
+step left bytes (fault why head_only) opens later =
+    ([], Refused why.word, reply_text (answer_to why) head_only true, more bytes, refl, (why, head_only, opens, refl, refl))
+step left bytes (whole a after) opens later = first left bytes a after (closes_at left a) refl opens (λ open'. later a after opens open')
+
+closes_last : (close : Bool) → (close || nat_le 0 1) ≡ false → ⊥
+closes_last true e = cc
+closes_last false e = cc
+
+pub ended : (left : ℕ) (bytes : List ℕ) → Fronts bytes → Ended left bytes
+ended zero bytes fronts =
+    let front : (item : Item) × Opens bytes item = fronts [] bytes refl in
+    step zero bytes front.0 front.1 (λ a after opens goes. absurd (closes_last a.close goes))
+ended (suc n) bytes fronts =
+    let front : (item : Item) × Opens bytes item = fronts [] bytes refl in
+    step (suc n) bytes front.0 front.1
+    (λ a after opens goes. let same : n ≡ suc n - 1 = omega arith in subst (λ k. Ended k after) same (ended n after (fronts_after bytes a after opens fronts)))
+
+-- the same of the places in the bytes, and of the end
+pub fronts_of : (bytes : List ℕ) (n : ℕ) → length bytes ≤ n → ((k : ℕ) → k < n → (item : Item) × Opens (drop k bytes) item)
+    → (item : Item) × Opens [] item → Fronts bytes
+fronts_of bytes n all each none front [] e = none
+fronts_of bytes n all each none front (b ∷ rest) e =
+    let short : length front < n = omega (arith, ap length e ∙ length-append front (b ∷ rest)) in
+    let same : drop (length front) bytes ≡ b ∷ rest = ap (drop (length front)) e ∙ drop-append_seam front (b ∷ rest) in
+    subst (λ r. (item : Item) × Opens r item) same (each (length front) short)

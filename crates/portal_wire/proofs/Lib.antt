@@ -1,0 +1,5 @@
+pub mod Words
+pub mod Literal
+pub mod Front
+pub mod Once
+pub mod Exist

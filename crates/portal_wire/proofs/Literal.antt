@@ -1,0 +1,144 @@
+-- A router without parameters is a table of texts.
+use Rattle.std.proofs.Common.{◌≡◌, ℕ, zero, suc, ◌-◌, Bool, true, false, List, [], ◌∷◌, length, map, refl, ap, ◌∙◌, cond, subst, ◌<◌, ◌≤◌, arith}
+use Rattle.std.specs.Prelude.{Option, Some, None, option_map, if◌then◌else◌, ◌==◌, ◌&&◌, nat_lt, IsUtf8, slice_index}
+use Rattle.std.specs.List.{list_all}
+use Rattle.std.specs.Str.{bytes_eq, is_utf8}
+use Rattle.std.proofs.lemmas.Bool.{and_parts, ltb-true, ne_eqb, eqb-true}
+use Rattle.std.proofs.lemmas.Str.{IsUtf8-from_is_utf8, IsUtf8-from_ascii, is_utf8-from_IsUtf8}
+use Rattle.matchit.specs.Rows.{RowsOf, param_token, catch_all_token}
+use Rattle.matchit.specs.Seek.{seek, step, own, or_else, param_step, has_slash}
+use Rattle.matchit.specs.Router.{RouteOf}
+use Rattle.portal_wire.specs.declared.routes.Place.{Place}
+use Rattle.portal_wire.specs.Routes.{the_paths, look_up, place_at, row_of, the_rows}
+
+module _ {K : Type 0} where
+  -- the first row with this pattern
+  abbrev pub find : List ℕ → RowsOf K → Option K
+  find path [] = None
+  find path ((t, k) ∷ rows) = if bytes_eq t path then Some k else find path rows
+
+  -- no token is a parameter
+  abbrev pub is_literal : RowsOf K → Bool
+  is_literal [] = true
+  is_literal ((t, k) ∷ rows) = list_all (λ b. nat_lt b 256) t && is_literal rows
+
+no_rows : {K : Type 0} (h : Bool) (n : ℕ) → (let r : ℕ × RowsOf K = cond h (0, []) (n, []) in r.1) ≡ []
+no_rows true n = refl
+no_rows false n = refl
+
+after_none : {K : Type 0} (b : ℕ) (path : List ℕ) → (param_step {K = K} [] (b ∷ path)).1 ≡ []
+unfolding param_step
+after_none b path = no_rows (has_slash (b ∷ path)) (length (b ∷ path))
+
+seek_none : {K : Type 0} (n : ℕ) (path : List ℕ) → seek {K = K} n [] path ≡ None
+unfolding seek
+seek_none zero [] = refl
+seek_none (suc n) [] = refl
+seek_none (suc n) (b ∷ path) = seek_none n path
+seek_none {K} zero (b ∷ path) =
+    let k = (param_step {K = K} [] (b ∷ path)).0 - 1 in
+    ap (λ o. or_else o (or_else (seek k (param_step {K = K} [] (b ∷ path)).1 path) None)) (seek_none {K = K} 0 path)
+    ∙ ap (λ o. or_else o None) (ap (λ r. seek k r path) (after_none {K = K} b path) ∙ seek_none k path)
+
+or_none : {K : Type 0} (o : Option K) → or_else o None ≡ o
+or_none None = refl
+or_none (Some k) = refl
+
+own_is : {K : Type 0} (rows : RowsOf K) → own rows ≡ find [] rows
+own_is [] = refl
+own_is (([], k) ∷ rows) = refl
+own_is ((x ∷ t, k) ∷ rows) = own_is rows
+
+find_step : {K : Type 0} (b : ℕ) (path : List ℕ) (rows : RowsOf K) → find path (step b rows) ≡ find (b ∷ path) rows
+find_step b path [] = refl
+find_step b path (([], k) ∷ rows) = find_step b path rows
+find_step b path ((x ∷ t, k) ∷ rows) = either (x == b) (find_step b path rows)
+  where
+    either : (v : Bool) → find path (step b rows) ≡ find (b ∷ path) rows
+        → find path (cond v ((t, k) ∷ step b rows) (step b rows)) ≡ (if v && bytes_eq t path then Some k else find (b ∷ path) rows)
+    either true e = ap (λ o. if bytes_eq t path then Some k else o) e
+    either false e = e
+
+literal_step : {K : Type 0} (b : ℕ) (rows : RowsOf K) → is_literal rows ≡ true → is_literal (step b rows) ≡ true
+literal_step b [] e = refl
+literal_step b (([], k) ∷ rows) e = literal_step b rows e
+literal_step b ((x ∷ t, k) ∷ rows) e =
+    let parts = and_parts (list_all (λ c. nat_lt c 256) (x ∷ t)) (is_literal rows) e in
+    let tail = and_parts (nat_lt x 256) (list_all (λ c. nat_lt c 256) t) parts.0 in
+    either (x == b) tail.1 (literal_step b rows parts.1)
+  where
+    either : (v : Bool) → list_all (λ c. nat_lt c 256) t ≡ true → is_literal (step b rows) ≡ true
+        → is_literal (cond v ((t, k) ∷ step b rows) (step b rows)) ≡ true
+    either true e f = ap (λ c. c && is_literal (step b rows)) e ∙ f
+    either false e f = f
+
+no_step : {K : Type 0} (token : ℕ) (rows : RowsOf K) → 256 ≤ token → is_literal rows ≡ true → step token rows ≡ []
+no_step token [] high e = refl
+no_step token (([], k) ∷ rows) high e = no_step token rows high e
+no_step token ((x ∷ t, k) ∷ rows) high e =
+    let parts = and_parts (list_all (λ c. nat_lt c 256) (x ∷ t)) (is_literal rows) e in
+    let tail = and_parts (nat_lt x 256) (list_all (λ c. nat_lt c 256) t) parts.0 in
+    let low : x < 256 = ltb-true x 256 tail.0 in
+    ap (λ v. cond v ((t, k) ∷ step token rows) (step token rows)) (ne_eqb x token (λ same. omega (arith, low, high, same))) ∙ no_step token rows high parts.1
+
+pub seek_is : {K : Type 0} (path : List ℕ) (rows : RowsOf K) → is_literal rows ≡ true → seek 0 rows path ≡ find path rows
+unfolding seek
+seek_is [] rows e = own_is rows
+seek_is {K} (b ∷ path) rows e =
+    let A = seek 0 (step b rows) path in
+    let k = (param_step {K = K} [] (b ∷ path)).0 - 1 in
+    ap (λ rs. or_else A (or_else (seek ((param_step rs (b ∷ path)).0 - 1) (param_step rs (b ∷ path)).1 path) (own (step catch_all_token rows)))) (no_step param_token rows (omega arith) e)
+    ∙ (ap (λ rs. or_else A (or_else (seek k (param_step {K = K} [] (b ∷ path)).1 path) (own rs))) (no_step catch_all_token rows (omega arith) e)
+    ∙ (ap (λ o. or_else A (or_else o None)) (ap (λ r. seek k r path) (after_none {K = K} b path) ∙ seek_none k path)
+    ∙ (or_none A ∙ (seek_is path (step b rows) (literal_step b rows e) ∙ find_step b path rows))))
+
+value_of : RouteOf Place → Place
+value_of r = r.value
+
+map_find : (path : List ℕ) (ps : List (List ℕ × Place)) → option_map (λ r. r.value) (find path (map row_of ps)) ≡ look_up path ps
+map_find path [] = refl
+map_find path (p ∷ ps) = either (bytes_eq p.0 path) (map_find path ps)
+  where
+    either : (v : Bool) → option_map (λ r. r.value) (find path (map row_of ps)) ≡ look_up path ps
+        → option_map (λ r. r.value) (if v then Some ((row_of p).1) else find path (map row_of ps)) ≡ (if v then Some p.1 else look_up path ps)
+    either true e = refl
+    either false e = e
+
+pub first_is : (path : List ℕ) → option_map (λ r. r.value) (seek 0 the_rows path) ≡ place_at path
+unfolding the_rows the_paths place_at
+first_is path = ap (option_map (λ r. r.value)) (seek_is path the_rows refl) ∙ map_find path the_paths
+
+-- a path that is no text is none of these
+same_bytes : (xs ys : List ℕ) → bytes_eq xs ys ≡ true → xs ≡ ys
+same_bytes [] [] e = refl
+same_bytes [] (y ∷ ys) e = absurd (cc)
+same_bytes (x ∷ xs) [] e = absurd (cc)
+same_bytes (x ∷ xs) (y ∷ ys) e =
+    let parts = and_parts (x == y) (bytes_eq xs ys) e in
+    ap (λ z. z ∷ xs) (eqb-true x y parts.0) ∙ ap (λ zs. y ∷ zs) (same_bytes xs ys parts.1)
+
+no_text : (path : List ℕ) (ps : List (List ℕ × Place)) → list_all (λ p. is_utf8 p.0) ps ≡ true → ¬ (IsUtf8 path) → look_up path ps ≡ None
+no_text path [] e never = refl
+no_text path (p ∷ ps) e never =
+    let parts = and_parts (is_utf8 p.0) (list_all (λ q. is_utf8 q.0) ps) e in
+    either (bytes_eq p.0 path) refl (no_text path ps parts.1 never)
+  where
+    either : (v : Bool) → bytes_eq p.0 path ≡ v → look_up path ps ≡ None → (if v then Some p.1 else look_up path ps) ≡ None
+    either true same rest = absurd (never (IsUtf8-from_is_utf8 path (subst (λ t. is_utf8 t ≡ true) (same_bytes p.0 path same) (and_parts (is_utf8 p.0) (list_all (λ q. is_utf8 q.0) ps) e).0)))
+    either false same rest = rest
+
+all_text : (ps : List (List ℕ × Place)) → list_all (λ p. list_all (λ b. nat_lt b 128) p.0) ps ≡ true → list_all (λ p. is_utf8 p.0) ps ≡ true
+all_text [] e = refl
+all_text (p ∷ ps) e =
+    let parts = and_parts (list_all (λ b. nat_lt b 128) p.0) (list_all (λ q. list_all (λ b. nat_lt b 128) q.0) ps) e in
+    ap (λ v. v && list_all (λ q. is_utf8 q.0) ps) (is_utf8-from_IsUtf8 p.0 (IsUtf8-from_ascii p.0 (below p.0 parts.0))) ∙ all_text ps parts.1
+  where
+    below : (bs : List ℕ) → list_all (λ b. nat_lt b 128) bs ≡ true → (i : ℕ) → slice_index bs i < 128
+    below [] f zero = omega arith
+    below [] f (suc i) = omega arith
+    below (b ∷ bs) f zero = ltb-true b 128 (and_parts (nat_lt b 128) (list_all (λ c. nat_lt c 128) bs) f).0
+    below (b ∷ bs) f (suc i) = below bs (and_parts (nat_lt b 128) (list_all (λ c. nat_lt c 128) bs) f).1 i
+
+pub none_at : (path : List ℕ) → ¬ (IsUtf8 path) → place_at path ≡ None
+unfolding place_at the_paths
+none_at path never = no_text path the_paths (all_text the_paths refl) never

@@ -1,0 +1,33 @@
+use Rattle.std.proofs.Common.{◌≡◌, ℕ, Bool, true, false, List, refl, sym, ap, ◌∙◌}
+use Rattle.std.specs.Prelude.{codes, Option, Some, None, IfSome, IfNone}
+use Rattle.std.specs.Str.{bytes_eq}
+use lib.Pointwise.{bytes_decides}
+use Rattle.portal_core.specs.World.{phase_word}
+use Rattle.portal_core.specs.declared.phase.Phase.{Phase}
+use Rattle.portal_core.specs.declared.phase.Phase.TheVariants.{Setup, Choosing, Ranking, Published}
+use Rattle.portal_wire.specs.Bodies.{phase_of}
+use Rattle.portal_wire.proofs.bodies.phase_in_word.Goals as goal
+
+of_word : (p : Phase) → Some p ≡ phase_of (phase_word p)
+of_word Setup = refl
+of_word Choosing = refl
+of_word Ranking = refl
+of_word Published = refl
+
+differs : (word other : List ℕ) → (other ≡ word → ⊥) → (b : Bool) → bytes_eq word other ≡ b → b ≡ false
+differs word other not true e = absurd (not (sym ((bytes_decides word other).0 e)))
+differs word other not false e = refl
+
+of_parse : (r : Option Phase) (word : List ℕ) → IfSome r (λ p. phase_word p ≡ word) → IfNone r ((p : Phase) → phase_word p ≡ word → ⊥) → r ≡ phase_of word
+of_parse (Some p) word some none = of_word p ∙ ap phase_of some
+of_parse None word some none =
+    rw (
+      differs word (codes "setup") (none Setup) (bytes_eq word (codes "setup")) refl,
+      differs word (codes "choosing") (none Choosing) (bytes_eq word (codes "choosing")) refl,
+      differs word (codes "ranking") (none Ranking) (bytes_eq word (codes "ranking")) refl,
+      differs word (codes "published") (none Published) (bytes_eq word (codes "published")) refl,
+    )
+    refl
+
+pub returns : goal.returns
+returns c = of_parse c.parse.result c.args.word.now c.parse.ensures.some c.parse.ensures.none

@@ -1,0 +1,9 @@
+use Rattle.std.proofs.Common.{◌≡◌, map, drop, ◌++◌}
+use Rattle.std.specs.Prelude.{option_map}
+use Rattle.serde_json.specs.View.{items_view}
+use Rattle.portal_wire.specs.Bodies.{item_texts}
+use Rattle.portal_wire.proofs.bodies.texts_of.Given as goal
+
+abbrev pub invariant-loop-value : goal.invariant-loop-value
+invariant-loop-value l =
+    item_texts (items_view l.values) ≡ option_map (λ ts. map (λ t. t.items) l.texts.items ++ ts) (item_texts (items_view (drop l.value-index l.values)))

@@ -1,0 +1,7 @@
+use Rattle.std.proofs.Common.{rules}
+use Rattle.portal_wire.specs.Text.{unavailable_body}
+use Rattle.portal_wire.proofs.replies.unavailable_bytes.Goals as goal
+
+pub returns : goal.returns
+unfolding unavailable_body
+returns c = search rules

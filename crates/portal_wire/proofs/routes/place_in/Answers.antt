@@ -1,0 +1,22 @@
+use Rattle.std.proofs.Common.{◌≡◌, ℕ, List, sym, ap, ◌∙◌}
+use Rattle.std.specs.Prelude.{Option, option_map}
+use Rattle.matchit.specs.Rows.{RowsOf}
+use Rattle.matchit.specs.Router.{RouteOf}
+use Rattle.matchit.specs.Seek.{first}
+use Rattle.portal_wire.specs.declared.routes.Place.{Place}
+use Rattle.portal_wire.specs.Routes.{the_rows, place_at}
+use Rattle.portal_wire.proofs.Literal.{first_is, none_at}
+use Rattle.portal_wire.proofs.routes.place_in.Goals as goal
+
+found : (o : Option Place) (rows : RowsOf (RouteOf Place)) (text path : List ℕ) → o ≡ option_map (λ r. r.value) (first rows text) → rows ≡ the_rows → text ≡ path
+    → o ≡ place_at path
+found o rows text path is same bytes =
+    is ∙ (ap (λ rs. option_map (λ r. r.value) (first rs text)) same ∙ (ap (λ t. option_map (λ r. r.value) (first the_rows t)) bytes ∙ first_is path))
+
+pub returns-in_default : goal.returns-in_default
+returns-in_default c =
+    let cases = rw c.in_default.is at c.from_utf8.ensures.cases in
+    sym (none_at c.args.path.now cases.0)
+
+pub returns : goal.returns
+returns c = found c.found_by.result _ _ c.args.path.now c.found_by.ensures c.in_ok-router.ensures c.in-Ok.ensures.cases.0

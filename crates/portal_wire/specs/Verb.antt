@@ -1,0 +1,13 @@
+-- Which method a request has.
+use Rattle.std.specs.Prelude.{ℕ, List, codes, if◌then◌else◌}
+use Rattle.std.specs.Str.{bytes_eq}
+use Rattle.portal_wire.specs.declared.verbs.Verb.{Verb}
+use Rattle.portal_wire.specs.declared.verbs.Verb.TheVariants.{Get, Head, Put, Post, Other}
+
+abbrev pub verb_of : List ℕ → Verb
+verb_of method =
+    if bytes_eq method (codes "GET") then Get
+    else (if bytes_eq method (codes "HEAD") then Head
+    else (if bytes_eq method (codes "PUT") then Put
+    else (if bytes_eq method (codes "POST") then Post
+    else Other)))

@@ -1,0 +1,154 @@
+//! JSON bodies that come in.
+
+ghost use Rattle.std.specs.Prelude.{◌≡◌, map, option_map};
+ghost use Rattle.serde_json.specs.View.{view, items_view};
+ghost use Rattle.portal_wire.specs.Bodies.{json_in, only_member, item_texts, texts_in, phase_of, phase_named, empty_object, listed_in, phase_in, nothing_in, Gives};
+ghost use Rattle.portal_wire.specs.declared.bodies.BodyFault.TheVariants.{Memory as OutOfMemory};
+
+use portal_core::Phase;
+use serde_json::Value;
+use serde_json::error::Category;
+use std::alloc::{AllocError, AllocFailed, Global};
+
+/// Why a body was not read.
+#[derive(Clone, Copy, Debug, PartialEq, Eq, Drop)]
+pub(crate) enum BodyFault {
+    /// It has not its form.
+    Bad,
+    /// There was not enough memory.
+    Memory,
+}
+
+impl From<AllocError> for BodyFault {
+    ghost from_gives = { λ _ fault. fault ≡ OutOfMemory };
+
+    fn from(_: AllocError) -> BodyFault {
+        BodyFault::Memory
+    }
+}
+
+impl<T: Drop> From<AllocFailed<T>> for BodyFault {
+    ghost from_gives = { λ _ fault. fault ≡ OutOfMemory };
+
+    fn from(_: AllocFailed<T>) -> BodyFault {
+        BodyFault::Memory
+    }
+}
+
+/// The JSON that a body is.
+fn json_of(alloc: Global, body: &[u8]) -> Result<Value, BodyFault>
+    ensures { Gives view result (json_in body.now) }
+{
+    let Ok(text) = str::from_utf8(body) else {
+        return Err(BodyFault::Bad);
+    };
+    match Value::from_str(alloc, text) {
+        Ok(value) => Ok(value),
+        Err(error) => {
+            if error.classify() == Category::Memory {
+                return Err(BodyFault::Memory);
+            }
+            Err(BodyFault::Bad)
+        }
+    }
+}
+
+/// The value of this member, where it is the only one of an object.
+fn sole_member<'a>(value: &'a Value, name: &str) -> Option<&'a Value>
+    ensures { option_map (λ v. view v.now) result ≡ only_member name.now (view value.now) }
+{
+    let Value::Object(members) = value else {
+        return None;
+    };
+    if members.len() != 1 {
+        return None;
+    }
+    value.get(name)
+}
+
+/// A copy of the text of each value.
+fn texts_of(alloc: Global, values: &[Value]) -> Result<Vec<Vec<u8>>, BodyFault>
+    ensures { Gives (λ ts. map (λ t. t.items) ts.items) result (item_texts (items_view values.now)) }
+{
+    let mut texts = Vec::new(alloc);
+    for value in values {
+        let Value::String(text) = value else {
+            return Err(BodyFault::Bad);
+        };
+        texts.push(Vec::from_slice(alloc, text.as_bytes())?)?;
+    }
+    Ok(texts)
+}
+
+/// The texts of an array.
+fn array_texts(alloc: Global, value: &Value) -> Result<Vec<Vec<u8>>, BodyFault>
+    ensures { Gives (λ ts. map (λ t. t.items) ts.items) result (texts_in (view value.now)) }
+{
+    let Value::Array(values) = value else {
+        return Err(BodyFault::Bad);
+    };
+    texts_of(alloc, values.as_slice())
+}
+
+/// The texts that a body lists under a name, and nothing else.
+pub(crate) fn listed(alloc: Global, body: &[u8], name: &str) -> Result<Vec<Vec<u8>>, BodyFault>
+    ensures { Gives (λ ts. map (λ t. t.items) ts.items) result (listed_in name.now body.now) }
+{
+    let value = json_of(alloc, body)?;
+    match sole_member(&value, name) {
+        Some(list) => array_texts(alloc, list),
+        None => Err(BodyFault::Bad),
+    }
+}
+
+/// The phase of a word.
+fn phase_in_word(word: &[u8]) -> Option<Phase>
+    ensures { result ≡ phase_of word.now }
+{
+    Phase::parse(word)
+}
+
+/// The phase whose word a value is.
+fn named_phase(value: &Value) -> Result<Phase, BodyFault>
+    ensures { Gives (λ phase. phase) result (phase_named (view value.now)) }
+{
+    let Value::String(word) = value else {
+        return Err(BodyFault::Bad);
+    };
+    match phase_in_word(word.as_bytes()) {
+        Some(phase) => Ok(phase),
+        None => Err(BodyFault::Bad),
+    }
+}
+
+/// The phase that a body names, and nothing else.
+pub(crate) fn named(alloc: Global, body: &[u8]) -> Result<Phase, BodyFault>
+    ensures { Gives (λ phase. phase) result (phase_in body.now) }
+{
+    let value = json_of(alloc, body)?;
+    match sole_member(&value, "phase") {
+        Some(word) => named_phase(word),
+        None => Err(BodyFault::Bad),
+    }
+}
+
+/// That a value is an object without members.
+fn no_member(value: &Value) -> Result<(), BodyFault>
+    ensures { Gives (λ u. u) result (empty_object (view value.now)) }
+{
+    let Value::Object(members) = value else {
+        return Err(BodyFault::Bad);
+    };
+    if members.len() == 0 {
+        return Ok(());
+    }
+    Err(BodyFault::Bad)
+}
+
+/// That a body is an object without members.
+pub(crate) fn nothing(alloc: Global, body: &[u8]) -> Result<(), BodyFault>
+    ensures { Gives (λ u. u) result (nothing_in body.now) }
+{
+    let value = json_of(alloc, body)?;
+    no_member(&value)
+}

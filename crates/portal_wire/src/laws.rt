@@ -1,0 +1,24 @@
+//! Laws over the definitions alone: what the requests of a stream are.
+
+ghost use Rattle.std.specs.Prelude.{◌≡◌, ℕ, List};
+ghost use Rattle.portal_core.specs.Run.{Request};
+ghost use Rattle.portal_wire.specs.Conversation.{Last, Requests};
+
+use portal_frame::laws::opens_some;
+
+/// A stream has one list of requests, one ending and one text of its ending.
+pub fn stream_once()
+    ensures { (bytes : List ℕ) (asked others : List Request) (end last : Last) (closing text : List ℕ)
+        → Requests bytes asked end closing → Requests bytes others last text → (asked ≡ others) × (end ≡ last) × (closing ≡ text) }
+{}
+
+/// Each stream has such a list, such an ending and such a text.
+pub fn stream_some(bytes: &[u8])
+    ensures { (asked : List Request) × (end : Last) × (closing : List ℕ) × Requests bytes.now asked end closing }
+{
+    for start in 0..bytes.len() {
+        let (_, rest) = bytes.split_at(start);
+        opens_some(rest);
+    }
+    opens_some(&[]);
+}

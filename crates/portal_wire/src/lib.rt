@@ -1,0 +1,17 @@
+//! Requests and replies on the wire: what a request asks, and the bytes of a reply.
+#![tactic(auto)]
+
+mod bodies;
+mod calls;
+mod ending;
+pub mod laws;
+mod refusals;
+mod replies;
+mod routes;
+mod verbs;
+
+pub use crate::calls::call_of;
+pub use crate::ending::Ending;
+pub use crate::refusals::reply_of;
+pub use crate::replies::reply_bytes;
+pub use portal_frame::{Frame, Refusal, Request, frame};

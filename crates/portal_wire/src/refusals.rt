@@ -1,0 +1,43 @@
+//! The reply to a refusal.
+
+ghost use Rattle.std.specs.Prelude.{◌≡◌, IfOk};
+ghost use Rattle.serde_json.specs.View.{view};
+ghost use Rattle.portal_core.specs.Answer.{IsWhole};
+ghost use Rattle.portal_core.specs.Meaning.{told, said};
+ghost use Rattle.portal_frame.specs.Stream.{refused};
+ghost use Rattle.portal_wire.specs.Refusals.{answer_to, fault_body};
+
+use portal_core::{Body, Reply};
+use portal_frame::Refusal;
+use serde_json::{Value, json};
+use std::alloc::{AllocError, Global};
+
+/// The body that tells a refusal.
+fn told_fault(alloc: Global, word: &str, row: Option<u32>) -> Result<Value, AllocError>
+    ensures { IfOk result (λ body. view body ≡ fault_body word.now row) }
+{
+    match row {
+        Some(row) => json!(in alloc; {"error": word, "row": row}),
+        None => json!(in alloc; {"error": word}),
+    }
+}
+
+/// The reply to a refusal.
+///
+/// # Errors
+///
+/// Memory ran out.
+pub fn reply_of(alloc: Global, refusal: &Refusal) -> Result<Reply, AllocError>
+    ensures reply { IfOk result (λ reply. told reply ≡ answer_to (refused refusal.now)) }
+    ensures whole { IfOk result (λ reply. IsWhole (said reply.body)) }
+{
+    if refusal.status == 503 {
+        return Ok(Reply::unavailable());
+    }
+    let body = told_fault(alloc, refusal.word, refusal.row)?;
+    Ok(Reply {
+        status: refusal.status,
+        allow: refusal.allow,
+        body: Body::Json(body),
+    })
+}

@@ -1,0 +1,144 @@
+//! The bytes of a reply.
+
+ghost use Rattle.std.specs.Prelude.{◌≡◌, IfOk, OnOk, ◌++◌, string_bytes};
+ghost use Rattle.portal_core.specs.Answer.{IsWhole};
+ghost use Rattle.portal_core.specs.Meaning.{told, said};
+ghost use Rattle.portal_wire.specs.Text.{reply_text, phrase_of, type_of, body_bytes, head_lines, common_lines, allow_line, close_line};
+
+use http::StatusCode;
+use portal_core::{Body, Reply};
+use std::alloc::{AllocError, Global};
+
+/// The number of a status, by `http`'s own type where it is one.
+fn status_number(status: u16) -> u16
+    ensures { result ≡ status }
+{
+    match StatusCode::from_u16(status) {
+        Ok(code) => code.as_u16(),
+        Err(_) => status,
+    }
+}
+
+/// The phrase of a status.
+fn phrase(status: u16) -> &'static str
+    ensures { result.now ≡ phrase_of status }
+{
+    match status {
+        200 => "OK",
+        400 => "Bad Request",
+        403 => "Forbidden",
+        404 => "Not Found",
+        405 => "Method Not Allowed",
+        409 => "Conflict",
+        413 => "Content Too Large",
+        422 => "Unprocessable Content",
+        501 => "Not Implemented",
+        _ => "Service Unavailable",
+    }
+}
+
+/// The content type of a body.
+fn content_type(body: &Body) -> &'static str
+    ensures { result.now ≡ type_of (said body.now) }
+{
+    match body {
+        Body::Json(_) => "application/json",
+        Body::Csv(_) => "text/csv; charset=utf-8",
+        Body::Plain(_) => "text/plain; charset=utf-8",
+        Body::Unavailable => "application/json",
+    }
+}
+
+/// The bytes of the body that says that memory or the store failed.
+fn unavailable_bytes(alloc: Global) -> Result<Vec<u8>, AllocError>
+    ensures { IfOk result (λ bytes. bytes.items ≡ body_bytes (said Body.Unavailable)) }
+{
+    Vec::from_slice(alloc, b"{\"error\":\"unavailable\"}")
+}
+
+/// The same bytes in a vector of their own.
+fn copied(alloc: Global, bytes: &[u8]) -> Result<Vec<u8>, AllocError>
+    ensures { IfOk result (λ copy. copy.items ≡ bytes.now) }
+{
+    Vec::from_slice(alloc, bytes)
+}
+
+/// The bytes of a body.
+fn bytes_of(alloc: Global, body: &Body) -> Result<Vec<u8>, AllocError>
+    ensures { IfOk result (λ bytes. IsWhole (said body.now) → bytes.items ≡ body_bytes (said body.now)) }
+{
+    match body {
+        Body::Json(value) => value.to_vec(alloc),
+        Body::Csv(bytes) => copied(alloc, bytes.as_slice()),
+        Body::Plain(bytes) => copied(alloc, bytes.as_slice()),
+        Body::Unavailable => unavailable_bytes(alloc),
+    }
+}
+
+/// The status line and the lines that each reply has.
+fn first_lines(alloc: Global, reply: &Reply, length: usize) -> Result<String, AllocError>
+    ensures { IfOk result (λ text. string_bytes text ≡ common_lines reply.now.status (said reply.now.body) length) }
+{
+    let status = status_number(reply.status);
+    let phrase = phrase(reply.status);
+    let kind = content_type(&reply.body);
+    format!(in alloc;
+        "HTTP/1.1 {} {}\r\ncontent-type: {}\r\ncontent-length: {}\r\n",
+        status, phrase, kind, length
+    )
+}
+
+/// Adds the line on methods, where there is one.
+fn push_allow(text: &mut String, allow: &str) -> Result<(), AllocError>
+    ensures { OnOk result (string_bytes text.new ≡ string_bytes text.old ++ allow_line allow.now) }
+{
+    if allow.is_empty() {
+        return Ok(());
+    }
+    text.push_str("allow: ")?;
+    text.push_str(allow)?;
+    text.push_str("\r\n")
+}
+
+/// Adds the line that closes, if it does.
+fn push_close(text: &mut String, close: bool) -> Result<(), AllocError>
+    ensures { OnOk result (string_bytes text.new ≡ string_bytes text.old ++ close_line close) }
+{
+    if close {
+        return text.push_str("connection: close\r\n");
+    }
+    Ok(())
+}
+
+/// The lines of a reply, with the empty line after them.
+fn head_text(alloc: Global, reply: &Reply, length: usize, close: bool) -> Result<String, AllocError>
+    ensures { IfOk result (λ text. string_bytes text ≡ head_lines (told reply.now) length close) }
+{
+    let mut text = first_lines(alloc, reply, length)?;
+    push_allow(&mut text, reply.allow)?;
+    push_close(&mut text, close)?;
+    text.push_str("\r\n")?;
+    Ok(text)
+}
+
+/// The bytes of a reply: its lines and its body, which is left out with `head_only`; `close` says that
+/// the connection ends.
+///
+/// # Errors
+///
+/// Memory ran out.
+pub fn reply_bytes(
+    alloc: Global,
+    reply: &Reply,
+    head_only: bool,
+    close: bool,
+) -> Result<Vec<u8>, AllocError>
+    ensures { IfOk result (λ bytes. IsWhole (said reply.now.body) → bytes.items ≡ reply_text (told reply.now) head_only close) }
+{
+    let body = bytes_of(alloc, &reply.body)?;
+    let mut bytes = head_text(alloc, reply, body.len(), close)?.into_bytes();
+    if !head_only {
+        bytes.extend_from_slice(body.as_slice())?;
+    }
+    Ok(bytes)
+}
