@@ -6,6 +6,7 @@ mod failing;
 mod frames;
 mod lists;
 mod portal;
+mod requests;
 mod result;
 mod streams;
 mod wire;

@@ -8,7 +8,8 @@ use Rattle.portal_core.specs.Rolls.{Roll}
 -- new rows: no row before has the key, none is bad beside those before it, and there is room
 abbrev pub AreFresh : {X : Type 0} → Roll X → List X → List X → Type 0
 AreFresh roll there [] = Unit {0}
-AreFresh roll there (r ∷ rs) = (list_any (λ x. is (roll.key x) (roll.key r)) there ≡ false) × (roll.is_bad there r ≡ false) × (length there < roll.limit) × AreFresh roll (r ∷ there) rs
+AreFresh roll there (r ∷ rs) =
+    (list_any (λ x. is (roll.key x) (roll.key r)) there ≡ false) × (roll.is_bad there r ≡ false) × (length there < roll.limit) × AreFresh roll (r ∷ there) rs
 
 -- nothing is wrong before this position
 abbrev pub IsFirstAt : (List Key → Option ListFault) → List Key → ℕ → Type 0

@@ -69,7 +69,8 @@ abbrev pub students_at : List (Key × Key) → Key → ℕ
 students_at pairs p = count_by (λ (x : Key × Key). is x.1 p) pairs
 
 abbrev pub project_line : OfficeSees → ProjectRow → List ℕ
-project_line v p = padded_left 16 p.key ++ padded_right 4 (decimal (students_at v.pairs p.key)) ++ codes " of " ++ padded_right 4 (decimal p.capacity) ++ line_feed
+project_line v p =
+    padded_left 16 p.key ++ padded_right 4 (decimal (students_at v.pairs p.key)) ++ codes " of " ++ padded_right 4 (decimal p.capacity) ++ line_feed
 
 abbrev pub assigned_line : OfficeSees → List ℕ
 assigned_line v = codes "assigned " ++ decimal (length v.pairs) ++ codes " of " ++ decimal (length v.students) ++ line_feed

@@ -7,14 +7,14 @@ use Rattle.portal_core.specs.World.{World}
 use Rattle.portal_core.specs.View.{view}
 use Rattle.portal_core.specs.declared.view.View.{View as Sight}
 use Rattle.portal_core.specs.Answer.{Answer}
-use Rattle.portal_core.specs.Run.{Run, end_of, AllAnswered}
+use Rattle.portal_core.specs.Run.{Run, end_of}
 use Rattle.portal_core.specs.Heard.{Item, Asked, Sees, own_item, SeenIf, Heard, replies_to}
 use Rattle.portal_core.specs.Places.{SameButPlaces, SameRequest, AlikeUntilPublished, Unless, has_places, opens_result}
 use Rattle.portal_core.proofs.Told.{same_replies}
 use Rattle.portal_core.proofs.Disclosed.{places_unseen}
 use Rattle.portal_wire.specs.Text.{reply_text}
 use Rattle.portal_wire.specs.Conversation.{Exchange, asked_in, told_in, text, text_of}
-use Rattle.portal_desk.specs.Visits.{Visit, IsVisit, AreVisits, AreAnswered, exchanges_of, worlds_of, Hears, texts_to, replies_in, AlikeTexts, Session, AreServed, TellsOf, AllTellOf}
+use Rattle.portal_desk.specs.Visits.{Visit, IsVisit, AreVisits, AreAnswered, exchanges_of, worlds_of, Hears, texts_to, replies_in, AlikeTexts, Session, AreServed, AllTellOf}
 
 -- the marks of the caller's own requests
 marks : List Item → List (Bool × Bool)

@@ -4,20 +4,18 @@ use Rattle.std.specs.Prelude.{Option, Some, None, if◌then◌else◌}
 use Rattle.serde_json.specs.Data.{Data}
 use Rattle.portal_core.specs.declared.phase.Phase.{Phase}
 use Rattle.portal_core.specs.declared.phase.Phase.TheVariants.{Setup, Choosing, Ranking, Published}
-use Rattle.portal_core.specs.Words.{Key, is_empty}
+use Rattle.portal_core.specs.Words.{is_empty}
 use Rattle.portal_core.specs.World.{is_choosing, is_ranking, is_published, is_from_ranking}
 use Rattle.portal_core.specs.Change.{Change, Lecturers, Projects, Students, Fill}
 use Rattle.portal_core.specs.Sight.{StudentSees, LecturerSees, OfficeSees}
 use Rattle.portal_core.specs.declared.view.View.{View as Sight}
 use Rattle.portal_core.specs.declared.view.View.TheVariants.{Nobody, Office, Lecturer, Student}
-use Rattle.portal_core.specs.declared.decision.Sheet.{Sheet}
-use Rattle.portal_core.specs.declared.decision.Sheet.TheVariants as sheet
 use Rattle.portal_core.specs.Ask.{Ask}
 use Rattle.portal_core.specs.Faults.{ListFault, choice_fault, ranking_fault}
 use Rattle.portal_core.specs.Rolls.{Taken, Faulty, Took, take_rows, lecturer_roll, project_roll, student_roll}
-use Rattle.portal_core.specs.Answer.{Answer, Said, Json, Csv, Plain, Unavailable, Act, Nothing, Apply, Publish, Render, Decision, decision, emptied, unwritten, only, unless, added, row_fault, moves, publishes, fills, is_open_to_rolls, to_student, to_lecturer, to_office}
+use Rattle.portal_core.specs.Answer.{Answer, Said, Json, Csv, Plain, Unavailable, Nothing, Apply, Decision, decision, emptied, only, unless, added, row_fault, moves, publishes, is_open_to_rolls, to_student, to_lecturer, to_office}
 use Rattle.portal_core.specs.Answer.{IsWhole}
-use Rattle.portal_desk.specs.Play.{with_sheet, sheet_text, IsTold}
+use Rattle.portal_desk.specs.Play.{with_sheet, IsTold}
 
 -- another body than that of 503
 abbrev pub IsSaid : Said → Type 0

@@ -1,16 +1,16 @@
 -- A fill of the lists is the world's, and leaves the catalogue as it was.
-use Rattle.std.proofs.Common.{◌≡◌, Bool, true, false, cond, List, [], map, length, refl, sym, ap, ◌∙◌}
-use Rattle.std.specs.Prelude.{Result, Ok, Err, OnOk, OnErr, Option, Some, None, is_none, not, ◌&&◌}
+use Rattle.std.proofs.Common.{◌≡◌, Bool, true, false, cond, List, [], map, length, refl, ap, ◌∙◌}
+use Rattle.std.specs.Prelude.{Result, Ok, Err, OnOk, OnErr, Some, None, is_none, not, ◌&&◌}
 use Rattle.std.proofs.lemmas.List.{length-map}
 use Rattle.portal_core.specs.declared.phase.Phase.TheVariants.{Setup}
 use Rattle.portal_core.specs.declared.rows.ProjectRow.{ProjectRow}
-use Rattle.portal_core.specs.Words.{Key, is_empty}
-use Rattle.portal_core.specs.World.{World, Lecturer, Student, student_key, applicants_of, is_still_to_rank}
-use Rattle.portal_core.specs.Change.{Fill, changed, with_fill}
+use Rattle.portal_core.specs.Words.{is_empty}
+use Rattle.portal_core.specs.World.{World, Lecturer, Student, student_key, applicants_of}
+use Rattle.portal_core.specs.Change.{with_fill}
 use Rattle.portal_core.specs.View.{listings}
 use Rattle.portal_core.proofs.Fills.{catalogue_filled}
 use Rattle.portal_core.proofs.Kept.{empty_map}
-use Rattle.portal_list.specs.Fill.{missing, unless_empty, with_missing, filled}
+use Rattle.portal_list.specs.Fill.{unless_empty, with_missing, filled}
 use Rattle.portal_list.proofs.Parted.{applicants_are}
 
 module _ (w : World) where

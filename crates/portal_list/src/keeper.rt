@@ -144,7 +144,12 @@ impl ListKeeper {
                 self.phase = Phase::Published;
                 Ok(())
             }
-            Change::Fill => fill_rankings(alloc, &mut self.lecturers, &self.projects, &self.students),
+            Change::Fill => fill_rankings(
+                alloc,
+                &mut self.lecturers,
+                &self.projects,
+                &self.students,
+            ),
         }
     }
 }

@@ -11,4 +11,3 @@ pub use block::Block;
 pub use list::blocking_pairs;
 pub use spa_model::Letter;
 pub use stable::is_stable;
-

@@ -16,4 +16,3 @@ pub use spa_rows::{
     BadInstance, InstanceFault, InstanceRows, Key, KeyFault, LecturerLine, PairLine, ProjectLine,
     StudentLine,
 };
-

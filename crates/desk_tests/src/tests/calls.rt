@@ -8,8 +8,7 @@ const STUDENTS: &str = "id,name,code\nS1,Ann,ann-code-1\nS2,\"Roe, Bea\",bea-cod
 
 const RENAMED: &str = "id,name,code\nS1,Anna,ann-code-1\nS2,\"Roe, Bea\",bea-code-2\n";
 
-const MARKED: &str =
-    "\u{feff}id,name,code\r\nS1,Ann,ann-code-1\r\nS2,\"Roe, Bea\",bea-code-2\r\n";
+const MARKED: &str = "\u{feff}id,name,code\r\nS1,Ann,ann-code-1\r\nS2,\"Roe, Bea\",bea-code-2\r\n";
 
 const APPLICANTS: &str =
     r#"{"projects":[{"applicants":[{"key":"S1","name":"Ann"},{"key":"S2","name":"Roe, Bea"}],"id":"P1"},{"applicants":[{"key":"S1","name":"Ann"}],"id":"P2"}]}"#;
@@ -77,7 +76,13 @@ fn no_place_is_seen_by_a_lecturer(rt: HostRuntime) {
         r#"{"projects":["P1","P2"]}"#,
     );
     let mut second = choosing(&rt);
-    takes(&rt, &mut second, "/choices", ANN, r#"{"projects":["P2","P1"]}"#);
+    takes(
+        &rt,
+        &mut second,
+        "/choices",
+        ANN,
+        r#"{"projects":["P2","P1"]}"#,
+    );
     moves(&rt, &mut second, r#"{"phase":"ranking"}"#);
     gets(&rt, &mut second, "/applicants", LEE, "200 OK", APPLICANTS);
     gets(
@@ -115,7 +120,13 @@ fn applicants_wait_for_ranking(rt: HostRuntime) {
 fn a_list_is_put_twice(rt: HostRuntime) {
     let mut desk = choosing(&rt);
     for _ in 0..2 {
-        takes(&rt, &mut desk, "/choices", ANN, r#"{"projects":["P2","P1"]}"#);
+        takes(
+            &rt,
+            &mut desk,
+            "/choices",
+            ANN,
+            r#"{"projects":["P2","P1"]}"#,
+        );
         gets(
             &rt,
             &mut desk,
@@ -144,7 +155,13 @@ fn phases_move_by_one(rt: HostRuntime) {
 #[test]
 fn publishing_waits_for_rankings(rt: HostRuntime) {
     let mut desk = ranking(&rt);
-    takes(&rt, &mut desk, "/ranking", LEE, r#"{"students":["S2","S1"]}"#);
+    takes(
+        &rt,
+        &mut desk,
+        "/ranking",
+        LEE,
+        r#"{"students":["S2","S1"]}"#,
+    );
     posts(
         &rt,
         &mut desk,
@@ -176,7 +193,14 @@ fn rankings_of_all_applicants(rt: HostRuntime) {
         "422 Unprocessable Content",
         r#"{"at":2,"error":"bad_list","fault":"not_an_applicant"}"#,
     );
-    gets(&rt, &mut desk, "/ranking", LEE, "200 OK", r#"{"students":null}"#);
+    gets(
+        &rt,
+        &mut desk,
+        "/ranking",
+        LEE,
+        "200 OK",
+        r#"{"students":null}"#,
+    );
 }
 
 #[test]

@@ -42,17 +42,14 @@ impl Keeper for Failing {
 
 const TWO: &str = "GET /me HTTP/1.1\r\nHost: h\r\n\r\nGET /me HTTP/1.1\r\nHost: h\r\n\r\n";
 
-const FIRST: &str = "HTTP/1.1 403 Forbidden\r\ncontent-type: application/json\r\ncontent-length: 21\r\n\r\n{\"error\":\"no_caller\"}";
+const FIRST: &str =
+    "HTTP/1.1 403 Forbidden\r\ncontent-type: application/json\r\ncontent-length: 21\r\n\r\n{\"error\":\"no_caller\"}";
 
-const LOST: &str = "HTTP/1.1 503 Service Unavailable\r\ncontent-type: application/json\r\ncontent-length: 23\r\nconnection: close\r\n\r\n{\"error\":\"unavailable\"}";
+const LOST: &str =
+    "HTTP/1.1 503 Service Unavailable\r\ncontent-type: application/json\r\ncontent-length: 23\r\nconnection: close\r\n\r\n{\"error\":\"unavailable\"}";
 
 /// A call of `serve` ends by the store's fault, and this is written.
-fn fails(
-    rt: &(impl Abort + AllocGlobal),
-    desk: &mut Desk<Failing>,
-    requests: u32,
-    output: &[u8],
-) {
+fn fails(rt: &(impl Abort + AllocGlobal), desk: &mut Desk<Failing>, requests: u32, output: &[u8]) {
     let mut source = Counted::new(TWO.as_bytes());
     let mut sink = Counted::new(Vec::new(rt.alloc()));
     match desk.serve(rt.alloc(), &mut source, &mut sink) {
@@ -74,8 +71,10 @@ fn the_desk_has_failed_from_then_on(rt: HostRuntime) {
         left: 1,
     });
     let mut both = Vec::new(rt.alloc());
-    both.extend_from_slice(FIRST.as_bytes()).expect(&rt, "memory");
-    both.extend_from_slice(LOST.as_bytes()).expect(&rt, "memory");
+    both.extend_from_slice(FIRST.as_bytes())
+        .expect(&rt, "memory");
+    both.extend_from_slice(LOST.as_bytes())
+        .expect(&rt, "memory");
     fails(&rt, &mut desk, 2, both.as_slice());
     fails(&rt, &mut desk, 1, LOST.as_bytes());
 }

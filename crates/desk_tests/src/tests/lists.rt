@@ -14,13 +14,16 @@ const TWENTY_ONE: &str =
 /// A roll of 21 projects.
 fn projects(rt: &(impl Abort + AllocGlobal)) -> String {
     let mut text = String::new(rt.alloc());
-    text.push_str("id,lecturer,title,capacity\n").expect(rt, "memory");
+    text.push_str("id,lecturer,title,capacity\n")
+        .expect(rt, "memory");
     for tens in ["0", "1", "2"] {
         for ones in ["0", "1", "2", "3", "4", "5", "6", "7", "8", "9"] {
-            let wanted = (tens != "0" || ones != "0") && (tens != "2" || ones == "0" || ones == "1");
+            let wanted = (tens != "0" || ones != "0")
+                && (tens != "2" || ones == "0" || ones == "1");
             if wanted {
                 let line = format!(in rt.alloc(); "P{}{},L1,Tides,1\n", tens, ones);
-                text.push_str(line.expect(rt, "memory").as_str()).expect(rt, "memory");
+                text.push_str(line.expect(rt, "memory").as_str())
+                    .expect(rt, "memory");
             }
         }
     }
@@ -64,7 +67,10 @@ fn a_faulty_list_leaves_the_old_one(rt: HostRuntime) {
     let mut desk = with_projects(&rt);
     takes(&rt, &mut desk, "/choices", ANN, TWENTY);
     for (list, answer) in [
-        (TWENTY_ONE, r#"{"at":21,"error":"bad_list","fault":"too_long"}"#),
+        (
+            TWENTY_ONE,
+            r#"{"at":21,"error":"bad_list","fault":"too_long"}"#,
+        ),
         (
             r#"{"projects":["P01","P01"]}"#,
             r#"{"at":2,"error":"bad_list","fault":"repeated"}"#,

@@ -189,8 +189,20 @@ pub(crate) fn takes(
 pub(crate) fn choosing(rt: &(impl Abort + AllocGlobal)) -> Desk<ListKeeper> {
     let mut desk = with_rolls(rt);
     moves(rt, &mut desk, r#"{"phase":"choosing"}"#);
-    takes(rt, &mut desk, "/choices", ANN, r#"{"projects":["P1","P2"]}"#);
-    takes(rt, &mut desk, "/choices", BEA, r#"{"projects":["P1","P3"]}"#);
+    takes(
+        rt,
+        &mut desk,
+        "/choices",
+        ANN,
+        r#"{"projects":["P1","P2"]}"#,
+    );
+    takes(
+        rt,
+        &mut desk,
+        "/choices",
+        BEA,
+        r#"{"projects":["P1","P3"]}"#,
+    );
     desk
 }
 
@@ -204,7 +216,13 @@ pub(crate) fn ranking(rt: &(impl Abort + AllocGlobal)) -> Desk<ListKeeper> {
 /// The worked world in published.
 pub(crate) fn published(rt: &(impl Abort + AllocGlobal)) -> Desk<ListKeeper> {
     let mut desk = ranking(rt);
-    takes(rt, &mut desk, "/ranking", LEE, r#"{"students":["S2","S1"]}"#);
+    takes(
+        rt,
+        &mut desk,
+        "/ranking",
+        LEE,
+        r#"{"students":["S2","S1"]}"#,
+    );
     takes(rt, &mut desk, "/ranking", MOE, r#"{"students":["S2"]}"#);
     moves(rt, &mut desk, r#"{"phase":"published"}"#);
     desk

@@ -3,15 +3,31 @@
 use crate::tests::portal::{ANN, CYR, LEE, OFFICE, gets, gives, published, puts, request};
 use portal_desk::Ending;
 
-const CSV: &str = "HTTP/1.1 200 OK\r\ncontent-type: text/csv; charset=utf-8\r\ncontent-length: 91\r\n\r\nstudent,name,project,title,lecturer\nS1,Ann,P2,Kites,L1\nS2,\"Roe, Bea\",P1,Tides,L1\nS3,Cyr,,,\n";
+const CSV: &str =
+    "HTTP/1.1 200 OK\r\ncontent-type: text/csv; charset=utf-8\r\ncontent-length: 91\r\n\r\nstudent,name,project,title,lecturer\nS1,Ann,P2,Kites,L1\nS2,\"Roe, Bea\",P1,Tides,L1\nS3,Cyr,,,\n";
 
-const REPORT: &str = "HTTP/1.1 200 OK\r\ncontent-type: text/plain; charset=utf-8\r\ncontent-length: 208\r\n\r\nS1                P2                L1\nS2                P1                L1\nS3                (none)\n\nP1                 1 of    1\nP2                 1 of    1\nP3                 0 of    1\n\nassigned 2 of 3\n";
+const REPORT: &str =
+    "HTTP/1.1 200 OK\r\ncontent-type: text/plain; charset=utf-8\r\ncontent-length: 208\r\n\r\nS1                P2                L1\nS2                P1                L1\nS3                (none)\n\nP1                 1 of    1\nP2                 1 of    1\nP3                 0 of    1\n\nassigned 2 of 3\n";
 
 #[test]
 fn everybody_sees_the_own_result(rt: HostRuntime) {
     let mut desk = published(&rt);
-    gets(&rt, &mut desk, "/result", ANN, "200 OK", r#"{"project":"P2"}"#);
-    gets(&rt, &mut desk, "/result", CYR, "200 OK", r#"{"project":null}"#);
+    gets(
+        &rt,
+        &mut desk,
+        "/result",
+        ANN,
+        "200 OK",
+        r#"{"project":"P2"}"#,
+    );
+    gets(
+        &rt,
+        &mut desk,
+        "/result",
+        CYR,
+        "200 OK",
+        r#"{"project":null}"#,
+    );
     gets(
         &rt,
         &mut desk,

@@ -7,15 +7,19 @@ use std::process::Abort;
 
 const SHORT: &str = "GET /me HTTP/1.1\r\nHost: h\r\n\r\n";
 
-const ONE_REPLY: &str = "HTTP/1.1 403 Forbidden\r\ncontent-type: application/json\r\ncontent-length: 21\r\n\r\n{\"error\":\"no_caller\"}";
+const ONE_REPLY: &str =
+    "HTTP/1.1 403 Forbidden\r\ncontent-type: application/json\r\ncontent-length: 21\r\n\r\n{\"error\":\"no_caller\"}";
 
-const LAST_REPLY: &str = "HTTP/1.1 403 Forbidden\r\ncontent-type: application/json\r\ncontent-length: 21\r\nconnection: close\r\n\r\n{\"error\":\"no_caller\"}";
+const LAST_REPLY: &str =
+    "HTTP/1.1 403 Forbidden\r\ncontent-type: application/json\r\ncontent-length: 21\r\nconnection: close\r\n\r\n{\"error\":\"no_caller\"}";
 
 /// A text over and over.
 fn repeated(rt: &(impl Abort + AllocGlobal), text: &str, times: u32) -> Vec<u8> {
     let mut bytes = Vec::new(rt.alloc());
     for _ in 0..times {
-        bytes.extend_from_slice(text.as_bytes()).expect(rt, "memory");
+        bytes
+            .extend_from_slice(text.as_bytes())
+            .expect(rt, "memory");
     }
     bytes
 }
@@ -28,7 +32,9 @@ fn no_more_than_256_requests(rt: HostRuntime) {
     let output = written(&rt, &mut desk, bytes.as_slice(), Ending::Limit, 256);
     assert_eq!(rt; output.len(), 25_363);
     let mut wanted = repeated(&rt, ONE_REPLY, 255);
-    wanted.extend_from_slice(LAST_REPLY.as_bytes()).expect(&rt, "memory");
+    wanted
+        .extend_from_slice(LAST_REPLY.as_bytes())
+        .expect(&rt, "memory");
     assert_eq!(rt; output.as_slice(), wanted.as_slice());
 }
 

@@ -7,9 +7,11 @@ use portal_list::ListKeeper;
 use std::process::Abort;
 
 /// Four callers on one connection: the office, a student, a lecturer and nobody.
-pub(crate) const FOUR: &str = "GET /me HTTP/1.1\r\nHost: h\r\nportal-code: office-code-0\r\n\r\nGET /me HTTP/1.1\r\nHost: h\r\nportal-code: ann-code-1\r\n\r\nGET /me HTTP/1.1\r\nHost: h\r\nportal-code: lee-code-01\r\n\r\nGET /me HTTP/1.1\r\nHost: h\r\n\r\n";
+pub(crate) const FOUR: &str =
+    "GET /me HTTP/1.1\r\nHost: h\r\nportal-code: office-code-0\r\n\r\nGET /me HTTP/1.1\r\nHost: h\r\nportal-code: ann-code-1\r\n\r\nGET /me HTTP/1.1\r\nHost: h\r\nportal-code: lee-code-01\r\n\r\nGET /me HTTP/1.1\r\nHost: h\r\n\r\n";
 
-pub(crate) const FOUR_REPLIES: &str = "HTTP/1.1 200 OK\r\ncontent-type: application/json\r\ncontent-length: 33\r\n\r\n{\"phase\":\"setup\",\"role\":\"office\"}HTTP/1.1 200 OK\r\ncontent-type: application/json\r\ncontent-length: 58\r\n\r\n{\"key\":\"S1\",\"name\":\"Ann\",\"phase\":\"setup\",\"role\":\"student\"}HTTP/1.1 200 OK\r\ncontent-type: application/json\r\ncontent-length: 72\r\n\r\n{\"capacity\":2,\"key\":\"L1\",\"name\":\"Lee\",\"phase\":\"setup\",\"role\":\"lecturer\"}HTTP/1.1 403 Forbidden\r\ncontent-type: application/json\r\ncontent-length: 21\r\n\r\n{\"error\":\"no_caller\"}";
+pub(crate) const FOUR_REPLIES: &str =
+    "HTTP/1.1 200 OK\r\ncontent-type: application/json\r\ncontent-length: 33\r\n\r\n{\"phase\":\"setup\",\"role\":\"office\"}HTTP/1.1 200 OK\r\ncontent-type: application/json\r\ncontent-length: 58\r\n\r\n{\"key\":\"S1\",\"name\":\"Ann\",\"phase\":\"setup\",\"role\":\"student\"}HTTP/1.1 200 OK\r\ncontent-type: application/json\r\ncontent-length: 72\r\n\r\n{\"capacity\":2,\"key\":\"L1\",\"name\":\"Lee\",\"phase\":\"setup\",\"role\":\"lecturer\"}HTTP/1.1 403 Forbidden\r\ncontent-type: application/json\r\ncontent-length: 21\r\n\r\n{\"error\":\"no_caller\"}";
 
 #[test]
 fn four_callers_on_one_connection(rt: HostRuntime) {
@@ -101,11 +103,15 @@ fn refusals_close(rt: HostRuntime) {
 fn the_longest_body_is_taken(rt: HostRuntime) {
     let mut desk = choosing(&rt);
     let mut bytes = Vec::new(rt.alloc());
-    let head = b"PUT /choices HTTP/1.1\r\nHost: h\r\nportal-code: ann-code-1\r\nContent-Length: 1048576\r\n\r\n{\"projects\":[]}";
+    let head =
+        b"PUT /choices HTTP/1.1\r\nHost: h\r\nportal-code: ann-code-1\r\nContent-Length: 1048576\r\n\r\n{\"projects\":[]}";
     bytes.extend_from_slice(head).expect(&rt, "memory");
-    bytes.resize(bytes.len() + 1_048_561, b' ').expect(&rt, "memory");
+    bytes
+        .resize(bytes.len() + 1_048_561, b' ')
+        .expect(&rt, "memory");
     let output = written(&rt, &mut desk, bytes.as_slice(), Ending::End, 1);
-    let wanted = "HTTP/1.1 200 OK\r\ncontent-type: application/json\r\ncontent-length: 15\r\n\r\n{\"projects\":[]}";
+    let wanted =
+        "HTTP/1.1 200 OK\r\ncontent-type: application/json\r\ncontent-length: 15\r\n\r\n{\"projects\":[]}";
     assert_eq!(rt; output.as_slice(), wanted.as_bytes());
 }
 

@@ -1,6 +1,6 @@
 use Rattle.std.proofs.Common.{refl}
 use Rattle.portal_core.specs.Meaning.{asked, decided, told}
-use Rattle.portal_desk.proofs.Sheet.{whole_decision, told_whole}
+use Rattle.portal_desk.proofs.Sheet.{whole_decision}
 use Rattle.portal_desk.proofs.playing.decide_whole.Goals as goal
 
 pub returns-clause-decided : goal.returns-clause-decided

@@ -1,5 +1,4 @@
 use Rattle.std.proofs.Common.{◌∷◌, [], ◌++◌, map, take, ◌∙◌, ap, sym}
-use Rattle.portal_core.specs.World.{Lecturer}
 use Rattle.portal_list.specs.Fill.{missing}
 use Rattle.portal_list.proofs.Steps.{grown, pushed}
 use Rattle.portal_list.proofs.changes.fill.missing_rankings.Goals as goal

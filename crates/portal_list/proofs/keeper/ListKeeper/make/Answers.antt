@@ -38,6 +38,6 @@ returns-in-Fill-clause-made c =
     let w : World = record { phase = c.self.inside.phase; office = c.self.inside.office; lecturers = c.self.inside.lecturers.items; projects = c.self.inside.projects.items; students = c.self.inside.students.items } in
     let whole = written c.self.inside.lecturers.len new _ (fills.same_length old new c.deref-in-Fill.result.now c.deref-in-Fill-2.result.now c.fill_rankings.result done.made done.same ∙ c.deref_mut-in-Fill.ensures.len) in
     ok_weaker _ _ c.fill_rankings.result (λ u made.
-        ap (λ ls. record w { lecturers = ls }) (whole ∙ made ∙ (λ i. map (filled (c.deref-in-Fill.ensures.value i) (c.deref-in-Fill-2.ensures.value i)) (c.deref_mut-in-Fill.ensures.value i)) ∙ fills.all_filled w)
-        ∙ (λ i. changed (c.self.view_is i) (meant (sym c.in-Fill.is i))))
+    ap (λ ls. record w { lecturers = ls }) (whole ∙ made ∙ (λ i. map (filled (c.deref-in-Fill.ensures.value i) (c.deref-in-Fill-2.ensures.value i)) (c.deref_mut-in-Fill.ensures.value i)) ∙ fills.all_filled w)
+    ∙ (λ i. changed (c.self.view_is i) (meant (sym c.in-Fill.is i))))
     done.made
