@@ -1,0 +1,283 @@
+"""The reading of a stream of requests, written plainly from docs/FORMATS.md: what stands at the front of the bytes that have
+come, what call each request asks for, and how a stream that comes in given pieces ends."""
+import csv
+import io
+import json
+import re
+
+HEAD, BODY, LINES, MOST = 16384, 1048576, 32, 256
+TOKEN = rb"[A-Za-z0-9!#$%&'*+\-.^_`|~]"
+METHOD = re.compile(TOKEN + rb"*")
+TARGET = re.compile(rb"[\x21-\x7e\x80-\xff]*")
+VALUE = re.compile(rb"[\t\x20-\x7e\x80-\xff]*")
+KEY = re.compile(rb"[A-Za-z0-9._-]{1,16}\Z")
+CODE = re.compile(rb"[A-Za-z0-9-]{8,40}\Z")
+PHASES = ("setup", "choosing", "ranking", "published")
+csv.field_size_limit(1 << 24)
+
+
+class Stop(Exception):
+    """Why there is no head: `partial` where one may still come, `error`, or `many` where there are too many lines."""
+
+
+def line_end(data, at):
+    """Where the line that ends at `at` is over."""
+    if at == len(data):
+        raise Stop("partial")
+    if data[at] == 10:
+        return at + 1
+    if data[at] != 13:
+        raise Stop("error")
+    if at + 1 == len(data):
+        raise Stop("partial")
+    if data[at + 1] != 10:
+        raise Stop("error")
+    return at + 2
+
+
+def word_of(data, form, at, after):
+    """A word of one byte or more of this form, and the place after the byte that has to follow."""
+    end = form.match(data, at).end()
+    if end == len(data):
+        raise Stop("partial")
+    if end == at or data[end] != after:
+        raise Stop("error")
+    return data[at:end], end + 1
+
+
+def head_of(data):
+    """The head at the front: length, method, target, minor version, lines as pairs of a small name and a value."""
+    at = 0
+    while at == len(data) or data[at] in b"\r\n":
+        at = line_end(data, at)
+    method, at = word_of(data, METHOD, at, 32)
+    target, at = word_of(data, TARGET, at, 32)
+    try:
+        target.decode("utf-8")
+    except UnicodeDecodeError:
+        raise Stop("error") from None
+    for byte in b"HTTP/1.":
+        if at == len(data):
+            raise Stop("partial")
+        if data[at] != byte:
+            raise Stop("error")
+        at += 1
+    if at == len(data):
+        raise Stop("partial")
+    if data[at] not in b"01":
+        raise Stop("error")
+    minor = data[at] - 48
+    at = line_end(data, at + 1)
+    lines = []
+    while True:
+        if at == len(data):
+            raise Stop("partial")
+        if data[at] in b"\r\n":
+            return line_end(data, at), method, target, minor, lines
+        name, at = word_of(data, METHOD, at, 58)
+        end = VALUE.match(data, at).end()
+        value = data[at:end].strip(b" \t")
+        at = line_end(data, end)
+        if len(lines) == LINES:
+            raise Stop("many")
+        lines.append((name.lower(), value))
+
+
+def is_overlong(data):
+    """Whether 34 lines, each ended, stand after the leading empty ones and none of them is empty."""
+    found = data.split(b"\n")[:-1]
+    while found and found[0] in (b"", b"\r"):
+        del found[0]
+    return len(found) >= 34 and not any(line in (b"", b"\r") for line in found[:34])
+
+
+def fault_of(minor, lines):
+    """The first fault that the lines have, or None, and the length of the body."""
+    def values(name):
+        return [value for found, value in lines if found == name]
+    hosts, lengths = values(b"host"), values(b"content-length")
+    if len(hosts) > 1 or minor == 1 and not hosts:
+        return (400, "bad_host"), 0
+    if values(b"transfer-encoding"):
+        return (501, "coded_body"), 0
+    if len(lengths) > 1 or lengths and not re.match(rb"[0-9]{1,18}\Z", lengths[0]):
+        return (400, "bad_length"), 0
+    length = int(lengths[0]) if lengths else 0
+    return ((413, "too_large") if length > BODY else None), length
+
+
+def frame(data, ended):
+    """What the bytes so far are: a word, and what goes with it."""
+    try:
+        length, method, target, minor, lines = head_of(data[:HEAD])
+    except Stop as stop:
+        bad = "Bad", (400, "bad_head"), False
+        if stop.args[0] == "error" or len(data) >= HEAD or is_overlong(data):
+            return bad
+        if not ended:
+            return ("Need",)
+        return ("End",) if not data.strip(b"\r\n") else bad
+    fault, size = fault_of(minor, lines)
+    if fault:
+        return "Bad", fault, method == b"HEAD"
+    if len(data) - length < size:
+        return ("Bad", (400, "bad_length"), method == b"HEAD") if ended else ("Need",)
+    codes = [value for name, value in lines if name == b"portal-code"]
+    parts = [part.strip(b" \t").lower() for name, value in lines if name == b"connection" for part in value.split(b",")]
+    request = {
+        "method": method,
+        "path": target.split(b"?")[0],
+        "code": codes[0] if len(codes) == 1 else b"",
+        "close": minor == 0 or b"close" in parts,
+        "body": data[length:length + size],
+    }
+    return "Request", request, length + size
+
+
+SHOW, POST = "GET, HEAD", "POST"
+ROUTES = {
+    b"/me": (SHOW, "Me"), b"/catalogue": (SHOW, "Catalogue"), b"/choices": ("GET, HEAD, PUT", "ShowChoices"),
+    b"/applicants": (SHOW, "Applicants"), b"/ranking": ("GET, HEAD, PUT", "ShowRanking"), b"/ranking/fill": (POST, "FillRankings"),
+    b"/result": (SHOW, "Result"), b"/rolls/lecturers": (POST, "AddLecturers"), b"/rolls/projects": (POST, "AddProjects"),
+    b"/rolls/students": (POST, "AddStudents"), b"/phase": (POST, "Move"), b"/status": (SHOW, "Status"),
+    b"/allocation": (SHOW, "Allocation"), b"/allocation.csv": (SHOW, "AllocationCsv"), b"/report": (SHOW, "Report"),
+}
+
+
+class Members(list):
+    """The members of an object, in pairs."""
+
+
+def nesting(value):
+    """How deep arrays and objects stand in one another; a text that is no Unicode is refused."""
+    if isinstance(value, str):
+        value.encode("utf-8")
+        return 0
+    if isinstance(value, Members):
+        return 1 + max([max(nesting(name), nesting(given)) for name, given in value], default=0)
+    if isinstance(value, list):
+        return 1 + max([nesting(given) for given in value], default=0)
+    return 0
+
+
+def finite(text):
+    number = float(text)
+    if number in (float("inf"), float("-inf")):
+        raise ValueError(text)
+    return number
+
+
+def refused(text):
+    raise ValueError(text)
+
+
+def member_of(body, name):
+    """The value of the only member of an object, {} where no name is asked for and there is none, otherwise None."""
+    try:
+        value = json.loads(body.decode("utf-8"), object_pairs_hook=Members, parse_constant=refused, parse_float=finite, parse_int=finite)
+        if nesting(value) > 127 or not isinstance(value, Members):
+            return None
+    except (ValueError, RecursionError):
+        return None
+    members = dict(value)
+    if set(members) != ({name} if name else set()):
+        return None
+    return members[name] if name else {}
+
+
+def capacity(field):
+    return re.match(rb"[0-9]{1,7}\Z", field) and 1 <= int(field) <= 200
+
+
+def is_name(field):
+    return 1 <= len(field) <= 160 and all(b >= 0x20 and b != 0x7F for b in field)
+
+
+ROLLS = {
+    "AddLecturers": (["id", "name", "code", "capacity"], 300, [KEY.match, is_name, CODE.match, capacity]),
+    "AddProjects": (["id", "lecturer", "title", "capacity"], 1000, [KEY.match, KEY.match, is_name, capacity]),
+    "AddStudents": (["id", "name", "code"], 2000, [KEY.match, is_name, CODE.match]),
+}
+
+
+def roll_of(kind, body):
+    """A roll's rows, or the refusal of its first fault."""
+    header, limit, columns = ROLLS[kind]
+    text = body[3:] if body.startswith(b"\xef\xbb\xbf") else body
+    records = [r for r in csv.reader(io.StringIO(text.decode("latin-1"), newline="")) if r]
+    if not records or records[0] != header:
+        return "! 400 bad_body []"
+    out = kind
+    for row, fields in enumerate(records[1:], 1):
+        if row > limit:
+            return "! 422 roll_full []"
+        fields = [field.encode("latin-1") for field in fields]
+        try:
+            is_bad = len(fields) != len(header)
+            for field in fields:
+                field.decode("utf-8")
+        except UnicodeDecodeError:
+            is_bad = True
+        if is_bad or not all(has_form(field) for has_form, field in zip(columns, fields)):
+            return f"! 422 bad_row [] {row}"
+        out += "," + "/".join(field.hex() for field in fields[:3]) + (f" {int(fields[3])}" if len(fields) == 4 else "")
+    return out
+
+
+def call_of(request):
+    """The call that a request makes, after its code, or its refusal."""
+    if request["path"] not in ROUTES:
+        return "! 404 no_route []"
+    allow, call = ROUTES[request["path"]]
+    method = request["method"].decode()
+    if method not in allow.split(", "):
+        return f"! 405 bad_method [{allow}]"
+    before, body = request["code"].hex() + " ", request["body"]
+    if method in ("GET", "HEAD"):
+        return before + call
+    if call in ROLLS:
+        said = roll_of(call, body)
+        return said if said[0] == "!" else before + said
+    name = {"ShowChoices": "projects", "ShowRanking": "students", "Move": "phase", "FillRankings": None}[call]
+    value = member_of(body, name)
+    if call == "FillRankings" and value is not None:
+        return before + call
+    if call == "Move" and value in PHASES:
+        return before + f"Move {value}"
+    if name in ("projects", "students") and type(value) is list and all(isinstance(text, str) for text in value):
+        return before + call.replace("Show", "Set") + "".join("," + text.encode("utf-8").hex() for text in value)
+    return "! 400 bad_body []"
+
+
+def hash_of(data):
+    found = 14695981039346656037
+    for byte in data:
+        found = (found ^ byte) * 1099511628211 & 0xFFFFFFFFFFFFFFFF
+    return found
+
+
+def read_stream(pieces):
+    """What is told of a stream that comes in these pieces, each request and the ending with the piece that decides it."""
+    out, data, count = "", b"", 0
+    for number, piece in enumerate([*pieces, None], 1):
+        data += piece or b""
+        while True:
+            found = frame(data, piece is None)
+            if found[0] == "Need":
+                break
+            if found[0] == "End":
+                return out + f"End {number}"
+            if found[0] == "Bad":
+                (status, word), head_only = found[1:]
+                return out + f"Refused {number} {'head ' if head_only else ''}! {status} {word} []"
+            request, used = found[1:]
+            method, path, code, body = (request[it] for it in ("method", "path", "code", "body"))
+            out += f"Request {number} {used} {method.hex()} {path.hex()} {code.hex()} {'close' if request['close'] else 'open'}"
+            out += f" {len(body)} {hash_of(body)} {call_of(request)}; "
+            data = data[used:]
+            count += 1
+            if request["close"]:
+                return out + "Closed"
+            if count == MOST:
+                return out + "Limit"
+    return out + "Open"
