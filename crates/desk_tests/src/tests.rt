@@ -4,6 +4,7 @@ mod calls;
 mod devices;
 mod failing;
 mod frames;
+mod heads;
 mod lists;
 mod portal;
 mod requests;

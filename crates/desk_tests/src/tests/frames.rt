@@ -27,7 +27,7 @@ fn told(rt: &(impl Abort + AllocGlobal), bytes: &str, ended: bool) -> String {
     }
 }
 
-fn is(rt: &(impl Abort + AllocGlobal), bytes: &str, ended: bool, wanted: &str) {
+pub(crate) fn is(rt: &(impl Abort + AllocGlobal), bytes: &str, ended: bool, wanted: &str) {
     let text = told(rt, bytes, ended);
     assert_eq!(rt; text.as_str(), wanted);
 }

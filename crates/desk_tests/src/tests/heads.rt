@@ -1,0 +1,46 @@
+//! Heads at their limits.
+
+use super::frames::is;
+use std::process::Abort;
+
+/// A head of the start line, a Host line and so many lines more.
+fn with_lines(rt: &(impl Abort + AllocGlobal), more: u32) -> String {
+    let mut head = String::new(rt.alloc());
+    head.push_str("GET /me HTTP/1.1\r\nHost: h\r\n")
+        .expect(rt, "memory");
+    for _ in 0..more {
+        head.push_str("a: b\r\n").expect(rt, "memory");
+    }
+    head.push_str("\r\n").expect(rt, "memory");
+    head
+}
+
+/// A head with a value of so many bytes, and what stands behind it.
+fn with_value(rt: &(impl Abort + AllocGlobal), length: u32, end: &str) -> String {
+    let mut head = String::new(rt.alloc());
+    head.push_str("GET /me HTTP/1.1\r\nHost: h\r\na: ")
+        .expect(rt, "memory");
+    for _ in 0..length {
+        head.push('b').expect(rt, "memory");
+    }
+    head.push_str(end).expect(rt, "memory");
+    head
+}
+
+#[test]
+fn at_most_32_lines(rt: HostRuntime) {
+    let most = with_lines(&rt, 31);
+    is(&rt, most.as_str(), false, "request 3 0 false 0 215");
+    let more = with_lines(&rt, 32);
+    is(&rt, more.as_str(), false, "400 bad_head false");
+}
+
+#[test]
+fn at_most_16384_bytes(rt: HostRuntime) {
+    let most = with_value(&rt, 16350, "\r\n\r\n");
+    is(&rt, most.as_str(), false, "request 3 0 false 0 16384");
+    let more = with_value(&rt, 16351, "\r\n\r\n");
+    is(&rt, more.as_str(), false, "400 bad_head false");
+    let open = with_value(&rt, 16354, "");
+    is(&rt, open.as_str(), false, "400 bad_head false");
+}

@@ -1,0 +1,15 @@
+pub mod Lists
+pub mod Zip
+pub mod Query
+pub mod Tests
+pub mod Weak
+pub mod Runs
+pub mod Writes
+pub mod Making
+pub mod Queries
+pub mod Rises
+pub mod Statements
+pub mod Shows
+pub mod Keeping
+pub mod Owned
+pub mod Fresh

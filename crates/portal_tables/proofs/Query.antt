@@ -1,0 +1,26 @@
+-- A query of one table, where each term of the filter holds.
+use Rattle.std.specs.Prelude.{ℕ, pos, negsuc, Bool, false, List, [], ◌∷◌, None}
+use Rattle.std.specs.List.{list_all}
+use Rattle.sqlite.specs.declared.types.Value.TheVariants.{Int}
+use Rattle.sqlite.specs.Order.{Row}
+use Rattle.sqlite.specs.Term.{Term, lit, holds, eval_all}
+use Rattle.sqlite.specs.Query.{Query, inner, end}
+
+abbrev pub one_table : ℕ → List Term → List Term → Query
+one_table tree tests project = record {
+  from = inner tree end;
+  filter = tests;
+  group = None;
+  project = project;
+  distinct = false;
+  collations = [];
+  order = [];
+  limit = lit (Int (negsuc 0));
+  offset = lit (Int (pos 0));
+}
+
+abbrev pub passes : List Term → Row → Row → Bool
+passes tests params r = list_all (holds (params ∷ r ∷ [])) tests
+
+abbrev pub shown_as : List Term → Row → Row → Row
+shown_as project params r = eval_all project (params ∷ r ∷ [])

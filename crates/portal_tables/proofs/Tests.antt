@@ -1,0 +1,49 @@
+-- What the tests of the texts mean.
+use Rattle.std.proofs.Common.{◌≡◌, ℕ, ℤ, List, [], ◌∷◌, true, ◌&&◌, Some, refl}
+use Rattle.std.specs.Ordering.{is_eq}
+use Rattle.std.specs.declared.cmp.Ordering.{Ordering}
+use Rattle.std.specs.declared.cmp.Ordering.TheVariants.{Less, Equal, Greater}
+use Rattle.sqlite.specs.declared.types.Value.{Value}
+use Rattle.sqlite.specs.declared.types.Value.TheVariants.{Null, Int, Real, Blob, Text}
+use Rattle.sqlite.specs.Collation.TheVariants.{Binary}
+use Rattle.sqlite.specs.Order.{Row, value_cmp, column}
+use Rattle.sqlite.specs.Ops.{binary, is_true, from_truth}
+use Rattle.sqlite.specs.Term.{Term, col, op2}
+use Rattle.sqlite_sql.specs.declared.ops.BinaryOp.TheVariants.{Compare}
+use Rattle.sqlite_sql.specs.declared.ops.CompareOp.TheVariants.{Eq}
+use Rattle.portal_tables.specs.Changes.{has_text}
+use Rattle.portal_tables.proofs.Query.{passes}
+
+abbrev pub param : ℕ → Term
+param at = col 0 at
+
+-- the first value is what stands in this column
+abbrev pub has_key : ℕ → List Term
+has_key at = op2 (Compare Eq Binary) (col 1 at) (param 0) ∷ []
+
+told : (o : Ordering) → (is_true (from_truth (Some (is_eq o))) && true) ≡ is_eq o
+told Less = refl
+told Equal = refl
+told Greater = refl
+
+equals_text : (v : Value) (t : List ℕ) → (is_true (binary (Compare Eq Binary) v (Text t)) && true) ≡ is_eq (value_cmp v (Text t))
+unfolding binary value_cmp
+equals_text Null t = refl
+equals_text (Int n) t = told (value_cmp (Int n) (Text t))
+equals_text (Real x) t = told (value_cmp (Real x) (Text t))
+equals_text (Text s) t = told (value_cmp (Text s) (Text t))
+equals_text (Blob b) t = told (value_cmp (Blob b) (Text t))
+
+pub equals_int : (v : Value) (n : ℤ) → (is_true (binary (Compare Eq Binary) v (Int n)) && true) ≡ is_eq (value_cmp v (Int n))
+unfolding binary value_cmp
+equals_int Null n = refl
+equals_int (Int m) n = told (value_cmp (Int m) (Int n))
+equals_int (Real x) n = told (value_cmp (Real x) (Int n))
+equals_int (Text s) n = told (value_cmp (Text s) (Int n))
+equals_int (Blob b) n = told (value_cmp (Blob b) (Int n))
+
+pub same_key_of : (at : ℕ) (key : List ℕ) (more : Row) → passes (has_key at) (Text key ∷ more) ≡ has_text at key
+same_key_of at key more = λ i r. equals_text (column r at) key i
+
+pub same_key : (at : ℕ) (key : List ℕ) → passes (has_key at) (Text key ∷ []) ≡ has_text at key
+same_key at key = same_key_of at key []

@@ -1,0 +1,236 @@
+-- What a statement on one table does to its rows.
+use Rattle.std.proofs.Common.{◌≡◌, ◌⊎◌, inl, inr, ℕ, ℤ, List, [], ◌∷◌, ◌++◌, map, slice_get, Bool, true, false, not, ◌&&◌, cond, ◌≢◌, Option, Some, None, Ok, Err, Result, refl, sym, ap, subst, subst₂, ◌∙◌, ◌||◌, filter, length, ◌/◌}
+use Rattle.std.specs.List.{AllByRecursion, list_any}
+use Rattle.sqlite.specs.declared.types.Value.TheVariants.{Null, Int, Text}
+use Rattle.sqlite.specs.Order.{Row}
+use Rattle.sqlite.specs.Term.{Term, col}
+use Rattle.sqlite.specs.Ops.{unary}
+use Rattle.sqlite.specs.Table.{Table}
+use Rattle.sqlite.specs.Schema.{Schema}
+use Rattle.sqlite.specs.Kind.TheVariants as kind
+use Rattle.sqlite.specs.Source.TheVariants.{Values}
+use Rattle.sqlite.specs.Command.TheVariants.{Insert, Delete, Update}
+use Rattle.sqlite.specs.Edit.{Edit, edit_of, numbered, next_rowid, is_taken, are_fresh, without_all, id_in, taken_by}
+use Rattle.sqlite.specs.Cast.{cast, cast_row}
+use Rattle.sqlite.specs.Rowids.TheVariants.{Chosen, Given}
+use Rattle.sqlite.specs.Does.{Tally, Does}
+use Rattle.sqlite.specs.Rows.{Written, Edited}
+use Rattle.sqlite.specs.Tree.{Trees, put_row, rowid, has_rowid}
+use Rattle.sqlite.specs.Listing.{understood}
+use Rattle.sqlite.specs.Effect.{Database, IsDatabase, value_rows}
+use Rattle.sqlite.specs.State.{State, mode_of, Executes}
+use Rattle.sqlite.proofs.Callers.{IsPlain, command_of, statement_of, runs_as, one_step, one_permutation}
+use Rattle.sqlite_rules.specs.Action.{works}
+use Rattle.sqlite_schema.specs.declared.schema.Keys.TheVariants.{Enforced}
+use Rattle.sqlite_schema.specs.declared.schema.Column.{Column}
+use Rattle.sqlite_schema.specs.declared.schema.Reference.{Reference}
+use Rattle.sqlite_value.specs.declared.keys.Order.{Order}
+use Rattle.portal_tables.proofs.Weak.{portal_with}
+use Rattle.portal_tables.specs.Changes.{Puts, Drops, Sets, IsApart}
+use Rattle.portal_tables.proofs.Query.{one_table, passes, shown_as}
+use Rattle.portal_tables.proofs.Lists.{map-map, looped, filter_same, without_is, found_once}
+use Rattle.std.specs.List.Sorted.{IsPermutation}
+use Rattle.std.proofs.lemmas.List.Sorted.{IsPermutation-map, list_any-IsPermutation}
+use Rattle.sqlite.specs.Program.{IsProgramAnswer}
+use Rattle.sqlite.specs.Query.{IsAnswer, output, Output}
+use Rattle.sqlite_exec.proofs.RunLemmas.{answer_alone}
+use Rattle.sqlite_rules.specs.Calls.{ids_of}
+use Rattle.sqlite_schema.specs.declared.program.Program.{Program}
+
+-- the other tables of a schema are as they were
+abbrev KeepsIn : Schema → ℕ → Database → Database → Type 0
+KeepsIn schema tree old new = AllByRecursion (λ t. t.tree ≢ tree → new.trees t.tree ≡ old.trees t.tree) schema.tables
+
+pub record PutsIn (schema : Schema) (tree : ℕ) (cells : Row) (old new : Database) : Type 0 where
+  pub schema_is : new.schema ≡ schema
+  pub free : is_taken (old.trees tree) (Int (next_rowid (old.trees tree)) ∷ cells) ≡ false
+  pub rows : new.trees tree ≡ put_row (Int (next_rowid (old.trees tree)) ∷ cells) (old.trees tree)
+  pub others : KeepsIn schema tree old new
+  pub sound : IsDatabase new
+
+pub record DropsIn (schema : Schema) (tree : ℕ) (p : Row → Bool) (old new : Database) : Type 0 where
+  pub schema_is : new.schema ≡ schema
+  pub rows : new.trees tree ≡ filter (λ r. not (p r)) (old.trees tree)
+  pub others : KeepsIn schema tree old new
+  pub sound : IsDatabase new
+
+pub record SetsIn (schema : Schema) (tree : ℕ) (p : Row → Bool) (row : Row) (old new : Database) : Type 0 where
+  pub schema_is : new.schema ≡ schema
+  pub free : is_taken (filter (λ r. not (p r)) (old.trees tree)) row ≡ false
+  pub rows : new.trees tree ≡ put_row row (filter (λ r. not (p r)) (old.trees tree))
+  pub others : KeepsIn schema tree old new
+  pub sound : IsDatabase new
+
+-- in the portal's own schema
+module _ (checks terms : ℕ → List Term) (tree : ℕ) (old new : Database) (has : old.schema ≡ portal_with checks terms) where
+  pub puts_own : (cells : Row) → PutsIn (portal_with checks terms) tree cells old new → Puts tree cells old new
+  puts_own cells h = record { schema_is = h.schema_is ∙ sym has; free = h.free; rows = h.rows; others = h.others; sound = h.sound }
+
+  pub drops_own : (p : Row → Bool) → DropsIn (portal_with checks terms) tree p old new → Drops tree p old new
+  drops_own p h = record { schema_is = h.schema_is ∙ sym has; rows = h.rows; others = h.others; sound = h.sound }
+
+  pub sets_own : (p : Row → Bool) (row : Row) → SetsIn (portal_with checks terms) tree p row old new → Sets tree p row old new
+  sets_own p row h = record { schema_is = h.schema_is ∙ sym has; free = h.free; rows = h.rows; others = h.others; sound = h.sound }
+
+either : {X : Type 0} (b : Bool) (x : X) → cond b x x ≡ x
+either true x = refl
+either false x = refl
+
+pub cast_null : cast kind.Integer Null ≡ Null
+unfolding unary
+cast_null = either _ Null
+
+pub cast_text : (t : List ℕ) → cast kind.Text (Text t) ≡ Text t
+unfolding unary
+cast_text t = refl
+
+pub cast_int : (n : ℤ) → cast kind.Integer (Int n) ≡ Int n
+unfolding unary
+cast_int n = either _ (Int n)
+
+-- a part that gave a value did not stop on the way
+pub went : {B E R : Type 0} {b : B} {Stops : E → Type 0} → ((stop : E) × Stops stop × (Ok b ≡ Err stop)) ⊎ R → R
+went (inl stopped) = absurd (let e = stopped.2 in cc)
+went (inr on) = on
+
+pub same_value : {B E : Type 0} {a b : B} → ◌≡◌ {A = Result B E} (Ok a) (Ok b) → a ≡ b
+same_value e = cc
+
+not_true : (b : Bool) → (not b && true) ≡ true → b ≡ false
+not_true true h = absurd (cc)
+not_true false h = refl
+
+-- what a query of one table shows, in some order
+pub answered : (tree : ℕ) (tests project : List Term) (db : Trees) (params : Row) (rows : List Row) → IsProgramAnswer [] (one_table tree tests project) db params rows
+    → IsPermutation (map (shown_as project params) (filter (passes tests params) (db tree))) rows
+answered tree tests project db params rows h =
+    let q = one_table tree tests project in
+    let a : IsAnswer q db params rows = answer_alone q db params rows h Null in
+    let f = passes tests params in
+    let staged : a.staged ≡ map (λ r. params ∷ r ∷ []) (filter f (db tree)) = a.grouped ∙ looped f (λ r. params ∷ r ∷ []) (db tree) in
+    let kept : map (λ (o : Output). o.1) a.kept ≡ map (shown_as project params) (filter f (db tree)) =
+    ap (map (λ (o : Output). o.1)) (a.distinct ∙ ap (map (output q)) staged) ∙ map-map (λ (o : Output). o.1) (output q) (map (λ r. params ∷ r ∷ []) (filter f (db tree))) ∙ map-map (λ env. (output q env).1) (λ r. params ∷ r ∷ []) (filter f (db tree)) in
+    subst₂ IsPermutation kept (sym a.shown) (IsPermutation-map (λ (o : Output). o.1) a.kept a.ordered a.same)
+
+-- the rows that are left where those that pass go by their numbers
+pub left_is : (p : Row → Bool) (rest : Row → Row) (rows shown : List Row) → IsApart rows → IsPermutation (map (λ r. rowid r ∷ rest r) (filter p rows)) shown
+    → without_all rows (ids_of shown) ≡ filter (λ r. not (p r)) rows
+left_is p rest rows shown apart same =
+    let ids : IsPermutation (map (λ r. id_in (rowid r)) (filter p rows)) (ids_of shown) =
+    subst (λ l. IsPermutation l (ids_of shown)) (map-map (λ r. id_in (rowid r)) (λ r. rowid r ∷ rest r) (filter p rows)) (IsPermutation-map (λ r. id_in (rowid r)) (map (λ r. rowid r ∷ rest r) (filter p rows)) shown same) in
+    without_is (ids_of shown) rows ∙ filter_same _ _ rows (λ r has. ap not (sym (list_any-IsPermutation (λ id. has_rowid id r) _ _ ids) ∙ any_map (λ id. has_rowid id r) (λ s. id_in (rowid s)) (filter p rows) ∙ found_once p rows r apart has))
+  where
+    any_map : {X Y : Type 0} (p : Y → Bool) (f : X → Y) (xs : List X) → list_any p (map f xs) ≡ list_any (λ x. p (f x)) xs
+    any_map p f [] = refl
+    any_map p f (x ∷ xs) = ap (λ b. p (f x) || b) (any_map p f xs)
+
+module _ (schema : Schema) (sql : List ℕ) (at : ℕ) (name : List ℕ) (tree : ℕ) (columns : List Column) (key : Option ℕ) (primary : List ℕ) (uniques : List (List ℕ)) (orders : List Order) (checks : List Term)
+    (references : List Reference) (terms_of : List Term) where
+  abbrev pub table : Table
+  table = record {
+    name = name;
+    tree = tree;
+    columns = columns;
+    key = key;
+    primary = primary;
+    uniques = uniques;
+    orders = orders;
+    checks = checks;
+    references = references;
+    computed = [];
+    stamps = record { places = []; terms = terms_of; formats = [] };
+    is_counted = false;
+  }
+
+  module _ (place : slice_get schema.tables at ≡ Some table) where
+    pub inserted : (terms : List Term) (width : ℕ) (command : command_of (understood schema sql) ≡ Insert at (Values terms width)) (plain : IsPlain (understood schema sql))
+        → ((row : Row) → works schema Enforced 0 tree [] (row ∷ []) ≡ [])
+        → (params cells : Row) → ((more : Row) → value_rows (params ++ more) width (length terms / width) terms ≡ (Null ∷ cells) ∷ []) → cast_row table (Null ∷ cells) ≡ Null ∷ cells
+        → (old new : State) (count : ℕ) → old.now.schema ≡ schema → Executes sql params old new (Ok count)
+        → PutsIn schema tree cells old.now new.now
+    inserted terms width command plain idle params cells given casts old new count has h =
+        let db = old.now.trees in
+        let w = runs_as sql params old new schema has _ command plain count h in
+        let text = statement_of sql (understood schema sql) in
+        let changed = subst (λ s. Does old.step_limit (mode_of old) params (record old.now { schema = s }) text None (Insert at (Values terms width)) (Ok (w.tally, new.now))) has w.changed in
+        let done = went (rw place at changed) in
+        let now = ap (λ (p : Tally × Database). p.1) (same_value (went (went done.2).2).2) in
+        let source = went done.1 in
+        let written = went (went source.2).2 in
+        let counted = went written.2 in
+        let trees : done.0.trees ≡ written.0 = ap (λ (it : Written). it.trees) (same_value counted.2) ∙ same_value counted.1 in
+        let row = Int (next_rowid (db tree)) ∷ cells in
+        let edit : Edit = record { table = table; gone = []; news = row ∷ [] } in
+        let from : source.0 ≡ (Null ∷ cells) ∷ [] = source.1.1 ∙ given _ in
+        let edit_is : edit_of db table [] Chosen 0 source.0 ≡ edit = ap (edit_of db table [] Chosen 0) from ∙ ap (λ r. edit_with (r ∷ [])) casts in
+        let wrote = one_step schema Enforced db written.0 edit (idle row) (subst (λ e. Edited schema Enforced db e (Ok written.0)) edit_is written.1) in
+        let after : new.now.trees ≡ written.0 = ap (λ (d : Database). d.trees) now ∙ trees in
+        record {
+          schema_is = ap (λ (d : Database). d.schema) now;
+          free = not_true (is_taken (db tree) row) wrote.fresh;
+          rows = ap (λ (t : Trees). t tree) after ∙ wrote.rows;
+          others = subst (λ (t : Trees). AllByRecursion (λ s. s.tree ≢ tree → t s.tree ≡ db s.tree) schema.tables) (sym after) wrote.tables;
+          sound = w.sound;
+        }
+      where
+        edit_with : List Row → Edit
+        edit_with rows = record { table = table; gone = []; news = numbered Chosen (old.now.trees tree) rows }
+
+    pub deleted : (tests : List Term) (command : command_of (understood schema sql) ≡ Delete at (record { lets = []; body = one_table tree tests (col 1 0 ∷ []) })) (plain : IsPlain (understood schema sql))
+        → ((olds : List Row) → works schema Enforced 0 tree olds [] ≡ [])
+        → (params : Row) (old new : State) (count : ℕ) → old.now.schema ≡ schema → IsApart (old.now.trees tree) → Executes sql params old new (Ok count)
+        → DropsIn schema tree (passes tests params) old.now new.now
+    deleted tests command plain idle params old new count has apart h =
+        let db = old.now.trees in
+        let q : Program = record { lets = []; body = one_table tree tests (col 1 0 ∷ []) } in
+        let w = runs_as sql params old new schema has _ command plain count h in
+        let text = statement_of sql (understood schema sql) in
+        let changed = subst (λ s. Does old.step_limit (mode_of old) params (record old.now { schema = s }) text None (Delete at q) (Ok (w.tally, new.now))) has w.changed in
+        let done = went (rw place at changed) in
+        let now = ap (λ (p : Tally × Database). p.1) (same_value (went (went done.2).2).2) in
+        let queried = went done.1 in
+        let written = went queried.2 in
+        let trees : done.0.trees ≡ written.0 = ap (λ (it : Written). it.trees) (same_value written.2) in
+        let edit : Edit = record { table = table; gone = ids_of queried.0; news = [] } in
+        let wrote = one_step schema Enforced db written.0 edit (idle (taken_by db edit)) written.1 in
+        let after : new.now.trees ≡ written.0 = ap (λ (d : Database). d.trees) now ∙ trees in
+        let shown : IsPermutation (map (λ r. rowid r ∷ []) (filter (passes tests params) (db tree))) queried.0 = answered tree tests (col 1 0 ∷ []) db params queried.0 (queried.1.answer) in
+        record {
+          schema_is = ap (λ (d : Database). d.schema) now;
+          rows = ap (λ (t : Trees). t tree) after ∙ wrote.rows ∙ left_is (passes tests params) (λ _. []) (db tree) queried.0 apart shown;
+          others = subst (λ (t : Trees). AllByRecursion (λ s. s.tree ≢ tree → t s.tree ≡ db s.tree) schema.tables) (sym after) wrote.tables;
+          sound = w.sound;
+        }
+
+    -- an UPDATE of the one row that passes
+    pub updated : (tests project : List Term) (command : command_of (understood schema sql) ≡ Update at (record { lets = []; body = one_table tree tests (col 1 0 ∷ project) })) (plain : IsPlain (understood schema sql))
+        → ((r new : Row) → works schema Enforced 0 tree (r ∷ []) (new ∷ []) ≡ [])
+        → (params : Row) (r : Row) (old new : State) (count : ℕ) → old.now.schema ≡ schema → IsApart (old.now.trees tree) → filter (passes tests params) (old.now.trees tree) ≡ r ∷ [] → Executes sql params old new (Ok count)
+        → SetsIn schema tree (passes tests params) (cast_row table (shown_as project params r)) old.now new.now
+    updated tests project command plain idle params r old new count has apart one h =
+        let db = old.now.trees in
+        let q : Program = record { lets = []; body = one_table tree tests (col 1 0 ∷ project) } in
+        let w = runs_as sql params old new schema has _ command plain count h in
+        let text = statement_of sql (understood schema sql) in
+        let changed = subst (λ s. Does old.step_limit (mode_of old) params (record old.now { schema = s }) text None (Update at q) (Ok (w.tally, new.now))) has w.changed in
+        let done = went (rw place at changed) in
+        let now = ap (λ (p : Tally × Database). p.1) (same_value (went (went done.2).2).2) in
+        let queried = went done.1 in
+        let written = went queried.2 in
+        let trees : done.0.trees ≡ written.0 = ap (λ (it : Written). it.trees) (same_value written.2) in
+        let shown : IsPermutation (map (shown_as (col 1 0 ∷ project) params) (filter (passes tests params) (db tree))) queried.0 = answered tree tests (col 1 0 ∷ project) db params queried.0 (queried.1.answer) in
+        let first = shown_as (col 1 0 ∷ project) params r in
+        let rows : queried.0 ≡ first ∷ [] = one_permutation first queried.0 (subst (λ l. IsPermutation (map (shown_as (col 1 0 ∷ project) params) l) queried.0) one shown) in
+        let fresh = cast_row table (shown_as project params r) in
+        let edit : Edit = record { table = table; gone = id_in (rowid r) ∷ []; news = fresh ∷ [] } in
+        let wrote = one_step schema Enforced db written.0 edit (idle _ fresh) (subst (λ l. Edited schema Enforced db (edit_of db table (ids_of l) Given 1 l) (Ok written.0)) rows written.1) in
+        let after : new.now.trees ≡ written.0 = ap (λ (d : Database). d.trees) now ∙ trees in
+        let left : without_all (db tree) (id_in (rowid r) ∷ []) ≡ filter (λ x. not (passes tests params x)) (db tree) =
+        ap (without_all (db tree)) (ap ids_of (sym rows)) ∙ left_is (passes tests params) (shown_as project params) (db tree) queried.0 apart shown in
+        record {
+          schema_is = ap (λ (d : Database). d.schema) now;
+          free = not_true (is_taken (filter (λ x. not (passes tests params x)) (db tree)) fresh) (subst (λ l. are_fresh l (fresh ∷ []) ≡ true) left wrote.fresh);
+          rows = ap (λ (t : Trees). t tree) after ∙ wrote.rows ∙ ap (put_row fresh) left;
+          others = subst (λ (t : Trees). AllByRecursion (λ s. s.tree ≢ tree → t s.tree ≡ db s.tree) schema.tables) (sym after) wrote.tables;
+          sound = w.sound;
+        }

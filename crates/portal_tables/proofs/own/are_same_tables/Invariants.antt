@@ -1,0 +1,7 @@
+use Rattle.std.proofs.Common.{◌≡◌, take, length}
+use Rattle.std.specs.List.{AllZip}
+use Rattle.portal_tables.specs.Own.{SameTable}
+use Rattle.portal_tables.proofs.own.are_same_tables.Given as goal
+
+abbrev pub invariant-loop-i : goal.invariant-loop-i
+invariant-loop-i l = record { so_far : AllZip SameTable (take l.i l.a) (take l.i l.b); lengths : length l.a ≡ length l.b }

@@ -1,0 +1,71 @@
+-- What a statement does to the rows of one table, and what a query shows of them.
+use Rattle.std.specs.Prelude.{◌≡◌, ◌≢◌, ℕ, Bool, true, false, not, List, [], ◌∷◌, map, filter, ⊤}
+use Rattle.std.specs.List.{AllByRecursion}
+use Rattle.std.specs.List.Sorted.{IsPermutation, IsSorted}
+use Rattle.std.specs.Ordering.{is_eq}
+use Rattle.sqlite.specs.declared.types.Value.TheVariants.{Int, Text as Words}
+use Rattle.sqlite.specs.Collation.TheVariants.{Binary}
+use Rattle.sqlite_value.specs.Keys.{ascending}
+use Rattle.sqlite_sql.specs.Query.{key_cmp}
+use Rattle.sqlite.specs.Order.{Row, value_cmp, column}
+use Rattle.sqlite.specs.Edit.{next_rowid, is_taken, id_in}
+use Rattle.sqlite.specs.Tree.{put_row, rowid}
+use Rattle.sqlite.specs.Effect.{Database, IsDatabase}
+use Rattle.portal_tables.specs.Tables.{own_trees}
+
+-- the other tables are as they were
+abbrev pub Keeps : ℕ → Database → Database → Type 0
+Keeps tree old new = AllByRecursion (λ t. t ≢ tree → new.trees t ≡ old.trees t) own_trees
+
+-- one row more, with these cells after its number, and nothing else
+pub record Puts (tree : ℕ) (cells : Row) (old new : Database) : Type 0 where
+  pub schema_is : new.schema ≡ old.schema
+  pub free : is_taken (old.trees tree) (Int (next_rowid (old.trees tree)) ∷ cells) ≡ false
+  pub rows : new.trees tree ≡ put_row (Int (next_rowid (old.trees tree)) ∷ cells) (old.trees tree)
+  pub others : Keeps tree old new
+  pub sound : IsDatabase new
+
+-- the rows that pass the test are gone, and nothing else
+pub record Drops (tree : ℕ) (p : Row → Bool) (old new : Database) : Type 0 where
+  pub schema_is : new.schema ≡ old.schema
+  pub rows : new.trees tree ≡ filter (λ r. not (p r)) (old.trees tree)
+  pub others : Keeps tree old new
+  pub sound : IsDatabase new
+
+-- in place of the rows that pass stands this one, and nothing else has changed
+pub record Sets (tree : ℕ) (p : Row → Bool) (row : Row) (old new : Database) : Type 0 where
+  pub schema_is : new.schema ≡ old.schema
+  pub free : is_taken (filter (λ r. not (p r)) (old.trees tree)) row ≡ false
+  pub rows : new.trees tree ≡ put_row row (filter (λ r. not (p r)) (old.trees tree))
+  pub others : Keeps tree old new
+  pub sound : IsDatabase new
+
+-- the table has this row alone, and nothing else has changed
+pub record Becomes (tree : ℕ) (row : Row) (old new : Database) : Type 0 where
+  pub schema_is : new.schema ≡ old.schema
+  pub rows : new.trees tree ≡ row ∷ []
+  pub others : Keeps tree old new
+  pub sound : IsDatabase new
+
+-- each row has a number, and no two have one number
+abbrev pub IsApart : List Row → Type 0
+IsApart [] = ⊤
+IsApart (r ∷ rs) = (rowid r ≡ Int (id_in (rowid r))) × AllByRecursion (λ s. is_eq (value_cmp (rowid r) (rowid s)) ≡ false) rs × IsApart rs
+
+-- the text in a column is these bytes
+abbrev pub has_text : ℕ → List ℕ → Row → Bool
+has_text at t r = is_eq (value_cmp (column r at) (Words t))
+
+abbrev pub every : Row → Bool
+every r = true
+
+-- the columns of a row, by their places
+abbrev pub columns : List ℕ → Row → Row
+columns places r = map (λ at. column r at) places
+
+-- the rows that pass, as they are shown, by rising values of some columns: these values stand beside each of them
+pub record ListsBy (keys : List ℕ) (p : Row → Bool) (show : Row → Row) (table shown : List Row) : Type 0 where
+  pub keyed : List (Row × Row)
+  pub same : IsPermutation (map (λ r. (columns keys r, show r)) (filter p table)) keyed
+  pub sorted : IsSorted (λ a b. key_cmp 0 (map (λ _. ascending Binary) keys) a.0 b.0) keyed
+  pub is : shown ≡ map (λ k. k.1) keyed

@@ -1,0 +1,18 @@
+-- Row numbers that rise.
+use Rattle.std.specs.Prelude.{◌&&◌, ℤ, Bool, true, false, List, [], ◌∷◌, Option, Some, None}
+use Rattle.std.specs.Ordering.{is_lt, int_cmp}
+use Rattle.sqlite.specs.declared.types.Value.{Value}
+use Rattle.sqlite.specs.declared.types.Value.TheVariants.{Int}
+use Rattle.sqlite.specs.Order.{Row, column}
+use Rattle.sqlite.specs.Edit.{id_in}
+
+-- the value is a whole number, above this one
+abbrev pub is_above : Option ℤ → Value → Bool
+is_above None (Int n) = true
+is_above (Some m) (Int n) = is_lt (int_cmp m n)
+is_above last _ = false
+
+-- the rows begin with whole numbers that rise
+abbrev pub rises : Option ℤ → List Row → Bool
+rises last [] = true
+rises last (r ∷ rs) = is_above last (column r 0) && rises (Some (id_in (column r 0))) rs

@@ -1,0 +1,57 @@
+-- What the statements put into the six tables.
+use Rattle.std.specs.Prelude.{◌≡◌, ℕ, ℤ, pos, List, [], ◌∷◌, filter}
+use Rattle.sqlite.specs.declared.types.Value.{Value}
+use Rattle.sqlite.specs.declared.types.Value.TheVariants.{Null, Int, Text as Words}
+use Rattle.sqlite.specs.Order.{Row}
+use Rattle.sqlite.specs.Effect.{Database}
+use Rattle.portal_tables.specs.Tables.{portal_tree, lecturer_tree, student_tree}
+use Rattle.portal_tables.specs.Own.{IsOwn}
+use Rattle.portal_tables.specs.Changes.{Puts, Drops, Sets, Becomes, IsApart, has_text}
+
+-- the cells of a row after its number; that of `portal` has its id for a number, and nothing in the column
+abbrev pub portal_cells : ℤ → ℤ → List ℕ → Row
+portal_cells version phase office = Null ∷ Int version ∷ Int phase ∷ Words office ∷ []
+
+abbrev pub lecturer_cells : List ℕ → List ℕ → List ℕ → ℤ → ℤ → Row
+lecturer_cells key name code capacity ranked = Words key ∷ Words name ∷ Words code ∷ Int capacity ∷ Int ranked ∷ []
+
+abbrev pub project_cells : List ℕ → List ℕ → List ℕ → ℤ → Row
+project_cells key lecturer title capacity = Words key ∷ Words lecturer ∷ Words title ∷ Int capacity ∷ []
+
+abbrev pub student_cells : List ℕ → List ℕ → List ℕ → Value → Row
+student_cells key name code assigned = Words key ∷ Words name ∷ Words code ∷ assigned ∷ []
+
+abbrev pub choice_cells : List ℕ → ℤ → List ℕ → Row
+choice_cells student place project = Words student ∷ Int place ∷ Words project ∷ []
+
+abbrev pub ranking_cells : List ℕ → ℤ → List ℕ → Row
+ranking_cells lecturer place student = Words lecturer ∷ Int place ∷ Words student ∷ []
+
+-- the row of `portal`, whose id is 1
+abbrev pub portal_row : ℤ → ℤ → List ℕ → Row
+portal_row version phase office = Int (pos 1) ∷ portal_cells version phase office
+
+-- one row more in a table of the portal's own
+abbrev pub Adds : ℕ → Row → Database → Database → Type 0
+Adds tree cells old new = IsOwn old.schema → Puts tree cells old new
+
+-- the rows with this key in their first column are gone
+abbrev pub Clears : ℕ → List ℕ → Database → Database → Type 0
+Clears tree key old new = IsOwn old.schema → IsApart (old.trees tree) → Drops tree (has_text 1 key) old new
+
+-- the one row of `portal` tells this phase
+abbrev pub MovesTo : ℕ → Database → Database → Type 0
+MovesTo phase old new = IsOwn old.schema → (version was : ℤ) (office : List ℕ) → old.trees portal_tree ≡ portal_row version was office ∷ []
+    → Becomes portal_tree (portal_row version (pos phase) office) old new
+
+-- the lecturer's one row says that a ranking is there
+abbrev pub Ranks : List ℕ → Database → Database → Type 0
+Ranks key old new = IsOwn old.schema → IsApart (old.trees lecturer_tree) → (number : ℤ) (name code : List ℕ) (capacity ranked : ℤ)
+    → filter (has_text 1 key) (old.trees lecturer_tree) ≡ (Int number ∷ lecturer_cells key name code capacity ranked) ∷ []
+    → Sets lecturer_tree (has_text 1 key) (Int number ∷ lecturer_cells key name code capacity (pos 1)) old new
+
+-- the student's one row names this project
+abbrev pub Assigns : List ℕ → List ℕ → Database → Database → Type 0
+Assigns key project old new = IsOwn old.schema → IsApart (old.trees student_tree) → (number : ℤ) (name code : List ℕ) (was : Value)
+    → filter (has_text 1 key) (old.trees student_tree) ≡ (Int number ∷ student_cells key name code was) ∷ []
+    → Sets student_tree (has_text 1 key) (Int number ∷ student_cells key name code (Words project)) old new

@@ -1,0 +1,178 @@
+//! What one table shows. Each query leaves all as it was, in an own database; an error of the store is handed on.
+
+ghost use Rattle.std.specs.Prelude.{◌≡◌, [], ◌∷◌, false, IfOk, OnOk, OnErr};
+ghost use Rattle.sqlite.specs.State.{HasCleanDisk, IsUnchanged, Survives};
+ghost use Rattle.sqlite.specs.Held.{state};
+ghost use Rattle.portal_tables.specs.Own.{IsOwn};
+ghost use Rattle.portal_tables.specs.Steps.{Leaves};
+ghost use Rattle.portal_tables.specs.Tables.{portal_tree, lecturer_tree, project_tree, student_tree, choice_tree, ranking_tree};
+ghost use Rattle.portal_tables.specs.Changes.{ListsBy, every, columns, has_text};
+
+use crate::run::read;
+use sqlite::types::ValueRef;
+use sqlite::{Alter, Connection, Error, Row};
+
+/// The rows of `portal`: id, version, phase and the code of the office.
+pub fn portal_rows<S: Alter>(conn: &mut Connection<S>) -> Result<Vec<Row>, Error>
+    ensures rows { IsOwn conn.old.schema → HasCleanDisk (state S.Store conn.new) → IfOk result (λ rows. ListsBy (0 ∷ []) every (columns (0 ∷ 2 ∷ 3 ∷ 4 ∷ [])) ((state S.Store conn.old).now.trees portal_tree) rows.items) }
+    ensures same { IsOwn conn.old.schema → HasCleanDisk (state S.Store conn.new) → OnOk result (IsUnchanged (state S.Store conn.old) (state S.Store conn.new)) }
+    ensures err { IsOwn conn.old.schema → HasCleanDisk (state S.Store conn.new) → OnErr result (Leaves (state S.Store conn.old) (state S.Store conn.new)) }
+    ensures mode { conn.old.in_transaction ≡ false → conn.new.in_transaction ≡ false }
+    ensures crash { IsOwn conn.old.schema → Survives (state S.Store conn.old) (state S.Store conn.new) (λ _. ⊥) }
+{
+    read(
+        conn,
+        "SELECT id, version, phase, office FROM portal ORDER BY id",
+        &[],
+    )
+}
+
+/// The lecturers by key: key, name, code, capacity, and 1 where a ranking is there.
+pub fn lecturer_rows<S: Alter>(conn: &mut Connection<S>) -> Result<Vec<Row>, Error>
+    ensures rows { IsOwn conn.old.schema → HasCleanDisk (state S.Store conn.new) → IfOk result (λ rows. ListsBy (1 ∷ []) every (columns (1 ∷ 2 ∷ 3 ∷ 4 ∷ 5 ∷ [])) ((state S.Store conn.old).now.trees lecturer_tree) rows.items) }
+    ensures same { IsOwn conn.old.schema → HasCleanDisk (state S.Store conn.new) → OnOk result (IsUnchanged (state S.Store conn.old) (state S.Store conn.new)) }
+    ensures err { IsOwn conn.old.schema → HasCleanDisk (state S.Store conn.new) → OnErr result (Leaves (state S.Store conn.old) (state S.Store conn.new)) }
+    ensures mode { conn.old.in_transaction ≡ false → conn.new.in_transaction ≡ false }
+    ensures crash { IsOwn conn.old.schema → Survives (state S.Store conn.old) (state S.Store conn.new) (λ _. ⊥) }
+{
+    read(
+        conn,
+        "SELECT key, name, code, capacity, ranked FROM lecturer ORDER BY key",
+        &[],
+    )
+}
+
+/// The projects by key: key, lecturer, title and capacity.
+pub fn project_rows<S: Alter>(conn: &mut Connection<S>) -> Result<Vec<Row>, Error>
+    ensures rows { IsOwn conn.old.schema → HasCleanDisk (state S.Store conn.new) → IfOk result (λ rows. ListsBy (1 ∷ []) every (columns (1 ∷ 2 ∷ 3 ∷ 4 ∷ [])) ((state S.Store conn.old).now.trees project_tree) rows.items) }
+    ensures same { IsOwn conn.old.schema → HasCleanDisk (state S.Store conn.new) → OnOk result (IsUnchanged (state S.Store conn.old) (state S.Store conn.new)) }
+    ensures err { IsOwn conn.old.schema → HasCleanDisk (state S.Store conn.new) → OnErr result (Leaves (state S.Store conn.old) (state S.Store conn.new)) }
+    ensures mode { conn.old.in_transaction ≡ false → conn.new.in_transaction ≡ false }
+    ensures crash { IsOwn conn.old.schema → Survives (state S.Store conn.old) (state S.Store conn.new) (λ _. ⊥) }
+{
+    read(
+        conn,
+        "SELECT key, lecturer, title, capacity FROM project ORDER BY key",
+        &[],
+    )
+}
+
+/// The students by key: key, name, code and assigned project.
+pub fn student_rows<S: Alter>(conn: &mut Connection<S>) -> Result<Vec<Row>, Error>
+    ensures rows { IsOwn conn.old.schema → HasCleanDisk (state S.Store conn.new) → IfOk result (λ rows. ListsBy (1 ∷ []) every (columns (1 ∷ 2 ∷ 3 ∷ 4 ∷ [])) ((state S.Store conn.old).now.trees student_tree) rows.items) }
+    ensures same { IsOwn conn.old.schema → HasCleanDisk (state S.Store conn.new) → OnOk result (IsUnchanged (state S.Store conn.old) (state S.Store conn.new)) }
+    ensures err { IsOwn conn.old.schema → HasCleanDisk (state S.Store conn.new) → OnErr result (Leaves (state S.Store conn.old) (state S.Store conn.new)) }
+    ensures mode { conn.old.in_transaction ≡ false → conn.new.in_transaction ≡ false }
+    ensures crash { IsOwn conn.old.schema → Survives (state S.Store conn.old) (state S.Store conn.new) (λ _. ⊥) }
+{
+    read(
+        conn,
+        "SELECT key, name, code, assigned FROM student ORDER BY key",
+        &[],
+    )
+}
+
+/// All lists, by student and place: student, place and project.
+pub fn choice_rows<S: Alter>(conn: &mut Connection<S>) -> Result<Vec<Row>, Error>
+    ensures rows { IsOwn conn.old.schema → HasCleanDisk (state S.Store conn.new) → IfOk result (λ rows. ListsBy (1 ∷ 2 ∷ []) every (columns (1 ∷ 2 ∷ 3 ∷ [])) ((state S.Store conn.old).now.trees choice_tree) rows.items) }
+    ensures same { IsOwn conn.old.schema → HasCleanDisk (state S.Store conn.new) → OnOk result (IsUnchanged (state S.Store conn.old) (state S.Store conn.new)) }
+    ensures err { IsOwn conn.old.schema → HasCleanDisk (state S.Store conn.new) → OnErr result (Leaves (state S.Store conn.old) (state S.Store conn.new)) }
+    ensures mode { conn.old.in_transaction ≡ false → conn.new.in_transaction ≡ false }
+    ensures crash { IsOwn conn.old.schema → Survives (state S.Store conn.old) (state S.Store conn.new) (λ _. ⊥) }
+{
+    read(
+        conn,
+        "SELECT student, place, project FROM choice ORDER BY student, place",
+        &[],
+    )
+}
+
+/// All rankings, by lecturer and place: lecturer, place and student.
+pub fn ranking_rows<S: Alter>(conn: &mut Connection<S>) -> Result<Vec<Row>, Error>
+    ensures rows { IsOwn conn.old.schema → HasCleanDisk (state S.Store conn.new) → IfOk result (λ rows. ListsBy (1 ∷ 2 ∷ []) every (columns (1 ∷ 2 ∷ 3 ∷ [])) ((state S.Store conn.old).now.trees ranking_tree) rows.items) }
+    ensures same { IsOwn conn.old.schema → HasCleanDisk (state S.Store conn.new) → OnOk result (IsUnchanged (state S.Store conn.old) (state S.Store conn.new)) }
+    ensures err { IsOwn conn.old.schema → HasCleanDisk (state S.Store conn.new) → OnErr result (Leaves (state S.Store conn.old) (state S.Store conn.new)) }
+    ensures mode { conn.old.in_transaction ≡ false → conn.new.in_transaction ≡ false }
+    ensures crash { IsOwn conn.old.schema → Survives (state S.Store conn.old) (state S.Store conn.new) (λ _. ⊥) }
+{
+    read(
+        conn,
+        "SELECT lecturer, place, student FROM ranking ORDER BY lecturer, place",
+        &[],
+    )
+}
+
+/// One student's list by place: place and project.
+pub fn list_of<S: Alter>(conn: &mut Connection<S>, student: &[u8]) -> Result<Vec<Row>, Error>
+    ensures rows { IsOwn conn.old.schema → HasCleanDisk (state S.Store conn.new) → IfOk result (λ rows. ListsBy (2 ∷ []) (has_text 1 student.now) (columns (2 ∷ 3 ∷ [])) ((state S.Store conn.old).now.trees choice_tree) rows.items) }
+    ensures same { IsOwn conn.old.schema → HasCleanDisk (state S.Store conn.new) → OnOk result (IsUnchanged (state S.Store conn.old) (state S.Store conn.new)) }
+    ensures err { IsOwn conn.old.schema → HasCleanDisk (state S.Store conn.new) → OnErr result (Leaves (state S.Store conn.old) (state S.Store conn.new)) }
+    ensures mode { conn.old.in_transaction ≡ false → conn.new.in_transaction ≡ false }
+    ensures crash { IsOwn conn.old.schema → Survives (state S.Store conn.old) (state S.Store conn.new) (λ _. ⊥) }
+{
+    read(
+        conn,
+        "SELECT place, project FROM choice WHERE student = ?1 ORDER BY place",
+        &[ValueRef::Text(student)],
+    )
+}
+
+/// One lecturer's ranking by place: place and student.
+pub fn ranking_of<S: Alter>(conn: &mut Connection<S>, lecturer: &[u8]) -> Result<Vec<Row>, Error>
+    ensures rows { IsOwn conn.old.schema → HasCleanDisk (state S.Store conn.new) → IfOk result (λ rows. ListsBy (2 ∷ []) (has_text 1 lecturer.now) (columns (2 ∷ 3 ∷ [])) ((state S.Store conn.old).now.trees ranking_tree) rows.items) }
+    ensures same { IsOwn conn.old.schema → HasCleanDisk (state S.Store conn.new) → OnOk result (IsUnchanged (state S.Store conn.old) (state S.Store conn.new)) }
+    ensures err { IsOwn conn.old.schema → HasCleanDisk (state S.Store conn.new) → OnErr result (Leaves (state S.Store conn.old) (state S.Store conn.new)) }
+    ensures mode { conn.old.in_transaction ≡ false → conn.new.in_transaction ≡ false }
+    ensures crash { IsOwn conn.old.schema → Survives (state S.Store conn.old) (state S.Store conn.new) (λ _. ⊥) }
+{
+    read(
+        conn,
+        "SELECT place, student FROM ranking WHERE lecturer = ?1 ORDER BY place",
+        &[ValueRef::Text(lecturer)],
+    )
+}
+
+/// The students whose lists name a project, by key.
+pub fn choosers_of<S: Alter>(conn: &mut Connection<S>, project: &[u8]) -> Result<Vec<Row>, Error>
+    ensures rows { IsOwn conn.old.schema → HasCleanDisk (state S.Store conn.new) → IfOk result (λ rows. ListsBy (1 ∷ []) (has_text 3 project.now) (columns (1 ∷ [])) ((state S.Store conn.old).now.trees choice_tree) rows.items) }
+    ensures same { IsOwn conn.old.schema → HasCleanDisk (state S.Store conn.new) → OnOk result (IsUnchanged (state S.Store conn.old) (state S.Store conn.new)) }
+    ensures err { IsOwn conn.old.schema → HasCleanDisk (state S.Store conn.new) → OnErr result (Leaves (state S.Store conn.old) (state S.Store conn.new)) }
+    ensures mode { conn.old.in_transaction ≡ false → conn.new.in_transaction ≡ false }
+    ensures crash { IsOwn conn.old.schema → Survives (state S.Store conn.old) (state S.Store conn.new) (λ _. ⊥) }
+{
+    read(
+        conn,
+        "SELECT student FROM choice WHERE project = ?1 ORDER BY student",
+        &[ValueRef::Text(project)],
+    )
+}
+
+/// The lecturers with a code, with the columns of `lecturer_rows`.
+pub fn lecturer_by_code<S: Alter>(conn: &mut Connection<S>, code: &[u8]) -> Result<Vec<Row>, Error>
+    ensures rows { IsOwn conn.old.schema → HasCleanDisk (state S.Store conn.new) → IfOk result (λ rows. ListsBy (1 ∷ []) (has_text 3 code.now) (columns (1 ∷ 2 ∷ 3 ∷ 4 ∷ 5 ∷ [])) ((state S.Store conn.old).now.trees lecturer_tree) rows.items) }
+    ensures same { IsOwn conn.old.schema → HasCleanDisk (state S.Store conn.new) → OnOk result (IsUnchanged (state S.Store conn.old) (state S.Store conn.new)) }
+    ensures err { IsOwn conn.old.schema → HasCleanDisk (state S.Store conn.new) → OnErr result (Leaves (state S.Store conn.old) (state S.Store conn.new)) }
+    ensures mode { conn.old.in_transaction ≡ false → conn.new.in_transaction ≡ false }
+    ensures crash { IsOwn conn.old.schema → Survives (state S.Store conn.old) (state S.Store conn.new) (λ _. ⊥) }
+{
+    read(
+        conn,
+        "SELECT key, name, code, capacity, ranked FROM lecturer WHERE code = ?1 ORDER BY key",
+        &[ValueRef::Text(code)],
+    )
+}
+
+/// The students with a code, with the columns of `student_rows`.
+pub fn student_by_code<S: Alter>(conn: &mut Connection<S>, code: &[u8]) -> Result<Vec<Row>, Error>
+    ensures rows { IsOwn conn.old.schema → HasCleanDisk (state S.Store conn.new) → IfOk result (λ rows. ListsBy (1 ∷ []) (has_text 3 code.now) (columns (1 ∷ 2 ∷ 3 ∷ 4 ∷ [])) ((state S.Store conn.old).now.trees student_tree) rows.items) }
+    ensures same { IsOwn conn.old.schema → HasCleanDisk (state S.Store conn.new) → OnOk result (IsUnchanged (state S.Store conn.old) (state S.Store conn.new)) }
+    ensures err { IsOwn conn.old.schema → HasCleanDisk (state S.Store conn.new) → OnErr result (Leaves (state S.Store conn.old) (state S.Store conn.new)) }
+    ensures mode { conn.old.in_transaction ≡ false → conn.new.in_transaction ≡ false }
+    ensures crash { IsOwn conn.old.schema → Survives (state S.Store conn.old) (state S.Store conn.new) (λ _. ⊥) }
+{
+    read(
+        conn,
+        "SELECT key, name, code, assigned FROM student WHERE code = ?1 ORDER BY key",
+        &[ValueRef::Text(code)],
+    )
+}

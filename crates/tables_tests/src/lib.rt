@@ -1,0 +1,5 @@
+//! Tests of the tables, over a database in memory.
+#![tactic(auto)]
+
+#[cfg(test)]
+mod tests;
