@@ -1,5 +1,5 @@
 -- The lines of the students, one after the other.
-use Rattle.std.proofs.Common.{◌≡◌, ◌∙◌, ◌+◌, ◌<◌, ◌++◌, ℕ, min, List, [], ◌∷◌, length, take, get_or, Option, Some, None, is_some, is_none, true, false, refl, sym, ap, arith, append_assoc}
+use Rattle.std.proofs.Common.{◌≡◌, ◌+◌, ◌<◌, ◌++◌, ℕ, List, [], length, take, get_or, Option, Some, None, is_some, is_none, refl, sym, ap, arith}
 use Rattle.std.specs.List.{flat_map, zip, count_by}
 use Rattle.std.proofs.lemmas.List.{take_more, append-nil, take_all}
 use Rattle.std.proofs.lemmas.List.Sums.{count_by_more_yes, count_by_more_no}

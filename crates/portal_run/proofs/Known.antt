@@ -1,18 +1,13 @@
 -- What is known of an input that is longer than a file may be, and of one that is not.
-use Rattle.std.proofs.Common.{◌≡◌, ◌∙◌, ◌<◌, ◌≤◌, ℕ, Bool, true, false, ltb, length, List, Option, Some, None, take, refl, sym, subst, ap, inl, inr, arith, option_map}
+use Rattle.std.proofs.Common.{◌≡◌, ◌≢◌, ◌⊎◌, ◌<◌, ◌≤◌, ℕ, Bool, true, length, Option, Some, None, take, subst, inl, inr, arith}
 use Rattle.std.specs.Prelude.{IfSome}
 use Rattle.std.specs.Io.KnownBytes.{Appends}
-use Rattle.std.proofs.lemmas.Bool.{cases_lt, lt-ltb, le-ltb}
+use Rattle.std.proofs.lemmas.Bool.{cases_lt, lt-ltb}
 use Rattle.std.proofs.lemmas.List.{length-take, take_all}
 use Rattle.portal_run.specs.Told.{Text, Told}
 use Rattle.portal_run.specs.Answer.{IfLonger, IsAnswer}
 use Rattle.portal_run.specs.Run.{Answers}
 use Rattle.portal_run.specs.declared.answer.Task.{Task}
-
--- a reader that is cut at a limit
-pub cut_known : (k : Option Text) (n m : ℕ) (out : Text) → n ≡ m → IfSome (option_map (take n) k) (λ xs. out ≡ xs) → IfSome k (λ b. out ≡ take m b)
-cut_known None n m out e h = tt
-cut_known (Some b) n m out e h = h ∙ ap (λ (i : ℕ). take i b) e
 
 -- of a longer file nothing is read
 longer : (task : Task) (a b : Bool) (xs ys : Text) (t : Told) → a ≡ true → b ≡ true → IfLonger task a xs t → IfLonger task b ys t
@@ -27,8 +22,20 @@ cut_answer task b t h = elim (cases_lt 4194304 (length b)) [
   | inr le ↦ subst (λ (xs : Text). IsAnswer task xs t) (take_all 4194305 b (omega arith)) h
 ]
 
+-- the status of what was said
+pub said_bound : (a n : ℕ) → (a ≡ n) ⊎ (a ≡ 3) → n ≤ 2 → a ≤ 3
+said_bound a n h small = elim h [ inl e ↦ omega (arith, e) | inr e ↦ omega (arith, e) ]
+
+said_status : (a n : ℕ) → (a ≡ n) ⊎ (a ≡ 3) → a < 3 → a ≡ n
+said_status a n h small = elim h [ inl e ↦ e | inr e ↦ absurd (omega (arith, e)) ]
+
+-- a text that was said with its status, or the status 3
+abbrev pub IsSaid : ℕ → Option Text → Option Text → Told → Type 0
+IsSaid status old new t = ((status ≡ t.status) ⊎ (status ≡ 3)) × (status ≢ 3 → Appends old new t.text)
+
 -- what was said is what is answered to the whole input
 pub said : (task : Task) (k : Option Text) (bytes : Text) (old new : Option Text) (status : ℕ) (t : Told) → IfSome k (λ b. bytes ≡ take 4194305 b) → IsAnswer task bytes t
-    → (status ≡ t.status) × Appends old new t.text → Answers task k status old new
-said task None bytes old new status t cut is done = tt
-said task (Some b) bytes old new status t cut is done = (t, cut_answer task b t (subst (λ (xs : Text). IsAnswer task xs t) cut is), done.0, done.1)
+    → IsSaid status old new t → status < 3 → Answers task k status old new
+said task None bytes old new status t cut is done small = tt
+said task (Some b) bytes old new status t cut is done small =
+    (t, cut_answer task b t (subst (λ (xs : Text). IsAnswer task xs t) cut is), said_status status t.status done.0 small, done.1 (omega arith))

@@ -1,2 +1,5 @@
 pub mod Assigned
 pub mod Known
+pub mod OneAnswer
+pub mod Statuses
+pub mod Taken

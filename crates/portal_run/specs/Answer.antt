@@ -1,11 +1,13 @@
 -- What is answered to the bytes of an instance file.
 use Rattle.std.specs.Prelude.{◌≡◌, ◌⊎◌, ℕ, List, Option, Result, Ok, Err, Bool, true, false, length, nat_lt, codes}
 use Rattle.spa_rows.specs.Lines.{Pair, Rows}
-use Rattle.spa_rows.specs.Faults.{IsFirstFault}
+use Rattle.spa_rows.specs.Faults.{IsFirstFault, HasNoneBefore}
 use Rattle.spa_rows.specs.declared.faults.InstanceFault.{InstanceFault}
+use Rattle.spa_rows.specs.declared.faults.InstanceFault.TheVariants.{Memory}
 use Rattle.spa_model.specs.Spa.{Spa, IsLawful, IsMatching}
 use Rattle.spa_model.specs.Built.{StandsFor}
 use Rattle.spa_model.specs.Pairs.{HasPairs, IsFirstPairFault}
+use Rattle.spa_model.specs.Assigned.{AreSound}
 use Rattle.spa_model.specs.declared.matching.MatchingFault.{MatchingFault}
 use Rattle.portal_rolls.specs.Lines.{File, rows}
 use Rattle.portal_rolls.specs.declared.fault.RollFault.{RollFault}
@@ -21,20 +23,20 @@ abbrev pub Tells : Task → Spa → List (Option ℕ) → Told → Type 0
 Tells Check i m told = TellsBlocks i m told
 Tells Solve i m told = TellsBest i told
 
--- what is told of an instance and pairs: their first fault, or of their matching
+-- what is told of an instance and pairs: their first fault, or, where they have none, of their matching
 abbrev pub OfPairs : Task → Spa → List Pair → Told → Type 0
 OfPairs task i pairs told =
     ((fault : MatchingFault) × (r : ℕ) × IsFirstPairFault i pairs fault r × (told ≡ refused_matching fault r))
-    ⊎ ((m : List (Option ℕ)) × HasPairs i pairs m × IsMatching i m × Tells task i m told)
+    ⊎ ((m : List (Option ℕ)) × AreSound i pairs × HasPairs i pairs m × IsMatching i m × Tells task i m told)
 
 abbrev pub rows_of : File → Rows
 rows_of f = record { lecturers = f.lecturers; projects = f.projects; students = f.students }
 
--- what is told of a file's rows: their first fault, or of their instance and the pairs
+-- what is told of a file's rows: their first fault, or, where they have none, of their instance and the pairs
 abbrev pub OfFile : Task → File → Told → Type 0
 OfFile task f told =
     ((fault : InstanceFault) × (r : ℕ) × IsFirstFault (rows_of f) fault r × (told ≡ refused_instance fault r))
-    ⊎ ((i : Spa) × StandsFor (rows_of f) i × IsLawful i × OfPairs task i f.pairs told)
+    ⊎ ((i : Spa) × HasNoneBefore (rows_of f) Memory × StandsFor (rows_of f) i × IsLawful i × OfPairs task i f.pairs told)
 
 -- what is told of what was read: the reader's fault, or of the file
 abbrev pub OfRead : Task → Result File RollFault → Told → Type 0

@@ -3,4 +3,5 @@ pub mod Refused
 pub mod Blocking
 pub mod Solution
 pub mod Answer
+pub mod Taken
 pub mod Run

@@ -5,6 +5,7 @@ mod answer;
 mod blocking;
 mod commands;
 mod input;
+pub mod laws;
 mod solution;
 mod told;
 

@@ -38,6 +38,22 @@ impl Write for Full {
     }
 }
 
+/// Takes bytes, and cannot pass them on.
+#[derive(Drop)]
+struct Stuck {
+    taken: Vec<u8>,
+}
+
+impl Write for Stuck {
+    fn write(&mut self, bytes: &[u8]) -> io::Result<usize> {
+        self.taken.write(bytes)
+    }
+
+    fn flush(&mut self) -> io::Result<()> {
+        Err(io::Error::from(io::ErrorKind::BrokenPipe))
+    }
+}
+
 #[test]
 fn reader_fails(rt: HostRuntime) -> Result<(), Fail> {
     let mut out = Vec::new(rt.alloc());
@@ -55,11 +71,32 @@ fn writer_fails(rt: HostRuntime) {
 }
 
 #[test]
+fn flush_fails(rt: HostRuntime) {
+    let mut input = super::HEADER;
+    let mut out = Stuck {
+        taken: Vec::new(rt.alloc()),
+    };
+    let status = run(&rt, &["portal", "check"], &mut input, &mut out);
+    assert!(rt; status == 3);
+    assert!(rt; out.taken.as_slice() == b"blocking 0\nfault write\n".as_slice());
+}
+
+#[test]
 fn file_is_missing(rt: HostRuntime) -> Result<(), Fail> {
     let mut out = Vec::new(rt.alloc());
     let mut input = b"".as_slice();
     let words = ["portal", "check", "no-such-folder/no-such-file"];
     let status = run(&rt, &words, &mut input, &mut out);
+    assert!(rt; status == 3);
+    assert!(rt; out.as_slice() == b"fault read\n".as_slice());
+    Ok(())
+}
+
+#[test]
+fn file_is_a_folder(rt: HostRuntime) -> Result<(), Fail> {
+    let mut out = Vec::new(rt.alloc());
+    let mut input = b"".as_slice();
+    let status = run(&rt, &["portal", "check", "/"], &mut input, &mut out);
     assert!(rt; status == 3);
     assert!(rt; out.as_slice() == b"fault read\n".as_slice());
     Ok(())

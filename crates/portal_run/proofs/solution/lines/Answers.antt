@@ -1,4 +1,4 @@
-use Rattle.std.proofs.Common.{◌≡◌, ◌∙◌, ◌<◌, ◌++◌, ◌+◌, ap, sym, arith, rules, length, List, Option, Some, None, is_some, is_none, ℕ, refl, codes, append_assoc}
+use Rattle.std.proofs.Common.{◌≡◌, ◌∙◌, ◌<◌, ◌++◌, ap, sym, arith, rules, length, List, Option, is_some, is_none, ℕ, refl, codes, append_assoc}
 use Rattle.std.specs.Fmt.{decimal}
 use Rattle.std.specs.List.{count_by, flat_map, zip}
 use Rattle.portal_run.specs.Told.{Text, Told}
