@@ -14,6 +14,7 @@ pub(crate) struct Feeder<'b> {
     rest: &'b [u8],
     step: usize,
     later: usize,
+    last: usize,
     fails: bool,
     failures: u64,
 }
@@ -25,17 +26,19 @@ impl<'b> Feeder<'b> {
             rest: bytes,
             step,
             later: step,
+            last: step,
             fails: false,
             failures: 0,
         }
     }
 
-    /// Gives so many bytes first, and then all.
-    pub(crate) fn cut(bytes: &'b [u8], first: usize) -> Feeder<'b> {
+    /// Gives so many bytes first, so many second, and then all.
+    pub(crate) fn cut(bytes: &'b [u8], first: usize, second: usize) -> Feeder<'b> {
         Feeder {
             rest: bytes,
             step: first,
-            later: 4_096,
+            later: second,
+            last: 4_096,
             fails: false,
             failures: 0,
         }
@@ -47,6 +50,7 @@ impl<'b> Feeder<'b> {
             rest: bytes,
             step: 4_096,
             later: 4_096,
+            last: 4_096,
             fails: true,
             failures: 0,
         }
@@ -65,6 +69,7 @@ impl<'b> Source for Feeder<'b> {
         }
         let room = buf.len().min(self.step.max(1));
         self.step = self.later;
+        self.later = self.last;
         match self.rest.read(&mut buf[..room]) {
             Ok(n) => Ok(n),
             Err(_) => {
