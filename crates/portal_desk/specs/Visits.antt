@@ -76,7 +76,7 @@ AreServed clean world k (s ∷ ss) =
     × Tells (clean s.new) (world s.old) (world s.new) (Some s.before) (Some s.after) s.bytes s.count s.ending
     × AreServed clean world s.new ss
 
--- the visit is that of the session
+-- the visit is what the call of `serve` did
 pub record TellsOf {K : Type 0} (s : Session K) (v : Visit) : Type 0 where
   pub bytes : v.bytes ≡ s.bytes
   pub ending : v.ending ≡ s.ending
