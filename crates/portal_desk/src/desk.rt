@@ -128,6 +128,7 @@ impl<K: Keeper> Desk<K> {
         ensures stays { self.old.failed ≡ true → self.new ≡ self.old }
         ensures calm { OnOk result (W.failed sink.new ≡ W.failed sink.old) }
         ensures counts { IfErr result (λ cause. cause ≡ WriteFailed → FailsAfter (W.failed sink.old) (W.failed sink.new)) }
+        ensures same_device { W.name sink.new ≡ W.name sink.old }
     {
         let reply = self.respond(alloc, request);
         let lost = self.failed();
@@ -164,6 +165,8 @@ impl<K: Keeper> Desk<K> {
         ensures stays { self.old.failed ≡ true → self.new ≡ self.old }
         ensures none { IfOk result (λ served. self.old.failed ≡ true → served.requests ≡ 0) }
         ensures first { IfErr result (λ fault. self.old.failed ≡ true → AtFirst fault.cause fault.requests) }
+        ensures same_source { R.name source.new ≡ R.name source.old }
+        ensures same_sink { W.name sink.new ≡ W.name sink.old }
     {
         let mut buffer = Vec::new(alloc);
         let mut done = 0u32;

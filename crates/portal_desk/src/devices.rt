@@ -17,6 +17,9 @@ pub trait Source {
     /// The bytes that are left, where they are told.
     ghost remaining: { Self → Option (List ℕ) };
 
+    /// Which device it is, where one is lent: no call changes that.
+    ghost name: { Self → ℕ } = { λ _. 0 };
+
     /// How many calls failed, or the greatest number.
     ghost failed: { Self → ℕ };
 
@@ -25,7 +28,8 @@ pub trait Source {
     fn read(&mut self, buf: &mut [u8]) -> Result<usize, Failed>
         ensures bound { ReadsAtMost result buf.new }
         ensures bytes { ReadConsumes (remaining self.old) (remaining self.new) result buf.new }
-        ensures counts { Counts result (failed self.old) (failed self.new) };
+        ensures counts { Counts result (failed self.old) (failed self.new) }
+        ensures same_device { name self.new ≡ name self.old };
 
     /// How many calls failed.
     fn failures(&self) -> u64
@@ -37,6 +41,9 @@ pub trait Sink {
     /// The bytes that it holds, where they are told.
     ghost contents: { Self → Option (List ℕ) };
 
+    /// Which device it is, where one is lent: no call changes that.
+    ghost name: { Self → ℕ } = { λ _. 0 };
+
     /// How many calls failed, or the greatest number.
     ghost failed: { Self → ℕ };
 
@@ -46,7 +53,8 @@ pub trait Sink {
         ensures bound { WritesAtMost result buf.now }
         ensures some { IfOk result (λ n. 0 < length buf.now → 0 < n) }
         ensures bytes { WriteAppends (contents self.old) (contents self.new) result buf.now }
-        ensures counts { Counts result (failed self.old) (failed self.new) };
+        ensures counts { Counts result (failed self.old) (failed self.new) }
+        ensures same_device { name self.new ≡ name self.old };
 
     /// How many calls failed.
     fn failures(&self) -> u64
@@ -139,6 +147,7 @@ pub(crate) fn write_whole<W: Sink>(sink: &mut W, bytes: &[u8]) -> Result<(), Fai
     ensures part { OnErr result ((k : ℕ) × (k < length bytes.now) × Appends (W.contents sink.old) (W.contents sink.new) (take k bytes.now)) }
     ensures counts { OnErr result (FailsAfter (W.failed sink.old) (W.failed sink.new)) }
     ensures calm { OnOk result (W.failed sink.new ≡ W.failed sink.old) }
+    ensures same_device { W.name sink.new ≡ W.name sink.old }
 {
     let mut at = 0;
     while at < bytes.len() {

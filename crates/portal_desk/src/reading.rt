@@ -46,6 +46,7 @@ fn read_piece<R: Source>(source: &mut R, buffer: &mut Vec<u8>) -> Result<bool, L
     ensures taken { OnErr result (TakesAtMost (1064960 - length buffer.old.items) (R.remaining source.old) (R.remaining source.new)) }
     ensures calm { OnOk result (R.failed source.new ≡ R.failed source.old) }
     ensures counts { IfErr result (λ lack. lack ≡ ReadFailed → FailsAfter (R.failed source.old) (R.failed source.new)) }
+    ensures same_device { R.name source.new ≡ R.name source.old }
 {
     let mut piece = [0u8; 4096];
     let room = (LONGEST - buffer.len()).min(4096);
@@ -73,6 +74,7 @@ pub(crate) fn next_frame<R: Source>(
     ensures taken { OnErr result (TakesAtMost (1064960 - length buffer.old.items) (R.remaining source.old) (R.remaining source.new)) }
     ensures calm { OnOk result (R.failed source.new ≡ R.failed source.old) }
     ensures counts { IfErr result (λ lack. lack ≡ ReadFailed → FailsAfter (R.failed source.old) (R.failed source.new)) }
+    ensures same_device { R.name source.new ≡ R.name source.old }
 {
     let mut ended = false;
     loop {

@@ -31,6 +31,7 @@ fn send<W: Sink>(bytes: &[u8], sink: &mut W) -> Result<(), Cause>
     ensures err { IfErr result (λ cause. Partly cause (W.contents sink.old) (W.contents sink.new) bytes.now) }
     ensures calm { OnOk result (W.failed sink.new ≡ W.failed sink.old) }
     ensures counts { IfErr result (λ cause. cause ≡ WriteFailed → FailsAfter (W.failed sink.old) (W.failed sink.new)) }
+    ensures same_device { W.name sink.new ≡ W.name sink.old }
 {
     match write_whole(sink, bytes) {
         Ok(()) => Ok(()),
@@ -51,6 +52,7 @@ pub(crate) fn send_reply<W: Sink>(
     ensures err { IfErr result (λ cause. Partly cause (W.contents sink.old) (W.contents sink.new) (reply_text (told reply.now) head_only close)) }
     ensures calm { OnOk result (W.failed sink.new ≡ W.failed sink.old) }
     ensures counts { IfErr result (λ cause. cause ≡ WriteFailed → FailsAfter (W.failed sink.old) (W.failed sink.new)) }
+    ensures same_device { W.name sink.new ≡ W.name sink.old }
 {
     match reply_bytes(alloc, reply, head_only, close) {
         Ok(bytes) => send(bytes.as_slice(), sink),
@@ -69,6 +71,7 @@ pub(crate) fn send_refusal<W: Sink>(
     ensures err { IfErr result (λ cause. Partly cause (W.contents sink.old) (W.contents sink.new) (reply_text (answer_to (refused refusal.now)) head_only true)) }
     ensures calm { OnOk result (W.failed sink.new ≡ W.failed sink.old) }
     ensures counts { IfErr result (λ cause. cause ≡ WriteFailed → FailsAfter (W.failed sink.old) (W.failed sink.new)) }
+    ensures same_device { W.name sink.new ≡ W.name sink.old }
 {
     match reply_of(alloc, refusal) {
         Ok(reply) => send_reply(alloc, &reply, head_only, true, sink),

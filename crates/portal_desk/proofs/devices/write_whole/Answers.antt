@@ -10,4 +10,5 @@ loop-at-preserved g c =
       within = search rules;
       written = Appends-more _ _ _ c.args.bytes.now c.loop-at.at c.in_ok-at.field-0 x.within x.written w;
       counted = c.in_ok-at.ensures.counts ∙ x.counted;
+      named = c.in_ok-at.ensures.same_device ∙ x.named;
     }

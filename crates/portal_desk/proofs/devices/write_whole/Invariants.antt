@@ -10,4 +10,5 @@ invariant-loop-at g l = record {
   within : l.at ≤ length l.bytes;
   written : Appends (g.W.Sink.contents l.initial.sink) (g.W.Sink.contents l.sink) (take l.at l.bytes);
   counted : g.W.Sink.failed l.sink ≡ g.W.Sink.failed l.initial.sink;
+  named : g.W.Sink.name l.sink ≡ g.W.Sink.name l.initial.sink;
 }

@@ -11,4 +11,5 @@ invariant-loop-found g l = record {
   reads : Reads (g.R.Source.remaining l.initial.source) (g.R.Source.remaining l.source) l.initial.buffer.items l.buffer.items l.ended;
   held : length l.buffer.items ≤ 1064960;
   calm : g.R.Source.failed l.source ≡ g.R.Source.failed l.initial.source;
+  named : g.R.Source.name l.source ≡ g.R.Source.name l.initial.source;
 }

@@ -12,6 +12,8 @@ invariant-loop-found g l = record {
   clean : g.K.Keeper.clean l.self.keeper → g.K.Keeper.clean l.initial.self.keeper;
   reader : g.R.Source.failed l.source ≡ g.R.Source.failed l.initial.source;
   writer : g.W.Sink.failed l.sink ≡ g.W.Sink.failed l.initial.sink;
+  source : g.R.Source.name l.source ≡ g.R.Source.name l.initial.source;
+  sink : g.W.Sink.name l.sink ≡ g.W.Sink.name l.initial.sink;
   waits : l.initial.self.failed ≡ true → (l.done ≡ 0) × (l.self ≡ l.initial.self);
   held : length l.buffer.items ≤ 1064960;
   taken : TakenBy l.done (length l.buffer.items) (g.R.Source.remaining l.initial.source) (g.R.Source.remaining l.source);
