@@ -163,6 +163,19 @@ lecturer_by_code_plain = known_plain _ _ _ _ _ _ lecturer_by_code_is
 pub lecturer_by_code_listed : (old new : State) (key : List ℕ) → IsOwn old.now.schema → (rows : List Row) → Shown lecturer_by_code (Text key ∷ []) old new rows → ListsBy (1 ∷ []) (has_text 3 key) (columns (1 ∷ 2 ∷ 3 ∷ 4 ∷ 5 ∷ [])) (old.now.trees 1) rows
 lecturer_by_code_listed old new key own rows h = subst (λ p. ListsBy (1 ∷ []) p (columns (1 ∷ 2 ∷ 3 ∷ 4 ∷ 5 ∷ [])) (old.now.trees 1) rows) (same_key 3 key) (listed_own _ _ _ _ _ _ lecturer_by_code_is (Text key ∷ []) old new rows own h)
 
+abbrev pub lecturer_by_key : List ℕ
+lecturer_by_key = codes "SELECT key FROM lecturer WHERE key = ?1 ORDER BY key"
+
+lecturer_by_key_is : Reads lecturer_by_key 1 (1 ∷ []) (has_key 1) (col 1 1 ∷ []) (codes "key" ∷ [])
+unfolding understood everything
+lecturer_by_key_is = record { command = λ checks more. refl; plain = λ checks more. (refl, refl); unlisted = λ checks more. refl }
+
+pub lecturer_by_key_plain : (s : Schema) → IsOwn s → IsPlain (understood s lecturer_by_key)
+lecturer_by_key_plain = known_plain _ _ _ _ _ _ lecturer_by_key_is
+
+pub lecturer_by_key_listed : (old new : State) (key : List ℕ) → IsOwn old.now.schema → (rows : List Row) → Shown lecturer_by_key (Text key ∷ []) old new rows → ListsBy (1 ∷ []) (has_text 1 key) (columns (1 ∷ [])) (old.now.trees 1) rows
+lecturer_by_key_listed old new key own rows h = subst (λ p. ListsBy (1 ∷ []) p (columns (1 ∷ [])) (old.now.trees 1) rows) (same_key 1 key) (listed_own _ _ _ _ _ _ lecturer_by_key_is (Text key ∷ []) old new rows own h)
+
 abbrev pub student_by_code : List ℕ
 student_by_code = codes "SELECT key, name, code, assigned FROM student WHERE code = ?1 ORDER BY key"
 

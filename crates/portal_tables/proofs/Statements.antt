@@ -1,5 +1,5 @@
 -- The texts that write, and what each does to its table, whatever the checks are.
-use Rattle.std.proofs.Common.{◌≡◌, ℕ, pos, List, [], ◌∷◌, filter, codes, true, refl, sym, ap, subst, subst₂, ◌∙◌}
+use Rattle.std.proofs.Common.{◌≡◌, ℕ, ℤ, pos, Option, Some, None, List, [], ◌∷◌, filter, codes, true, refl, sym, ap, subst, subst₂, ◌∙◌}
 use Rattle.sqlite.specs.declared.types.Value.TheVariants.{Null, Int, Text}
 use Rattle.sqlite.specs.Collation.TheVariants.{Binary}
 use Rattle.sqlite.specs.Order.{Row, column}
@@ -12,12 +12,14 @@ use Rattle.sqlite.specs.Source.TheVariants.{Values}
 use Rattle.sqlite_tied.specs.Compute.{everything}
 use Rattle.sqlite.specs.Listing.{understood}
 use Rattle.sqlite.proofs.Callers.{IsPlain, command_of}
-use Rattle.portal_tables.specs.Tables.{portal_tree, lecturer_tree, project_tree, student_tree, choice_tree, ranking_tree}
+use Rattle.portal_tables.specs.Tables.{student, portal_tree, lecturer_tree, project_tree, student_tree, choice_tree, ranking_tree}
 use Rattle.portal_tables.specs.Changes.{has_text}
 use Rattle.portal_tables.specs.Steps.{Ran, Made}
-use Rattle.portal_tables.specs.Rows.{portal_cells, lecturer_cells, project_cells, student_cells, choice_cells, ranking_cells, Adds, Clears, MovesTo, Ranks, Assigns, portal_row}
+use Rattle.portal_tables.specs.Rows.{portal_cells, lecturer_cells, project_cells, student_cells, choice_cells, ranking_cells, Adds, Clears, MovesTo, Ranks, Assigns, portal_row, text_or_null}
 use Rattle.portal_tables.proofs.Weak.{portal_with, own_is}
-use Rattle.portal_tables.proofs.Query.{one_table, passes}
+use Rattle.portal_tables.proofs.Query.{one_table, passes, shown_as}
+use Rattle.sqlite.specs.Cast.{cast_row}
+use Rattle.sqlite.specs.Values.{bound_value}
 use Rattle.portal_tables.proofs.Tests.{param, has_key, same_key, same_key_of, equals_int}
 use Rattle.portal_tables.proofs.Lists.{eq_self}
 use Rattle.portal_tables.specs.Changes.{IsApart}
@@ -213,17 +215,28 @@ update_assigned_is : Updates update_assigned 3 6 (has_key 1) update_assigned_row
 unfolding understood everything
 update_assigned_is = record { command = λ checks more. refl; plain = λ checks more. (refl, refl) }
 
-pub student_assigned : (old new : State) (key project : List ℕ) → Ran update_assigned (Text key ∷ Text project ∷ []) old new → Made (Assigns key project) old new
+-- as it is bound
+pub assigned_bound : (project : Option (List ℕ)) → bound_value (text_or_null project) ≡ text_or_null project
+assigned_bound None = refl
+assigned_bound (Some t) = refl
+
+assigned_row : (number : ℤ) (key name code : List ℕ) (last : Row) (project : Option (List ℕ))
+    → cast_row (student 6) (shown_as update_assigned_row (Text key ∷ text_or_null project ∷ []) (Int number ∷ Text key ∷ Text name ∷ Text code ∷ last)) ≡ Int number ∷ student_cells key name code (text_or_null project)
+assigned_row number key name code last None = rw (cast_int number) refl
+assigned_row number key name code last (Some t) = rw (cast_int number) refl
+
+pub student_assigned : (old new : State) (key : List ℕ) (project : Option (List ℕ)) → Ran update_assigned (Text key ∷ text_or_null project ∷ []) old new → Made (Assigns key project) old new
 student_assigned old new key project h = record {
   shown = h.shown;
-  changed = λ own apart number name code was one.
+  changed = λ own apart number name code last one.
       let w = own_is old.now.schema own in
       let s = portal_with w.checks w.terms in
-      let r = Int number ∷ student_cells key name code was in
+      let v = text_or_null project in
+      let r = Int number ∷ Text key ∷ Text name ∷ Text code ∷ last in
       let set = updated s update_assigned 3 _ 6 _ _ _ _ _ _ _ _ refl (has_key 1) update_assigned_row (update_assigned_is.command w.checks w.terms) (update_assigned_is.plain w.checks w.terms) (λ was row. refl)
-      (Text key ∷ Text project ∷ []) r old new h.count w.is apart (ap (λ p. filter p (old.now.trees 6)) (same_key_of 1 key (Text project ∷ [])) ∙ one) h.runs in
-      sets_own w.checks w.terms 6 old.now new.now w.is (has_text 1 key) (Int number ∷ student_cells key name code (Text project))
-      (subst₂ (λ p row. SetsIn s 6 p row old.now new.now) (same_key_of 1 key (Text project ∷ [])) (rw (cast_int number) refl) set);
+      (Text key ∷ v ∷ []) r old new h.count w.is apart (ap (λ p. filter p (old.now.trees 6)) (same_key_of 1 key (v ∷ [])) ∙ one) h.runs in
+      sets_own w.checks w.terms 6 old.now new.now w.is (has_text 1 key) (Int number ∷ student_cells key name code v)
+      (subst₂ (λ p row. SetsIn s 6 p row old.now new.now) (same_key_of 1 key (v ∷ [])) (assigned_row number key name code last project) set);
 }
 
 abbrev pub update_phase : List ℕ

@@ -1,5 +1,5 @@
 -- What the statements put into the six tables.
-use Rattle.std.specs.Prelude.{◌≡◌, ℕ, ℤ, pos, List, [], ◌∷◌, filter}
+use Rattle.std.specs.Prelude.{◌≡◌, ℕ, ℤ, pos, List, [], ◌∷◌, filter, Option, Some, None}
 use Rattle.sqlite.specs.declared.types.Value.{Value}
 use Rattle.sqlite.specs.declared.types.Value.TheVariants.{Null, Int, Text as Words}
 use Rattle.sqlite.specs.Order.{Row}
@@ -50,8 +50,13 @@ Ranks key old new = IsOwn old.schema → IsApart (old.trees lecturer_tree) → (
     → filter (has_text 1 key) (old.trees lecturer_tree) ≡ (Int number ∷ lecturer_cells key name code capacity ranked) ∷ []
     → Sets lecturer_tree (has_text 1 key) (Int number ∷ lecturer_cells key name code capacity (pos 1)) old new
 
--- the student's one row names this project
-abbrev pub Assigns : List ℕ → List ℕ → Database → Database → Type 0
-Assigns key project old new = IsOwn old.schema → IsApart (old.trees student_tree) → (number : ℤ) (name code : List ℕ) (was : Value)
-    → filter (has_text 1 key) (old.trees student_tree) ≡ (Int number ∷ student_cells key name code was) ∷ []
-    → Sets student_tree (has_text 1 key) (Int number ∷ student_cells key name code (Words project)) old new
+-- a text, or NULL
+abbrev pub text_or_null : Option (List ℕ) → Value
+text_or_null None = Null
+text_or_null (Some t) = Words t
+
+-- the student's one row names this project or none, whatever stood in its last column
+abbrev pub Assigns : List ℕ → Option (List ℕ) → Database → Database → Type 0
+Assigns key project old new = IsOwn old.schema → IsApart (old.trees student_tree) → (number : ℤ) (name code : List ℕ) (last : Row)
+    → filter (has_text 1 key) (old.trees student_tree) ≡ (Int number ∷ Words key ∷ Words name ∷ Words code ∷ last) ∷ []
+    → Sets student_tree (has_text 1 key) (Int number ∷ student_cells key name code (text_or_null project)) old new

@@ -46,6 +46,7 @@ pub fn has_apart_portal<S: Alter>(conn: &mut Connection<S>) -> Result<bool, Erro
     ensures err { IsOwn conn.old.schema → HasCleanDisk (state S.Store conn.new) → OnErr result (Leaves (state S.Store conn.old) (state S.Store conn.new)) }
     ensures mode { conn.old.in_transaction ≡ false → conn.new.in_transaction ≡ false }
     ensures crash { IsOwn conn.old.schema → Survives (state S.Store conn.old) (state S.Store conn.new) (λ _. ⊥) }
+    ensures survives { Survives (state S.Store conn.old) (state S.Store conn.new) (λ _. IsOwn conn.old.schema → ⊥) }
 {
     let rows = read(conn, "SELECT rowid FROM portal ORDER BY rowid", &[])?;
     Ok(do_rise(&rows))
@@ -58,6 +59,7 @@ pub fn has_apart_lecturers<S: Alter>(conn: &mut Connection<S>) -> Result<bool, E
     ensures err { IsOwn conn.old.schema → HasCleanDisk (state S.Store conn.new) → OnErr result (Leaves (state S.Store conn.old) (state S.Store conn.new)) }
     ensures mode { conn.old.in_transaction ≡ false → conn.new.in_transaction ≡ false }
     ensures crash { IsOwn conn.old.schema → Survives (state S.Store conn.old) (state S.Store conn.new) (λ _. ⊥) }
+    ensures survives { Survives (state S.Store conn.old) (state S.Store conn.new) (λ _. IsOwn conn.old.schema → ⊥) }
 {
     let rows = read(conn, "SELECT rowid FROM lecturer ORDER BY rowid", &[])?;
     Ok(do_rise(&rows))
@@ -70,6 +72,7 @@ pub fn has_apart_projects<S: Alter>(conn: &mut Connection<S>) -> Result<bool, Er
     ensures err { IsOwn conn.old.schema → HasCleanDisk (state S.Store conn.new) → OnErr result (Leaves (state S.Store conn.old) (state S.Store conn.new)) }
     ensures mode { conn.old.in_transaction ≡ false → conn.new.in_transaction ≡ false }
     ensures crash { IsOwn conn.old.schema → Survives (state S.Store conn.old) (state S.Store conn.new) (λ _. ⊥) }
+    ensures survives { Survives (state S.Store conn.old) (state S.Store conn.new) (λ _. IsOwn conn.old.schema → ⊥) }
 {
     let rows = read(conn, "SELECT rowid FROM project ORDER BY rowid", &[])?;
     Ok(do_rise(&rows))
@@ -82,6 +85,7 @@ pub fn has_apart_students<S: Alter>(conn: &mut Connection<S>) -> Result<bool, Er
     ensures err { IsOwn conn.old.schema → HasCleanDisk (state S.Store conn.new) → OnErr result (Leaves (state S.Store conn.old) (state S.Store conn.new)) }
     ensures mode { conn.old.in_transaction ≡ false → conn.new.in_transaction ≡ false }
     ensures crash { IsOwn conn.old.schema → Survives (state S.Store conn.old) (state S.Store conn.new) (λ _. ⊥) }
+    ensures survives { Survives (state S.Store conn.old) (state S.Store conn.new) (λ _. IsOwn conn.old.schema → ⊥) }
 {
     let rows = read(conn, "SELECT rowid FROM student ORDER BY rowid", &[])?;
     Ok(do_rise(&rows))
@@ -94,6 +98,7 @@ pub fn has_apart_choices<S: Alter>(conn: &mut Connection<S>) -> Result<bool, Err
     ensures err { IsOwn conn.old.schema → HasCleanDisk (state S.Store conn.new) → OnErr result (Leaves (state S.Store conn.old) (state S.Store conn.new)) }
     ensures mode { conn.old.in_transaction ≡ false → conn.new.in_transaction ≡ false }
     ensures crash { IsOwn conn.old.schema → Survives (state S.Store conn.old) (state S.Store conn.new) (λ _. ⊥) }
+    ensures survives { Survives (state S.Store conn.old) (state S.Store conn.new) (λ _. IsOwn conn.old.schema → ⊥) }
 {
     let rows = read(conn, "SELECT rowid FROM choice ORDER BY rowid", &[])?;
     Ok(do_rise(&rows))
@@ -106,6 +111,7 @@ pub fn has_apart_rankings<S: Alter>(conn: &mut Connection<S>) -> Result<bool, Er
     ensures err { IsOwn conn.old.schema → HasCleanDisk (state S.Store conn.new) → OnErr result (Leaves (state S.Store conn.old) (state S.Store conn.new)) }
     ensures mode { conn.old.in_transaction ≡ false → conn.new.in_transaction ≡ false }
     ensures crash { IsOwn conn.old.schema → Survives (state S.Store conn.old) (state S.Store conn.new) (λ _. ⊥) }
+    ensures survives { Survives (state S.Store conn.old) (state S.Store conn.new) (λ _. IsOwn conn.old.schema → ⊥) }
 {
     let rows = read(conn, "SELECT rowid FROM ranking ORDER BY rowid", &[])?;
     Ok(do_rise(&rows))

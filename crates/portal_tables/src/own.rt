@@ -15,6 +15,7 @@ use sqlite_value::keys::Order;
 use sqlite_value::order::is_same;
 use sqlite_value::value::Bytes;
 use std::alloc::Global;
+use std::marker::Model;
 
 /// What can be compared whole.
 trait Same {
@@ -167,11 +168,44 @@ fn scratch(alloc: Global) -> Result<Connection<MemStore>, Error>
     Ok(conn)
 }
 
+/// The portal's own tables over no row, to compare with.
+#[derive(Drop)]
+pub struct Pattern {
+    conn: Connection<MemStore>,
+}
+
+impl Model for Pattern {
+    ghost use Rattle.std.specs.Prelude.{◌≡◌};
+    ghost use Rattle.portal_tables.specs.Tables.{portal_schema};
+
+    ghost Value = { Unit {0} };
+
+    ghost view = { λ _. tt };
+
+    ghost invariant = { λ p. p.conn.schema ≡ portal_schema };
+}
+
+impl Pattern {
+    /// Makes the tables in memory. An error is want of memory.
+    pub fn new(alloc: Global) -> Result<Pattern, Error> {
+        let conn = scratch(alloc)?;
+        Ok(Pattern { conn })
+    }
+
+    /// Whether the tables of a connection are those that `make_tables` makes, and no other table, index or view is there.
+    /// It reads nothing of the database.
+    pub fn fits<S: Alter>(&self, conn: &Connection<S>) -> bool
+        ensures { IsTrue result ↔ IsOwn conn.now.schema }
+    {
+        is_same_schema(conn.schema(), self.conn.schema())
+    }
+}
+
 /// Whether the tables are those that `make_tables` makes, and no other table, index or view is there. It reads nothing of
 /// the database: the only errors are those of the scratch connection, as too little memory.
 pub fn is_own<S: Alter>(alloc: Global, conn: &Connection<S>) -> Result<bool, Error>
     ensures { IfOk result (λ own. IsTrue own ↔ IsOwn conn.now.schema) }
 {
-    let own = scratch(alloc)?;
-    Ok(is_same_schema(conn.schema(), own.schema()))
+    let own = Pattern::new(alloc)?;
+    Ok(own.fits(conn))
 }

@@ -86,7 +86,7 @@ fn fill(conn: &mut Connection<MemStore>) -> Result<(), Error> {
 fn set_all(tx: &mut Transaction<'_, MemStore>) -> Result<(), Error> {
     set_phase(tx, 3)?;
     set_ranked(tx, b"L1")?;
-    set_assigned(tx, b"S2", b"P1")?;
+    set_assigned(tx, b"S2", Some(b"P1".as_slice()))?;
     clear_choices(tx, b"S1")?;
     clear_rankings(tx, b"L1")?;
     Ok(())

@@ -1,5 +1,6 @@
 use Rattle.std.proofs.Common.{◌≡◌, None, true, subst}
 use Rattle.sqlite.specs.Held.{state}
+use Rattle.sqlite.proofs.StateLemmas.{survives_weaker}
 use Rattle.portal_tables.specs.Rising.{rises}
 use Rattle.portal_tables.proofs.Queries.{on_err}
 use Rattle.portal_tables.proofs.Rises.{apart_of}
@@ -22,3 +23,11 @@ returns-in_err-rows-clause-err g c own clean = on_err _ c.from_residual.result (
 
 pub returns-in_err-rows-clause-crash : goal.returns-in_err-rows-clause-crash
 returns-in_err-rows-clause-crash g c own = c.in_err-rows.ensures.crash (numbers_of_ranking_plain c.args.conn.now.schema own)
+
+pub returns-clause-survives : goal.returns-clause-survives
+returns-clause-survives g c =
+    survives_weaker (state g.S.Store c.args.conn.now) (state g.S.Store c.read.new.conn) _ _ (λ _ db made own. made (numbers_of_ranking_plain c.args.conn.now.schema own)) c.in_ok-rows.ensures.survives
+
+pub returns-in_err-rows-clause-survives : goal.returns-in_err-rows-clause-survives
+returns-in_err-rows-clause-survives g c =
+    survives_weaker (state g.S.Store c.args.conn.now) (state g.S.Store c.read.new.conn) _ _ (λ _ db made own. made (numbers_of_ranking_plain c.args.conn.now.schema own)) c.in_err-rows.ensures.survives

@@ -1,4 +1,5 @@
 use Rattle.sqlite.specs.Held.{state}
+use Rattle.sqlite.proofs.StateLemmas.{survives_weaker}
 use Rattle.portal_tables.proofs.Queries.{if_ok}
 use Rattle.portal_tables.proofs.Shows.{list_of_plain, list_of_listed}
 use Rattle.portal_tables.proofs.select.list_of.Goals as goal
@@ -14,3 +15,7 @@ returns-clause-err g c own clean = c.read.ensures.err (list_of_plain c.args.conn
 
 pub returns-clause-crash : goal.returns-clause-crash
 returns-clause-crash g c own = c.read.ensures.crash (list_of_plain c.args.conn.now.schema own)
+
+pub returns-clause-survives : goal.returns-clause-survives
+returns-clause-survives g c =
+    survives_weaker (state g.S.Store c.args.conn.now) (state g.S.Store c.read.new.conn) _ _ (λ _ db made own. made (list_of_plain c.args.conn.now.schema own)) c.read.ensures.survives
