@@ -1,5 +1,6 @@
--- What stands for the lines of a good world is its instance.
-use Rattle.std.proofs.Common.{◌≡◌, List, [], map, sym, ◌∙◌, subst, ap}
+-- What stands for the lines of a sound world is its instance.
+use Rattle.std.specs.List.{AllByRecursion}
+use Rattle.std.proofs.Common.{◌≡◌, false, List, [], map, sym, ◌∙◌, subst, ap}
 use Rattle.std.specs.Prelude.{unwrap_or}
 use Rattle.spa_rows.specs.Faults.{HasNoneBefore}
 use Rattle.spa_rows.specs.declared.faults.InstanceFault.TheVariants.{Memory}
@@ -8,10 +9,10 @@ use Rattle.spa_model.specs.Spa.{Spa, IsLawful}
 use Rattle.spa_model.specs.Built.{StandsFor}
 use Rattle.spa_model.specs.Pairs.{number_in}
 use Rattle.portal_core.specs.Words.{Key, Rise}
-use Rattle.portal_core.specs.World.{World, Lecturer, Student}
+use Rattle.portal_core.specs.World.{World, Lecturer, Student, is_still_to_rank}
 use Rattle.portal_core.specs.declared.rows.ProjectRow.{ProjectRow}
 use Rattle.portal_core.specs.Instance.{instance, lecturer_keys, project_keys, student_keys}
-use Rattle.portal_core.specs.Good.{Good, CanPublish}
+use Rattle.portal_core.specs.Good.{Sound}
 use Rattle.portal_list.specs.Lines.{lecturer_line, project_line, student_line, lines_of, HasEntries}
 use Rattle.portal_list.proofs.Rising.{map_map, pairs_rise}
 use Rattle.portal_list.proofs.Standing.{spa_of_rows, only_instance}
@@ -42,16 +43,16 @@ same_instance w = λ j. record {
     lecturers : map (λ x. x.key) (map lecturer_line w.lecturers) ≡ lecturer_keys w
     lecturers = map_map (λ x. x.key) lecturer_line w.lecturers
 
-exact : (w : World) (i : Spa) → Good w → IsLawful i → StandsFor (lines_of w.lecturers w.projects w.students) i → i ≡ instance w
-exact w i good lawful for =
+exact : (w : World) (i : Spa) → Sound w → IsLawful i → StandsFor (lines_of w.lecturers w.projects w.students) i → i ≡ instance w
+exact w i sound lawful for =
     only_instance (lines_of w.lecturers w.projects w.students) i lawful for
-    (keys_rise student_line (λ x. x.key) w.students good.sound.students_rise)
-    (keys_rise project_line (λ x. x.key) w.projects good.sound.projects_rise)
-    (keys_rise lecturer_line (λ x. x.key) w.lecturers good.sound.lecturers_rise)
+    (keys_rise student_line (λ x. x.key) w.students sound.students_rise)
+    (keys_rise project_line (λ x. x.key) w.projects sound.projects_rise)
+    (keys_rise lecturer_line (λ x. x.key) w.lecturers sound.lecturers_rise)
     ∙ same_instance w
 
--- of the entries that some good world has, as instance_of is told
-module _ (ls : List Lecturer) (ps : List ProjectRow) (ss : List Student) (ready : (w : World) × HasEntries ls ps ss w × Good w × CanPublish w) where
+-- of the entries that some sound world has, as instance_of is told
+module _ (ls : List Lecturer) (ps : List ProjectRow) (ss : List Student) (ready : (w : World) × HasEntries ls ps ss w × Sound w × AllByRecursion (λ l. is_still_to_rank w l ≡ false) w.lecturers) where
   pub none_before_memory : HasNoneBefore (lines_of ls ps ss) Memory
   none_before_memory =
       let has : HasEntries ls ps ss ready.0 = ready.1 in

@@ -1,4 +1,4 @@
--- The lines of a good world in which nobody is still to rank have no fault.
+-- The lines of a sound world in which nobody is still to rank have no fault.
 use Rattle.std.proofs.Common.{◌≡◌, inl, inr, ℕ, ◌<◌, ◌≤◌, Bool, true, false, List, [], ◌∷◌, map, length, get_or, Any, refl, sym, ◌∙◌, subst, arith}
 use Rattle.std.specs.Prelude.{Option, Some, None, is_none, unwrap_or, IfSome, not, ◌&&◌}
 use Rattle.std.specs.List.{list_any, AllByRecursion}
@@ -14,7 +14,7 @@ use Rattle.spa_model.proofs.Zips.{any_map, any_unmap}
 use Rattle.portal_core.specs.Words.{Key, is, has, is_empty, Rise}
 use Rattle.portal_core.specs.World.{World, Student, student_key, projects_of, applicants_of, is_still_to_rank}
 use Rattle.portal_core.specs.Instance.{lecturer_keys, project_keys}
-use Rattle.portal_core.specs.Good.{Good, Sound, CanPublish, IsChoice, IsRanking, IsLecturer, IsProject, IsStudent}
+use Rattle.portal_core.specs.Good.{Sound, IsChoice, IsRanking, IsLecturer, IsProject, IsStudent}
 use Rattle.portal_core.specs.declared.rows.ProjectRow.{ProjectRow}
 use Rattle.portal_core.proofs.Keys.{is_same, is_own}
 use Rattle.portal_core.proofs.AllLaws as laws
@@ -96,12 +96,9 @@ module _ (w : World) where
   no_bad_capacity n low high (inl h) = omega arith
   no_bad_capacity n low high (inr h) = omega arith
 
-  module _ (good : Good w) (ready : CanPublish w) where
-    abbrev sound : Sound w
-    sound = good.sound
-
+  module _ (sound : Sound w) (all_ranked : AllByRecursion (λ l. is_still_to_rank w l ≡ false) w.lecturers) where
     ranked : AllByRecursion (λ l. Ranks l.row.key l.ranking × (is_still_to_rank w l ≡ false)) w.lecturers
-    ranked = laws.all_both (λ l. Ranks l.row.key l.ranking) (λ l. is_still_to_rank w l ≡ false) w.lecturers sound.rankings ready.all_ranked
+    ranked = laws.all_both (λ l. Ranks l.row.key l.ranking) (λ l. is_still_to_rank w l ≡ false) w.lecturers sound.rankings all_ranked
 
     bad_key : (k : Key) → is_key k ≡ true → is_key k ≡ false → ⊥
     bad_key k h e = cc

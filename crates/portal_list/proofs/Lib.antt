@@ -17,3 +17,6 @@ pub mod Parted
 pub mod Fresh
 pub mod Shared
 pub mod Filled
+pub mod AllRanked
+pub mod Missing
+pub mod Stable

@@ -45,7 +45,7 @@ both_ways true false = refl
 both_ways false true = refl
 both_ways false false = refl
 
-waiting_is : (w : World) (l : Lecturer) → is_waiting w.students w.projects l ≡ is_still_to_rank w l
+pub waiting_is : (w : World) (l : Lecturer) → is_waiting w.students w.projects l ≡ is_still_to_rank w l
 waiting_is w l =
     both_ways (is_none l.ranking) (is_wanted w.students w.projects l.row.key)
     ∙ ap (λ b. b && is_none l.ranking) (sym (any_left _ w.students ∙ wanted w.students l.row.key w.projects))

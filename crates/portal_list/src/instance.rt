@@ -1,8 +1,9 @@
 //! The instance of the entries.
 
-ghost use Rattle.std.specs.Prelude.{◌≡◌, IfOk, map};
-ghost use Rattle.portal_core.specs.World.{World};
-ghost use Rattle.portal_core.specs.Good.{Good, CanPublish};
+ghost use Rattle.std.specs.Prelude.{◌≡◌, false, IfOk, map};
+ghost use Rattle.std.specs.List.{AllByRecursion};
+ghost use Rattle.portal_core.specs.World.{World, is_still_to_rank};
+ghost use Rattle.portal_core.specs.Good.{Sound};
 ghost use Rattle.portal_core.specs.Instance as meant_by;
 ghost use Rattle.portal_list.specs.Lines.{lecturer_line, project_line, student_line, lines_of, HasEntries};
 
@@ -112,14 +113,14 @@ fn rows_of(
     })
 }
 
-/// The instance of the entries of a good world in which nobody is still to rank.
+/// The instance of the entries of a sound world in which nobody is still to rank.
 pub(crate) fn instance_of(
     alloc: Global,
     lecturers: &[LecturerEntry],
     projects: &[ProjectRow],
     students: &[StudentEntry],
 ) -> Result<Instance, AllocError>
-    requires ready { (w : World) × HasEntries lecturers.now projects.now students.now w × Good w × CanPublish w }
+    requires ready { (w : World) × HasEntries lecturers.now projects.now students.now w × Sound w × AllByRecursion (λ l. is_still_to_rank w l ≡ false) w.lecturers }
     ensures instance { IfOk result (λ instance. (w : World) → HasEntries lecturers.now projects.now students.now w → instance ≡ meant_by.instance w) }
 {
     let rows = rows_of(alloc, lecturers, projects, students)?;

@@ -6,12 +6,15 @@ mod changes;
 mod copies;
 mod distinct;
 mod entries;
+mod fills;
 mod fit;
 mod from_rows;
+mod good;
 mod instance;
 mod keeper;
 mod keyed;
 mod lists;
+mod ready;
 mod rolls;
 mod views;
 

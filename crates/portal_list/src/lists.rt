@@ -47,7 +47,7 @@ fn have_no_places(students: &[StudentEntry]) -> bool
     true
 }
 
-fn is_published(phase: Phase) -> bool
+pub(crate) fn is_published(phase: Phase) -> bool
     ensures { result ≡ is_published phase }
 {
     phase == Phase::Published

@@ -180,7 +180,7 @@ impl Instance {
     }
 
     /// The number of the project with this key; the count of projects where there is none.
-    pub(crate) fn project_number(&self, text: &[u8]) -> usize
+    pub fn project_number(&self, text: &[u8]) -> usize
         ensures { result ≡ number_in self.now.project_keys text.now }
     {
         match self.projects.binary_search_by(
@@ -193,15 +193,21 @@ impl Instance {
         }
     }
 
-    /// Whether the matching, of this or of any other instance, is one of this instance.
-    pub fn fits(&self, matching: &Matching) -> bool
-        ensures { IsTrue result ↔ IsMatching self.now matching.now }
+    /// Whether these projects, one for each student, are a matching.
+    pub fn accepts(&self, projects: &[Option<usize>]) -> bool
+        ensures { IsTrue result ↔ IsMatching self.now projects.now }
     {
-        let projects = matching.projects();
         projects.len() == self.students()
             && are_acceptable(self, projects)
             && projects_fit(self, projects)
             && lecturers_fit(self, projects)
+    }
+
+    /// Whether the matching, of this or of any other instance, is one of this instance.
+    pub fn fits(&self, matching: &Matching) -> bool
+        ensures { IsTrue result ↔ IsMatching self.now matching.now }
+    {
+        self.accepts(matching.projects())
     }
 
     /// The project of a student in a matching of this instance.

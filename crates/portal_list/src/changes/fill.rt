@@ -38,7 +38,7 @@ fn copies(alloc: Global, keys: &[&Key]) -> Result<Vec<Key>, AllocError>
 }
 
 /// The lecturer's applicants, in the order of their keys.
-fn applicants_by_key(
+pub(crate) fn applicants_by_key(
     alloc: Global,
     projects: &[ProjectRow],
     students: &[StudentEntry],

@@ -58,7 +58,11 @@ fn is_listed(students: &[StudentEntry], project: &Key) -> bool
 }
 
 /// Whether some list holds a project of the lecturer.
-fn has_applicant(students: &[StudentEntry], projects: &[ProjectRow], lecturer: &Key) -> bool
+pub(crate) fn has_applicant(
+    students: &[StudentEntry],
+    projects: &[ProjectRow],
+    lecturer: &Key,
+) -> bool
     ensures { result ≡ is_wanted students.now projects.now lecturer.now }
 {
     projects
@@ -67,7 +71,7 @@ fn has_applicant(students: &[StudentEntry], projects: &[ProjectRow], lecturer: &
 }
 
 /// The lecturers who have an applicant and no ranking.
-fn waiting(
+pub(crate) fn waiting(
     alloc: Global,
     lecturers: &[LecturerEntry],
     projects: &[ProjectRow],

@@ -1,0 +1,7 @@
+use Rattle.std.proofs.Common.{◌≡◌, map, take}
+use Rattle.std.specs.Prelude.{option_map}
+use Rattle.spa_model.specs.Pairs.{number_in}
+use Rattle.portal_list.proofs.good.places_in.Given as goal
+
+abbrev pub invariant-loop-student : goal.invariant-loop-student
+invariant-loop-student l = l.places.items ≡ map (λ s. option_map (number_in l.instance.project_keys) s.placed) (take l.student-index l.students)

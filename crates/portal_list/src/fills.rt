@@ -1,0 +1,42 @@
+//! What a fill would put.
+
+ghost use Rattle.std.specs.Prelude.{◌≡◌, IfOk, List, map};
+ghost use Rattle.portal_core.specs.Words as words;
+ghost use Rattle.portal_list.specs.Parts.{applicant_keys};
+ghost use Rattle.portal_list.specs.Fill.{fills};
+
+use crate::changes::applicants_by_key;
+use crate::entries::StudentEntry;
+use crate::keeper::ListKeeper;
+use crate::views::waiting;
+use portal_core::ProjectRow;
+use spa_rows::Key;
+use std::alloc::{AllocError, Global};
+
+/// Each of these lecturers, with the keys of the applicants.
+fn with_applicants(
+    alloc: Global,
+    lecturers: &[Key],
+    projects: &[ProjectRow],
+    students: &[StudentEntry],
+) -> Result<Vec<(Key, Vec<Key>)>, AllocError>
+    ensures { IfOk result (λ v. map {B = words.Key × List words.Key} (λ f. (f.0, f.1.items)) v.items ≡ map (λ k. (k, applicant_keys projects.now students.now k)) lecturers.now) }
+{
+    let mut fills = Vec::with_capacity(alloc, lecturers.len())?;
+    for lecturer in lecturers {
+        let keys = applicants_by_key(alloc, projects, students, lecturer)?;
+        fills.push((lecturer.copy(alloc)?, keys))?;
+    }
+    Ok(fills)
+}
+
+impl ListKeeper {
+    /// The lecturers who are still to rank, in the order of the roll, each with the keys of the applicants in their order:
+    /// the rankings that a fill would put.
+    pub fn fills(&self, alloc: Global) -> Result<Vec<(Key, Vec<Key>)>, AllocError>
+        ensures { IfOk result (λ v. map {B = words.Key × List words.Key} (λ f. (f.0, f.1.items)) v.items ≡ fills self.now) }
+    {
+        let lecturers = waiting(alloc, &self.lecturers, &self.projects, &self.students)?;
+        with_applicants(alloc, &lecturers, &self.projects, &self.students)
+    }
+}
