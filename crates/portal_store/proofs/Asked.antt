@@ -1,0 +1,134 @@
+-- Queries in turn, and what `open` makes of them.
+use Rattle.std.proofs.Common.{List, [], ◌∷◌, pos, ◌≡◌, inl, inr, ℕ, Bool, false, IsTrue, IfErr, Ok, Err, Result, OnOk, OnErr, map, length, filter, slice_index_or, refl, sym, ap, subst, ◌∙◌, arith}
+use Rattle.std.specs.Result.{IsErr}
+use Rattle.std.specs.List.Sorted.{IsPermutation}
+use Rattle.std.proofs.lemmas.List.Sorted.{length_permutation}
+use Rattle.sqlite.specs.declared.types.Value.TheVariants.{Int}
+use Rattle.sqlite.specs.Order.{Row, column, bytes}
+use Rattle.sqlite.specs.Tree.{Trees}
+use Rattle.sqlite.specs.Effect.{Database}
+use Rattle.sqlite.specs.State.{State, HasCleanDisk, IsUnchanged, IsLive, Survives}
+use Rattle.sqlite.specs.Store.{Ghosts}
+use Rattle.sqlite.specs.Held.{Held, state}
+use Rattle.sqlite.proofs.StateLemmas.{survives_then}
+use Rattle.sqlite.proofs.Callers.{one_permutation}
+use Rattle.portal_tables.specs.Tables.{portal_tree}
+use Rattle.portal_tables.specs.Own.{IsOwn}
+use Rattle.portal_tables.specs.Changes.{ListsBy, every, columns}
+use Rattle.portal_tables.specs.Rows.{portal_row}
+use Rattle.portal_tables.specs.Steps.{Stays, Leaves}
+use Rattle.portal_tables.proofs.Queries.{on_ok}
+use Rattle.portal_core.specs.Words.{Key}
+use Rattle.portal_store.specs.World.{number_of, world_of}
+use Rattle.portal_store.specs.Kept.{HasOffice, Holds, IsKept}
+use Rattle.portal_store.specs.Asked.{Asks, Refutes, Admits}
+use Rattle.portal_store.specs.declared.store.OpenFault.{OpenFault}
+use Rattle.portal_store.specs.declared.store.OpenFault.TheVariants.{NotPortal, OtherVersion, Damaged, Store, Memory}
+
+unchanged_then : (a b c : State) → IsUnchanged a b → IsUnchanged b c → IsUnchanged a c
+unchanged_then a b c p q = (
+  record { was_open = p.0.was_open; is_open = q.0.is_open; now_is = q.0.now_is ∙ p.0.now_is; committed_is = q.0.committed_is ∙ p.0.committed_is; mode = q.0.mode ∙ p.0.mode },
+  record { changes = q.1.changes ∙ p.1.changes; last_rowid = q.1.last_rowid ∙ p.1.last_rowid },
+  q.2 ∙ p.2,
+)
+
+then_leaves : (a b c : State) → IsUnchanged a b → Leaves b c → Leaves a c
+then_leaves a b c p (inl q) = inl (unchanged_then a b c p q)
+then_leaves a b c p (inr q) = inr (record {
+  was_open = λ _. p.0.was_open;
+  undone = λ on. let u = q.undone on in (u.0 ∙ p.0.committed_is, u.1 ∙ p.0.committed_is);
+  autocommit = q.autocommit;
+  unmarked = q.unmarked;
+  counts = record { changes = q.counts.changes ∙ p.1.changes; last_rowid = q.counts.last_rowid ∙ p.1.last_rowid };
+})
+
+more_err : {V E : Type 0} (A B : Type 0) (r : Result V E) → (A → B) → OnErr r A → OnErr r B
+more_err A B (Ok v) more h = tt
+more_err A B (Err e) more h = more h
+
+-- one query
+pub asks_of : {V E : Type 0} (r : Result V E) (a b : State) → (IsOwn a.now.schema → HasCleanDisk b → OnOk r (IsUnchanged a b)) → (IsOwn a.now.schema → HasCleanDisk b → OnErr r (Leaves a b))
+    → Survives a b (λ _. IsOwn a.now.schema → ⊥) → Asks r a b
+asks_of r a b same err crash = record { same = same; err = err; crash = crash }
+
+-- after one that answered, another
+pub asks_then : {U D V E : Type 0} (u : U) (r : Result V E) (a b c : State) → Asks {V = U} {E = D} (Ok u) a b → Asks r b c → Asks r a c
+asks_then u r a b c p q =
+    let middle : IsOwn a.now.schema → HasCleanDisk c → IsUnchanged a b = λ own clean. p.same own (omega (arith, q.crash.clean, clean)) in
+    let own_there : IsUnchanged a b → IsOwn a.now.schema → IsOwn b.now.schema = λ same own. subst (λ (d : Database). IsOwn d.schema) (sym same.0.now_is) own in
+    record {
+      same = λ own clean. let m = middle own clean in on_ok _ _ r (unchanged_then a b c m) (q.same (own_there m own) clean);
+      err = λ own clean. let m = middle own clean in more_err _ _ r (then_leaves a b c m) (q.err (own_there m own) clean);
+      crash = survives_then a b c _ _ _ (λ clean db no. no) (λ clean db no own. no (own_there (middle own clean) own)) p.crash q.crash;
+    }
+
+-- the same queries, where an error is answered in the end
+asks_fail : {U D V E : Type 0} (x : Result U D) (e : E) (a b : State) → Asks x a b → Asks {V = V} {E = E} (Err e) a b
+asks_fail (Ok u) e a b h = record { same = λ own clean. tt; err = λ own clean. inl (h.same own clean); crash = h.crash }
+asks_fail (Err d) e a b h = record { same = λ own clean. tt; err = h.err; crash = h.crash }
+
+pub asks_err : {U D V E : Type 0} (x : Result U D) (r : Result V E) (a b : State) → IsErr r → Asks x a b → Asks r a b
+asks_err x (Ok v) a b is h = absurd (cc)
+asks_err x (Err e) a b is h = asks_fail x e a b h
+
+-- after one that answered what was wanted, another
+pub asks_after : {U D V E : Type 0} (x : Result U D) (u : U) (r : Result V E) (a b c : State) → x ≡ Ok u → Asks x a b → Asks r b c → Asks r a c
+asks_after {U} {D} x u r a b c is h then = asks_then u r a b c (subst (λ (y : Result U D). Asks y a b) is h) then
+
+-- the same queries, where they answered what was wanted, or an error is answered
+pub asks_so : {U D V E : Type 0} (x : Result U D) (u : U) (r : Result V E) (a b : State) → OnOk r (x ≡ Ok u) → Asks x a b → Asks r a b
+asks_so {U} {D} x u (Ok v) a b is h =
+    let there = subst (λ (y : Result U D). Asks y a b) is h in
+    record { same = there.same; err = λ own clean. tt; crash = there.crash }
+asks_so x u (Err e) a b is h = asks_fail x e a b h
+
+-- the row of the office
+
+listed_one : (keys : List ℕ) (show : Row → Row) (table shown : List Row) (r : Row) → ListsBy keys every show table shown → table ≡ r ∷ [] → shown ≡ show r ∷ []
+listed_one keys show table shown r h is =
+    let f : Row → Row × Row = λ r. (columns keys r, show r) in
+    h.is ∙ ap (map (λ (k : Row × Row). k.1)) (one_permutation (f r) h.keyed (subst (λ rows. IsPermutation (map f (filter every rows)) h.keyed) is h.same))
+
+none_keyed : (keyed : List (Row × Row)) → map (λ (k : Row × Row). k.1) keyed ≡ [] → length keyed ≡ 0
+none_keyed [] is = refl
+none_keyed (k ∷ ks) is = absurd (cc)
+
+none_there : (f : Row → Row × Row) (table : List Row) → length (map f (filter every table)) ≡ 0 → table ≡ []
+none_there f [] is = refl
+none_there f (r ∷ rs) is = absurd (cc)
+
+listed_none : (keys : List ℕ) (show : Row → Row) (table shown : List Row) → ListsBy keys every show table shown → shown ≡ [] → table ≡ []
+listed_none keys show table shown h none = none_there _ table (sym (length_permutation _ h.keyed h.same) ∙ none_keyed h.keyed (sym h.is ∙ none))
+
+pub office_refuted : {V : Type 0} (db : Trees) (shown : List Row) (r : Result V OpenFault) → ListsBy (0 ∷ []) every (columns (0 ∷ 2 ∷ 3 ∷ 4 ∷ [])) (db portal_tree) shown → (r ≡ Err NotPortal → shown ≡ [])
+    → (r ≡ Err OtherVersion → (row : Row) → shown ≡ row ∷ [] → column row 1 ≡ Int (pos 1) → ⊥) → IfErr r (λ fault. fault ≡ Damaged → ⊥) → IfErr r (λ fault. Refutes fault db)
+office_refuted db shown (Ok v) h none other judged = tt
+office_refuted db shown (Err NotPortal) h none other judged = listed_none _ _ _ shown h (none refl)
+office_refuted db shown (Err OtherVersion) h none other judged = λ has. other refl _ (listed_one _ _ _ shown (portal_row (pos 1) (pos (number_of has.phase)) has.office) h has.is) refl
+office_refuted db shown (Err Damaged) h none other judged = absurd (judged refl)
+office_refuted db shown (Err Store) h none other judged = tt
+office_refuted db shown (Err Memory) h none other judged = tt
+
+-- the code that the one row tells is that of the world
+pub office_told : (db : Trees) (shown : List Row) (code : Key) → ListsBy (0 ∷ []) every (columns (0 ∷ 2 ∷ 3 ∷ 4 ∷ [])) (db portal_tree) shown → HasOffice (db portal_tree)
+    → ((row : Row) → shown ≡ row ∷ [] → code ≡ bytes (column row 3)) → code ≡ (world_of db).office
+unfolding world_of
+office_told db shown code h has told =
+    told _ (listed_one _ _ _ shown (portal_row (pos 1) (pos (number_of has.phase)) has.office) h has.is) ∙ sym (ap (λ rows. bytes (column (slice_index_or rows 0 []) 4)) has.is)
+
+-- a store over tables that were admitted
+pub opened_kept : {S : Type 0} (g : Ghosts S) (own : Bool) (old new : Held S) → new.in_transaction ≡ false → (IsTrue own → IsOwn old.schema) → (IsTrue (state g old).is_open → (state g old).now ≡ (state g old).committed) → IsLive (state g old)
+    → (IsTrue own → IsTrue (state g new).is_open → IsUnchanged (state g old) (state g new) × Admits (state g old).now.trees) → IsKept g (record { conn = new; own = own })
+opened_kept g own old new idle is_own settled live found = record {
+  idle = idle;
+  ready = λ mine on.
+      let f = found mine on in
+      let same = f.0.0 in
+      let good = f.1 in
+      let before : Holds (state g old).now = record { own = is_own mine; sound = (live same.was_open).0; apart = good.apart; office = good.stands.office; whole = good.stands.whole } in
+      record { settled = same.committed_is ∙ sym (settled same.was_open) ∙ sym same.now_is; holds = subst Holds (sym same.now_is) before };
+}
+
+pub leaves_stay : (old new : State) → (IsTrue old.is_open → old.now ≡ old.committed) → Leaves old new → IsTrue new.is_open → Stays old new
+leaves_stay old new settled (inl same) on = (same.0.was_open, same.0.now_is, same.0.committed_is)
+leaves_stay old new settled (inr undone) on = (undone.was_open on, (undone.undone on).0 ∙ sym (settled (undone.was_open on)), (undone.undone on).1)

@@ -1,0 +1,161 @@
+-- Tables that stand for a good world are fine to read.
+use Rattle.std.proofs.Common.{◌≡◌, inl, inr, ℕ, suc, ◌<◌, ◌+◌, Bool, true, false, not, cond, ◌||◌, IfSome, Option, Some, None, option_map, List, [], ◌∷◌, map, filter, length, get_or, arith, refl, sym, ap, subst, ◌∙◌}
+use Rattle.std.specs.Prelude.{slice_index_or}
+use Rattle.std.specs.List.{AllByRecursion}
+use Rattle.std.proofs.lemmas.Bool.{cases_Bool}
+use Rattle.std.proofs.lemmas.List.{get_or-map}
+use Rattle.std.proofs.lemmas.List.Elements.{recursion_from_All}
+use Rattle.std.specs.Str.{bytes_eq}
+use Rattle.sqlite.specs.Order.{Row, column, bytes}
+use Rattle.sqlite.specs.Tree.{Trees}
+use Rattle.spa_rows.specs.Form.{is_key}
+use Rattle.spa_model.specs.Pairs.{number_in}
+use Rattle.spa_model.specs.Spa.{IsStable}
+use Rattle.portal_core.specs.Form.{is_code}
+use Rattle.portal_core.specs.Good.{Good, IsLecturer, IsProject, IsStudent, IsChoice, IsRanking}
+use Rattle.portal_core.specs.Instance.{instance, matching_of, project_keys}
+use Rattle.portal_core.specs.declared.rows.ProjectRow.{ProjectRow}
+use Rattle.portal_core.specs.Words.{Key, is, has, Rise}
+use Rattle.portal_core.specs.World.{World, Lecturer, Student, lecturer_key, project_key, student_key, applicants_of, is_published}
+use Rattle.portal_core.proofs.AllLaws.{all_weaker}
+use Rattle.portal_core.proofs.Keys.{is_same}
+use Rattle.portal_core.proofs.Only.{on_roll}
+use Rattle.portal_tables.specs.Tables.{lecturer_tree, project_tree, student_tree, choice_tree, ranking_tree}
+use Rattle.portal_tables.proofs.Lists.{map-map}
+use Rattle.portal_store.specs.declared.load.Lists.TheVariants.{Choices, Rankings}
+use Rattle.portal_store.specs.World.{world_of, row_key, is_ranked, lecturer_row, student_row, lecturer_of, project_row, student_of}
+use Rattle.portal_store.specs.Lists.{of_key, chosen, list_of, IsWhole}
+use Rattle.portal_store.specs.Kept.{Stands}
+use Rattle.portal_store.specs.Shown.{shown_lecturer, shown_project, shown_student, HasPlace, by_key, IsFine, AreFine, RollsRise, lecturers_shown, projects_shown, students_shown}
+use Rattle.portal_store.proofs.Listed.{all_mapped, all_unmapped}
+use Rattle.portal_store.proofs.Loaded.{lecturer_columns, roll_columns, lecturers_are, projects_are, students_are}
+use Rattle.portal_store.proofs.Sorted.{all_permuted, permutes}
+
+abbrev IsKey : Key → Type 0
+IsKey k = is_key k ≡ true
+
+-- a key that is among keys, and one that has a number among them
+among : (ks : List Key) → AllByRecursion IsKey ks → (k : Key) → has ks k ≡ true → IsKey k
+among [] all k h = absurd (cc)
+among (x ∷ xs) all k h = elim (cases_Bool (is k x)) [
+  | inl same ↦ subst IsKey (sym (is_same k x same)) all.0
+  | inr other ↦ among xs all.1 k (ap (λ b. b || has xs k) (sym other) ∙ h)
+]
+
+numbered : (ks : List Key) → AllByRecursion IsKey ks → (k : Key) → number_in ks k < length ks → IsKey k
+numbered [] all k low = absurd (omega (arith, low))
+numbered (x ∷ xs) all k low =
+    (elim (bytes_eq x k) as (λ b. bytes_eq x k ≡ b → cond (not b) (1 + number_in xs k) 0 < suc (length xs) → IsKey k) [
+      | true ↦ λ e f. subst IsKey (is_same x k e) all.0
+      | false ↦ λ e f. numbered xs all.1 k (omega (arith, f))
+    ]) refl low
+
+all_filtered : {X : Type 0} (P : X → Type 0) (p : X → Bool) (xs : List X) → AllByRecursion P xs → AllByRecursion P (filter p xs)
+all_filtered P p [] all = tt
+all_filtered P p (x ∷ xs) all = elim (p x) as (λ b. AllByRecursion P (cond b (x ∷ filter p xs) (filter p xs))) [ true ↦ (all.0, all_filtered P p xs all.1) | false ↦ all_filtered P p xs all.1 ]
+
+all_two : {X : Type 0} (P Q R : X → Type 0) → ((x : X) → P x → Q x → R x) → (xs : List X) → AllByRecursion P xs → AllByRecursion Q xs → AllByRecursion R xs
+all_two P Q R f [] p q = tt
+all_two P Q R f (x ∷ xs) p q = (f x p.0 q.0, all_two P Q R f xs p.1 q.1)
+
+-- in a good world whatever is told of a student is a key
+module _ (w : World) (good : Good w) where
+  known_projects : AllByRecursion IsKey (project_keys w)
+  known_projects = all_mapped IsKey project_key w.projects (all_weaker IsProject (λ p. IsKey (project_key p)) (λ p x. x.key) w.projects good.sound.project_forms)
+
+  known_students : AllByRecursion (λ s. IsKey (student_key s)) w.students
+  known_students = all_weaker (λ s. IsStudent s.row) (λ s. IsKey (student_key s)) (λ s x. x.key) w.students good.sound.student_forms
+
+  abbrev place_of : Student → Option ℕ
+  place_of s = option_map (number_in (project_keys w)) s.placed
+
+  is_placed : IsStable (instance w) (matching_of w) → (i : ℕ) (d : Student) → i < length w.students → (o : Option Key) → (get_or w.students i d).placed ≡ o → IfSome o IsKey
+  is_placed stable i d low None e = tt
+  is_placed stable i d low (Some p) e =
+      let here : get_or (matching_of w) i None ≡ Some (number_in (project_keys w) p) = get_or-map place_of w.students i d None low ∙ ap (option_map (number_in (project_keys w))) e in
+      numbered (project_keys w) known_projects p (on_roll (project_keys w) w.students good.sound.choices i (number_in (project_keys w) p) (stable.matching.acceptable i (number_in (project_keys w) p) here))
+
+  pub placed_keys : AllByRecursion (λ s. IfSome s.placed IsKey) w.students
+  placed_keys = elim (cases_Bool (is_published w.phase)) [
+    | inl so ↦ recursion_from_All (λ s. IfSome s.placed IsKey) w.students (λ i d low. is_placed (good.stable so) i d low (get_or w.students i d).placed refl)
+    | inr other ↦ all_weaker (λ s. s.placed ≡ None) (λ s. IfSome s.placed IsKey) (λ s e. subst (λ o. IfSome o IsKey) (sym e) tt) w.students (good.sound.no_result_yet other)
+  ]
+
+  pub choice_keys : AllByRecursion (λ s. AllByRecursion IsKey s.choice) w.students
+  choice_keys = all_weaker (λ s. IsChoice (project_keys w) s.choice) (λ s. AllByRecursion IsKey s.choice) (λ s x. all_weaker (λ p. has (project_keys w) p ≡ true) IsKey (λ p known. among (project_keys w) known_projects p known) s.choice x.known) w.students good.sound.choices
+
+  applicant_keys : (l : Key) → AllByRecursion IsKey (map student_key (applicants_of w l))
+  applicant_keys l = all_mapped IsKey student_key (applicants_of w l) (all_filtered (λ s. IsKey (student_key s)) _ w.students known_students)
+
+  ranked_keys : (l : Key) (o : Option (List Key)) → IfSome o (IsRanking (map student_key (applicants_of w l))) → IfSome o (AllByRecursion IsKey)
+  ranked_keys l None h = tt
+  ranked_keys l (Some list) h = all_weaker (λ s. has (map student_key (applicants_of w l)) s ≡ true) IsKey (λ s known. among (map student_key (applicants_of w l)) (applicant_keys l) s known) list h.only
+
+  pub ranking_keys : AllByRecursion (λ l. IfSome l.ranking (AllByRecursion IsKey)) w.lecturers
+  ranking_keys = all_weaker (λ l. IfSome l.ranking (IsRanking (map student_key (applicants_of w l.row.key)))) (λ l. IfSome l.ranking (AllByRecursion IsKey)) (λ l h. ranked_keys l.row.key l.ranking h) w.lecturers good.sound.rankings
+
+-- what is said of the world's rows, of the tables' rows in their order
+module _ (db : Trees) (stands : Stands db) where
+  of_lecturers : (P : Lecturer → Type 0) → AllByRecursion P (world_of db).lecturers → AllByRecursion (λ r. P (lecturer_of (db ranking_tree) r)) (by_key (db lecturer_tree))
+  unfolding world_of
+  of_lecturers P all = all_unmapped P (lecturer_of (db ranking_tree)) (by_key (db lecturer_tree)) (subst (AllByRecursion P) (lecturers_are db) all)
+
+  of_students : (P : Student → Type 0) → AllByRecursion P (world_of db).students → AllByRecursion (λ r. P (student_of (db choice_tree) r)) (by_key (db student_tree))
+  unfolding world_of
+  of_students P all = all_unmapped P (student_of (db choice_tree)) (by_key (db student_tree)) (subst (AllByRecursion P) (students_are db) all)
+
+  pub office_code : is_code stands.office.office ≡ true
+  unfolding world_of
+  office_code = subst (λ rows. is_code (bytes (column (slice_index_or rows 0 []) 4)) ≡ true) stands.office.is stands.good.sound.office_form
+
+  pub rolls_rise : RollsRise db
+  unfolding world_of
+  rolls_rise = record {
+    lecturers_rise = subst Rise (ap (map lecturer_key) (lecturers_are db) ∙ map-map lecturer_key (lecturer_of (db ranking_tree)) (by_key (db lecturer_tree))) stands.good.sound.lecturers_rise;
+    projects_rise = subst Rise (ap (map project_key) (projects_are db) ∙ map-map project_key project_row (by_key (db project_tree))) stands.good.sound.projects_rise;
+    students_rise = subst Rise (ap (map student_key) (students_are db) ∙ map-map student_key (student_of (db choice_tree)) (by_key (db student_tree))) stands.good.sound.students_rise;
+  }
+
+  of_projects : (P : ProjectRow → Type 0) → AllByRecursion P (world_of db).projects → AllByRecursion (λ r. P (project_row r)) (by_key (db project_tree))
+  unfolding world_of
+  of_projects P all = all_unmapped P project_row (by_key (db project_tree)) (subst (AllByRecursion P) (projects_are db) all)
+
+  in_order : (P : Row → Type 0) (table : List Row) → AllByRecursion P table → AllByRecursion P (by_key table)
+  in_order P table all = all_permuted P table (by_key table) (permutes row_key table) all
+
+  fine_choice : (r : Row) → IsStudent (student_row r) × AllByRecursion IsKey (chosen (db choice_tree) (row_key r)) → IsWhole (of_key (row_key r) (db choice_tree)) → IsFine Choices db (roll_columns r)
+  fine_choice r forms whole = record { key = forms.0.key; read = record { whole = whole; none = λ e. absurd (cc) }; names = forms.1 }
+
+  names_of : (b : Bool) (key : Key) → (b ≡ false → of_key key (db ranking_tree) ≡ []) → IfSome (cond b (Some (chosen (db ranking_tree) key)) None) (AllByRecursion IsKey) → AllByRecursion IsKey (chosen (db ranking_tree) key)
+  names_of true key none h = h
+  names_of false key none h = subst (λ rows. AllByRecursion IsKey (list_of rows)) (sym (none refl)) tt
+
+  fine_ranking : (r : Row) → IsLecturer (lecturer_row r) × IfSome (lecturer_of (db ranking_tree) r).ranking (AllByRecursion IsKey) → IsWhole (of_key (row_key r) (db ranking_tree)) × (is_ranked r ≡ false → of_key (row_key r) (db ranking_tree) ≡ [])
+      → IsFine Rankings db (lecturer_columns r)
+  fine_ranking r forms lists = record { key = forms.0.key; read = record { whole = lists.0; none = lists.1 }; names = names_of (is_ranked r) (row_key r) lists.1 forms.1 }
+
+  pub all_fine : AreFine db (lecturers_shown db) (projects_shown db) (students_shown db)
+  all_fine =
+      let w = world_of db in
+      let good = stands.good in
+      let lecturers = of_lecturers (λ l. IsLecturer l.row) good.sound.lecturer_forms in
+      let students = of_students (λ s. IsStudent s.row) good.sound.student_forms in
+      let choices = of_students (λ s. AllByRecursion IsKey s.choice) (choice_keys w good) in
+      let rankings = of_lecturers (λ l. IfSome l.ranking (AllByRecursion IsKey)) (ranking_keys w good) in
+      let whole_choices = in_order _ (db student_tree) stands.whole.choices in
+      let whole_rankings = in_order _ (db lecturer_tree) stands.whole.rankings in
+      let ranked = in_order _ (db lecturer_tree) stands.whole.ranked in
+      let S = by_key (db student_tree) in
+      let L = by_key (db lecturer_tree) in
+      record {
+        lecturer_forms = all_mapped (λ c. IsLecturer (shown_lecturer c)) lecturer_columns L lecturers;
+        project_forms = all_mapped (λ c. IsProject (shown_project c)) roll_columns (by_key (db project_tree)) (of_projects IsProject good.sound.project_forms);
+        student_forms = all_mapped (λ c. IsStudent (shown_student c)) roll_columns S students;
+        places = all_mapped HasPlace roll_columns S (of_students (λ s. IfSome s.placed IsKey) (placed_keys w good));
+        choices = all_mapped (IsFine Choices db) roll_columns S (all_two (λ r. IsStudent (student_row r) × AllByRecursion IsKey (chosen (db choice_tree) (row_key r))) (λ r. IsWhole (of_key (row_key r) (db choice_tree))) (λ r. IsFine Choices db (roll_columns r)) fine_choice S
+            (all_two (λ r. IsStudent (student_row r)) (λ r. AllByRecursion IsKey (chosen (db choice_tree) (row_key r))) _ (λ r p q. (p, q)) S students choices) whole_choices);
+        rankings = all_mapped (IsFine Rankings db) lecturer_columns L (all_two (λ r. IsLecturer (lecturer_row r) × IfSome (lecturer_of (db ranking_tree) r).ranking (AllByRecursion IsKey))
+            (λ r. IsWhole (of_key (row_key r) (db ranking_tree)) × (is_ranked r ≡ false → of_key (row_key r) (db ranking_tree) ≡ [])) (λ r. IsFine Rankings db (lecturer_columns r)) fine_ranking L
+            (all_two (λ r. IsLecturer (lecturer_row r)) (λ r. IfSome (lecturer_of (db ranking_tree) r).ranking (AllByRecursion IsKey)) _ (λ r p q. (p, q)) L lecturers rankings)
+            (all_two (λ r. IsWhole (of_key (row_key r) (db ranking_tree))) (λ r. is_ranked r ≡ false → of_key (row_key r) (db ranking_tree) ≡ []) _ (λ r p q. (p, q)) L whole_rankings ranked));
+      }

@@ -1,0 +1,67 @@
+-- The tables as `create` makes them stand for the empty world in setup.
+use Rattle.std.proofs.Common.{◌≡◌, Bool, IsTrue, List, [], false, slice_index_or, map, sym, subst}
+use Rattle.std.specs.List.{AllByRecursion}
+use Rattle.sqlite.specs.Order.{Row, column, bytes}
+use Rattle.sqlite.specs.Effect.{Database}
+use Rattle.sqlite.specs.Store.{Ghosts}
+use Rattle.sqlite.specs.Held.{Held, state}
+use Rattle.sqlite_trees.specs.Objects.{number_in}
+use Rattle.portal_core.specs.declared.phase.Phase.TheVariants.{Setup}
+use Rattle.portal_core.specs.Form.{is_code}
+use Rattle.portal_core.specs.Words.{Key, put_all}
+use Rattle.portal_core.specs.World.{lecturer_key, project_key, student_key}
+use Rattle.portal_core.specs.Good.{Good}
+use Rattle.portal_tables.specs.Tables.{no_schema}
+use Rattle.portal_tables.specs.Making.{IsFresh, Creates}
+use Rattle.portal_tables.specs.Steps.{Commits}
+use Rattle.portal_tables.proofs.Owned.{own_made}
+use Rattle.portal_tables.proofs.Fresh.{fresh_apart}
+use Rattle.portal_list.proofs.Fresh.{fresh_good}
+use Rattle.portal_store.specs.World.{world_of, phase_of, lecturer_of, project_row, student_of}
+use Rattle.portal_store.specs.Kept.{Holds, IsKept}
+use Rattle.portal_store.specs.Made.{first_world}
+
+none : (P : Row → Type 0) (rows : List Row) → rows ≡ [] → AllByRecursion P rows
+none P rows is = subst (AllByRecursion P) (sym is) tt
+
+module _ (office : Key) (db : Database) (f : IsFresh office db) where
+  lecturers : db.trees 1 ≡ []
+  lecturers = f.others.1.0 (λ e. absurd (cc))
+
+  projects : db.trees 4 ≡ []
+  projects = f.others.1.1.0 (λ e. absurd (cc))
+
+  students : db.trees 6 ≡ []
+  students = f.others.1.1.1.0 (λ e. absurd (cc))
+
+  pub first_holds : Holds db
+  first_holds = record {
+    own = own_made db.schema f.schema_is;
+    sound = f.sound;
+    apart = fresh_apart office db f;
+    office = record { phase = Setup; office = office; is = f.row };
+    whole = record { choices = none _ (db.trees 6) students; rankings = none _ (db.trees 1) lecturers; ranked = none _ (db.trees 1) lecturers };
+  }
+
+  pub first_is : world_of db.trees ≡ first_world office
+  unfolding world_of
+  first_is = λ i. record {
+    phase = phase_of (number_in (column (slice_index_or (f.row i) 0 []) 3));
+    office = bytes (column (slice_index_or (f.row i) 0 []) 4);
+    lecturers = put_all lecturer_key (map (lecturer_of (db.trees 12)) (lecturers i)) [];
+    projects = put_all project_key (map project_row (projects i)) [];
+    students = put_all student_key (map (student_of (db.trees 9)) (students i)) [];
+  }
+
+  pub first_is_good : IsTrue (is_code office) → Good (world_of db.trees)
+  first_is_good form = subst Good (sym first_is) (fresh_good office form)
+
+-- a store over them
+pub first_kept : {S : Type 0} (g : Ghosts S) (office : Key) (own : Bool) (old new : Held S) → new.in_transaction ≡ false → (IsTrue own → old.schema ≡ no_schema)
+    → (IsTrue (state g new).is_open → Commits (Creates office) (state g old) (state g new)) → IsKept g (record { conn = new; own = own })
+first_kept g office own old new idle none_before did = record {
+  idle = idle;
+  ready = λ mine on.
+      let made = did on in
+      record { settled = made.settled; holds = first_holds office (state g new).now (made.changed (none_before mine)) };
+}

@@ -1,0 +1,146 @@
+-- What a change that was committed, or left all as it was, is to the store: whatever the change.
+use Rattle.std.proofs.Common.{inl, inr, ◌≡◌, Bool, IsTrue, Ok, Err, Result, OnOk, OnErr, false, sym, ap, subst, ◌∙◌}
+use Rattle.sqlite.specs.Effect.{Database, IsDatabase}
+use Rattle.sqlite.specs.State.{HasCleanDisk, IsUnchanged}
+use Rattle.sqlite.specs.Store.{Ghosts}
+use Rattle.sqlite.specs.Held.{Held, state}
+use Rattle.portal_core.specs.Change.{Change, changed}
+use Rattle.portal_core.specs.World.{World}
+use Rattle.portal_core.specs.Good.{Good}
+use Rattle.portal_tables.specs.Tables.{portal_tree}
+use Rattle.portal_tables.specs.Own.{IsOwn}
+use Rattle.portal_tables.specs.Steps.{Commits, Stays, Leaves}
+use Rattle.portal_store.specs.World.{world_of}
+use Rattle.portal_store.specs.Kept.{HasOffice, Holds, Turned, Turns, Seen, IsKept, IsCleanStore, kept_world}
+
+-- nothing is changed
+pub still : {S : Type 0} (g : Ghosts S) (old new : Held S) (own : Bool) → IsKept g (record { conn = old; own = own }) → new.in_transaction ≡ false
+    → (IsTrue own → IsTrue (state g new).is_open → Stays (state g old) (state g new)) → IsKept g (record { conn = new; own = own })
+still g old new own kept idle stays = record {
+  idle = idle;
+  ready = λ mine on.
+      let same = stays mine on in
+      let was = kept.ready mine same.0 in
+      record { settled = same.2 ∙ was.settled ∙ sym same.1; holds = subst Holds (sym same.1) was.holds };
+}
+
+-- `old` is the connection at the start of the call and `before` the store, as its caller sees it
+module _
+    {S : Type 0}
+    (g : Ghosts S)
+    (change : Change)
+    (old new : Held S)
+    (own : Bool)
+    (before : Seen S)
+    (is : ◌≡◌ {A = Seen S} (record { conn = old; own = own }) before)
+    (kept : IsKept g (record { conn = old; own = own }))
+    (idle : new.in_transaction ≡ false)
+    (is_own : IsTrue before.own → IsOwn before.conn.schema)
+    (law : IsTrue (state g new).is_open → HasCleanDisk (state g new))
+    (good : IsCleanStore g before → Good (kept_world g before))
+    (leaves : IsCleanStore g before → Good (changed (kept_world g before) change)) where
+  abbrev seen : Seen S
+  seen = record { conn = old; own = own }
+
+  known : IsTrue own → IsOwn old.schema
+  known = subst (λ (s : Seen S). IsTrue s.own → IsOwn s.conn.schema) (sym is) is_own
+
+  turned : IsTrue own → Commits (Turns change) (state g old) (state g new) → Turned change (state g old).now (state g new).now
+  turned mine done =
+      let was = kept.ready mine done.was_open in
+      done.changed was.holds (subst (λ s. IsCleanStore g s → Good (kept_world g s)) (sym is) good (mine, done.was_open)) (subst (λ s. IsCleanStore g s → Good (changed (kept_world g s) change)) (sym is) leaves (mine, done.was_open))
+
+  module _
+      {V E : Type 0}
+      (r : Result V E)
+      (ok : IsOwn old.schema → HasCleanDisk (state g new) → OnOk r (Commits (Turns change) (state g old) (state g new)))
+      (err : IsOwn old.schema → HasCleanDisk (state g new) → IsTrue (state g new).is_open → OnErr r (Stays (state g old) (state g new))) where
+    done : IsTrue own → IsTrue (state g new).is_open → OnOk r (Commits (Turns change) (state g old) (state g new))
+    done mine on = ok (known mine) (law on)
+
+    stays : IsTrue own → IsTrue (state g new).is_open → OnErr r (Stays (state g old) (state g new))
+    stays mine on = err (known mine) (law on) on
+
+    kept_by : (r : Result V E) → (IsTrue own → IsTrue (state g new).is_open → OnOk r (Commits (Turns change) (state g old) (state g new)))
+        → (IsTrue own → IsTrue (state g new).is_open → OnErr r (Stays (state g old) (state g new))) → IsKept g (record { conn = new; own = own })
+    kept_by (Ok v) did same = record {
+      idle = idle;
+      ready = λ mine on. let d = did mine on in record { settled = d.settled; holds = (turned mine d).holds };
+    }
+    kept_by (Err e) did same = still g old new own kept idle same
+
+    clean_by : (r : Result V E) → (IsTrue own → IsTrue (state g new).is_open → OnOk r (Commits (Turns change) (state g old) (state g new)))
+        → (IsTrue own → IsTrue (state g new).is_open → OnErr r (Stays (state g old) (state g new))) → IsCleanStore g (record { conn = new; own = own }) → IsCleanStore g seen
+    clean_by (Ok v) did same on = (on.0, (did on.0 on.1).was_open)
+    clean_by (Err e) did same on = (on.0, (same on.0 on.1).0)
+
+    made_by : (r : Result V E) → (IsTrue own → IsTrue (state g new).is_open → OnOk r (Commits (Turns change) (state g old) (state g new)))
+        → OnOk r (IsCleanStore g (record { conn = new; own = own }) → world_of (state g new).now.trees ≡ changed (kept_world g seen) change)
+    made_by (Ok v) did = λ on. (turned on.0 (did on.0 on.1)).world
+    made_by (Err e) did = tt
+
+    same_by : (r : Result V E) → (IsTrue own → IsTrue (state g new).is_open → OnErr r (Stays (state g old) (state g new)))
+        → OnErr r (IsCleanStore g (record { conn = new; own = own }) → world_of (state g new).now.trees ≡ kept_world g seen)
+    same_by (Ok v) same = tt
+    same_by (Err e) same = λ on. ap (λ (d : Database). world_of d.trees) (same on.0 on.1).1
+
+    pub change_keeps : IsKept g (record { conn = new; own = own })
+    change_keeps = kept_by r done stays
+
+    pub change_clean : IsCleanStore g (record { conn = new; own = own }) → IsCleanStore g before
+    change_clean = subst (λ s. IsCleanStore g (record { conn = new; own = own }) → IsCleanStore g s) is (clean_by r done stays)
+
+    pub change_made : OnOk r (IsCleanStore g (record { conn = new; own = own }) → world_of (state g new).now.trees ≡ changed (kept_world g before) change)
+    change_made = subst (λ s. OnOk r (IsCleanStore g (record { conn = new; own = own }) → world_of (state g new).now.trees ≡ changed (kept_world g s) change)) is (made_by r done)
+
+    pub change_same : OnErr r (IsCleanStore g (record { conn = new; own = own }) → world_of (state g new).now.trees ≡ kept_world g before)
+    change_same = subst (λ s. OnErr r (IsCleanStore g (record { conn = new; own = own }) → world_of (state g new).now.trees ≡ kept_world g s)) is (same_by r stays)
+
+-- what leaves all as it was, or undoes a transaction that is not there
+rests : {S : Type 0} (g : Ghosts S) (old new : Held S) (own : Bool) → IsKept g (record { conn = old; own = own }) → IsTrue own → Leaves (state g old) (state g new) → IsTrue (state g new).is_open
+    → Stays (state g old) (state g new)
+rests g old new own kept mine (inl same) on = (same.0.was_open, same.0.now_is, same.0.committed_is)
+rests g old new own kept mine (inr undone) on =
+    let was = kept.ready mine (undone.was_open on) in
+    (undone.was_open on, (undone.undone on).0 ∙ was.settled, (undone.undone on).1)
+
+module _
+    {S V E : Type 0}
+    (g : Ghosts S)
+    (old new : Held S)
+    (own : Bool)
+    (before : Seen S)
+    (is : ◌≡◌ {A = Seen S} (record { conn = old; own = own }) before)
+    (kept : IsKept g (record { conn = old; own = own }))
+    (idle : new.in_transaction ≡ false)
+    (is_own : IsTrue before.own → IsOwn before.conn.schema)
+    (law : IsTrue (state g new).is_open → HasCleanDisk (state g new))
+    (r : Result V E)
+    (same : IsOwn old.schema → HasCleanDisk (state g new) → OnOk r (IsUnchanged (state g old) (state g new)))
+    (err : IsOwn old.schema → HasCleanDisk (state g new) → OnErr r (Leaves (state g old) (state g new))) where
+  own_known : IsTrue own → IsOwn old.schema
+  own_known = subst (λ (s : Seen S). IsTrue s.own → IsOwn s.conn.schema) (sym is) is_own
+
+  either : (r : Result V E) → OnOk r (IsUnchanged (state g old) (state g new)) → OnErr r (Leaves (state g old) (state g new)) → Leaves (state g old) (state g new)
+  either (Ok v) a b = inl a
+  either (Err e) a b = b
+
+  rest : IsTrue own → IsTrue (state g new).is_open → Stays (state g old) (state g new)
+  rest mine on = rests g old new own kept mine (either r (same (own_known mine) (law on)) (err (own_known mine) (law on))) on
+
+  pub read_keeps : IsKept g (record { conn = new; own = own })
+  read_keeps = still g old new own kept idle rest
+
+  pub read_clean : IsCleanStore g (record { conn = new; own = own }) → IsCleanStore g before
+  read_clean on = subst (λ s. IsCleanStore g s) is (on.0, (rest on.0 on.1).0)
+
+  pub read_same : IsCleanStore g (record { conn = new; own = own }) → world_of (state g new).now.trees ≡ kept_world g before
+  read_same on = ap (λ (d : Database). world_of d.trees) (rest on.0 on.1).1 ∙ ap (λ s. kept_world g s) is
+
+  -- what is known of the tables before holds of the store, as its caller sees it
+  pub read_world : (w : World) → (IsOwn old.schema → IsDatabase (state g old).now → HasCleanDisk (state g new) → w ≡ world_of (state g old).now.trees) → IsCleanStore g (record { conn = new; own = own }) → w ≡ kept_world g before
+  read_world w found on = found (own_known on.0) (kept.ready on.0 (rest on.0 on.1).0).holds.sound (law on.1) ∙ ap (λ s. kept_world g s) is
+
+  -- what is known where there is a row of the office
+  pub read_office : (P : Type 0) → (IsOwn old.schema → HasCleanDisk (state g new) → HasOffice ((state g old).now.trees portal_tree) → P) → IsCleanStore g (record { conn = new; own = own }) → P
+  read_office P found on = found (own_known on.0) (law on.1) (kept.ready on.0 (rest on.0 on.1).0).holds.office

@@ -1,0 +1,129 @@
+-- From what was read to the world.
+use Rattle.std.proofs.Common.{◌≡◌, pos, Bool, true, false, cond, Ok, Err, Result, IfOk, OnOk, Option, Some, None, option_map, List, [], ◌∷◌, map, refl, sym, ap, subst, ◌∙◌}
+use Rattle.std.specs.Prelude.{slice_index_or}
+use Rattle.std.specs.List.{AllByRecursion, filter_map, cons_option}
+use Rattle.std.proofs.lemmas.List.Sorted.{IsPermutation-sym}
+use Rattle.sqlite.specs.Order.{Row, column, bytes}
+use Rattle.sqlite.specs.Tree.{Trees}
+use Rattle.sqlite_trees.specs.Objects.{number_in}
+use Rattle.portal_core.specs.declared.phase.Phase.{Phase}
+use Rattle.portal_core.specs.declared.phase.Phase.TheVariants.{Setup, Choosing, Ranking, Published}
+use Rattle.portal_core.specs.Words.{Key, put_all}
+use Rattle.portal_core.specs.World.{Lecturer, Student, lecturer_key, project_key, student_key}
+use Rattle.portal_core.proofs.AllLaws.{all_weaker}
+use Rattle.portal_list.specs.Rows.{Rows, rows_of}
+use Rattle.portal_tables.specs.Tables.{portal_tree, lecturer_tree, project_tree, student_tree, choice_tree, ranking_tree}
+use Rattle.portal_tables.specs.Rows.{portal_row}
+use Rattle.portal_tables.specs.Changes.{columns}
+use Rattle.portal_tables.proofs.Lists.{map-map}
+use Rattle.portal_store.specs.declared.load.Lists.TheVariants.{Choices, Rankings}
+use Rattle.portal_store.specs.declared.load.LoadFault.{LoadFault}
+use Rattle.portal_store.specs.World.{world_of, number_of, phase_of, row_key, is_ranked, lecturer_of, project_row, student_of}
+use Rattle.portal_store.specs.Lists.{of_key, chosen, IsWhole}
+use Rattle.portal_store.specs.Kept.{Whole}
+use Rattle.portal_store.specs.Loads.{Loads}
+use Rattle.portal_store.specs.Shown.{shown_lecturer, shown_project, shown_student, shown_pair, by_key, entry, IsRead, AreRead, rows_from, lecturers_shown, projects_shown, students_shown}
+use Rattle.portal_store.proofs.Listed.{all_unmapped}
+use Rattle.portal_store.proofs.Sorted.{all_permuted, permutes, put_all_map}
+
+pub phase_back : (p : Phase) → phase_of (number_of p) ≡ p
+phase_back Setup = refl
+phase_back Choosing = refl
+phase_back Ranking = refl
+phase_back Published = refl
+
+some_mapped : {X Y Z : Type 0} (f : Y → Option Z) (g : X → Y) (xs : List X) → filter_map f (map g xs) ≡ filter_map (λ x. f (g x)) xs
+some_mapped f g [] = refl
+some_mapped f g (x ∷ xs) = ap (cons_option (f (g x))) (some_mapped f g xs)
+
+some_alike : {X Z : Type 0} (f g : X → Option Z) (xs : List X) → ((x : X) → f x ≡ g x) → filter_map f xs ≡ filter_map g xs
+some_alike f g [] h = refl
+some_alike f g (x ∷ xs) h = λ i. cons_option (h x i) (some_alike f g xs h i)
+
+each_some : {X Z : Type 0} (f : X → Z) (xs : List X) → filter_map (λ x. Some (f x)) xs ≡ map f xs
+each_some f [] = refl
+each_some f (x ∷ xs) = ap (λ l. f x ∷ l) (each_some f xs)
+
+ranked_pair : (b : Bool) (key : Key) (list : List Key) → cond {A = Option (Key × List Key)} b (Some (key, list)) None ≡ option_map (λ l. (key, l)) (cond b (Some list) None)
+ranked_pair true key list = refl
+ranked_pair false key list = refl
+
+abbrev pub lecturer_columns : Row → Row
+lecturer_columns = columns (1 ∷ 2 ∷ 3 ∷ 4 ∷ 5 ∷ [])
+
+abbrev pub roll_columns : Row → Row
+roll_columns = columns (1 ∷ 2 ∷ 3 ∷ 4 ∷ [])
+
+module _ (db : Trees) where
+  abbrev by_lecturer : List Row
+  by_lecturer = by_key (db lecturer_tree)
+
+  abbrev by_student : List Row
+  by_student = by_key (db student_tree)
+
+  pub lecturers_are : put_all lecturer_key (map (lecturer_of (db ranking_tree)) (db lecturer_tree)) [] ≡ map (lecturer_of (db ranking_tree)) by_lecturer
+  lecturers_are = put_all_map row_key lecturer_key (lecturer_of (db ranking_tree)) (λ r. refl) (db lecturer_tree) []
+
+  pub projects_are : put_all project_key (map project_row (db project_tree)) [] ≡ map project_row (by_key (db project_tree))
+  projects_are = put_all_map row_key project_key project_row (λ r. refl) (db project_tree) []
+
+  pub students_are : put_all student_key (map (student_of (db choice_tree)) (db student_tree)) [] ≡ map (student_of (db choice_tree)) by_student
+  students_are = put_all_map row_key student_key (student_of (db choice_tree)) (λ r. refl) (db student_tree) []
+
+  abbrev ranking_entry : Lecturer → Option (Key × List Key)
+  ranking_entry l = option_map (λ list. (l.row.key, list)) l.ranking
+
+  abbrev placed_pair : Student → Option (Key × Key)
+  placed_pair s = option_map (λ p. (s.row.key, p)) s.placed
+
+  rows_are : (phase : Phase) (code : Key) → db portal_tree ≡ portal_row (pos 1) (pos (number_of phase)) code ∷ []
+      → rows_from db phase code (lecturers_shown db) (projects_shown db) (students_shown db) ≡ rows_of (world_of db)
+  unfolding world_of
+  rows_are phase code office =
+      let phase_is : phase ≡ phase_of (number_in (column (slice_index_or (db portal_tree) 0 []) 3)) = sym (ap (λ rows. phase_of (number_in (column (slice_index_or rows 0 []) 3))) office ∙ phase_back phase) in
+      let code_is : code ≡ bytes (column (slice_index_or (db portal_tree) 0 []) 4) = sym (ap (λ rows. bytes (column (slice_index_or rows 0 []) 4)) office) in
+      let lecturers = map-map shown_lecturer lecturer_columns by_lecturer ∙ sym (ap (map (λ (l : Lecturer). l.row)) lecturers_are ∙ map-map (λ (l : Lecturer). l.row) (lecturer_of (db ranking_tree)) by_lecturer) in
+      let projects = map-map shown_project roll_columns (by_key (db project_tree)) ∙ sym projects_are in
+      let students = map-map shown_student roll_columns by_student ∙ sym (ap (map (λ (s : Student). s.row)) students_are ∙ map-map (λ (s : Student). s.row) (student_of (db choice_tree)) by_student) in
+      let choices = some_mapped (entry Choices db) roll_columns by_student ∙ each_some (λ r. (row_key r, chosen (db choice_tree) (row_key r))) by_student
+      ∙ sym (ap (map (λ (s : Student). (s.row.key, s.choice))) students_are ∙ map-map (λ (s : Student). (s.row.key, s.choice)) (student_of (db choice_tree)) by_student) in
+      let rankings = some_mapped (entry Rankings db) lecturer_columns by_lecturer
+      ∙ some_alike (λ r. entry Rankings db (lecturer_columns r)) (λ r. ranking_entry (lecturer_of (db ranking_tree) r)) by_lecturer (λ r. ranked_pair (is_ranked r) (row_key r) (chosen (db ranking_tree) (row_key r)))
+      ∙ sym (ap (filter_map ranking_entry) lecturers_are ∙ some_mapped ranking_entry (lecturer_of (db ranking_tree)) by_lecturer) in
+      let pairs = some_mapped shown_pair roll_columns by_student ∙ sym (ap (filter_map placed_pair) students_are ∙ some_mapped placed_pair (student_of (db choice_tree)) by_student) in
+      λ i. record {
+        phase = phase_is i;
+        office = code_is i;
+        lecturers = lecturers i;
+        projects = projects i;
+        students = students i;
+        choices = choices i;
+        rankings = rankings i;
+        pairs = pairs i;
+      }
+
+  -- what was found of the rows in their order holds of the table
+  back : (P : Row → Type 0) (table : List Row) → AllByRecursion P (by_key table) → AllByRecursion P table
+  back P table all = all_permuted P (by_key table) table (IsPermutation-sym _ _ (permutes row_key table)) all
+
+  whole_is : AreRead db (lecturers_shown db) (students_shown db) → Whole db
+  whole_is read =
+      let lists = all_unmapped (IsRead Choices db) roll_columns by_student read.choices in
+      let ranks = all_unmapped (IsRead Rankings db) lecturer_columns by_lecturer read.rankings in
+      record {
+        choices = back (λ r. IsWhole (of_key (row_key r) (db choice_tree))) (db student_tree) (all_weaker (λ r. IsRead Choices db (roll_columns r)) (λ r. IsWhole (of_key (row_key r) (db choice_tree))) (λ r x. x.whole) by_student lists);
+        rankings = back (λ r. IsWhole (of_key (row_key r) (db ranking_tree))) (db lecturer_tree) (all_weaker (λ r. IsRead Rankings db (lecturer_columns r)) (λ r. IsWhole (of_key (row_key r) (db ranking_tree))) (λ r x. x.whole) by_lecturer ranks);
+        ranked = back (λ r. is_ranked r ≡ false → of_key (row_key r) (db ranking_tree) ≡ []) (db lecturer_tree)
+            (all_weaker (λ r. IsRead Rankings db (lecturer_columns r)) (λ r. is_ranked r ≡ false → of_key (row_key r) (db ranking_tree) ≡ []) (λ r x. x.none) by_lecturer ranks);
+      }
+
+  pub loads : (phase : Phase) (code : Key) → db portal_tree ≡ portal_row (pos 1) (pos (number_of phase)) code ∷ [] → (r : Result Rows LoadFault)
+      → IfOk r (λ rows. rows ≡ rows_from db phase code (lecturers_shown db) (projects_shown db) (students_shown db)) → OnOk r (AreRead db (lecturers_shown db) (students_shown db)) → IfOk r (Loads db)
+  loads phase code office (Ok rows) is read = record { office = record { phase = phase; office = code; is = office }; whole = whole_is read; rows_are = is ∙ rows_are phase code office }
+  loads phase code office (Err e) is read = tt
+
+-- the same, where it was read later
+pub answered : (db there : Trees) → there ≡ db → (phase : Phase) (code : Key) → db portal_tree ≡ portal_row (pos 1) (pos (number_of phase)) code ∷ [] → (r : Result Rows LoadFault)
+    → IfOk r (λ rows. rows ≡ rows_from there phase code (lecturers_shown there) (projects_shown there) (students_shown there)) → OnOk r (AreRead there (lecturers_shown there) (students_shown there)) → IfOk r (Loads db)
+answered db there same phase code office r is read =
+    loads db phase code office r (subst (λ t. IfOk r (λ rows. rows ≡ rows_from t phase code (lecturers_shown t) (projects_shown t) (students_shown t))) same is) (subst (λ t. OnOk r (AreRead t (lecturers_shown t) (students_shown t))) same read)

@@ -1,0 +1,262 @@
+-- Putting a lecturer's ranking turns the tables to the world with that ranking.
+use Rattle.std.proofs.Common.{◌≡◌, inl, inr, ℕ, ℤ, pos, Bool, true, false, not, ◌||◌, cond, Some, None, List, [], ◌∷◌, ◌++◌, map, filter, slice_index_or, refl, sym, ap, subst, ◌∙◌}
+use Rattle.std.proofs.lemmas.Bool.{cases_Bool}
+use Rattle.std.specs.List.{AllByRecursion, IsDistinct}
+use Rattle.std.specs.List.Sorted.{IsPermutation}
+use Rattle.std.proofs.lemmas.List.Sorted.{IsPermutation-refl, IsPermutation-trans, IsPermutation-sym, IsPermutation-cons, IsPermutation-middle, IsPermutation-map}
+use Rattle.sqlite.specs.declared.types.Value.TheVariants.{Int}
+use Rattle.sqlite.specs.Order.{Row, column, bytes}
+use Rattle.sqlite.specs.Effect.{Database}
+use Rattle.sqlite.specs.State.{State}
+use Rattle.sqlite_trees.specs.Objects.{number_in}
+use Rattle.portal_core.specs.Words.{Key, is, has, put_all, Rise}
+use Rattle.portal_core.specs.World.{Lecturer, lecturer_key, project_key, student_key}
+use Rattle.portal_core.specs.Change.{changed, Ranks, with_ranking}
+use Rattle.portal_core.proofs.Keys.{is_same, is_own}
+use Rattle.portal_core.proofs.AllLaws.{all_weaker, is_sym, map_same}
+use Rattle.portal_list.proofs.Replaced.{ranking_here, ranking_elsewhere}
+use Rattle.portal_tables.specs.Own.{IsOwn}
+use Rattle.portal_tables.specs.Tables.{lecturer_tree, ranking_tree}
+use Rattle.portal_tables.specs.Changes.{IsApart, Sets, has_text}
+use Rattle.portal_tables.specs.Rows as rows
+use Rattle.portal_tables.specs.Rows.{lecturer_cells}
+use Rattle.portal_tables.specs.Steps.{Made}
+use Rattle.portal_tables.proofs.Lists.{put_splits}
+use Rattle.portal_tables.proofs.Keeping.{sets_apart}
+use Rattle.portal_tables.proofs.Runs.{made_then}
+use Rattle.portal_store.specs.Lists.{of_key, chosen, IsWhole}
+use Rattle.portal_store.specs.World.{world_of, phase_of, row_key, student_of, lecturer_of, lecturer_row, project_row, is_ranked}
+use Rattle.portal_store.specs.Kept.{HasOffice, Whole, Holds}
+use Rattle.portal_store.specs.Putting.{HasPut, PutsList, TurnsThere}
+use Rattle.portal_store.proofs.Sorted.{put_all_map, put_same, distinct_if_rise, map_twice, all_permuted}
+use Rattle.portal_store.proofs.Shapes.{IsLecturerRow, lecturer_rows_formed, has_text_of}
+use Rattle.portal_store.proofs.ChoiceTurns.{chosen_is, whole_at}
+
+-- a row among others
+pub split_filter : {X : Type 0} (p : X → Bool) (xs : List X) → IsPermutation xs (filter p xs ++ filter (λ x. not (p x)) xs)
+split_filter p [] = IsPermutation-refl []
+split_filter p (x ∷ xs) =
+    let ins = filter p xs in
+    let outs = filter (λ x. not (p x)) xs in
+    let more = IsPermutation-cons x xs (ins ++ outs) (split_filter p xs) in
+    elim (p x) as (λ b. IsPermutation (x ∷ xs) (cond b (x ∷ ins) ins ++ cond (not b) (x ∷ outs) outs)) [
+      | true ↦ more
+      | false ↦ IsPermutation-trans _ _ _ more (IsPermutation-sym _ _ (IsPermutation-middle ins x outs))
+    ]
+
+-- whether the row of a lecturer has the key
+pub key_test : (k : Key) (r : Row) → IsLecturerRow r → has_text 1 k r ≡ is (row_key r) k
+key_test k r f = has_text_of 1 k r f.key (ap (λ x. column x 1) f.is) ∙ ap (λ x. is (row_key x) k) (sym f.is)
+
+-- the one row with the key
+record OneRow (k : Key) (table : List Row) : Type 0 where
+  pub row : Row
+  pub is : filter (has_text 1 k) table ≡ row ∷ []
+  pub formed : IsLecturerRow row
+  pub key : row_key row ≡ k
+
+none_with : (k : Key) (table : List Row) → AllByRecursion IsLecturerRow table → AllByRecursion (λ l. is k l ≡ false) (map row_key table)
+    → filter (has_text 1 k) table ≡ []
+none_with k [] all d = refl
+none_with k (r ∷ table) all d = rw (key_test k r all.0 ∙ is_sym (row_key r) k ∙ d.0) (none_with k table all.1 d.1)
+
+one_row : (k : Key) (table : List Row) → AllByRecursion IsLecturerRow table → IsDistinct is (map row_key table) → has (map row_key table) k ≡ true
+    → OneRow k table
+unfolding IsDistinct
+one_row k [] all d h = absurd (cc)
+one_row k (r ∷ table) all d h = elim (cases_Bool (is (row_key r) k)) [
+  | inl same ↦
+      let e : row_key r ≡ k = is_same (row_key r) k same in
+      record {
+        row = r;
+        is = rw (key_test k r all.0 ∙ same) (ap (λ l. r ∷ l) (none_with k table all.1 (subst (λ x. AllByRecursion (λ l. is x l ≡ false) (map row_key table)) e d.0)));
+        formed = all.0;
+        key = e;
+      }
+  | inr other ↦
+      let rest = one_row k table all.1 d.1 (ap (λ b. b || has (map row_key table) k) (sym (is_sym k (row_key r) ∙ other)) ∙ h) in
+      record { row = rest.row; is = rw (key_test k r all.0 ∙ other) rest.is; formed = rest.formed; key = rest.key }
+]
+
+-- the rows without the key
+others_apart : (k : Key) (table : List Row) → AllByRecursion IsLecturerRow table
+    → AllByRecursion (λ r. is (row_key r) k ≡ false) (filter (λ r. not (has_text 1 k r)) table)
+others_apart k [] all = tt
+others_apart k (r ∷ table) all = go (has_text 1 k r) refl (others_apart k table all.1)
+  where
+    rest : List Row
+    rest = filter (λ r. not (has_text 1 k r)) table
+
+    go : (b : Bool) → has_text 1 k r ≡ b → AllByRecursion (λ r. is (row_key r) k ≡ false) rest
+        → AllByRecursion (λ r. is (row_key r) k ≡ false) (cond (not b) (r ∷ rest) rest)
+    go true e h = h
+    go false e h = (sym (key_test k r all.0) ∙ e, h)
+
+pub same_key : (k : Key) (list : List Key) (l : Lecturer) → lecturer_key (with_ranking k list l) ≡ lecturer_key l
+same_key k list l = elim (is l.row.key k) as (λ b. lecturer_key (cond b (record l { ranking = Some list }) l) ≡ lecturer_key l) [ true ↦ refl | false ↦ refl ]
+
+pub all_map_on : {X Y : Type 0} (P : X → Type 0) (f g : X → Y) (xs : List X) → AllByRecursion P xs → ((x : X) → P x → f x ≡ g x) → map f xs ≡ map g xs
+all_map_on P f g [] all h = refl
+all_map_on P f g (x ∷ xs) all h = λ i. h x all.0 i ∷ all_map_on P f g xs all.1 h i
+
+all_both_on : {X : Type 0} (P Q R : X → Type 0) (xs : List X) → ((x : X) → P x → Q x → R x) → AllByRecursion P xs → AllByRecursion Q xs → AllByRecursion R xs
+all_both_on P Q R [] h p q = tt
+all_both_on P Q R (x ∷ xs) h p q = (h x p.0 q.0, all_both_on P Q R xs h p.1 q.1)
+
+-- the lists of an owner are whole; an owner with no ranking has no row of one
+abbrev WholeIn : List Row → Row → Type 0
+WholeIn lists r = IsWhole (of_key (row_key r) lists)
+
+abbrev NoneUnranked : List Row → Row → Type 0
+NoneUnranked lists r = is_ranked r ≡ false → of_key (row_key r) lists ≡ []
+
+-- the ranking is put, and then the lecturer's one row says so
+module _ (k : Key) (list : List Key) (first mid now : Database) (put : HasPut ranking_tree k list first mid) (n : ℤ) (name code : List ℕ) (capacity was : ℤ)
+    (one : filter (has_text 1 k) (first.trees lecturer_tree) ≡ (Int n ∷ lecturer_cells k name code capacity was) ∷ [])
+    (set : Sets lecturer_tree (has_text 1 k) (Int n ∷ lecturer_cells k name code capacity (pos 1)) mid now) (formed : AllByRecursion IsLecturerRow (first.trees lecturer_tree)) where
+  abbrev before : Row
+  before = Int n ∷ lecturer_cells k name code capacity was
+
+  abbrev after : Row
+  after = Int n ∷ lecturer_cells k name code capacity (pos 1)
+
+  abbrev rest : List Row
+  rest = filter (λ r. not (has_text 1 k r)) (first.trees lecturer_tree)
+
+  portal : now.trees 0 ≡ first.trees 0
+  portal = set.others.0 (λ e. absurd (cc)) ∙ put.tables.0 (λ e. absurd (cc))
+
+  lecturers : mid.trees 1 ≡ first.trees 1
+  lecturers = put.tables.1.0 (λ e. absurd (cc))
+
+  projects : now.trees 4 ≡ first.trees 4
+  projects = set.others.1.1.0 (λ e. absurd (cc)) ∙ put.tables.1.1.0 (λ e. absurd (cc))
+
+  students : now.trees 6 ≡ first.trees 6
+  students = set.others.1.1.1.0 (λ e. absurd (cc)) ∙ put.tables.1.1.1.0 (λ e. absurd (cc))
+
+  choices : now.trees 9 ≡ first.trees 9
+  choices = set.others.1.1.1.1.0 (λ e. absurd (cc)) ∙ put.tables.1.1.1.1.0 (λ e. absurd (cc))
+
+  rankings : now.trees 12 ≡ mid.trees 12
+  rankings = set.others.1.1.1.1.1.0 (λ e. absurd (cc))
+
+  old_rows : IsPermutation (first.trees 1) (before ∷ rest)
+  old_rows = subst (λ l. IsPermutation (first.trees 1) (l ++ rest)) one (split_filter (has_text 1 k) (first.trees 1))
+
+  new_rows : IsPermutation (after ∷ rest) (now.trees 1)
+  new_rows =
+      let split = put_splits after (filter (λ r. not (has_text 1 k r)) (mid.trees 1)) set.free in
+      let back : IsPermutation (split.0 ++ after ∷ split.1) (after ∷ (split.0 ++ split.1)) = IsPermutation-middle split.0 after split.1 in
+      let from : split.0 ++ split.1 ≡ rest = sym split.2 ∙ ap (filter (λ r. not (has_text 1 k r))) lecturers in
+      subst (λ l. IsPermutation (after ∷ l) (now.trees 1)) from (subst (IsPermutation (after ∷ (split.0 ++ split.1))) (sym (set.rows ∙ split.3)) (IsPermutation-sym _ _ back))
+
+  other_row : (r : Row) → is (row_key r) k ≡ false → lecturer_of (mid.trees 12) r ≡ with_ranking k list (lecturer_of (first.trees 12) r)
+  other_row r other =
+      let same : chosen (mid.trees 12) (row_key r) ≡ chosen (first.trees 12) (row_key r) =
+      chosen_is ranking_tree k list first mid put (row_key r) ∙ rw other refl in
+      (λ i. record { row = lecturer_row r; ranking = cond (is_ranked r) (Some (same i)) None }) ∙ sym (ranking_elsewhere k list (lecturer_of (first.trees 12) r) other)
+
+  this_row : lecturer_of (mid.trees 12) after ≡ with_ranking k list (lecturer_of (first.trees 12) before)
+  this_row =
+      let same : chosen (mid.trees 12) k ≡ list = chosen_is ranking_tree k list first mid put k ∙ rw (is_own k) refl in
+      (λ i. record { row = lecturer_row before; ranking = Some (same i) }) ∙ ranking_here k list (lecturer_of (first.trees 12) before) (is_own k)
+
+  apart_rest : AllByRecursion (λ r. is (row_key r) k ≡ false) rest
+  apart_rest = others_apart k (first.trees 1) formed
+
+  all_rows : map (lecturer_of (mid.trees 12)) (after ∷ rest) ≡ map (with_ranking k list) (map (lecturer_of (first.trees 12)) (before ∷ rest))
+  all_rows =
+      let others : map (lecturer_of (mid.trees 12)) rest ≡ map (with_ranking k list) (map (lecturer_of (first.trees 12)) rest) =
+      all_map_on (λ r. is (row_key r) k ≡ false) _ _ rest apart_rest other_row ∙ map_twice (with_ranking k list) (lecturer_of (first.trees 12)) rest in
+      λ i. this_row i ∷ others i
+
+  roll_is : Rise (map lecturer_key (put_all lecturer_key (map (lecturer_of (first.trees 12)) (first.trees 1)) []))
+      → put_all lecturer_key (map (lecturer_of (now.trees 12)) (now.trees 1)) [] ≡ map (with_ranking k list) (put_all lecturer_key (map (lecturer_of (first.trees 12)) (first.trees 1)) [])
+  roll_is up =
+      let show : Row → Lecturer = lecturer_of (first.trees 12) in
+      let turn : Lecturer → Lecturer = with_ranking k list in
+      let olds = put_all lecturer_key (map show (first.trees 1)) [] in
+      let front : put_all lecturer_key (map show (before ∷ rest)) [] ≡ olds =
+      put_same lecturer_key (map show (first.trees 1)) (map show (before ∷ rest)) (IsPermutation-map show _ _ old_rows) up in
+      let turned : put_all lecturer_key (map (lecturer_of (mid.trees 12)) (after ∷ rest)) [] ≡ map turn olds =
+      ap (λ l. put_all lecturer_key l []) all_rows ∙ put_all_map lecturer_key lecturer_key turn (same_key k list) (map show (before ∷ rest)) [] ∙ ap (map turn) front in
+      let still : Rise (map lecturer_key (put_all lecturer_key (map (lecturer_of (mid.trees 12)) (after ∷ rest)) [])) =
+      subst Rise (sym (ap (map lecturer_key) turned ∙ map_same lecturer_key turn (same_key k list) olds)) up in
+      ap (λ t. put_all lecturer_key (map (lecturer_of t) (now.trees 1)) []) rankings
+      ∙ put_same lecturer_key (map (lecturer_of (mid.trees 12)) (after ∷ rest)) (map (lecturer_of (mid.trees 12)) (now.trees 1)) (IsPermutation-map (lecturer_of (mid.trees 12)) _ _ new_rows) still
+      ∙ turned
+
+  rank_world : Rise (map lecturer_key (world_of first.trees).lecturers) → world_of now.trees ≡ changed (world_of first.trees) (Ranks k list)
+  unfolding world_of
+  rank_world up =
+      let roll = roll_is up in
+      λ i. record {
+        phase = phase_of (number_in (column (slice_index_or (portal i) 0 []) 3));
+        office = bytes (column (slice_index_or (portal i) 0 []) 4);
+        lecturers = roll i;
+        projects = put_all project_key (map project_row (projects i)) [];
+        students = put_all student_key (map (student_of (choices i)) (students i)) [];
+      }
+
+  rank_whole : Whole first.trees → Whole now.trees
+  rank_whole was =
+      let all_old : AllByRecursion (WholeIn (first.trees 12)) (before ∷ rest) = all_permuted _ (first.trees 1) (before ∷ rest) old_rows was.rankings in
+      let ranked_old : AllByRecursion (NoneUnranked (first.trees 12)) (before ∷ rest) = all_permuted _ (first.trees 1) (before ∷ rest) old_rows was.ranked in
+      let whole = λ (r : Row) (h : WholeIn (first.trees 12) r). whole_at ranking_tree k list first mid put (row_key r) h in
+      let all_new : AllByRecursion (WholeIn (mid.trees 12)) (after ∷ rest) = (whole before all_old.0, all_weaker _ _ whole rest all_old.1) in
+      let ranked_new : AllByRecursion (NoneUnranked (mid.trees 12)) (after ∷ rest) =
+      (λ e. absurd (cc), all_both_on (λ r. is (row_key r) k ≡ false) _ _ rest (λ r other h e. put.others (row_key r) other ∙ h e) apart_rest ranked_old.1) in
+      record {
+        choices = subst (λ rows. AllByRecursion (WholeIn rows) (now.trees 6)) (sym choices) (subst (AllByRecursion (WholeIn (first.trees 9))) (sym students) was.choices);
+        rankings = subst (λ rows. AllByRecursion (WholeIn rows) (now.trees 1)) (sym rankings) (all_permuted _ (after ∷ rest) (now.trees 1) new_rows all_new);
+        ranked = subst (λ rows. AllByRecursion (NoneUnranked rows) (now.trees 1)) (sym rankings) (all_permuted _ (after ∷ rest) (now.trees 1) new_rows ranked_new);
+      }
+
+  rank_holds : Holds first → Holds now
+  rank_holds was = record {
+    own = subst IsOwn (sym (set.schema_is ∙ put.schema_is)) was.own;
+    sound = set.sound;
+    apart = (
+      subst IsApart (sym portal) was.apart.0,
+      (
+        sets_apart lecturer_tree (has_text 1 k) after n mid now refl set (subst IsApart (sym lecturers) was.apart.1.0),
+        (
+          subst IsApart (sym projects) was.apart.1.1.0,
+          (subst IsApart (sym students) was.apart.1.1.1.0, (subst IsApart (sym choices) was.apart.1.1.1.1.0, (subst IsApart (sym rankings) put.apart, tt))),
+        ),
+      ),
+    );
+    office = subst HasOffice (sym portal) was.office;
+    whole = rank_whole was.whole;
+  }
+
+-- the keys of the rows are those of the world's lecturers, in some order
+pub keys_distinct : (db : Database) → Rise (map lecturer_key (world_of db.trees).lecturers) → IsDistinct is (map row_key (db.trees lecturer_tree))
+unfolding world_of
+keys_distinct db up =
+    subst (IsDistinct is) (sym (map_twice lecturer_key (lecturer_of (db.trees ranking_tree)) (db.trees lecturer_tree)))
+    (distinct_if_rise lecturer_key (map (lecturer_of (db.trees ranking_tree)) (db.trees lecturer_tree)) up)
+
+pub rank_turns : (k : Key) (list : List Key) (first mid now : Database) → PutsList ranking_tree k list first mid → rows.Ranks k mid now
+    → TurnsThere k list first now
+rank_turns k list first mid now puts ranks there holds up =
+    let put = puts holds.own holds.apart.1.1.1.1.1.0 in
+    let formed = lecturer_rows_formed first holds.own holds.sound holds.apart.1.0 in
+    let same : mid.trees 1 ≡ first.trees 1 = put.tables.1.0 (λ e. absurd (cc)) in
+    let one = one_row k (first.trees 1) formed (keys_distinct first up) there in
+    let f = one.formed in
+    let key : f.key ≡ k = sym (ap row_key f.is) ∙ one.key in
+    let row_of = λ (x : Key). Int f.number ∷ lecturer_cells x f.name f.code f.capacity f.ranked in
+    let was : filter (has_text 1 k) (first.trees 1) ≡ row_of k ∷ [] = one.is ∙ ap (λ r. r ∷ []) (f.is ∙ ap row_of key) in
+    let own = subst IsOwn (sym put.schema_is) holds.own in
+    let apart = subst IsApart (sym same) holds.apart.1.0 in
+    let set = ranks own apart f.number f.name f.code f.capacity f.ranked (ap (filter (has_text 1 k)) same ∙ was) in
+    record {
+      holds = rank_holds k list first mid now put f.number f.name f.code f.capacity f.ranked was set formed holds;
+      world = rank_world k list first mid now put f.number f.name f.code f.capacity f.ranked was set formed up;
+    }
+
+pub rank_made : (k : Key) (list : List Key) (old mid new : State) → Made (PutsList ranking_tree k list) old mid → Made (rows.Ranks k) mid new
+    → Made (TurnsThere k list) old new
+rank_made k list old mid new p q = made_then _ _ _ old mid new p q (rank_turns k list old.now mid.now new.now)

@@ -1,0 +1,232 @@
+-- The shapes of the rows of the portal's own tables, by the rules that a database obeys.
+use Rattle.std.proofs.Common.{◌≡◌, ◌⊎◌, inl, inr, ℕ, ℤ, Bool, true, false, not, codes, ◌&&◌, drop, None, List, [], ◌∷◌, refl, sym, ap, subst, ◌∙◌}
+use Rattle.std.specs.List.{AllByRecursion}
+use Rattle.std.proofs.lemmas.Bool.{and_parts}
+use Rattle.std.specs.Prelude.{◌+◌}
+use Rattle.std.specs.Ordering.{is_eq}
+use Rattle.std.specs.Cmp.Lexicographic.{texts_ties}
+use Rattle.sqlite.specs.declared.types.Value.{Value}
+use Rattle.sqlite.specs.declared.types.Value.TheVariants.{Null, Int, Real, Blob, Text as Words}
+use Rattle.sqlite.specs.Order.{Row, column, value_cmp}
+use Rattle.sqlite.specs.Tree.{rowid}
+use Rattle.sqlite.specs.Edit.{id_in}
+use Rattle.sqlite.specs.Effect.{Database, IsDatabase}
+use Rattle.sqlite_schema.specs.declared.schema.Column.{Column}
+use Rattle.sqlite_schema.specs.declared.schema.Constraint.{Constraint}
+use Rattle.sqlite_schema.specs.declared.schema.Constraint.TheVariants.{Datatype, NotNull}
+use Rattle.sqlite_schema.specs.Rules.{Keeps, are_typed, are_present, is_of}
+use Rattle.sqlite_sql.specs.Ops.{is_null}
+use Rattle.sqlite.specs.Kind.TheVariants.{Integer, Text}
+use Rattle.portal_core.specs.Words.{Key, is}
+use Rattle.portal_tables.specs.Tables.{column_of, lecturer_tree, project_tree, student_tree, choice_tree, ranking_tree, lecturer, project, student, choice, ranking}
+use Rattle.portal_tables.specs.Own.{IsOwn}
+use Rattle.portal_tables.specs.Changes.{IsApart, has_text}
+use Rattle.portal_tables.specs.Rows.{lecturer_cells, project_cells, choice_cells, ranking_cells}
+use Rattle.portal_tables.proofs.Weak.{portal_with, IsWith, own_is}
+
+-- a test of a text
+pub text_equals : (s t : Key) → is_eq (value_cmp (Words s) (Words t)) ≡ is s t
+unfolding value_cmp lib.Ieee.is_nan lib.Ieee.lt
+text_equals s t = sym (texts_ties s t)
+
+pub has_text_of : (at : ℕ) (t : Key) (r : Row) (s : Key) → column r at ≡ Words s → has_text at t r ≡ is s t
+has_text_of at t r s e = ap (λ v. is_eq (value_cmp v (Words t))) e ∙ text_equals s t
+
+text_cell : (v : Value) → is_of Text v ≡ true → not (is_null v) ≡ true → (t : List ℕ) × (v ≡ Words t)
+text_cell Null a b = absurd (cc)
+text_cell (Int n) a b = absurd (cc)
+text_cell (Real x) a b = absurd (cc)
+text_cell (Blob x) a b = absurd (cc)
+text_cell (Words t) a b = (t, refl)
+
+number_cell : (v : Value) → is_of Integer v ≡ true → not (is_null v) ≡ true → (n : ℤ) × (v ≡ Int n)
+number_cell Null a b = absurd (cc)
+number_cell (Int n) a b = (n, refl)
+number_cell (Real x) a b = absurd (cc)
+number_cell (Blob x) a b = absurd (cc)
+number_cell (Words t) a b = absurd (cc)
+
+-- NULL or a text
+abbrev pub IsNullOrText : Value → Type 0
+IsNullOrText v = (v ≡ Null) ⊎ ((t : List ℕ) × (v ≡ Words t))
+
+null_or_text : (v : Value) → is_of Text v ≡ true → IsNullOrText v
+null_or_text Null a = inl refl
+null_or_text (Int n) a = absurd (cc)
+null_or_text (Real x) a = absurd (cc)
+null_or_text (Blob x) a = absurd (cc)
+null_or_text (Words t) a = inr (t, refl)
+
+pub record IsLecturerRow (r : Row) : Type 0 where
+  pub number : ℤ
+  pub key : List ℕ
+  pub name : List ℕ
+  pub code : List ℕ
+  pub capacity : ℤ
+  pub ranked : ℤ
+  pub is : r ≡ Int number ∷ lecturer_cells key name code capacity ranked
+
+pub record IsProjectRow (r : Row) : Type 0 where
+  pub number : ℤ
+  pub key : List ℕ
+  pub lecturer : List ℕ
+  pub title : List ℕ
+  pub capacity : ℤ
+  pub is : r ≡ Int number ∷ project_cells key lecturer title capacity
+
+-- the last column may be missing
+pub record IsStudentRow (r : Row) : Type 0 where
+  pub number : ℤ
+  pub key : List ℕ
+  pub name : List ℕ
+  pub code : List ℕ
+  pub last : Row
+  pub is : r ≡ Int number ∷ Words key ∷ Words name ∷ Words code ∷ last
+  pub few : (last ≡ []) ⊎ ((v : Value) × (last ≡ v ∷ []))
+  pub assigned : IsNullOrText (column r 4)
+
+pub record IsChoiceRow (r : Row) : Type 0 where
+  pub number : ℤ
+  pub student : List ℕ
+  pub place : ℤ
+  pub project : List ℕ
+  pub is : r ≡ Int number ∷ choice_cells student place project
+
+pub record IsRankingRow (r : Row) : Type 0 where
+  pub number : ℤ
+  pub lecturer : List ℕ
+  pub place : ℤ
+  pub student : List ℕ
+  pub is : r ≡ Int number ∷ ranking_cells lecturer place student
+
+-- A row whose first cell is a text, or a number: what is so at each such cell, and whatever columns follow it, is so of the cells.
+text_first : (P : Row → Type 0) (name : List ℕ) (at : ℕ) (cs : List Column) (cells : Row) → are_typed None at (column_of name Text true ∷ cs) cells ≡ true → not (is_null (column cells 0)) ≡ true
+    → ((t : List ℕ) (rest : Row) → are_typed None (at + 1) cs rest ≡ true → P (Words t ∷ rest)) → P cells
+text_first P name at cs [] typed there go = absurd (cc)
+text_first P name at cs (v ∷ vs) typed there go =
+    let two = and_parts (is_of Text v) (are_typed None (at + 1) cs vs) typed in
+    let cell = text_cell v two.0 there in
+    subst (λ x. P (x ∷ vs)) (sym cell.1) (go cell.0 vs two.1)
+
+number_first : (P : Row → Type 0) (name : List ℕ) (at : ℕ) (cs : List Column) (cells : Row) → are_typed None at (column_of name Integer true ∷ cs) cells ≡ true → not (is_null (column cells 0)) ≡ true
+    → ((n : ℤ) (rest : Row) → are_typed None (at + 1) cs rest ≡ true → P (Int n ∷ rest)) → P cells
+number_first P name at cs [] typed there go = absurd (cc)
+number_first P name at cs (v ∷ vs) typed there go =
+    let two = and_parts (is_of Integer v) (are_typed None (at + 1) cs vs) typed in
+    let cell = number_cell v two.0 there in
+    subst (λ x. P (x ∷ vs)) (sym cell.1) (go cell.0 vs two.1)
+
+none_more : (at : ℕ) (cells : Row) → are_typed None at [] cells ≡ true → cells ≡ []
+none_more at [] t = refl
+none_more at (v ∷ vs) t = absurd (cc)
+
+abbrev Present : ℕ → Row → Type 0
+Present at r = not (is_null (column r at)) ≡ true
+
+lecturer_form : (n : ℤ) (cells : Row) → are_typed None 0 (lecturer 1).columns cells ≡ true → are_present None 0 (lecturer 1).columns (Int n ∷ cells) ≡ true → IsLecturerRow (Int n ∷ cells)
+lecturer_form n cells typed present =
+    let p1 = and_parts _ _ present in
+    let p2 = and_parts _ _ p1.1 in
+    let p3 = and_parts _ _ p2.1 in
+    let p4 = and_parts _ _ p3.1 in
+    let p5 = and_parts _ _ p4.1 in
+    text_first (λ x. Present 2 (Int n ∷ x) → Present 3 (Int n ∷ x) → Present 4 (Int n ∷ x) → Present 5 (Int n ∷ x) → IsLecturerRow (Int n ∷ x)) (codes "key") 0 (column_of (codes "name") Text true ∷ column_of (codes "code") Text true ∷ column_of (codes "capacity") Integer true ∷ column_of (codes "ranked") Integer true ∷ []) cells typed p1.0 (λ key rest0 typed0 a2 a3 a4 a5.
+    text_first (λ x. Present 3 (Int n ∷ Words key ∷ x) → Present 4 (Int n ∷ Words key ∷ x) → Present 5 (Int n ∷ Words key ∷ x) → IsLecturerRow (Int n ∷ Words key ∷ x)) (codes "name") 1 (column_of (codes "code") Text true ∷ column_of (codes "capacity") Integer true ∷ column_of (codes "ranked") Integer true ∷ []) rest0 typed0 a2 (λ name rest1 typed1 b3 b4 b5.
+    text_first (λ x. Present 4 (Int n ∷ Words key ∷ Words name ∷ x) → Present 5 (Int n ∷ Words key ∷ Words name ∷ x) → IsLecturerRow (Int n ∷ Words key ∷ Words name ∷ x)) (codes "code") 2 (column_of (codes "capacity") Integer true ∷ column_of (codes "ranked") Integer true ∷ []) rest1 typed1 b3 (λ code rest2 typed2 c4 c5.
+    number_first (λ x. Present 5 (Int n ∷ Words key ∷ Words name ∷ Words code ∷ x) → IsLecturerRow (Int n ∷ Words key ∷ Words name ∷ Words code ∷ x)) (codes "capacity") 3 (column_of (codes "ranked") Integer true ∷ []) rest2 typed2 c4 (λ capacity rest3 typed3 d5.
+    number_first (λ x. IsLecturerRow (Int n ∷ Words key ∷ Words name ∷ Words code ∷ Int capacity ∷ x)) (codes "ranked") 4 [] rest3 typed3 d5 (λ ranked rest4 typed4.
+    record { number = n; key = key; name = name; code = code; capacity = capacity; ranked = ranked; is = ap (λ x. Int n ∷ Words key ∷ Words name ∷ Words code ∷ Int capacity ∷ Int ranked ∷ x) (none_more 5 rest4 typed4) })) c5) b4 b5) a3 a4 a5) p2.0 p3.0 p4.0 p5.0
+
+project_form : (n : ℤ) (cells : Row) → are_typed None 0 (project 4).columns cells ≡ true → are_present None 0 (project 4).columns (Int n ∷ cells) ≡ true → IsProjectRow (Int n ∷ cells)
+project_form n cells typed present =
+    let p1 = and_parts _ _ present in
+    let p2 = and_parts _ _ p1.1 in
+    let p3 = and_parts _ _ p2.1 in
+    let p4 = and_parts _ _ p3.1 in
+    text_first (λ x. Present 2 (Int n ∷ x) → Present 3 (Int n ∷ x) → Present 4 (Int n ∷ x) → IsProjectRow (Int n ∷ x)) (codes "key") 0 (column_of (codes "lecturer") Text true ∷ column_of (codes "title") Text true ∷ column_of (codes "capacity") Integer true ∷ []) cells typed p1.0 (λ key rest0 typed0 a2 a3 a4.
+    text_first (λ x. Present 3 (Int n ∷ Words key ∷ x) → Present 4 (Int n ∷ Words key ∷ x) → IsProjectRow (Int n ∷ Words key ∷ x)) (codes "lecturer") 1 (column_of (codes "title") Text true ∷ column_of (codes "capacity") Integer true ∷ []) rest0 typed0 a2 (λ owner rest1 typed1 b3 b4.
+    text_first (λ x. Present 4 (Int n ∷ Words key ∷ Words owner ∷ x) → IsProjectRow (Int n ∷ Words key ∷ Words owner ∷ x)) (codes "title") 2 (column_of (codes "capacity") Integer true ∷ []) rest1 typed1 b3 (λ title rest2 typed2 c4.
+    number_first (λ x. IsProjectRow (Int n ∷ Words key ∷ Words owner ∷ Words title ∷ x)) (codes "capacity") 3 [] rest2 typed2 c4 (λ capacity rest3 typed3.
+    record { number = n; key = key; lecturer = owner; title = title; capacity = capacity; is = ap (λ x. Int n ∷ Words key ∷ Words owner ∷ Words title ∷ Int capacity ∷ x) (none_more 4 rest3 typed3) })) b4) a3 a4) p2.0 p3.0 p4.0
+
+-- what may stand where the last column of a student is
+last_cell : (name : List ℕ) (at : ℕ) (cells : Row) → are_typed None at (column_of name Text false ∷ []) cells ≡ true → ((cells ≡ []) ⊎ ((v : Value) × (cells ≡ v ∷ []))) × IsNullOrText (column cells 0)
+last_cell name at [] t = (inl refl, inl refl)
+last_cell name at (v ∷ []) t = (inr (v, refl), null_or_text v (and_parts (is_of Text v) true t).0)
+last_cell name at (v ∷ w ∷ vs) t = let e = (and_parts (is_of Text v) false t).1 in absurd (cc)
+
+student_form : (n : ℤ) (cells : Row) → are_typed None 0 (student 6).columns cells ≡ true → are_present None 0 (student 6).columns (Int n ∷ cells) ≡ true → IsStudentRow (Int n ∷ cells)
+student_form n cells typed present =
+    let p1 = and_parts _ _ present in
+    let p2 = and_parts _ _ p1.1 in
+    let p3 = and_parts _ _ p2.1 in
+    text_first (λ x. Present 2 (Int n ∷ x) → Present 3 (Int n ∷ x) → IsStudentRow (Int n ∷ x)) (codes "key") 0 (column_of (codes "name") Text true ∷ column_of (codes "code") Text true ∷ column_of (codes "assigned") Text false ∷ []) cells typed p1.0 (λ key rest0 typed0 a2 a3.
+    text_first (λ x. Present 3 (Int n ∷ Words key ∷ x) → IsStudentRow (Int n ∷ Words key ∷ x)) (codes "name") 1 (column_of (codes "code") Text true ∷ column_of (codes "assigned") Text false ∷ []) rest0 typed0 a2 (λ name rest1 typed1 b3.
+    text_first (λ x. IsStudentRow (Int n ∷ Words key ∷ Words name ∷ x)) (codes "code") 2 (column_of (codes "assigned") Text false ∷ []) rest1 typed1 b3 (λ code rest2 typed2.
+    let end = last_cell (codes "assigned") 3 rest2 typed2 in
+    record { number = n; key = key; name = name; code = code; last = rest2; is = refl; few = end.0; assigned = end.1 })) a3) p2.0 p3.0
+
+-- a text, a number and a text
+record Listed (r : Row) : Type 0 where
+  pub number : ℤ
+  pub owner : List ℕ
+  pub place : ℤ
+  pub named : List ℕ
+  pub is : r ≡ Int number ∷ Words owner ∷ Int place ∷ Words named ∷ []
+
+listed_form : (n : ℤ) (k l m : List ℕ) (cells : Row) → are_typed None 0 (column_of k Text true ∷ column_of l Integer true ∷ column_of m Text true ∷ []) cells ≡ true
+    → are_present None 0 (column_of k Text true ∷ column_of l Integer true ∷ column_of m Text true ∷ []) (Int n ∷ cells) ≡ true → Listed (Int n ∷ cells)
+listed_form n k l m cells typed present =
+    let p1 = and_parts _ _ present in
+    let p2 = and_parts _ _ p1.1 in
+    let p3 = and_parts _ _ p2.1 in
+    text_first (λ x. Present 2 (Int n ∷ x) → Present 3 (Int n ∷ x) → Listed (Int n ∷ x)) k 0 (column_of l Integer true ∷ column_of m Text true ∷ []) cells typed p1.0 (λ owner rest0 typed0 a2 a3.
+    number_first (λ x. Present 3 (Int n ∷ Words owner ∷ x) → Listed (Int n ∷ Words owner ∷ x)) l 1 (column_of m Text true ∷ []) rest0 typed0 a2 (λ place rest1 typed1 b3.
+    text_first (λ x. Listed (Int n ∷ Words owner ∷ Int place ∷ x)) m 2 [] rest1 typed1 b3 (λ named rest2 typed2.
+    record { number = n; owner = owner; place = place; named = named; is = ap (λ x. Int n ∷ Words owner ∷ Int place ∷ Words named ∷ x) (none_more 3 rest2 typed2) })) a3) p2.0 p3.0
+
+-- a row with a number begins with it
+with_number : (P : Row → Type 0) (typed present : Row → Bool) → ((n : ℤ) (cells : Row) → typed cells ≡ true → present (Int n ∷ cells) ≡ true → P (Int n ∷ cells))
+    → (r : Row) → rowid r ≡ Int (id_in (rowid r)) → typed (drop 1 r) ≡ true → present r ≡ true → P r
+with_number P typed present form [] e t p = absurd (cc)
+with_number P typed present form (v ∷ cells) e t p = subst (λ x. P (x ∷ cells)) (sym e) (form (id_in v) cells t (subst (λ x. present (x ∷ cells) ≡ true) e p))
+
+-- the rows of a table, by what its rules say of them
+formed : (P : Row → Type 0) (typed present : Row → Bool) → ((n : ℤ) (cells : Row) → typed cells ≡ true → present (Int n ∷ cells) ≡ true → P (Int n ∷ cells))
+    → (rows : List Row) → IsApart rows → AllByRecursion (λ r. (typed (drop 1 r) && true) ≡ true) rows → AllByRecursion (λ r. present r ≡ true) rows → AllByRecursion P rows
+formed P typed present form [] apart t p = tt
+formed P typed present form (r ∷ rows) apart t p =
+    (with_number P typed present form r apart.0 (and_parts _ _ t.0).0 p.0, formed P typed present form rows apart.2 t.1 p.1)
+
+module _ (db : Database) (own : IsOwn db.schema) (sound : IsDatabase db) where
+  kept : (rule : Constraint) (w : IsWith db.schema) → Keeps rule (portal_with w.checks w.terms) db.trees
+  kept rule w = subst (λ s. Keeps rule s db.trees) w.is (sound.obeys.rules rule)
+
+  pub lecturer_rows_formed : IsApart (db.trees lecturer_tree) → AllByRecursion IsLecturerRow (db.trees lecturer_tree)
+  lecturer_rows_formed apart =
+      let w = own_is db.schema own in
+      formed IsLecturerRow (are_typed None 0 (lecturer 1).columns) (are_present None 0 (lecturer 1).columns) lecturer_form (db.trees lecturer_tree) apart (kept Datatype w).1.0 (kept NotNull w).1.0
+
+  pub project_rows_formed : IsApart (db.trees project_tree) → AllByRecursion IsProjectRow (db.trees project_tree)
+  project_rows_formed apart =
+      let w = own_is db.schema own in
+      formed IsProjectRow (are_typed None 0 (project 4).columns) (are_present None 0 (project 4).columns) project_form (db.trees project_tree) apart (kept Datatype w).1.1.0 (kept NotNull w).1.1.0
+
+  pub student_rows_formed : IsApart (db.trees student_tree) → AllByRecursion IsStudentRow (db.trees student_tree)
+  student_rows_formed apart =
+      let w = own_is db.schema own in
+      formed IsStudentRow (are_typed None 0 (student 6).columns) (are_present None 0 (student 6).columns) student_form (db.trees student_tree) apart (kept Datatype w).1.1.1.0 (kept NotNull w).1.1.1.0
+
+  pub choice_rows_formed : IsApart (db.trees choice_tree) → AllByRecursion IsChoiceRow (db.trees choice_tree)
+  choice_rows_formed apart =
+      let w = own_is db.schema own in
+      formed IsChoiceRow (are_typed None 0 (choice 9).columns) (are_present None 0 (choice 9).columns)
+      (λ n cells t p. let f = listed_form n (codes "student") (codes "place") (codes "project") cells t p in record { number = f.number; student = f.owner; place = f.place; project = f.named; is = f.is })
+      (db.trees choice_tree) apart (kept Datatype w).1.1.1.1.0 (kept NotNull w).1.1.1.1.0
+
+  pub ranking_rows_formed : IsApart (db.trees ranking_tree) → AllByRecursion IsRankingRow (db.trees ranking_tree)
+  ranking_rows_formed apart =
+      let w = own_is db.schema own in
+      formed IsRankingRow (are_typed None 0 (ranking 12).columns) (are_present None 0 (ranking 12).columns)
+      (λ n cells t p. let f = listed_form n (codes "lecturer") (codes "place") (codes "student") cells t p in record { number = f.number; lecturer = f.owner; place = f.place; student = f.named; is = f.is })
+      (db.trees ranking_tree) apart (kept Datatype w).1.1.1.1.1.0 (kept NotNull w).1.1.1.1.1.0

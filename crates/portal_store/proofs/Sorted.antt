@@ -1,0 +1,231 @@
+-- Rows put by their keys are the one order of them in which the keys rise.
+use Rattle.std.proofs.Common.{◌≡◌, inl, inr, true, false, cond, List, [], ◌∷◌, ◌++◌, map, refl, sym, ap, ap₂, subst, ◌∙◌}
+use Rattle.std.proofs.lemmas.Bool.{cases_Bool}
+use Rattle.std.proofs.lemmas.List.{append-nil}
+use Rattle.std.specs.List.{AllByRecursion, IsDistinct}
+use Rattle.std.specs.List.Sorted.{IsPermutation}
+use Rattle.std.proofs.lemmas.List.Sorted.{IsPermutation-refl, IsPermutation-trans, IsPermutation-sym, IsPermutation-cons, IsPermutation-middle, IsPermutation-map, IsPermutation-append_right, All-permutation}
+use Rattle.std.proofs.lemmas.List.Elements.{All-from_recursion, recursion_from_All}
+use Rattle.std.proofs.lemmas.Map.Keys.{IsDistinct-IsPermutation}
+use Rattle.std.specs.Ordering.{is_lt, is_eq, nat_cmp, ordering_reverse}
+use Rattle.std.specs.Cmp.Lexicographic.{slice_cmp, nat_list_cmp_total, texts_ties}
+use Rattle.std.specs.declared.cmp.Ordering.{Ordering}
+use Rattle.std.specs.declared.cmp.Ordering.TheVariants.{Less, Equal, Greater}
+use Rattle.sqlite_rules.specs.Lists.{Has}
+use Rattle.portal_core.specs.Words.{Key, is, is_before, Rise, AreDistinct, put, put_all}
+use Rattle.portal_core.proofs.Keys.{not_before_itself, is_same}
+use Rattle.portal_core.proofs.AllLaws.{is_sym, none_is}
+
+less_of : (o : Ordering) → is_lt o ≡ true → o ≡ Less
+less_of Less e = refl
+less_of Equal e = cc
+less_of Greater e = cc
+
+pub before_trans : (a b c : Key) → is_before a b ≡ true → is_before b c ≡ true → is_before a c ≡ true
+before_trans a b c h k = ap is_lt (nat_list_cmp_total.trans a b c (less_of _ h) (less_of _ k))
+
+pub not_same : (a b : Key) → is_before a b ≡ true → is a b ≡ false
+not_same a b h = elim (cases_Bool (is a b)) [
+  | inl e ↦ absurd (not_before_itself a (subst (λ c. is_before a c ≡ true) (sym (is_same a b e)) h))
+  | inr e ↦ e
+]
+
+-- what is not before and not the same is after
+after_other : (a b : Key) → is_before a b ≡ false → is a b ≡ false → is_before b a ≡ true
+after_other a b h d = go (slice_cmp nat_cmp a b) refl
+  where
+    go : (o : Ordering) → slice_cmp nat_cmp a b ≡ o → is_before b a ≡ true
+    go Less e = let x : true ≡ false = sym (ap is_lt e) ∙ h in cc
+    go Equal e = let x : true ≡ false = sym (ap is_eq e) ∙ sym (texts_ties a b) ∙ d in cc
+    go Greater e = ap is_lt (nat_list_cmp_total.antisymm b a ∙ ap ordering_reverse e)
+
+all_apart : (k : Key) (ks : List Key) → AllByRecursion (λ l. is_before k l ≡ true) ks → AllByRecursion (λ l. is k l ≡ false) ks
+all_apart k [] h = tt
+all_apart k (l ∷ ks) h = (not_same k l h.0, all_apart k ks h.1)
+
+pub rise_distinct : (ks : List Key) → Rise ks → IsDistinct is ks
+unfolding IsDistinct
+rise_distinct [] h = tt
+rise_distinct (k ∷ ks) h = (all_apart k ks h.0, rise_distinct ks h.1)
+
+flip_all : (k : Key) (ks : List Key) → AllByRecursion (λ l. is k l ≡ false) ks → AllByRecursion (λ l. is l k ≡ false) ks
+flip_all k [] h = tt
+flip_all k (l ∷ ks) h = (is_sym l k ∙ h.0, flip_all k ks h.1)
+
+-- the same by the word of worlds
+pub are_distinct : (ks : List Key) → IsDistinct is ks → AreDistinct ks
+unfolding IsDistinct
+are_distinct [] h = tt
+are_distinct (k ∷ ks) h = (none_is k ks (flip_all k ks h.0), are_distinct ks h.1)
+
+-- no key comes before one that stands in front of it
+abbrev pub NeverFall : List Key → Type 0
+NeverFall [] = Unit {0}
+NeverFall (k ∷ ks) = AllByRecursion (λ l. is_before l k ≡ false) ks × NeverFall ks
+
+above_others : (k : Key) (ks : List Key) → AllByRecursion (λ l. is_before l k ≡ false) ks → AllByRecursion (λ l. is k l ≡ false) ks → AllByRecursion (λ l. is_before k l ≡ true) ks
+above_others k [] h d = tt
+above_others k (l ∷ ks) h d = (after_other l k h.0 (is_sym l k ∙ d.0), above_others k ks h.1 d.1)
+
+-- distinct keys that never fall rise
+pub rise_from_distinct : (ks : List Key) → NeverFall ks → IsDistinct is ks → Rise ks
+unfolding IsDistinct
+rise_from_distinct [] h d = tt
+rise_from_distinct (k ∷ ks) h d = (above_others k ks h.0 d.0, rise_from_distinct ks h.1 d.1)
+
+module _ {X : Type 0} where
+  pub at : (P : X → Type 0) (xs : List X) (x : X) → AllByRecursion P xs → Has xs x → P x
+  at P [] x all h = absurd h
+  at P (y ∷ xs) x all (inl e) = subst P (sym e) all.0
+  at P (y ∷ xs) x all (inr h) = at P xs x all.1 h
+
+  within : (zs all : List X) → ((z : X) → Has zs z → Has all z) → AllByRecursion (λ z. Has all z) zs
+  within [] all h = tt
+  within (z ∷ zs) all h = (h z (inl refl), within zs all (λ w k. h w (inr k)))
+
+  pub all_has : (P : X → Type 0) (xs : List X) → ((x : X) → Has xs x → P x) → AllByRecursion P xs
+  all_has P [] h = tt
+  all_has P (x ∷ xs) h = (h x (inl refl), all_has P xs (λ y k. h y (inr k)))
+
+  -- what holds of each row holds of each in another order
+  pub all_permuted : (P : X → Type 0) (xs ys : List X) → IsPermutation xs ys → AllByRecursion P xs → AllByRecursion P ys
+  all_permuted P xs ys same all = recursion_from_All P ys (All-permutation P xs ys same (All-from_recursion P xs all))
+
+  pub has_permuted : (xs ys : List X) → IsPermutation xs ys → (x : X) → Has xs x → Has ys x
+  has_permuted xs ys same x h = at (λ z. Has ys z) xs x (all_permuted (λ z. Has ys z) ys xs (IsPermutation-sym xs ys same) (within ys ys (λ z k. k))) h
+
+module _ {X : Type 0} (key : X → Key) where
+  -- putting rows loses none and makes none
+  pub permutes_one : (x : X) (ys : List X) → IsPermutation (x ∷ ys) (put key x ys)
+  permutes_one x [] = IsPermutation-refl (x ∷ [])
+  permutes_one x (y ∷ ys) =
+      elim (is_before (key x) (key y)) as (λ b. IsPermutation (x ∷ y ∷ ys) (cond b (x ∷ y ∷ ys) (y ∷ put key x ys))) [
+        | true ↦ IsPermutation-refl (x ∷ y ∷ ys)
+        | false ↦ IsPermutation-trans _ _ _ (IsPermutation-middle (x ∷ []) y ys) (IsPermutation-cons y _ _ (permutes_one x ys))
+      ]
+
+  pub permutes_more : (xs ys : List X) → IsPermutation (xs ++ ys) (put_all key xs ys)
+  permutes_more [] ys = IsPermutation-refl ys
+  permutes_more (x ∷ xs) ys =
+      IsPermutation-trans _ _ _ (IsPermutation-sym _ _ (IsPermutation-middle xs x ys)) (IsPermutation-trans _ _ _ (IsPermutation-append_right xs _ _ (permutes_one x ys)) (permutes_more xs (put key x ys)))
+
+  pub permutes : (xs : List X) → IsPermutation xs (put_all key xs [])
+  permutes xs = subst (λ l. IsPermutation l (put_all key xs [])) (append-nil xs) (permutes_more xs [])
+
+  above : (k : Key) (xs : List X) (x : X) → AllByRecursion (λ l. is_before k l ≡ true) (map key xs) → Has xs x → is_before k (key x) ≡ true
+  above k [] x all h = absurd h
+  above k (y ∷ xs) x all (inl e) = subst (λ z. is_before k (key z) ≡ true) (sym e) all.0
+  above k (y ∷ xs) x all (inr h) = above k xs x all.1 h
+
+  -- two lists with rising keys that have the same members are one
+  pub one_order : (xs ys : List X) → Rise (map key xs) → Rise (map key ys) → ((x : X) → Has xs x → Has ys x) → ((x : X) → Has ys x → Has xs x) → xs ≡ ys
+  one_order [] [] p q to back = refl
+  one_order [] (y ∷ ys) p q to back = absurd (back y (inl refl))
+  one_order (x ∷ xs) [] p q to back = absurd (to x (inl refl))
+  one_order (x ∷ xs) (y ∷ ys) p q to back =
+      let first : x ≡ y = elim (to x (inl refl)) [
+        | inl e ↦ e
+        | inr low ↦ elim (back y (inl refl)) [
+          | inl e ↦ sym e
+          | inr high ↦ absurd (not_before_itself (key x) (before_trans (key x) (key y) (key x) (above (key x) xs y p.0 high) (above (key y) ys x q.0 low)))
+        ]
+      ] in
+      ap₂ (λ a b. a ∷ b) first (one_order xs ys p.1 q.1
+      (λ z h. elim (to z (inr h)) [
+        | inl e ↦ absurd (not_before_itself (key x) (subst (λ w. is_before (key x) (key w) ≡ true) (e ∙ sym first) (above (key x) xs z p.0 h)))
+        | inr on ↦ on
+      ])
+      (λ z h. elim (back z (inr h)) [
+        | inl e ↦ absurd (not_before_itself (key y) (subst (λ w. is_before (key y) (key w) ≡ true) (e ∙ first) (above (key y) ys z q.0 h)))
+        | inr on ↦ on
+      ]))
+
+  -- two orders of the same rows, both rising, are one
+  pub one_rise : (xs ys : List X) → IsPermutation xs ys → Rise (map key xs) → Rise (map key ys) → xs ≡ ys
+  one_rise xs ys same p q = one_order xs ys p q (has_permuted xs ys same) (has_permuted ys xs (IsPermutation-sym xs ys same))
+
+  -- where the rows rise once put, no key is of two rows
+  pub distinct_permuted : (xs ys : List X) → IsPermutation xs ys → IsDistinct is (map key xs) → IsDistinct is (map key ys)
+  distinct_permuted xs ys same d = IsDistinct-IsPermutation is is_sym (map key xs) (map key ys) (IsPermutation-map key xs ys same) d
+
+  pub distinct_if_rise : (xs : List X) → Rise (map key (put_all key xs [])) → IsDistinct is (map key xs)
+  distinct_if_rise xs up = distinct_permuted (put_all key xs []) xs (IsPermutation-sym _ _ (permutes xs)) (rise_distinct _ up)
+
+  rise_one : (x : X) (ys : List X) → Rise (map key ys) → AllByRecursion (λ l. is (key x) l ≡ false) (map key ys) → Rise (map key (put key x ys))
+  rise_one x [] up d = (tt, tt)
+  rise_one x (y ∷ ys) up d =
+      (elim (is_before (key x) (key y)) as (λ b. is_before (key x) (key y) ≡ b → Rise (map key (cond b (x ∷ y ∷ ys) (y ∷ put key x ys)))) [
+        | true ↦ λ e. ((e, later e (map key ys) up.0), up)
+        | false ↦ λ e. (lower (key y) (x ∷ ys) (put key x ys) (permutes_one x ys) (after_other (key x) (key y) e d.0, up.0), rise_one x ys up.1 d.1)
+      ]) refl
+    where
+      later : is_before (key x) (key y) ≡ true → (ks : List Key) → AllByRecursion (λ l. is_before (key y) l ≡ true) ks → AllByRecursion (λ l. is_before (key x) l ≡ true) ks
+      later e [] h = tt
+      later e (k ∷ ks) h = (before_trans (key x) (key y) k e h.0, later e ks h.1)
+
+      lower : (k : Key) (us vs : List X) → IsPermutation us vs → AllByRecursion (λ l. is_before k l ≡ true) (map key us) → AllByRecursion (λ l. is_before k l ≡ true) (map key vs)
+      lower k us vs same h = all_permuted (λ l. is_before k l ≡ true) (map key us) (map key vs) (IsPermutation-map key us vs same) h
+
+  behind : (k : Key) (us ys : List X) → AllByRecursion (λ l. is k l ≡ false) (map key (us ++ ys)) → AllByRecursion (λ l. is k l ≡ false) (map key ys)
+  behind k [] ys h = h
+  behind k (u ∷ us) ys h = behind k us ys h.1
+
+  apart_from : (x : X) (us ys : List X) → IsDistinct is (map key (x ∷ (us ++ ys))) → AllByRecursion (λ l. is (key x) l ≡ false) (map key ys)
+  unfolding IsDistinct
+  apart_from x us ys h = behind (key x) us ys h.0
+
+  -- rows with distinct keys rise once they are put
+  pub rise_put_all : (xs ys : List X) → IsDistinct is (map key (xs ++ ys)) → Rise (map key ys) → Rise (map key (put_all key xs ys))
+  rise_put_all [] ys d up = up
+  rise_put_all (x ∷ xs) ys d up =
+      let front : IsDistinct is (map key (x ∷ (xs ++ ys))) = d in
+      let swapped : IsDistinct is (map key (xs ++ put key x ys)) =
+      distinct_permuted (x ∷ (xs ++ ys)) (xs ++ put key x ys) (IsPermutation-trans _ _ _ (IsPermutation-sym _ _ (IsPermutation-middle xs x ys)) (IsPermutation-append_right xs _ _ (permutes_one x ys))) front in
+      rise_put_all xs (put key x ys) swapped (rise_one x ys up (apart_from x xs ys front))
+
+  -- the rows with rising keys, in whatever order they were
+  pub in_order : (xs ys : List X) → IsPermutation xs ys → Rise (map key ys) → ys ≡ put_all key xs []
+  in_order xs ys same up =
+      let d : IsDistinct is (map key (xs ++ [])) = subst (λ l. IsDistinct is (map key l)) (sym (append-nil xs)) (distinct_permuted ys xs (IsPermutation-sym xs ys same) (rise_distinct (map key ys) up)) in
+      one_rise ys (put_all key xs []) (IsPermutation-trans _ _ _ (IsPermutation-sym xs ys same) (permutes xs)) up (rise_put_all xs [] d tt)
+
+  -- the same rows, in two orders, are one list once they are put, if that rises
+  pub put_same : (xs ys : List X) → IsPermutation xs ys → Rise (map key (put_all key xs [])) → put_all key ys [] ≡ put_all key xs []
+  put_same xs ys same up = sym (in_order ys (put_all key xs []) (IsPermutation-trans _ _ _ (IsPermutation-sym xs ys same) (permutes xs)) up)
+
+  -- rows in an order in which no key falls, where the same rows rise once they are put
+  pub sorted_order : (xs ys : List X) → IsPermutation xs ys → NeverFall (map key ys) → Rise (map key (put_all key xs [])) → ys ≡ put_all key xs []
+  sorted_order xs ys same sorted up = in_order xs ys same (rise_from_distinct (map key ys) sorted (distinct_permuted xs ys same (distinct_if_rise xs up)))
+
+  -- new rows, among those that were there
+  pub more_rows : (xs ys zs : List X) → IsPermutation (xs ++ ys) zs → Rise (map key (put_all key xs ys)) → put_all key zs [] ≡ put_all key xs ys
+  more_rows xs ys zs same up = sym (in_order zs (put_all key xs ys) (IsPermutation-trans _ _ _ (IsPermutation-sym _ _ same) (permutes_more xs ys)) up)
+
+  pub more_put : (xs ys zs : List X) → IsPermutation (xs ++ ys) zs → Rise (map key (put_all key xs (put_all key ys []))) → put_all key zs [] ≡ put_all key xs (put_all key ys [])
+  more_put xs ys zs same up = more_rows xs (put_all key ys []) zs (IsPermutation-trans _ _ _ (IsPermutation-append_right xs _ _ (IsPermutation-sym _ _ (permutes ys))) same) up
+
+-- a change of each row that keeps its key
+module _ {X Y : Type 0} (key : X → Key) (there : Y → Key) (f : X → Y) (alike : (x : X) → there (f x) ≡ key x) where
+  put_map : (x : X) (ys : List X) → put there (f x) (map f ys) ≡ map f (put key x ys)
+  put_map x [] = refl
+  put_map x (y ∷ ys) =
+      ap₂ (λ a b. cond (is_before a b) (f x ∷ f y ∷ map f ys) (f y ∷ put there (f x) (map f ys))) (alike x) (alike y)
+      ∙ elim (is_before (key x) (key y)) as (λ b. cond b (f x ∷ f y ∷ map f ys) (f y ∷ put there (f x) (map f ys)) ≡ map f (cond b (x ∷ y ∷ ys) (y ∷ put key x ys)))
+      [ true ↦ refl | false ↦ ap (λ l. f y ∷ l) (put_map x ys) ]
+
+  pub put_all_map : (xs ys : List X) → put_all there (map f xs) (map f ys) ≡ map f (put_all key xs ys)
+  put_all_map [] ys = refl
+  put_all_map (x ∷ xs) ys = ap (put_all there (map f xs)) (put_map x ys) ∙ put_all_map xs (put key x ys)
+
+-- changes that are alike on each row
+pub map_alike : {X Y : Type 0} (f g : X → Y) (xs : List X) → ((x : X) → f x ≡ g x) → map f xs ≡ map g xs
+map_alike f g [] h = refl
+map_alike f g (x ∷ xs) h = ap₂ (λ a b. a ∷ b) (h x) (map_alike f g xs h)
+
+pub map_alike_on : {X Y : Type 0} (f g : X → Y) (xs : List X) → ((x : X) → Has xs x → f x ≡ g x) → map f xs ≡ map g xs
+map_alike_on f g [] h = refl
+map_alike_on f g (x ∷ xs) h = ap₂ (λ a b. a ∷ b) (h x (inl refl)) (map_alike_on f g xs (λ y k. h y (inr k)))
+
+pub map_twice : {X Y Z : Type 0} (f : Y → Z) (g : X → Y) (xs : List X) → map (λ x. f (g x)) xs ≡ map f (map g xs)
+map_twice f g [] = refl
+map_twice f g (x ∷ xs) = ap (λ l. f (g x) ∷ l) (map_twice f g xs)

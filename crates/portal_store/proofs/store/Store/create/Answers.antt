@@ -1,0 +1,29 @@
+use Rattle.std.proofs.Common.{IsTrue, sym, subst, ◌∙◌}
+use Rattle.sqlite.specs.State.{HasCleanDisk}
+use Rattle.sqlite.specs.Held.{Held, state}
+use Rattle.portal_tables.specs.Making.{IsFresh}
+use Rattle.portal_tables.proofs.Runs.{clean_if_open}
+use Rattle.portal_store.proofs.First.{first_is, first_is_good, first_kept}
+use Rattle.portal_store.proofs.store.Store.create.Given.{Over}
+use Rattle.portal_store.proofs.store.Store.create.Goals as goal
+
+law : (g : Over) (h : Held g.row.S.Denot) → IsTrue (state g.S.Store h).is_open → HasCleanDisk (state g.S.Store h)
+law g h = clean_if_open (state g.S.Store h).is_clean (state g.S.Store h).is_open (g.met.S.Store.shut_if_dirty h.store)
+
+pub invariant_of-result : goal.invariant_of-result
+invariant_of-result g c =
+    let new = c.create_portal.new.conn in
+    first_kept g.S.Store c.as_bytes.result.now c.is_empty-own.result c.args.conn new c.create_portal.ensures.idle (λ own. sym c.schema.ensures.value ∙ c.is_empty-own.ensures.0 own) (λ on. c.in_default.ensures.ok (law g new on))
+
+pub returns-clause-world : goal.returns-clause-world
+returns-clause-world g c on =
+    let new = c.create_portal.new.conn in
+    first_is c.args.office (state g.S.Store new).now
+    (subst (λ office. IsFresh office (state g.S.Store new).now) c.as_bytes.ensures.bytes ((c.in_default.ensures.ok (law g new on.1)).changed (sym c.schema.ensures.value ∙ c.is_empty-own.ensures.0 on.0)))
+
+pub returns-clause-good : goal.returns-clause-good
+returns-clause-good g c on =
+    let new = c.create_portal.new.conn in
+    first_is_good c.args.office (state g.S.Store new).now
+    (subst (λ office. IsFresh office (state g.S.Store new).now) c.as_bytes.ensures.bytes ((c.in_default.ensures.ok (law g new on.1)).changed (sym c.schema.ensures.value ∙ c.is_empty-own.ensures.0 on.0)))
+    c.as_bytes.ensures.form

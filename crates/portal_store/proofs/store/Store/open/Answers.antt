@@ -1,0 +1,26 @@
+use Rattle.std.proofs.Common.{not, IsTrue, sym, ap, subst, ◌∙◌}
+use Rattle.sqlite.specs.Effect.{Database}
+use Rattle.sqlite.specs.State.{HasCleanDisk}
+use Rattle.sqlite.specs.Held.{Held, state}
+use Rattle.portal_core.specs.Good.{Good}
+use Rattle.portal_tables.proofs.Runs.{clean_if_open}
+use Rattle.portal_store.specs.World.{world_of}
+use Rattle.portal_store.proofs.Asked.{opened_kept}
+use Rattle.portal_store.proofs.store.Store.open.Given.{Over}
+use Rattle.portal_store.proofs.store.Store.open.Goals as goal
+
+law : (g : Over) (h : Held g.row.S.Denot) → IsTrue (state g.S.Store h).is_open → HasCleanDisk (state g.S.Store h)
+law g h = clean_if_open (state g.S.Store h).is_clean (state g.S.Store h).is_open (g.met.S.Store.shut_if_dirty h.store)
+
+pub invariant_of-result : goal.invariant_of-result
+invariant_of-result g c =
+    let new = c.examine.new.conn in
+    opened_kept g.S.Store c.fits-own.result c.args.conn new c.examine.ensures.idle c.fits-own.ensures.0 (c.is_autocommit-idle.ensures.settled (c.is_autocommit-idle.ensures.value ∙ ap not c.requires.idle)) c.schema-live.ensures.live
+    (λ mine on. ((c.in_default.ensures.asks mine).same (c.fits-own.ensures.0 mine) (law g new on), c.in_default.ensures.admits mine (c.fits-own.ensures.0 mine) c.schema-live.ensures.live (law g new on)))
+
+pub returns-clause-good : goal.returns-clause-good
+returns-clause-good g c on =
+    let new = c.examine.new.conn in
+    let own = c.fits-own.ensures.0 on.0 in
+    let same = (c.in_default.ensures.asks on.0).same own (law g new on.1) in
+    subst (λ (d : Database). Good (world_of d.trees)) (sym same.0.now_is) (c.in_default.ensures.admits on.0 own c.schema-live.ensures.live (law g new on.1)).stands.good

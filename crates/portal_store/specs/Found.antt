@@ -1,0 +1,12 @@
+-- The world that was found in the tables.
+use Rattle.std.specs.Prelude.{◌≡◌}
+use Rattle.sqlite.specs.Tree.{Trees}
+use Rattle.portal_core.specs.World.{World}
+use Rattle.portal_tables.specs.Tables.{portal_tree}
+use Rattle.portal_store.specs.World.{world_of}
+use Rattle.portal_store.specs.Kept.{HasOffice, Whole}
+
+pub record Finds (db : Trees) (w : World) : Type 0 where
+  pub office : HasOffice (db portal_tree)
+  pub whole : Whole db
+  pub world : w ≡ world_of db

@@ -1,0 +1,80 @@
+-- What a store keeps true between two calls, and what a change of the world is to the tables.
+use Rattle.std.specs.Prelude.{◌≡◌, pos, Bool, true, false, List, [], ◌∷◌, IsTrue, refl}
+use Rattle.std.specs.Coded.{Coded, code_by, coded×, coded_bool}
+use Rattle.std.specs.List.{AllByRecursion}
+use Rattle.sqlite.specs.Order.{Row}
+use Rattle.sqlite.specs.Tree.{Trees}
+use Rattle.sqlite.specs.Effect.{Database, IsDatabase}
+use Rattle.sqlite.specs.State.{State}
+use Rattle.sqlite.specs.Store.{Ghosts}
+use Rattle.sqlite.specs.Held.{Held, held_code, state}
+use Rattle.portal_core.specs.declared.phase.Phase.{Phase}
+use Rattle.portal_core.specs.Words.{Key}
+use Rattle.portal_core.specs.World.{World}
+use Rattle.portal_core.specs.Change.{Change, changed}
+use Rattle.portal_core.specs.Good.{Good}
+use Rattle.portal_tables.specs.Tables.{portal_tree, lecturer_tree, student_tree, choice_tree, ranking_tree, own_trees}
+use Rattle.portal_tables.specs.Own.{IsOwn}
+use Rattle.portal_tables.specs.Changes.{IsApart}
+use Rattle.portal_tables.specs.Rows.{portal_row}
+use Rattle.portal_store.specs.Lists.{of_key, IsWhole}
+use Rattle.portal_store.specs.World.{world_of, number_of, row_key, is_ranked}
+
+-- the one row of `portal`, of version 1
+pub record HasOffice (rows : List Row) : Type 0 where
+  pub phase : Phase
+  pub office : Key
+  pub is : rows ≡ portal_row (pos 1) (pos (number_of phase)) office ∷ []
+
+-- no list has a gap, and who has no ranking has no row of one
+pub record Whole (db : Trees) : Type 0 where
+  pub choices : AllByRecursion (λ r. IsWhole (of_key (row_key r) (db choice_tree))) (db student_tree)
+  pub rankings : AllByRecursion (λ r. IsWhole (of_key (row_key r) (db ranking_tree))) (db lecturer_tree)
+  pub ranked : AllByRecursion (λ r. is_ranked r ≡ false → of_key (row_key r) (db ranking_tree) ≡ []) (db lecturer_tree)
+
+-- the tables stand for a good world
+pub record Stands (db : Trees) : Type 0 where
+  pub office : HasOffice (db portal_tree)
+  pub whole : Whole db
+  pub good : Good (world_of db)
+
+-- what every change may rely on, and leaves
+pub record Holds (db : Database) : Type 0 where
+  pub own : IsOwn db.schema
+  pub sound : IsDatabase db
+  pub apart : AllByRecursion (λ t. IsApart (db.trees t)) own_trees
+  pub office : HasOffice (db.trees portal_tree)
+  pub whole : Whole db.trees
+
+-- the tables have turned to the changed world
+pub record Turned (change : Change) (old new : Database) : Type 0 where
+  pub holds : Holds new
+  pub world : world_of new.trees ≡ changed (world_of old.trees) change
+
+-- the change that is made of the tables, where they stand for a good world and the changed one is good
+abbrev pub Turns : Change → Database → Database → Type 0
+Turns change old new = Holds old → Good (world_of old.trees) → Good (changed (world_of old.trees) change) → Turned change old new
+
+-- what can be seen of a store: its connection, and whether the tables are those that the portal makes
+pub record Seen (S : Type 0) : Type 0 where
+  pub conn : Held S
+  pub own : Bool
+
+abbrev pub seen_code : {S : Type 0} → Coded S → Coded (Seen S)
+seen_code {S} store = code_by (Held S × Bool) (coded× (held_code store) coded_bool) (λ s. (s.conn, s.own)) (λ p. record { conn = p.0; own = p.1 }) (λ _. refl)
+
+-- all is committed
+pub record IsReady (s : State) : Type 0 where
+  pub settled : s.committed ≡ s.now
+  pub holds : Holds s.now
+
+pub record IsKept {S : Type 0} (g : Ghosts S) (s : Seen S) : Type 0 where
+  pub idle : s.conn.in_transaction ≡ false
+  pub ready : IsTrue s.own → IsTrue (state g s.conn).is_open → IsReady (state g s.conn)
+
+-- the tables are the portal's own, and the connection is open: what it shows is what the disk has
+abbrev pub IsCleanStore : {S : Type 0} → Ghosts S → Seen S → Type 0
+IsCleanStore g s = IsTrue s.own × IsTrue (state g s.conn).is_open
+
+abbrev pub kept_world : {S : Type 0} → Ghosts S → Seen S → World
+kept_world g s = world_of (state g s.conn).now.trees

@@ -1,0 +1,40 @@
+-- A list in a table: the rows of its owner, by rising place.
+use Rattle.std.specs.Prelude.{◌≡◌, ℕ, ◌+◌, List, [], ◌∷◌, map, filter}
+use Rattle.sqlite.specs.Order.{Row, column, bytes}
+use Rattle.sqlite_trees.specs.Objects.{number_in}
+use Rattle.portal_core.specs.Words.{Key, put_all}
+use Rattle.portal_tables.specs.Changes.{has_text}
+
+-- the rows of an owner
+abbrev pub of_key : Key → List Row → List Row
+of_key key = filter (has_text 1 key)
+
+abbrev pub place_of : Row → ℕ
+place_of r = number_in (column r 2)
+
+-- what the row of a list names
+abbrev pub named_by : Row → Key
+named_by r = bytes (column r 3)
+
+-- the place, to order rows by as if it were a key
+abbrev pub place_key : Row → Key
+place_key r = place_of r ∷ []
+
+abbrev pub by_place : List Row → List Row
+by_place rows = put_all place_key rows []
+
+abbrev pub list_of : List Row → List Key
+list_of rows = map named_by (by_place rows)
+
+-- the list of one owner, among those of all
+abbrev pub chosen : List Row → Key → List Key
+chosen rows key = list_of (of_key key rows)
+
+-- these are n, n + 1 and so on
+abbrev pub CountUp : ℕ → List ℕ → Type 0
+CountUp n [] = Unit {0}
+CountUp n (m ∷ ms) = (m ≡ n) × CountUp (n + 1) ms
+
+-- the places are 1 to n, each once
+abbrev pub IsWhole : List Row → Type 0
+IsWhole rows = CountUp 1 (map place_of (by_place rows))

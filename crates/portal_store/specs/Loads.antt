@@ -1,0 +1,13 @@
+-- What is read of the tables.
+use Rattle.std.specs.Prelude.{◌≡◌}
+use Rattle.sqlite.specs.Tree.{Trees}
+use Rattle.portal_list.specs.Rows.{Rows, rows_of}
+use Rattle.portal_tables.specs.Tables.{portal_tree}
+use Rattle.portal_store.specs.World.{world_of}
+use Rattle.portal_store.specs.Kept.{HasOffice, Whole}
+
+-- these are the rows of the world that the tables stand for
+pub record Loads (db : Trees) (rows : Rows) : Type 0 where
+  pub office : HasOffice (db portal_tree)
+  pub whole : Whole db
+  pub rows_are : rows ≡ rows_of (world_of db)

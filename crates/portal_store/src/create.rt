@@ -1,0 +1,149 @@
+//! Makes the portal's tables.
+
+ghost use Rattle.std.specs.Prelude.{◌≡◌, ◌↔◌, true, false, IfOk, IfErr, IsTrue};
+ghost use Rattle.std.specs.List.{list_any};
+ghost use Rattle.sqlite.specs.State.{HasCleanDisk, Survives};
+ghost use Rattle.sqlite.specs.Held.{state};
+ghost use Rattle.sqlite.specs.Steps.{over_memory};
+ghost use Rattle.portal_core.specs.Good.{Good};
+ghost use Rattle.portal_tables.specs.Tables.{no_schema};
+ghost use Rattle.portal_tables.specs.Making.{Creates};
+ghost use Rattle.portal_tables.specs.Steps.{Commits, IsAfter, LeavesOnly, Stays};
+ghost use Rattle.portal_store.specs.Kept.{IsCleanStore, kept_world};
+ghost use Rattle.portal_store.specs.Made.{has_own_name, stands_for_table, is_named_table, is_named_view, has_names, first_world};
+
+use crate::fault::create_fault_of;
+use crate::store::{CreateFault, NotOpened, Store};
+use portal_core::Code;
+use portal_tables::make::create_portal;
+use portal_tables::own::Pattern;
+use sqlite::{Alter, Connection, MemStore};
+use sqlite_schema::names::same_name;
+use sqlite_schema::schema::{Schema, Table, View};
+use std::alloc::Global;
+
+/// Whether this is the name of one of the six tables.
+fn is_own_name(name: &[u8]) -> bool
+    ensures { result ≡ has_own_name name.now }
+{
+    same_name(name, b"portal".as_slice())
+        || same_name(name, b"lecturer".as_slice())
+        || same_name(name, b"project".as_slice())
+        || same_name(name, b"student".as_slice())
+        || same_name(name, b"choice".as_slice())
+        || same_name(name, b"ranking".as_slice())
+}
+
+/// Whether this is a view, or a table that the connection cannot read.
+fn is_view(view: &View) -> bool
+    ensures { result ≡ stands_for_table view.now.name view.now.foreign }
+{
+    match &view.foreign {
+        Some(table) => table.as_slice() == view.name.as_slice(),
+        None => true,
+    }
+}
+
+fn is_own_view(view: &View) -> bool
+    ensures { result ≡ is_named_view view.now }
+{
+    is_own_name(view.name.as_slice()) && is_view(view)
+}
+
+fn has_own_tables(tables: &[Table]) -> bool
+    ensures { result ≡ list_any is_named_table tables.now }
+{
+    tables.iter().any(|t| is_own_name(t.name.as_slice()))
+}
+
+fn has_own_views(views: &[View]) -> bool
+    ensures { result ≡ list_any is_named_view views.now }
+{
+    views.iter().any(is_own_view)
+}
+
+/// Whether a table or a view of one of the six names is there.
+fn is_there(schema: &Schema) -> bool
+    ensures { result ≡ has_names schema.now }
+{
+    has_own_tables(schema.tables.as_slice()) || has_own_views(schema.views.as_slice())
+}
+
+fn is_empty(schema: &Schema) -> bool
+    ensures { IsTrue result ↔ (schema.now ≡ no_schema) }
+{
+    schema.tables.is_empty() && schema.indexes.is_empty() && schema.views.is_empty()
+}
+
+impl<S: Alter> Store<S> {
+    /// Makes the portal's tables in a database that has none of them: the empty world in setup, whose office has this code.
+    /// A refusal hands the connection back, and the file holds what it held where the connection is clean. `Exists` comes
+    /// where a table or a view of one of the six names is there, and only then; `Memory` for want of memory, and `Store` for
+    /// any other error of the connection.
+    pub fn create(
+        alloc: Global,
+        mut conn: Connection<S>,
+        office: Code,
+    ) -> Result<Store<S>, NotOpened<CreateFault, S>>
+        requires idle { conn.in_transaction ≡ false }
+        ensures own { IfOk result (λ s. IsTrue s.own ↔ (conn.schema ≡ no_schema)) }
+        ensures made { IfOk result (λ s. HasCleanDisk (state S.Store s.conn) → Commits (Creates office) (state S.Store conn) (state S.Store s.conn)) }
+        ensures world { IfOk result (λ s. IsCleanStore S.Store s → kept_world S.Store s ≡ first_world office) }
+        ensures good { IfOk result (λ s. IsCleanStore S.Store s → Good (kept_world S.Store s)) }
+        ensures durable { IfOk result (λ s. HasCleanDisk (state S.Store s.conn) → LeavesOnly (state S.Store s.conn)) }
+        ensures exists { IfErr result (λ e. IsTrue (has_names conn.schema) ↔ (e.fault ≡ CreateFault.Exists)) }
+        ensures free { IfOk result (λ _. has_names conn.schema ≡ false) }
+        ensures untouched { IfErr result (λ e. e.fault ≡ CreateFault.Exists → e.connection ≡ conn) }
+        ensures same { IfErr result (λ e. HasCleanDisk (state S.Store e.connection) → IsTrue (state S.Store e.connection).is_open → Stays (state S.Store conn) (state S.Store e.connection)) }
+        ensures idle { IfErr result (λ e. e.connection.in_transaction ≡ false) }
+        ensures crash_ok { IfOk result (λ s. Survives (state S.Store conn) (state S.Store s.conn) (IsAfter (Creates office) (state S.Store conn))) }
+        ensures crash_err { IfErr result (λ e. Survives (state S.Store conn) (state S.Store e.connection) (IsAfter (Creates office) (state S.Store conn))) }
+    {
+        let own = is_empty(conn.schema());
+        if is_there(conn.schema()) {
+            return Err(NotOpened {
+                fault: CreateFault::Exists,
+                connection: conn,
+            });
+        }
+        let pattern = match Pattern::new(alloc) {
+            Ok(pattern) => pattern,
+            Err(error) => {
+                return Err(NotOpened {
+                    fault: create_fault_of(error),
+                    connection: conn,
+                });
+            }
+        };
+        if let Err(error) = create_portal(&mut conn, office.as_bytes()) {
+            return Err(NotOpened {
+                fault: create_fault_of(error),
+                connection: conn,
+            });
+        }
+        Ok(Store { conn, own, pattern })
+    }
+}
+
+impl Store<MemStore> {
+    /// The portal in memory: the empty world in setup, whose office has this code. `Exists` and `Store` do not come.
+    pub fn create_memory(alloc: Global, office: Code) -> Result<Store<MemStore>, CreateFault>
+        ensures own { IfOk result (λ s. IsTrue s.own) }
+        ensures clean { IfOk result (λ s. IsCleanStore over_memory s) }
+        ensures world { IfOk result (λ s. kept_world over_memory s ≡ first_world office) }
+        ensures good { IfOk result (λ s. Good (kept_world over_memory s)) }
+    {
+        let Ok(conn) = Connection::open_in_memory(alloc) else {
+            return Err(CreateFault::Memory);
+        };
+        match Store::create(alloc, conn, office) {
+            Ok(store) => Ok(store),
+            Err(
+                NotOpened {
+                    fault,
+                    connection: _,
+                },
+            ) => Err(fault),
+        }
+    }
+}

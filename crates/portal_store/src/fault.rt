@@ -1,0 +1,78 @@
+//! What an error of the connection means to a keeper.
+
+ghost use Rattle.std.specs.Prelude.{◌≡◌, ◌≢◌};
+ghost use Rattle.sqlite.specs.Tree.{Trees};
+ghost use Rattle.portal_store.specs.Kept.{Stands};
+ghost use Rattle.portal_store.specs.Asked.{Refutes};
+
+use crate::load::LoadFault;
+use crate::store::{CreateFault, OpenFault};
+use portal_core::KeepFault;
+use sqlite::{Error, ErrorCode};
+
+/// Want of memory, or a fault of the store.
+pub(crate) fn fault_of(error: Error) -> KeepFault {
+    match error {
+        Error::SqliteFailure(ErrorCode::OutOfMemory) => KeepFault::Memory,
+        _ => KeepFault::Store,
+    }
+}
+
+/// Want of memory, or a fault of the store; never that tables are there.
+pub(crate) fn create_fault_of(error: Error) -> CreateFault
+    ensures { result ≢ CreateFault.Exists }
+{
+    match error {
+        Error::SqliteFailure(ErrorCode::OutOfMemory) => CreateFault::Memory,
+        _ => CreateFault::Store,
+    }
+}
+
+/// Want of memory, or a fault of the store, also where the rows stand for no good world.
+pub(crate) fn keep_fault_of(fault: LoadFault) -> KeepFault {
+    match fault {
+        LoadFault::Memory => KeepFault::Memory,
+        LoadFault::Damaged | LoadFault::Store => KeepFault::Store,
+    }
+}
+
+/// Want of memory, or a fault of the store: nothing is said of the tables.
+pub(crate) fn open_fault_of(error: Error) -> OpenFault
+    ensures { (db : Trees) → Refutes result db }
+{
+    match error {
+        Error::SqliteFailure(ErrorCode::OutOfMemory) => OpenFault::Memory,
+        _ => OpenFault::Store,
+    }
+}
+
+/// What it means that a table cannot be queried: a fault of the device is one of the store, and all else says that the table
+/// is not there as the portal has it.
+pub(crate) fn table_fault_of(error: Error) -> OpenFault {
+    match error {
+        Error::SqliteFailure(
+            ErrorCode::OutOfMemory
+            | ErrorCode::SystemIoFailure
+            | ErrorCode::DatabaseCorrupt
+            | ErrorCode::DiskFull
+            | ErrorCode::DatabaseBusy
+            | ErrorCode::CannotOpen
+            | ErrorCode::NotADatabase
+            | ErrorCode::TooBig
+            | ErrorCode::OperationInterrupted
+            | ErrorCode::Closed,
+        ) => open_fault_of(error),
+        _ => OpenFault::NotPortal,
+    }
+}
+
+/// What it means to an opening that no world was loaded.
+pub(crate) fn load_open_fault_of(fault: LoadFault) -> OpenFault
+    ensures { (db : Trees) → (fault ≡ LoadFault.Damaged → Stands db → ⊥) → Refutes result db }
+{
+    match fault {
+        LoadFault::Damaged => OpenFault::Damaged,
+        LoadFault::Store => OpenFault::Store,
+        LoadFault::Memory => OpenFault::Memory,
+    }
+}

@@ -1,0 +1,134 @@
+//! The missing rankings, put in one transaction.
+
+ghost use Rattle.std.specs.Prelude.{◌≡◌, ◌≤◌, false, length, List, map, IfOk, OnOk, OnErr, IsTrue};
+ghost use Rattle.std.specs.List.{AllByRecursion};
+ghost use Rattle.sqlite.specs.State.{HasCleanDisk, KeepsCommit, IsUnchanged, Survives};
+ghost use Rattle.sqlite.specs.Held.{state};
+ghost use Rattle.sqlite.specs.Effect.{IsDatabase};
+ghost use Rattle.portal_core.specs.Words as words;
+ghost use Rattle.portal_core.specs.World.{World};
+ghost use Rattle.portal_core.specs.Good.{Sound};
+ghost use Rattle.portal_core.specs.Change.{Fill};
+ghost use Rattle.portal_list.specs.Rows.{rows_of};
+ghost use Rattle.portal_list.specs.Fill.{fills};
+ghost use Rattle.portal_tables.specs.Own.{IsOwn};
+ghost use Rattle.portal_tables.specs.Steps.{Commits, IsAfter, Leaves, LeavesOnly, Stays};
+ghost use Rattle.portal_store.specs.Kept.{Turns};
+ghost use Rattle.portal_store.specs.World.{world_of};
+ghost use Rattle.portal_store.specs.Going.{GoesOn};
+ghost use Rattle.portal_store.specs.Putting.{TurnsAll};
+
+use crate::fault::fault_of;
+use crate::lists::put_ranking;
+use crate::load::{LoadFault, load};
+use portal_core::KeepFault;
+use portal_list::{ListKeeper, RowsFault, WorldRows};
+use spa_rows::Key;
+use sqlite::{Alter, Connection, Error, Transaction};
+use std::alloc::Global;
+
+/// Puts each of these rankings.
+fn put_rankings<S: Alter>(
+    tx: &mut Transaction<'_, S>,
+    rankings: &[(Key, Vec<Key>)],
+) -> Result<(), Error>
+    requires few { AllByRecursion (λ f. length f.1.items ≤ 2000) rankings.now }
+    ensures same_reference { tx.new.conn.ghost_name ≡ tx.old.conn.ghost_name }
+    ensures done { HasCleanDisk (state S.Store tx.new.conn.now) → OnOk result (GoesOn (TurnsAll (map {B = words.Key × List words.Key} (λ f. (f.0, f.1.items)) rankings.now)) (state S.Store tx.old.conn.now) (state S.Store tx.new.conn.now)) }
+    ensures kept { HasCleanDisk (state S.Store tx.new.conn.now) → KeepsCommit (state S.Store tx.old.conn.now) (state S.Store tx.new.conn.now) }
+    ensures survives { Survives (state S.Store tx.old.conn.now) (state S.Store tx.new.conn.now) (λ _. ⊥) }
+{
+    'rows: for ranking in rankings {
+        put_ranking(tx, &ranking.0, &ranking.1)?;
+    }
+    Ok(())
+}
+
+/// Puts these rankings in a transaction.
+fn turn_rankings<S: Alter>(
+    conn: &mut Connection<S>,
+    rankings: &[(Key, Vec<Key>)],
+) -> Result<(), Error>
+    requires few { AllByRecursion (λ f. length f.1.items ≤ 2000) rankings.now }
+    requires idle { conn.old.in_transaction ≡ false }
+    ensures idle { conn.new.in_transaction ≡ false }
+    ensures ok { HasCleanDisk (state S.Store conn.new) → OnOk result (Commits (TurnsAll (map {B = words.Key × List words.Key} (λ f. (f.0, f.1.items)) rankings.now)) (state S.Store conn.old) (state S.Store conn.new)) }
+    ensures err { HasCleanDisk (state S.Store conn.new) → IsTrue (state S.Store conn.new).is_open → OnErr result (Stays (state S.Store conn.old) (state S.Store conn.new)) }
+    ensures durable { HasCleanDisk (state S.Store conn.new) → OnOk result (LeavesOnly (state S.Store conn.new)) }
+    ensures crash { Survives (state S.Store conn.old) (state S.Store conn.new) (IsAfter (TurnsAll (map {B = words.Key × List words.Key} (λ f. (f.0, f.1.items)) rankings.now)) (state S.Store conn.old)) }
+{
+    let _idle = conn.is_autocommit();
+    let mut tx = conn.transaction();
+    put_rankings(&mut tx, rankings)?;
+    tx.commit()?;
+    Ok(())
+}
+
+/// The rankings that a fill of the keeper's world would put.
+fn missing_in(alloc: Global, keeper: &ListKeeper) -> Result<Vec<(Key, Vec<Key>)>, KeepFault>
+    ensures fills { IfOk result (λ v. map {B = words.Key × List words.Key} (λ f. (f.0, f.1.items)) v.items ≡ fills keeper.now) }
+{
+    let Ok(rankings) = keeper.fills(alloc) else {
+        return Err(KeepFault::Memory);
+    };
+    Ok(rankings)
+}
+
+/// The rankings that a fill of the world of these rows would put.
+fn missing_of(alloc: Global, rows: WorldRows) -> Result<Vec<(Key, Vec<Key>)>, KeepFault>
+    ensures fills { IfOk result (λ v. (w : World) → Sound w → rows ≡ rows_of w → map {B = words.Key × List words.Key} (λ f. (f.0, f.1.items)) v.items ≡ fills w) }
+    ensures few { IfOk result (λ v. AllByRecursion (λ f. length f.1.items ≤ 2000) v.items) }
+{
+    let keeper = match ListKeeper::from_rows(alloc, rows) {
+        Ok(keeper) => keeper,
+        Err(RowsFault::Memory) => return Err(KeepFault::Memory),
+        Err(RowsFault::NotGood) => return Err(KeepFault::Store),
+    };
+    missing_in(alloc, &keeper)
+}
+
+/// The rankings that a fill would put.
+fn missing_rankings<S: Alter>(
+    alloc: Global,
+    conn: &mut Connection<S>,
+) -> Result<Vec<(Key, Vec<Key>)>, KeepFault>
+    requires idle { conn.old.in_transaction ≡ false }
+    ensures idle { conn.new.in_transaction ≡ false }
+    ensures fills { IsOwn conn.old.schema → IsDatabase (state S.Store conn.old).now → HasCleanDisk (state S.Store conn.new) → IfOk result (λ v. Sound (world_of (state S.Store conn.old).now.trees) → map {B = words.Key × List words.Key} (λ f. (f.0, f.1.items)) v.items ≡ fills (world_of (state S.Store conn.old).now.trees)) }
+    ensures few { IfOk result (λ v. AllByRecursion (λ f. length f.1.items ≤ 2000) v.items) }
+    ensures same { IsOwn conn.old.schema → HasCleanDisk (state S.Store conn.new) → OnOk result (IsUnchanged (state S.Store conn.old) (state S.Store conn.new)) }
+    ensures err { IsOwn conn.old.schema → HasCleanDisk (state S.Store conn.new) → OnErr result (Leaves (state S.Store conn.old) (state S.Store conn.new)) }
+    ensures crash { IsOwn conn.old.schema → Survives (state S.Store conn.old) (state S.Store conn.new) (λ _. ⊥) }
+{
+    let rows = match load(alloc, conn) {
+        Ok(rows) => rows,
+        Err(LoadFault::Memory) => return Err(KeepFault::Memory),
+        Err(LoadFault::Damaged) => return Err(KeepFault::Store),
+        Err(LoadFault::Store) => return Err(KeepFault::Store),
+    };
+    missing_of(alloc, rows)
+}
+
+/// Gives each lecturer still to rank the applicants, in the order of their keys. The store fault also where the tables
+/// stand for no sound world.
+pub(crate) fn fill_rankings<S: Alter>(
+    alloc: Global,
+    conn: &mut Connection<S>,
+) -> Result<(), KeepFault>
+    requires idle { conn.old.in_transaction ≡ false }
+    ensures idle { conn.new.in_transaction ≡ false }
+    ensures ok { IsOwn conn.old.schema → HasCleanDisk (state S.Store conn.new) → OnOk result (Commits (Turns Fill) (state S.Store conn.old) (state S.Store conn.new)) }
+    ensures err { IsOwn conn.old.schema → HasCleanDisk (state S.Store conn.new) → IsTrue (state S.Store conn.new).is_open → OnErr result (Stays (state S.Store conn.old) (state S.Store conn.new)) }
+    ensures durable { IsOwn conn.old.schema → HasCleanDisk (state S.Store conn.new) → OnOk result (LeavesOnly (state S.Store conn.new)) }
+    ensures crash { IsOwn conn.old.schema → Survives (state S.Store conn.old) (state S.Store conn.new) (IsAfter (Turns Fill) (state S.Store conn.old)) }
+{
+    let _idle = conn.is_autocommit();
+    let rankings = match missing_rankings(alloc, conn) {
+        Ok(rankings) => rankings,
+        Err(fault) => return Err(fault),
+    };
+    if let Err(error) = turn_rankings(conn, &rankings) {
+        return Err(fault_of(error));
+    }
+    Ok(())
+}

@@ -1,0 +1,102 @@
+//! The store as a keeper.
+
+ghost use Rattle.std.specs.Prelude.{◌≡◌, IfOk, OnOk, OnErr, IsTrue};
+ghost use Rattle.sqlite.specs.State.{HasCleanDisk, Survives};
+ghost use Rattle.sqlite.specs.Tree.{Trees};
+ghost use Rattle.sqlite.specs.Held.{state};
+ghost use Rattle.portal_core.specs.World.{World};
+ghost use Rattle.portal_core.specs.Change.{changed};
+ghost use Rattle.portal_core.specs.Good.{Good, Sound};
+ghost use Rattle.portal_core.specs.Meaning.{meant};
+ghost use Rattle.portal_tables.specs.Own.{IsOwn};
+ghost use Rattle.portal_tables.specs.Steps.{Commits, IsAfter, LeavesOnly};
+ghost use Rattle.portal_store.specs.Kept.{IsCleanStore, kept_world, Turns};
+ghost use Rattle.portal_store.specs.Crash.{IsLeft};
+
+use crate::change::make;
+use crate::fault::keep_fault_of;
+use crate::office::office_of;
+use crate::sound::load_keeper;
+use crate::store::Store;
+use portal_core::{Change, Code, KeepFault, Keeper, View};
+use portal_list::ListKeeper;
+use spa_model::Instance;
+use sqlite::Alter;
+use std::alloc::Global;
+
+impl<S: Alter> Store<S> {
+    /// Sees that tables which were the portal's own still are.
+    fn check_own(&self) -> Result<(), KeepFault>
+        ensures { IsTrue self.now.own → OnOk result (IsOwn self.now.conn.schema) }
+    {
+        if !self.own || self.pattern.fits(&self.conn) {
+            return Ok(());
+        }
+        Err(KeepFault::Store)
+    }
+
+    /// Makes one change of a good world, which has to leave a good world, in one transaction. After Ok the change is on the
+    /// disk. `Memory` and `Store` leave all as it was, where the store is clean; a crash leaves the tables before or after.
+    pub fn change(&mut self, alloc: Global, change: &Change) -> Result<(), KeepFault>
+        requires good { IsCleanStore S.Store self.old → Good (kept_world S.Store self.old) }
+        requires leaves_good { IsCleanStore S.Store self.old → Good (changed (kept_world S.Store self.old) (meant change.now)) }
+        ensures clean { IsCleanStore S.Store self.new → IsCleanStore S.Store self.old }
+        ensures made { OnOk result (IsCleanStore S.Store self.new → kept_world S.Store self.new ≡ changed (kept_world S.Store self.old) (meant change.now)) }
+        ensures same { OnErr result (IsCleanStore S.Store self.new → kept_world S.Store self.new ≡ kept_world S.Store self.old) }
+        ensures own { self.new.own ≡ self.old.own }
+        ensures commits { IsTrue self.old.own → HasCleanDisk (state S.Store self.new.conn) → OnOk result (Commits (Turns (meant change.now)) (state S.Store self.old.conn) (state S.Store self.new.conn)) }
+        ensures durable { IsTrue self.old.own → HasCleanDisk (state S.Store self.new.conn) → OnOk result (LeavesOnly (state S.Store self.new.conn)) }
+        ensures crash { IsTrue self.old.own → Survives (state S.Store self.old.conn) (state S.Store self.new.conn) (IsAfter (Turns (meant change.now)) (state S.Store self.old.conn)) }
+        ensures left { IsCleanStore S.Store self.old → HasCleanDisk (state S.Store self.new.conn) → (db : Trees) → (state S.Store self.new.conn).may_leave db → IsLeft (meant change.now) (state S.Store self.old.conn).now db }
+    {
+        self.check_own()?;
+        make(alloc, &mut self.conn, change)
+    }
+
+    /// The world of the tables, in lists.
+    fn loaded(&mut self, alloc: Global) -> Result<ListKeeper, KeepFault>
+        ensures clean { IsCleanStore S.Store self.new → IsCleanStore S.Store self.old }
+        ensures sound { IfOk result (λ keeper. Sound keeper) }
+        ensures world { IfOk result (λ (keeper : World). IsCleanStore S.Store self.new → keeper ≡ kept_world S.Store self.old) }
+        ensures same { IsCleanStore S.Store self.new → kept_world S.Store self.new ≡ kept_world S.Store self.old }
+    {
+        self.check_own()?;
+        match load_keeper(alloc, &mut self.conn) {
+            Ok(keeper) => Ok(keeper),
+            Err(fault) => Err(keep_fault_of(fault)),
+        }
+    }
+
+    /// The code of the office. `Store` comes for an error of the connection, and where there is no row of the office.
+    pub fn office_code(&mut self, alloc: Global) -> Result<Code, KeepFault>
+        ensures clean { IsCleanStore S.Store self.new → IsCleanStore S.Store self.old }
+        ensures code { IsCleanStore S.Store self.new → IfOk result (λ code. code ≡ (kept_world S.Store self.old).office) }
+        ensures same { IsCleanStore S.Store self.new → kept_world S.Store self.new ≡ kept_world S.Store self.old }
+    {
+        self.check_own()?;
+        office_of(alloc, &mut self.conn)
+    }
+}
+
+impl<S: Alter> Keeper for Store<S> {
+    ghost world = { λ s. kept_world S.Store s };
+
+    ghost clean = { λ s. IsCleanStore S.Store s };
+
+    fn view(&mut self, alloc: Global, code: &[u8]) -> Result<View, KeepFault> {
+        let mut keeper = self.loaded(alloc)?;
+        keeper.view(alloc, code)
+    }
+
+    fn instance(&mut self, alloc: Global) -> Result<Instance, KeepFault> {
+        let mut keeper = self.loaded(alloc)?;
+        if !keeper.can_publish() {
+            return Err(KeepFault::Store);
+        }
+        keeper.instance(alloc)
+    }
+
+    fn apply(&mut self, alloc: Global, change: &Change) -> Result<(), KeepFault> {
+        self.change(alloc, change)
+    }
+}

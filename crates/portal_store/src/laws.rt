@@ -1,0 +1,14 @@
+//! Laws over the definitions alone: what a crash left can be opened again.
+
+ghost use Rattle.portal_store.specs.Crash.{OpensAgain, OpensFresh};
+
+/// What a crash of a change left shows the portal's own tables and a good world, whoever opens it: the world before the
+/// change or the one after. `Store::open` refuses it for a fault of the store or want of memory alone.
+pub fn opens_again()
+    ensures { OpensAgain }
+{}
+
+/// What `Store::create` made, or a crash left of it once the tables are there, opens with the empty world in setup.
+pub fn opens_fresh()
+    ensures { OpensFresh }
+{}

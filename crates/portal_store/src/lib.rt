@@ -1,0 +1,21 @@
+//! A keeper in a database of six tables, each change of which is one transaction.
+#![tactic(auto)]
+
+mod change;
+mod create;
+mod decode;
+mod fault;
+mod fill;
+mod keeper;
+pub mod laws;
+mod lists;
+mod load;
+mod office;
+mod open;
+mod phase;
+mod placing;
+mod rolls;
+mod sound;
+mod store;
+
+pub use store::{CreateFault, NotOpened, OpenFault, Store};

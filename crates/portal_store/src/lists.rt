@@ -1,0 +1,162 @@
+//! A student's list and a lecturer's ranking, each replaced in a transaction of its own.
+
+ghost use Rattle.std.specs.Prelude.{◌≡◌, ◌≤◌, false, length, OnOk, OnErr, IsTrue};
+ghost use Rattle.sqlite.specs.State.{HasCleanDisk, KeepsCommit, Survives};
+ghost use Rattle.sqlite.specs.Held.{state};
+ghost use Rattle.portal_core.specs.Change.{Choices, Ranks};
+ghost use Rattle.portal_tables.specs.Own.{IsOwn};
+ghost use Rattle.portal_tables.specs.Steps.{Made, Commits, IsAfter, LeavesOnly, Stays};
+ghost use Rattle.portal_store.specs.Kept.{Turns};
+ghost use Rattle.portal_store.specs.Putting.{TurnsThere};
+
+use crate::fault::fault_of;
+use portal_core::KeepFault;
+use portal_tables::insert::{add_choice, add_ranking};
+use portal_tables::remove::{clear_choices, clear_rankings};
+use portal_tables::select::lecturer_by_key;
+use portal_tables::update::set_ranked;
+use spa_rows::Key;
+use sqlite::{Alter, Connection, Error, Transaction};
+use std::alloc::Global;
+
+/// No list is longer: there are at most 1,000 projects and 2,000 students.
+const LONGEST: usize = 2000;
+
+/// Puts the projects in the place of the student's list.
+fn put_choices<S: Alter>(
+    tx: &mut Transaction<'_, S>,
+    student: &Key,
+    projects: &[Key],
+) -> Result<(), Error>
+    requires few { length projects.now ≤ 2000 }
+    ensures same_reference { tx.new.conn.ghost_name ≡ tx.old.conn.ghost_name }
+    ensures done { HasCleanDisk (state S.Store tx.new.conn.now) → OnOk result (Made (Turns (Choices student.now projects.now)) (state S.Store tx.old.conn.now) (state S.Store tx.new.conn.now)) }
+    ensures kept { HasCleanDisk (state S.Store tx.new.conn.now) → KeepsCommit (state S.Store tx.old.conn.now) (state S.Store tx.new.conn.now) }
+    ensures survives { Survives (state S.Store tx.old.conn.now) (state S.Store tx.new.conn.now) (λ _. ⊥) }
+{
+    clear_choices(tx, student.as_bytes())?;
+    let mut place = 0u32;
+    'rows: for project in projects {
+        place += 1;
+        add_choice(tx, student.as_bytes(), place, project.as_bytes())?;
+    }
+    Ok(())
+}
+
+/// Replaces the student's list.
+fn turn_choice<S: Alter>(
+    conn: &mut Connection<S>,
+    student: &Key,
+    projects: &[Key],
+) -> Result<(), Error>
+    requires few { length projects.now ≤ 2000 }
+    requires idle { conn.old.in_transaction ≡ false }
+    ensures idle { conn.new.in_transaction ≡ false }
+    ensures ok { HasCleanDisk (state S.Store conn.new) → OnOk result (Commits (Turns (Choices student.now projects.now)) (state S.Store conn.old) (state S.Store conn.new)) }
+    ensures err { HasCleanDisk (state S.Store conn.new) → IsTrue (state S.Store conn.new).is_open → OnErr result (Stays (state S.Store conn.old) (state S.Store conn.new)) }
+    ensures durable { HasCleanDisk (state S.Store conn.new) → OnOk result (LeavesOnly (state S.Store conn.new)) }
+    ensures crash { Survives (state S.Store conn.old) (state S.Store conn.new) (IsAfter (Turns (Choices student.now projects.now)) (state S.Store conn.old)) }
+{
+    let _idle = conn.is_autocommit();
+    let mut tx = conn.transaction();
+    put_choices(&mut tx, student, projects)?;
+    tx.commit()?;
+    Ok(())
+}
+
+/// Replaces the student's list by these projects, best first. The store fault also where the list is longer than any may be.
+pub(crate) fn replace_choice<S: Alter>(
+    _alloc: Global,
+    conn: &mut Connection<S>,
+    student: &Key,
+    projects: &[Key],
+) -> Result<(), KeepFault>
+    requires idle { conn.old.in_transaction ≡ false }
+    ensures idle { conn.new.in_transaction ≡ false }
+    ensures ok { IsOwn conn.old.schema → HasCleanDisk (state S.Store conn.new) → OnOk result (Commits (Turns (Choices student.now projects.now)) (state S.Store conn.old) (state S.Store conn.new)) }
+    ensures err { IsOwn conn.old.schema → HasCleanDisk (state S.Store conn.new) → IsTrue (state S.Store conn.new).is_open → OnErr result (Stays (state S.Store conn.old) (state S.Store conn.new)) }
+    ensures durable { IsOwn conn.old.schema → HasCleanDisk (state S.Store conn.new) → OnOk result (LeavesOnly (state S.Store conn.new)) }
+    ensures crash { IsOwn conn.old.schema → Survives (state S.Store conn.old) (state S.Store conn.new) (IsAfter (Turns (Choices student.now projects.now)) (state S.Store conn.old)) }
+{
+    if projects.len() > LONGEST {
+        return Err(KeepFault::Store);
+    }
+    if let Err(error) = turn_choice(conn, student, projects) {
+        return Err(fault_of(error));
+    }
+    Ok(())
+}
+
+/// Puts the students in the place of the lecturer's ranking, and says of the lecturer that a ranking is there.
+pub(crate) fn put_ranking<S: Alter>(
+    tx: &mut Transaction<'_, S>,
+    lecturer: &Key,
+    students: &[Key],
+) -> Result<(), Error>
+    requires few { length students.now ≤ 2000 }
+    ensures same_reference { tx.new.conn.ghost_name ≡ tx.old.conn.ghost_name }
+    ensures done { HasCleanDisk (state S.Store tx.new.conn.now) → OnOk result (Made (TurnsThere lecturer.now students.now) (state S.Store tx.old.conn.now) (state S.Store tx.new.conn.now)) }
+    ensures kept { HasCleanDisk (state S.Store tx.new.conn.now) → KeepsCommit (state S.Store tx.old.conn.now) (state S.Store tx.new.conn.now) }
+    ensures survives { Survives (state S.Store tx.old.conn.now) (state S.Store tx.new.conn.now) (λ _. ⊥) }
+{
+    clear_rankings(tx, lecturer.as_bytes())?;
+    let mut place = 0u32;
+    'rows: for student in students {
+        place += 1;
+        add_ranking(tx, lecturer.as_bytes(), place, student.as_bytes())?;
+    }
+    set_ranked(tx, lecturer.as_bytes())?;
+    Ok(())
+}
+
+/// Replaces the ranking of a lecturer who is on the roll.
+fn turn_ranking<S: Alter>(
+    conn: &mut Connection<S>,
+    lecturer: &Key,
+    students: &[Key],
+) -> Result<(), Error>
+    requires few { length students.now ≤ 2000 }
+    requires idle { conn.old.in_transaction ≡ false }
+    ensures idle { conn.new.in_transaction ≡ false }
+    ensures ok { HasCleanDisk (state S.Store conn.new) → OnOk result (Commits (TurnsThere lecturer.now students.now) (state S.Store conn.old) (state S.Store conn.new)) }
+    ensures err { HasCleanDisk (state S.Store conn.new) → IsTrue (state S.Store conn.new).is_open → OnErr result (Stays (state S.Store conn.old) (state S.Store conn.new)) }
+    ensures durable { HasCleanDisk (state S.Store conn.new) → OnOk result (LeavesOnly (state S.Store conn.new)) }
+    ensures crash { Survives (state S.Store conn.old) (state S.Store conn.new) (IsAfter (TurnsThere lecturer.now students.now) (state S.Store conn.old)) }
+{
+    let _idle = conn.is_autocommit();
+    let mut tx = conn.transaction();
+    put_ranking(&mut tx, lecturer, students)?;
+    tx.commit()?;
+    Ok(())
+}
+
+/// Replaces the lecturer's ranking by these students, best first, if the lecturer is on the roll. As `replace_choice` otherwise.
+pub(crate) fn replace_ranking<S: Alter>(
+    _alloc: Global,
+    conn: &mut Connection<S>,
+    lecturer: &Key,
+    students: &[Key],
+) -> Result<(), KeepFault>
+    requires idle { conn.old.in_transaction ≡ false }
+    ensures idle { conn.new.in_transaction ≡ false }
+    ensures ok { IsOwn conn.old.schema → HasCleanDisk (state S.Store conn.new) → OnOk result (Commits (Turns (Ranks lecturer.now students.now)) (state S.Store conn.old) (state S.Store conn.new)) }
+    ensures err { IsOwn conn.old.schema → HasCleanDisk (state S.Store conn.new) → IsTrue (state S.Store conn.new).is_open → OnErr result (Stays (state S.Store conn.old) (state S.Store conn.new)) }
+    ensures durable { IsOwn conn.old.schema → HasCleanDisk (state S.Store conn.new) → OnOk result (LeavesOnly (state S.Store conn.new)) }
+    ensures crash { IsOwn conn.old.schema → Survives (state S.Store conn.old) (state S.Store conn.new) (IsAfter (Turns (Ranks lecturer.now students.now)) (state S.Store conn.old)) }
+{
+    if students.len() > LONGEST {
+        return Err(KeepFault::Store);
+    }
+    let _idle = conn.is_autocommit();
+    let there = match lecturer_by_key(conn, lecturer.as_bytes()) {
+        Ok(rows) => rows,
+        Err(error) => return Err(fault_of(error)),
+    };
+    if there.is_empty() {
+        return Ok(());
+    }
+    if let Err(error) = turn_ranking(conn, lecturer, students) {
+        return Err(fault_of(error));
+    }
+    Ok(())
+}

@@ -1,0 +1,227 @@
+//! Opens a store over tables that are there.
+
+ghost use Rattle.std.specs.Prelude.{◌≡◌, ◌↔◌, ◌⊎◌, false, true, [], ◌∷◌, pos, Ok, Err, List, IfOk, IfErr, OnOk, IsTrue};
+ghost use Rattle.std.specs.List.{AllByRecursion};
+ghost use Rattle.sqlite.specs.declared.types.Value.TheVariants.{Int};
+ghost use Rattle.sqlite.specs.Order.{Row as Cells, column};
+ghost use Rattle.sqlite.specs.Tree.{Trees};
+ghost use Rattle.sqlite.specs.State.{HasCleanDisk, IsLive, IsUnchanged, Survives};
+ghost use Rattle.sqlite.specs.Held.{state};
+ghost use Rattle.sqlite.specs.Effect.{IsDatabase};
+ghost use Rattle.portal_core.specs.Good.{Good, Sound};
+ghost use Rattle.portal_tables.specs.Tables.{lecturer_tree, project_tree, student_tree, choice_tree, ranking_tree};
+ghost use Rattle.portal_tables.specs.Own.{IsOwn};
+ghost use Rattle.portal_tables.specs.Changes.{IsApart};
+ghost use Rattle.portal_tables.specs.Steps.{Stays};
+ghost use Rattle.portal_store.specs.Kept.{Stands, IsCleanStore, kept_world};
+ghost use Rattle.portal_store.specs.Asked.{Asks, Refutes, Admits};
+
+use crate::fault::{load_open_fault_of, open_fault_of, table_fault_of};
+use crate::sound::load_keeper;
+use crate::store::{NotOpened, OpenFault, Store};
+use portal_list::ListKeeper;
+use portal_tables::apart::{
+    has_apart_choices, has_apart_lecturers, has_apart_projects, has_apart_rankings,
+    has_apart_students,
+};
+use portal_tables::own::Pattern;
+use portal_tables::select::{
+    choice_rows, lecturer_rows, portal_rows, project_rows, ranking_rows, student_rows,
+};
+use sqlite::types::ValueRef;
+use sqlite::{Alter, Connection, Error, Row};
+use std::alloc::Global;
+
+/// Whether a table could be queried.
+fn seen(answer: Result<Vec<Row>, Error>) -> Result<(), OpenFault> {
+    match answer {
+        Ok(_) => Ok(()),
+        Err(error) => Err(table_fault_of(error)),
+    }
+}
+
+/// Whether each of the six tables can be queried. Those that are the portal's own can, and are not asked.
+fn see_tables<S: Alter>(conn: &mut Connection<S>, own: bool) -> Result<(), OpenFault>
+    requires idle { conn.old.in_transaction ≡ false }
+    ensures idle { conn.new.in_transaction ≡ false }
+    ensures same { IsTrue own → conn.new ≡ conn.old }
+    ensures none { IsTrue own → IfErr result (λ _. ⊥) }
+{
+    if own {
+        return Ok(());
+    }
+    seen(portal_rows(conn))?;
+    seen(lecturer_rows(conn))?;
+    seen(project_rows(conn))?;
+    seen(student_rows(conn))?;
+    seen(choice_rows(conn))?;
+    seen(ranking_rows(conn))
+}
+
+/// Whether the row of the office is of version 1.
+fn is_version_1(row: &Row) -> bool
+    ensures { IsTrue result ↔ (column row.now 1 ≡ Int (pos 1)) }
+{
+    matches!(row.get_ref(1), Ok(ValueRef::Int(1)))
+}
+
+/// Whether there is a row of the office, of version 1.
+fn judge_office(rows: &[Row]) -> Result<(), OpenFault>
+    ensures none { result ≡ Err OpenFault.NotPortal → rows.now ≡ [] }
+    ensures other { result ≡ Err OpenFault.OtherVersion → (row : Cells) → rows.now ≡ row ∷ [] → column row 1 ≡ Int (pos 1) → ⊥ }
+    ensures judged { IfErr result (λ fault. (fault ≡ OpenFault.Damaged) → ⊥) }
+{
+    match rows {
+        [] => Err(OpenFault::NotPortal),
+        [row, ..] => {
+            if is_version_1(row) {
+                Ok(())
+            } else {
+                Err(OpenFault::OtherVersion)
+            }
+        }
+    }
+}
+
+/// Whether `portal` has a row, of version 1.
+fn see_office<S: Alter>(conn: &mut Connection<S>) -> Result<(), OpenFault>
+    requires idle { conn.old.in_transaction ≡ false }
+    ensures idle { conn.new.in_transaction ≡ false }
+    ensures asks { Asks result (state S.Store conn.old) (state S.Store conn.new) }
+    ensures refused { IsOwn conn.old.schema → HasCleanDisk (state S.Store conn.new) → IfErr result (λ fault. Refutes fault (state S.Store conn.old).now.trees) }
+{
+    match portal_rows(conn) {
+        Ok(rows) => judge_office(&rows),
+        Err(error) => Err(open_fault_of(error)),
+    }
+}
+
+/// What the answer on the numbers of rows means: those of a sound store differ, so that all else is a fault of the store.
+fn apart(answer: Result<bool, Error>) -> Result<(), OpenFault>
+    ensures ok { OnOk result (answer ≡ Ok true) }
+    ensures refused { IfErr result (λ fault. (db : Trees) → Refutes fault db) }
+{
+    match answer {
+        Ok(true) => Ok(()),
+        Ok(false) => Err(OpenFault::Store),
+        Err(error) => Err(open_fault_of(error)),
+    }
+}
+
+/// Whether the rows of the three rolls have numbers of their own.
+fn see_rolls_apart<S: Alter>(conn: &mut Connection<S>) -> Result<(), OpenFault>
+    requires idle { conn.old.in_transaction ≡ false }
+    ensures idle { conn.new.in_transaction ≡ false }
+    ensures asks { Asks result (state S.Store conn.old) (state S.Store conn.new) }
+    ensures refused { IfErr result (λ fault. (db : Trees) → Refutes fault db) }
+    ensures apart { IsOwn conn.old.schema → HasCleanDisk (state S.Store conn.new) → OnOk result (AllByRecursion (λ t. IsApart ((state S.Store conn.old).now.trees t)) (lecturer_tree ∷ project_tree ∷ student_tree ∷ [])) }
+{
+    apart(has_apart_lecturers(conn))?;
+    apart(has_apart_projects(conn))?;
+    apart(has_apart_students(conn))
+}
+
+/// Whether the rows of the lists have numbers of their own.
+fn see_lists_apart<S: Alter>(conn: &mut Connection<S>) -> Result<(), OpenFault>
+    requires idle { conn.old.in_transaction ≡ false }
+    ensures idle { conn.new.in_transaction ≡ false }
+    ensures asks { Asks result (state S.Store conn.old) (state S.Store conn.new) }
+    ensures refused { IfErr result (λ fault. (db : Trees) → Refutes fault db) }
+    ensures apart { IsOwn conn.old.schema → HasCleanDisk (state S.Store conn.new) → OnOk result (AllByRecursion (λ t. IsApart ((state S.Store conn.old).now.trees t)) (choice_tree ∷ ranking_tree ∷ [])) }
+{
+    apart(has_apart_choices(conn))?;
+    apart(has_apart_rankings(conn))
+}
+
+/// Whether the keeper's world is good.
+fn judge_world(alloc: Global, keeper: &ListKeeper) -> Result<(), OpenFault>
+    requires { Sound keeper.now }
+    ensures good { OnOk result (Good keeper.now) }
+    ensures damaged { result ≡ Err OpenFault.Damaged → Good keeper.now → ⊥ }
+    ensures judged { IfErr result (λ fault. (fault ≡ OpenFault.Damaged) ⊎ (fault ≡ OpenFault.Memory)) }
+{
+    match keeper.is_good(alloc) {
+        Ok(true) => Ok(()),
+        Ok(false) => Err(OpenFault::Damaged),
+        Err(_) => Err(OpenFault::Memory),
+    }
+}
+
+/// Whether the rows stand for a good world.
+fn see_world<S: Alter>(alloc: Global, conn: &mut Connection<S>) -> Result<(), OpenFault>
+    requires idle { conn.old.in_transaction ≡ false }
+    ensures idle { conn.new.in_transaction ≡ false }
+    ensures asks { Asks result (state S.Store conn.old) (state S.Store conn.new) }
+    ensures refused { IsOwn conn.old.schema → IsDatabase (state S.Store conn.old).now → HasCleanDisk (state S.Store conn.new) → IfErr result (λ fault. Refutes fault (state S.Store conn.old).now.trees) }
+    ensures stands { IsOwn conn.old.schema → IsDatabase (state S.Store conn.old).now → HasCleanDisk (state S.Store conn.new) → OnOk result (Stands (state S.Store conn.old).now.trees) }
+{
+    match load_keeper(alloc, conn) {
+        Ok(keeper) => judge_world(alloc, &keeper),
+        Err(fault) => Err(load_open_fault_of(fault)),
+    }
+}
+
+/// What is tested of the six tables, in this order: the version, the numbers of rows, and the world.
+fn judge<S: Alter>(alloc: Global, conn: &mut Connection<S>) -> Result<(), OpenFault>
+    requires idle { conn.old.in_transaction ≡ false }
+    ensures idle { conn.new.in_transaction ≡ false }
+    ensures asks { Asks result (state S.Store conn.old) (state S.Store conn.new) }
+    ensures refused { IsOwn conn.old.schema → IsLive (state S.Store conn.old) → HasCleanDisk (state S.Store conn.new) → IfErr result (λ fault. Refutes fault (state S.Store conn.old).now.trees) }
+    ensures admits { IsOwn conn.old.schema → IsLive (state S.Store conn.old) → HasCleanDisk (state S.Store conn.new) → OnOk result (Admits (state S.Store conn.old).now.trees) }
+{
+    see_office(conn)?;
+    see_rolls_apart(conn)?;
+    see_lists_apart(conn)?;
+    see_world(alloc, conn)
+}
+
+/// Whether the tables can be queried, and what they show; `own` says that they are the portal's own.
+fn examine<S: Alter>(alloc: Global, conn: &mut Connection<S>, own: bool) -> Result<(), OpenFault>
+    requires idle { conn.old.in_transaction ≡ false }
+    ensures idle { conn.new.in_transaction ≡ false }
+    ensures asks { IsTrue own → Asks result (state S.Store conn.old) (state S.Store conn.new) }
+    ensures refused { IsTrue own → IsOwn conn.old.schema → IsLive (state S.Store conn.old) → HasCleanDisk (state S.Store conn.new) → IfErr result (λ fault. Refutes fault (state S.Store conn.old).now.trees) }
+    ensures admits { IsTrue own → IsOwn conn.old.schema → IsLive (state S.Store conn.old) → HasCleanDisk (state S.Store conn.new) → OnOk result (Admits (state S.Store conn.old).now.trees) }
+{
+    see_tables(conn, own)?;
+    judge(alloc, conn)
+}
+
+impl<S: Alter> Store<S> {
+    /// Opens the portal in a database that has its tables, where they stand for a good world. A refusal hands the connection
+    /// back: `NotPortal` where a table cannot be queried or `portal` has no row, `OtherVersion`, `Damaged` where the rows
+    /// stand for no good world, `Store` for an error of the connection, and `Memory`. The first three tell of the tables, and
+    /// never come from a fault of the device or want of memory.
+    pub fn open(alloc: Global, mut conn: Connection<S>) -> Result<Store<S>, NotOpened<OpenFault, S>>
+        requires idle { conn.in_transaction ≡ false }
+        ensures own { IfOk result (λ s. IsTrue s.own ↔ IsOwn conn.schema) }
+        ensures same { IfOk result (λ s. IsOwn conn.schema → HasCleanDisk (state S.Store s.conn) → IsUnchanged (state S.Store conn) (state S.Store s.conn)) }
+        ensures stands { IfOk result (λ s. IsOwn conn.schema → HasCleanDisk (state S.Store s.conn) → Stands (state S.Store s.conn).now.trees) }
+        ensures good { IfOk result (λ s. IsCleanStore S.Store s → Good (kept_world S.Store s)) }
+        ensures refused { IfErr result (λ e. IsOwn conn.schema → HasCleanDisk (state S.Store e.connection) → Refutes e.fault (state S.Store conn).now.trees) }
+        ensures err { IfErr result (λ e. IsOwn conn.schema → HasCleanDisk (state S.Store e.connection) → IsTrue (state S.Store e.connection).is_open → Stays (state S.Store conn) (state S.Store e.connection)) }
+        ensures idle { IfErr result (λ e. e.connection.in_transaction ≡ false) }
+        ensures crash_ok { IfOk result (λ s. IsOwn conn.schema → Survives (state S.Store conn) (state S.Store s.conn) (λ _. ⊥)) }
+        ensures crash_err { IfErr result (λ e. IsOwn conn.schema → Survives (state S.Store conn) (state S.Store e.connection) (λ _. ⊥)) }
+    {
+        let _idle = conn.is_autocommit();
+        let _live = conn.schema();
+        let pattern = match Pattern::new(alloc) {
+            Ok(pattern) => pattern,
+            Err(error) => {
+                return Err(NotOpened {
+                    fault: open_fault_of(error),
+                    connection: conn,
+                });
+            }
+        };
+        let own = pattern.fits(&conn);
+        if let Err(fault) = examine(alloc, &mut conn, own) {
+            return Err(NotOpened {
+                fault,
+                connection: conn,
+            });
+        }
+        Ok(Store { conn, own, pattern })
+    }
+}

@@ -1,0 +1,76 @@
+//! The store, and what hands a connection back.
+
+ghost use Rattle.std.specs.Prelude.{◌≡◌, false};
+
+use portal_tables::own::Pattern;
+use sqlite::{Alter, Connection};
+use std::marker::Model;
+
+/// The portal in a database.
+#[derive(Drop)]
+pub struct Store<S: Alter> {
+    pub(crate) conn: Connection<S>,
+    /// Whether the tables are those that `create` makes, and no other is there.
+    pub(crate) own: bool,
+    /// What the portal's own tables are.
+    pub(crate) pattern: Pattern,
+}
+
+impl<S: Alter> Model for Store<S> {
+    ghost use Rattle.portal_store.specs.Kept.{Seen, seen_code, IsKept};
+
+    ghost Value = { Seen S };
+
+    ghost coded = { seen_code S.code };
+
+    ghost view = { λ s. record { conn = s.conn; own = s.own } };
+
+    ghost invariant = { λ s. IsKept S.Store (record { conn = s.conn; own = s.own }) };
+}
+
+/// Why there is no store, and the connection that was handed in.
+pub struct NotOpened<F, S: Alter> {
+    pub fault: F,
+    pub connection: Connection<S>,
+}
+
+/// Why no store was made.
+#[derive(Clone, Copy, Debug, Drop, PartialEq, Eq)]
+pub enum CreateFault {
+    /// A table of one of the names is there.
+    Exists,
+    /// The store answered an error.
+    Store,
+    /// There was not enough memory.
+    Memory,
+}
+
+/// Why no store was opened.
+#[derive(Clone, Copy, Debug, Drop, PartialEq, Eq)]
+pub enum OpenFault {
+    /// One of the tables cannot be queried, or there is no row of the office.
+    NotPortal,
+    /// The tables are of another version.
+    OtherVersion,
+    /// The rows stand for no good world.
+    Damaged,
+    /// The store answered an error.
+    Store,
+    /// There was not enough memory.
+    Memory,
+}
+
+impl<S: Alter> Store<S> {
+    /// The connection, as it is, in no transaction.
+    pub fn into_connection(self) -> Connection<S>
+        ensures same { result ≡ self.conn }
+        ensures idle { result.in_transaction ≡ false }
+    {
+        let Store {
+            conn,
+            own: _,
+            pattern: _,
+        } = self;
+        conn
+    }
+}
