@@ -1,10 +1,11 @@
 -- What was taken from a reader.
-use Rattle.std.proofs.Common.{◌≡◌, ◌∙◌, ◌<◌, ◌≤◌, ◌+◌, ◌++◌, ℕ, [], length, Option, Some, None, take, sym, ap, subst, inl, inr, arith, length-append}
+use Rattle.std.proofs.Common.{◌≡◌, ◌∙◌, ◌<◌, ◌≤◌, ◌+◌, ◌++◌, ℕ, [], length, Option, Some, None, take, refl, sym, ap, subst, inl, inr, arith, length-append}
 use Rattle.std.specs.Prelude.{IfSome}
 use Rattle.std.specs.Io.KnownBytes.{Consumes, IsAtEnd}
 use Rattle.std.proofs.KnownBytes.{Consumes-nil, Consumes-trans}
 use Rattle.std.proofs.lemmas.Bool.{cases_lt}
 use Rattle.std.proofs.lemmas.List.{take_all, take-append-le, append-nil}
+use Rattle.portal_desk.specs.Devices.{TakesAtMost as TakesFew}
 use Rattle.portal_run.specs.Told.{Text}
 use Rattle.portal_run.specs.Taken.{TakesAtMost, Adds}
 
@@ -36,3 +37,13 @@ last_taken n most k a b c before after first low room adds none =
     let same : length after ≡ length before = omega (arith, ap length adds.added, length-append before adds.taken, adds.count) in
     let whole : Consumes a c after = subst (Consumes a c) (sym adds.added) (Consumes-trans a b c before adds.taken first adds.consumed) in
     all_taken n a c after whole (omega arith) (λ less. adds.end none (room (omega arith)))
+
+-- how much is left says how much was taken
+pub few_taken : (n m : ℕ) (a b : Option Text) → n ≤ m → TakesAtMost n a b → TakesFew m a b
+few_taken n m None b fits taken = tt
+few_taken n m (Some bytes) None fits taken = absurd taken.2
+few_taken n m (Some bytes) (Some rest) fits taken = (rest, refl, omega (arith, fits, taken.1, ap length taken.2, length-append taken.0 rest))
+
+pub same_left : (m : ℕ) (a : Option Text) → TakesFew m a a
+same_left m None = tt
+same_left m (Some bytes) = (bytes, refl, omega arith)

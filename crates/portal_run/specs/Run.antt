@@ -4,7 +4,6 @@ use Rattle.std.specs.Io.KnownBytes.{Appends}
 use Rattle.portal_run.specs.Told.{Text, Told}
 use Rattle.portal_run.specs.Answer.{IsAnswer}
 use Rattle.portal_run.specs.declared.answer.Task.{Task}
-use Rattle.portal_run.specs.declared.answer.Task.TheVariants as task
 use Rattle.portal_words.specs.declared.command.Command.{Command}
 use Rattle.portal_words.specs.declared.command.Command.TheVariants as command
 
@@ -12,7 +11,8 @@ use Rattle.portal_words.specs.declared.command.Command.TheVariants as command
 abbrev pub Answers : Task → Option Text → ℕ → Option Text → Option Text → Type 0
 Answers task input status old new = IfSome input (λ bytes. (told : Told) × IsAnswer task bytes told × (status ≡ told.status) × Appends old new told.text)
 
--- what a command asks of a file
-abbrev pub task_asked : Command → Task
-task_asked (command.Check file) = task.Check
-task_asked (command.Solve file) = task.Solve
+-- the command reads an instance file
+abbrev pub IsOfFile : Command → Type 0
+IsOfFile (command.Check file) = Unit {0}
+IsOfFile (command.Solve file) = Unit {0}
+IsOfFile _ = ⊥

@@ -1,43 +1,23 @@
 //! The commands.
 
-ghost use Rattle.std.specs.Prelude.{◌≡◌, ◌≢◌, ◌<◌, ◌≤◌, ◌⊎◌, ◌∷◌, [], codes, drop, map, IfOk, IsErr};
-ghost use Rattle.std.specs.Io.KnownBytes.{Appends};
-ghost use Rattle.portal_run.specs.Run.{Answers, task_asked};
+ghost use Rattle.std.specs.Prelude.{◌≡◌, ◌*◌, ◌<◌, ◌≤◌, ◌⊎◌, ◌∷◌, [], codes, drop, map, None, IfOk, IsErr};
+ghost use Rattle.portal_run.specs.Run.{Answers, IsOfFile};
+ghost use Rattle.portal_desk.specs.Devices.{TakesAtMost as TakesFew};
 ghost use Rattle.portal_run.specs.Taken.{TakesAtMost};
 
 use crate::answer::{Task, answer_to};
 use crate::input::{InputFault, bytes_of};
+use crate::making::init;
+use crate::saying::{say, say_memory, say_read};
+use crate::year::{pipe_database, report_database, serve_database};
 use portal_words::{Asked, Command, command_of};
 use std::alloc::Global;
 use std::convert::AsStr;
 use std::io::{Read, Write};
-use std::rt::Files;
 use std::{fs, io};
 
 /// The most that a text's own status is: a fault of a reader, a writer or memory is 3.
 const MOST: u8 = 2;
-
-/// Writes a text, and gives its status, or 3 where the writer refused it.
-pub fn say<W: Write>(writer: &mut W, text: &[u8], status: u8) -> u8
-    ensures status { (result ≡ status) ⊎ (result ≡ 3) }
-    ensures written { result ≢ 3 → Appends (W.contents writer.old) (W.contents writer.new) text.now }
-{
-    if writer.write_all(text).is_ok() && writer.flush().is_ok() {
-        return status;
-    }
-    let _ = writer.write_all(b"fault write\n");
-    3
-}
-
-/// What a command asks of a file.
-fn task_of(command: Command<'_>) -> Task
-    ensures { result ≡ task_asked command.entry }
-{
-    match command {
-        Command::Check(_) => Task::Check,
-        Command::Solve(_) => Task::Solve,
-    }
-}
 
 /// Answers to what a reader gives.
 fn answer<R: Read, W: Write>(alloc: Global, task: Task, reader: &mut R, writer: &mut W) -> u8
@@ -47,12 +27,12 @@ fn answer<R: Read, W: Write>(alloc: Global, task: Task, reader: &mut R, writer: 
 {
     let bytes = match bytes_of(alloc, reader) {
         Ok(bytes) => bytes,
-        Err(InputFault::Read) => return say(writer, b"fault read\n", 3),
-        Err(InputFault::Memory) => return say(writer, b"fault memory\n", 3),
+        Err(InputFault::Read) => return say_read(writer),
+        Err(InputFault::Memory) => return say_memory(writer),
     };
     match answer_to(alloc, task, &bytes) {
         Ok(told) => say(writer, &told.text, told.status),
-        Err(_) => say(writer, b"fault memory\n", 3),
+        Err(_) => say_memory(writer),
     }
 }
 
@@ -69,34 +49,74 @@ fn answer_opened<F: Read + Drop, W: Write>(
 {
     match opened {
         Ok(mut file) => answer(alloc, task, &mut file, writer),
-        Err(_) => say(writer, b"fault read\n", 3),
+        Err(_) => say_read(writer),
     }
 }
 
-/// Does what the words ask for, and gives the exit status.
-pub fn run<T: Files + AllocGlobal, S: AsStr, R: Read, W: Write>(
-    rt: &T,
-    words: &[S],
+/// Answers to a file, or to the standard input where none is named.
+fn answer_file<R: Read, W: Write>(
+    rt: &HostRuntime,
+    task: Task,
+    file: Option<&str>,
     reader: &mut R,
     writer: &mut W,
 ) -> u8
     ensures bound { result ≤ 3 }
     ensures takes { TakesAtMost 4194305 (R.remaining reader.old) (R.remaining reader.new) }
+    ensures answers { file.entry ≡ None → result < 3 → Answers task (R.remaining reader.old) result (W.contents writer.old) (W.contents writer.new) }
+{
+    match file {
+        None => answer(rt.alloc(), task, reader, writer),
+        Some(path) => answer_opened(rt.alloc(), task, fs::open(rt, path), writer),
+    }
+}
+
+/// Does a command.
+#[tactic(auto, using(crate::proofs::Taken::few_taken, crate::proofs::Taken::same_left))]
+fn act<R: Read, W: Write>(
+    rt: &HostRuntime,
+    command: Command<'_>,
+    reader: &mut R,
+    writer: &mut W,
+) -> u8
+    ensures bound { result ≤ 3 }
+    ensures takes { TakesFew (256 * 1064960) (R.remaining reader.old) (R.remaining reader.new) }
+    ensures files { IsOfFile command.entry → TakesAtMost 4194305 (R.remaining reader.old) (R.remaining reader.new) }
+    ensures check { command.entry ≡ Command.Check None → result < 3 → Answers Task.Check (R.remaining reader.old) result (W.contents writer.old) (W.contents writer.new) }
+    ensures solve { command.entry ≡ Command.Solve None → result < 3 → Answers Task.Solve (R.remaining reader.old) result (W.contents writer.old) (W.contents writer.new) }
+{
+    match command {
+        Command::Check(file) => answer_file(rt, Task::Check, file, reader, writer),
+        Command::Solve(file) => answer_file(rt, Task::Solve, file, reader, writer),
+        Command::Init(database) => init(rt, database, reader, writer),
+        Command::Serve {
+            database,
+            port,
+            connections,
+        } => serve_database(rt, database, port, connections, writer),
+        Command::Pipe(database) => pipe_database(rt, database, reader, writer),
+        Command::Report(database) => report_database(rt, database, writer),
+    }
+}
+
+/// Does what the words ask for, and gives the exit status. At most 272,629,760 bytes are taken from a reader that tells its
+/// bytes, and for a command on instance files at most 4,194,305.
+#[tactic(auto, using(crate::proofs::Taken::same_left))]
+pub fn run<S: AsStr, R: Read, W: Write>(
+    rt: &HostRuntime,
+    words: &[S],
+    reader: &mut R,
+    writer: &mut W,
+) -> u8
+    ensures bound { result ≤ 3 }
+    ensures takes { TakesFew (256 * 1064960) (R.remaining reader.old) (R.remaining reader.new) }
+    ensures files { (drop 1 (map S.text words.entry.now) ≡ codes "check" ∷ []) ⊎ (drop 1 (map S.text words.entry.now) ≡ codes "solve" ∷ []) → TakesAtMost 4194305 (R.remaining reader.old) (R.remaining reader.new) }
     ensures check { drop 1 (map S.text words.entry.now) ≡ codes "check" ∷ [] → result < 3 → Answers Task.Check (R.remaining reader.old) result (W.contents writer.old) (W.contents writer.new) }
     ensures solve { drop 1 (map S.text words.entry.now) ≡ codes "solve" ∷ [] → result < 3 → Answers Task.Solve (R.remaining reader.old) result (W.contents writer.old) (W.contents writer.new) }
 {
-    let alloc = rt.alloc();
-    match command_of(alloc, words) {
-        Ok(Asked::Do(command)) => {
-            let task = task_of(command);
-            match command {
-                Command::Check(None) | Command::Solve(None) => answer(alloc, task, reader, writer),
-                Command::Check(Some(path)) | Command::Solve(Some(path)) => {
-                    answer_opened(alloc, task, fs::open(rt, path), writer)
-                }
-            }
-        }
+    match command_of(rt.alloc(), words) {
+        Ok(Asked::Do(command)) => act(rt, command, reader, writer),
         Ok(Asked::Show { text, status }) => say(writer, text.as_bytes(), status.min(MOST)),
-        Err(_) => say(writer, b"fault memory\n", 3),
+        Err(_) => say_memory(writer),
     }
 }

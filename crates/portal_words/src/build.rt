@@ -1,8 +1,10 @@
 //! The parser of the command line.
 
-ghost use Rattle.std.specs.Prelude.{◌≡◌, IfOk};
-ghost use Rattle.portal_words.specs.Line.{Reads, file_app, portal_app};
+ghost use Rattle.std.specs.Prelude.{◌≡◌, false, IfOk};
+ghost use Rattle.clap.specs.Words.{rule_of};
+ghost use Rattle.portal_words.specs.Line.{Reads, file_app, database_app, port_rule, connections_rule, serve_app, files_app, portal_app};
 
+use clap::builder::ValueParser;
 use clap::{Arg, Command};
 use std::alloc::{AllocError, Global};
 
@@ -15,9 +17,55 @@ fn of_file<'a>(alloc: Global, name: &'a str, about: &'a str) -> Result<Command<'
     ))
 }
 
-/// The whole command line.
-pub(crate) fn portal<'a>(alloc: Global) -> Result<Command<'a>, AllocError>
-    ensures { IfOk result (λ c. Reads c portal_app) }
+// A command on one database.
+fn of_database<'a>(alloc: Global, name: &'a str, about: &'a str) -> Result<Command<'a>, AllocError>
+    ensures { IfOk result (λ c. Reads c (database_app name.entry.now)) }
+{
+    Command::new(alloc, name).about(about).arg(
+        Arg::new(alloc, "DB")
+            .required(true)
+            .help("The database file"),
+    )
+}
+
+// The port to listen on.
+fn port<'a>(alloc: Global) -> Arg<'a>
+    ensures rule { rule_of result ≡ port_rule }
+    ensures local { result.global ≡ false }
+{
+    Arg::new(alloc, "port")
+        .long("port")
+        .value_name("N")
+        .required(true)
+        .value_parser(ValueParser::unsigned(1, 65_535))
+        .help("The port, 1 to 65535")
+}
+
+// How many connections are served.
+fn connections<'a>(alloc: Global) -> Arg<'a>
+    ensures rule { rule_of result ≡ connections_rule }
+    ensures local { result.global ≡ false }
+{
+    Arg::new(alloc, "connections")
+        .long("connections")
+        .value_name("N")
+        .default_value("1000")
+        .value_parser(ValueParser::unsigned(1, 1_000_000))
+        .help("End after so many connections, 1 to 1000000")
+}
+
+// The command that listens.
+fn serve<'a>(alloc: Global) -> Result<Command<'a>, AllocError>
+    ensures { IfOk result (λ c. Reads c serve_app) }
+{
+    of_database(alloc, "serve", "Serve the portal on a port of 127.0.0.1")?
+        .arg(port(alloc))?
+        .arg(connections(alloc))
+}
+
+// The commands on instance files.
+fn with_files<'a>(alloc: Global) -> Result<Command<'a>, AllocError>
+    ensures { IfOk result (λ c. Reads c files_app) }
 {
     let check = of_file(
         alloc,
@@ -34,4 +82,30 @@ pub(crate) fn portal<'a>(alloc: Global) -> Result<Command<'a>, AllocError>
         .subcommand_required(true)
         .subcommand(check)?
         .subcommand(solve)
+}
+
+/// The whole command line.
+pub(crate) fn portal<'a>(alloc: Global) -> Result<Command<'a>, AllocError>
+    ensures { IfOk result (λ c. Reads c portal_app) }
+{
+    let init = of_database(
+        alloc,
+        "init",
+        "Make a database; the first line of the input is the office's code",
+    )?;
+    let pipe = of_database(
+        alloc,
+        "pipe",
+        "Answer the requests of the input, as one connection, on the output",
+    )?;
+    let report = of_database(
+        alloc,
+        "report",
+        "Print where the year stands, and the allocation once it is published",
+    )?;
+    with_files(alloc)?
+        .subcommand(init)?
+        .subcommand(serve(alloc)?)?
+        .subcommand(pipe)?
+        .subcommand(report)
 }

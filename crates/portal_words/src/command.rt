@@ -17,6 +17,18 @@ pub enum Command<'a> {
     Check(Option<&'a str>),
     /// Print the students' best stable matching of a file, or of the standard input.
     Solve(Option<&'a str>),
+    /// Make a database, whose office has the code of the standard input.
+    Init(&'a str),
+    /// Serve the portal of a database on a port, for so many connections.
+    Serve {
+        database: &'a str,
+        port: u16,
+        connections: u32,
+    },
+    /// Answer the requests of the standard input as one connection.
+    Pipe(&'a str),
+    /// Print where the year stands in a database.
+    Report(&'a str),
 }
 
 /// What the words ask for: a command, or a text and the status that goes with it.
@@ -26,15 +38,27 @@ pub enum Asked<'a> {
     Show { text: String, status: u8 },
 }
 
+// The command that listens.
+fn listening<'a>(matches: &ArgMatches<'a>) -> Option<Command<'a>> {
+    Some(Command::Serve {
+        database: matches.get_str("DB")?,
+        port: matches.get_one("port")?,
+        connections: matches.get_one("connections")?,
+    })
+}
+
 // The command of a subcommand's name and its own matches.
 fn named<'a>(name: &str, matches: &ArgMatches<'a>) -> Option<Command<'a>>
     ensures check { name.now ≡ codes "check" → rows_of (found_of matches.now) ≡ [] → result ≡ Some (Command.Check None) }
     ensures solve { name.now ≡ codes "solve" → rows_of (found_of matches.now) ≡ [] → result ≡ Some (Command.Solve None) }
 {
-    let file = matches.get_str("FILE");
     match name {
-        "check" => Some(Command::Check(file)),
-        "solve" => Some(Command::Solve(file)),
+        "check" => Some(Command::Check(matches.get_str("FILE"))),
+        "solve" => Some(Command::Solve(matches.get_str("FILE"))),
+        "init" => Some(Command::Init(matches.get_str("DB")?)),
+        "serve" => listening(matches),
+        "pipe" => Some(Command::Pipe(matches.get_str("DB")?)),
+        "report" => Some(Command::Report(matches.get_str("DB")?)),
         _ => None,
     }
 }

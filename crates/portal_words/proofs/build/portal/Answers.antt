@@ -1,11 +1,10 @@
-use Rattle.std.proofs.Common.{rules}
 use Rattle.std.proofs.lemmas.Result.{IfOk-weaker}
-use Rattle.portal_words.specs.Line.{Reads, top_app}
 use Rattle.portal_words.proofs.Adds.{Reads-subcommand}
 use Rattle.portal_words.proofs.build.portal.Goals as goal
 
 pub returns : goal.returns
 returns c =
-    let top : Reads c.subcommand_required.result top_app = search rules in
-    let check = Reads-subcommand _ _ _ _ _ top c.in_ok-check.ensures c.in_ok-subcommand.ensures in
-    IfOk-weaker c.subcommand-2.result _ _ (λ m h. Reads-subcommand _ _ m _ _ check c.in_ok-solve.ensures h) c.subcommand-2.ensures
+    let init = Reads-subcommand _ _ _ _ _ c.in_ok-with_files.ensures c.in_ok-init.ensures c.in_ok-subcommand.ensures in
+    let serve = Reads-subcommand _ _ _ _ _ init c.in_ok-serve.ensures c.in_ok-subcommand-2.ensures in
+    let pipe = Reads-subcommand _ _ _ _ _ serve c.in_ok-pipe.ensures c.in_ok-subcommand-3.ensures in
+    IfOk-weaker c.subcommand-4.result _ _ (λ m h. Reads-subcommand _ _ m _ _ pipe c.in_ok-report.ensures h) c.subcommand-4.ensures

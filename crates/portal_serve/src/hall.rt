@@ -1,0 +1,86 @@
+//! Serves the connections of a socket, one after another.
+
+ghost use Rattle.std.specs.Prelude.{◌≡◌, ◌≤◌, true};
+
+use crate::line::{Ear, Line, Mouth};
+use portal_core::Keeper;
+use portal_desk::{Cause, Counted, Desk};
+use std::net::{TcpListener, TcpStream};
+use std::time::Clock;
+
+/// Why no more connections are taken.
+#[derive(Clone, Copy, Debug, Drop, PartialEq, Eq)]
+pub enum Ended {
+    /// As many as were asked for were served.
+    Full,
+    /// The desk has failed.
+    StoreFault,
+    /// The listener answered an error.
+    ListenFault,
+}
+
+/// The connections that were served.
+#[derive(Clone, Copy, Debug, Drop, PartialEq, Eq)]
+pub struct Hall {
+    /// How many were accepted.
+    pub accepted: u32,
+    /// How many of them ended by a fault of the connection or for want of memory.
+    pub faults: u32,
+    pub ended: Ended,
+}
+
+/// Serves one connection, and tells whether it ended by a fault of its own.
+fn attend<T: Clock + AllocGlobal, K: Keeper>(rt: &T, stream: &TcpStream, desk: &mut Desk<K>) -> bool
+    ensures clean { K.clean desk.new.keeper → K.clean desk.old.keeper }
+{
+    let _ = stream.set_nodelay(true);
+    let line = Line::new(rt, stream);
+    let mut ear = Counted::new(Ear { line: &line });
+    let mut mouth = Counted::new(Mouth { line: &line });
+    match desk.serve(rt.alloc(), &mut ear, &mut mouth) {
+        Ok(_) => false,
+        Err(fault) => fault.cause != Cause::Store,
+    }
+}
+
+/// Serves connections of a listener, one after another: so many, or until the desk fails or the listener does. A
+/// connection that is silent for 30 seconds, whose request is not whole 60 seconds after its first byte, or that does
+/// not take a reply in 60 seconds, ends by a fault.
+pub fn serve_on<T: Clock + AllocGlobal, K: Keeper>(
+    rt: &T,
+    listener: &TcpListener,
+    connections: u32,
+    desk: &mut Desk<K>,
+) -> Hall
+    ensures clean { K.clean desk.new.keeper → K.clean desk.old.keeper }
+    ensures faults { result.faults ≤ result.accepted }
+    ensures accepted { result.accepted ≤ connections }
+    ensures full { result.ended ≡ Ended.Full → result.accepted ≡ connections }
+    ensures store { result.ended ≡ Ended.StoreFault → desk.new.failed ≡ true }
+{
+    let mut faults = 0u32;
+    for accepted in 0..connections {
+        let Ok((stream, _)) = listener.accept() else {
+            return closed(accepted, faults, Ended::ListenFault);
+        };
+        if attend(rt, &stream, desk) {
+            faults += 1;
+        }
+        if desk.failed() {
+            return closed(accepted + 1, faults, Ended::StoreFault);
+        }
+    }
+    closed(connections, faults, Ended::Full)
+}
+
+fn closed(accepted: u32, faults: u32, ended: Ended) -> Hall
+    ensures accepted { result.accepted ≡ accepted }
+    ensures faults { result.faults ≡ faults }
+    ensures ended { result.ended ≡ ended }
+{
+    Hall {
+        accepted,
+        faults,
+        ended,
+    }
+}

@@ -1,0 +1,76 @@
+//! A reader or a writer that is lent, as a source or a sink.
+
+ghost use Rattle.std.specs.Prelude.{◌≡◌};
+
+use portal_desk::{Failed, Sink, Source};
+use std::io::{Read, Write};
+
+/// A reader or a writer of somebody else, with a count of the calls that failed: it passes on what the reader or writer
+/// answers, and only an error of it, or a write that takes none of some bytes, is `Failed`.
+#[derive(Drop)]
+pub(crate) struct Lent<'a, T> {
+    device: &'a mut T,
+    failures: u64,
+}
+
+impl<'a, T> Lent<'a, T> {
+    pub(crate) fn new(device: &'a mut T) -> Lent<'a, T>
+        ensures same_device { result.device.ghost_name ≡ device.entry.ghost_name }
+        ensures device { result.device.now ≡ device.old }
+    {
+        Lent {
+            device,
+            failures: 0,
+        }
+    }
+}
+
+impl<'a, T: Read> Source for Lent<'a, T> {
+    ghost remaining = { λ lent. T.remaining lent.device.now };
+
+    ghost name = { λ lent. lent.device.ghost_name };
+
+    ghost failed = { λ lent. lent.failures };
+
+    fn read(&mut self, buf: &mut [u8]) -> Result<usize, Failed> {
+        match self.device.read(buf) {
+            Ok(n) => Ok(n),
+            Err(_) => {
+                self.failures = self.failures.saturating_add(1);
+                Err(Failed)
+            }
+        }
+    }
+
+    fn failures(&self) -> u64 {
+        self.failures
+    }
+}
+
+impl<'a, T: Write> Sink for Lent<'a, T> {
+    ghost contents = { λ lent. T.contents lent.device.now };
+
+    ghost name = { λ lent. lent.device.ghost_name };
+
+    ghost failed = { λ lent. lent.failures };
+
+    fn write(&mut self, buf: &[u8]) -> Result<usize, Failed> {
+        match self.device.write(buf) {
+            Ok(n) => {
+                if n == 0 && !buf.is_empty() {
+                    self.failures = self.failures.saturating_add(1);
+                    return Err(Failed);
+                }
+                Ok(n)
+            }
+            Err(_) => {
+                self.failures = self.failures.saturating_add(1);
+                Err(Failed)
+            }
+        }
+    }
+
+    fn failures(&self) -> u64 {
+        self.failures
+    }
+}

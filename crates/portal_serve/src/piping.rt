@@ -1,0 +1,35 @@
+//! Serves the one connection of a reader and a writer.
+
+ghost use Rattle.std.specs.Prelude.{◌*◌, IfOk, IfErr, IfSome};
+ghost use Rattle.portal_desk.specs.Serving.{Tells, Stops};
+ghost use Rattle.portal_desk.specs.Devices.{TakesAtMost};
+ghost use Rattle.portal_wire.specs.Conversation.{last};
+
+use crate::lent::Lent;
+use portal_core::Keeper;
+use portal_desk::{Desk, ServeFault, Served};
+use std::alloc::Global;
+use std::io::{Read, Write};
+
+/// Answers the requests of a reader on a writer.
+///
+/// # Errors
+///
+/// The reader or the writer answered an error, memory ran out, or the store failed.
+pub fn pipe<K: Keeper, R: Read, W: Write>(
+    alloc: Global,
+    desk: &mut Desk<K>,
+    reader: &mut R,
+    writer: &mut W,
+) -> Result<Served, ServeFault>
+    ensures clean { K.clean desk.new.keeper → K.clean desk.old.keeper }
+    ensures served { IfOk result (λ served. IfSome (R.remaining reader.old) (λ bytes.
+        Tells (K.clean desk.new.keeper) (K.world desk.old.keeper) (K.world desk.new.keeper) (W.contents writer.old) (W.contents writer.new) bytes served.requests (last served.ending))) }
+    ensures stopped { IfErr result (λ fault. IfSome (R.remaining reader.old) (λ bytes.
+        Stops fault.cause desk.new.failed (K.clean desk.new.keeper) (K.world desk.old.keeper) (K.world desk.new.keeper) (R.remaining reader.new) (W.contents writer.old) (W.contents writer.new) bytes fault.requests)) }
+    ensures taken { TakesAtMost (256 * 1064960) (R.remaining reader.old) (R.remaining reader.new) }
+{
+    let mut source = Lent::new(reader);
+    let mut sink = Lent::new(writer);
+    desk.serve(alloc, &mut source, &mut sink)
+}

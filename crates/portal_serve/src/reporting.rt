@@ -1,0 +1,65 @@
+//! What the office is told of a year.
+
+ghost use Rattle.std.specs.Prelude.{◌≡◌, IfOk};
+ghost use Rattle.portal_core.specs.Good.{Good};
+ghost use Rattle.portal_core.specs.View.{office_sees};
+ghost use Rattle.portal_serve.specs.Report.{told_of, IsTold};
+
+use portal_core::{Code, KeepFault, Keeper, OfficeView, Phase, View};
+use portal_reports::{allocation_text, status_text};
+use std::alloc::{AllocError, Global};
+
+/// Why there is no report.
+#[derive(Clone, Copy, Debug, Drop, PartialEq, Eq)]
+pub enum Unreported {
+    /// The store failed, or the code is not the office's.
+    Store,
+    /// There was not enough memory.
+    Memory,
+}
+
+/// The state of the round, and in published, after an empty line, the result.
+fn text_of(alloc: Global, view: &OfficeView) -> Result<Vec<u8>, AllocError>
+    ensures { IfOk result (λ text. text.items ≡ told_of view.now) }
+{
+    let mut text = status_text(alloc, view)?;
+    match view.phase {
+        Phase::Published => {}
+        _ => return Ok(text),
+    }
+    let allocation = allocation_text(alloc, view)?;
+    text.extend_from_slice(b"\n")?;
+    text.extend_from_slice(allocation.as_slice())?;
+    Ok(text)
+}
+
+/// The report, if it is the office that sees this.
+fn told(alloc: Global, view: &View) -> Result<Vec<u8>, Unreported>
+    ensures { IfOk result (λ text. IsTold view.now text.items) }
+{
+    match view {
+        View::Office(office) => text_of(alloc, office).map_err(|_| Unreported::Memory),
+        _ => Err(Unreported::Store),
+    }
+}
+
+/// The report of a keeper whose office has this code.
+///
+/// # Errors
+///
+/// The keeper failed, or the code is another one.
+pub fn report<K: Keeper>(
+    alloc: Global,
+    keeper: &mut K,
+    office: &Code,
+) -> Result<Vec<u8>, Unreported>
+    ensures clean { K.clean keeper.new → K.clean keeper.old }
+    ensures same { K.clean keeper.new → K.world keeper.new ≡ K.world keeper.old }
+    ensures text { IfOk result (λ text. K.clean keeper.new → Good (K.world keeper.old) → text.items ≡ told_of (office_sees (K.world keeper.old))) }
+{
+    match keeper.view(alloc, office.as_bytes()) {
+        Ok(view) => told(alloc, &view),
+        Err(KeepFault::Store) => Err(Unreported::Store),
+        Err(KeepFault::Memory) => Err(Unreported::Memory),
+    }
+}
