@@ -1,0 +1,8 @@
+//! A desk over a database in memory, by the bytes of its requests and replies, and databases that are opened again.
+
+mod damages;
+mod halls;
+mod keeping;
+mod steps;
+mod streams;
+mod years;

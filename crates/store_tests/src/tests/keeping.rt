@@ -1,0 +1,74 @@
+//! A database that is closed and opened again, and one that is there already.
+
+use crate::tests::steps::{
+    ANN, LISTS, MemDesk, OFFICE, PUBLICATION, ROLLS, Step, TO_RANKING, fresh, play,
+};
+use portal_core::Code;
+use portal_desk::Desk;
+use portal_store::{CreateFault, NotOpened, Store};
+use sqlite::Connection;
+use std::process::Abort;
+
+/// A desk over the same database, opened again.
+fn again(rt: &(impl Abort + AllocGlobal), desk: MemDesk) -> MemDesk {
+    let conn = desk.into_keeper().into_connection();
+    match Store::open(rt.alloc(), conn) {
+        Ok(store) => Desk::new(store),
+        Err(
+            NotOpened {
+                fault: _,
+                connection: _,
+            },
+        ) => rt.abort(),
+    }
+}
+
+const RESULT: &[Step] = &[("GET", "/result", ANN, "", "200 OK", r#"{"project":"P2"}"#)];
+
+#[test]
+fn a_year_over_connections_of_their_own(rt: HostRuntime) {
+    let mut desk = fresh(&rt);
+    for part in [ROLLS, LISTS, TO_RANKING, PUBLICATION, RESULT] {
+        play(&rt, &mut desk, part);
+        desk = again(&rt, desk);
+    }
+    play(&rt, &mut desk, RESULT);
+}
+
+fn office(rt: &(impl Abort + AllocGlobal)) -> Code {
+    Code::parse(rt.alloc(), OFFICE.as_bytes()).expect(rt, "a code")
+}
+
+/// Why no store is made over a database that has this table.
+fn refused(rt: &(impl Abort + AllocGlobal), statement: &str) -> Option<CreateFault> {
+    let mut conn = Connection::open_in_memory(rt.alloc()).expect(rt, "a connection");
+    conn.execute(statement, &[]).expect(rt, "a table");
+    match Store::create(rt.alloc(), conn, office(rt)) {
+        Ok(store) => {
+            let _conn = store.into_connection();
+            None
+        }
+        Err(
+            NotOpened {
+                fault,
+                connection: _,
+            },
+        ) => Some(fault),
+    }
+}
+
+#[test]
+fn a_table_of_the_name_is_there(rt: HostRuntime) {
+    let own = refused(&rt, "CREATE TABLE choice (a INTEGER)");
+    assert_eq!(rt; own, Some(CreateFault::Exists));
+    let other = refused(&rt, "CREATE TABLE notes (a INTEGER)");
+    assert_eq!(rt; other, None);
+}
+
+#[test]
+fn the_office_has_its_code(rt: HostRuntime) {
+    let mut store = Store::create_memory(rt.alloc(), office(&rt)).expect(&rt, "a store");
+    let code = store.office_code(rt.alloc()).expect(&rt, "a code");
+    assert_eq!(rt; code.as_bytes(), OFFICE.as_bytes());
+    let _conn = store.into_connection();
+}

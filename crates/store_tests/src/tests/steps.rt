@@ -1,0 +1,193 @@
+//! A desk over a database in memory, and requests to it.
+
+use portal_core::Code;
+use portal_desk::{Counted, Desk};
+use portal_store::Store;
+use sqlite::MemStore;
+use std::process::Abort;
+
+/// A desk over a database in memory.
+pub(crate) type MemDesk = Desk<Store<MemStore>>;
+
+/// A request and its reply: method, path, code, body, status line and answer.
+pub(crate) type Step = (
+    &'static str,
+    &'static str,
+    &'static str,
+    &'static str,
+    &'static str,
+    &'static str,
+);
+
+pub(crate) const OFFICE: &str = "office-code-0";
+
+pub(crate) const LEE: &str = "lee-code-01";
+
+pub(crate) const MOE: &str = "moe-code-02";
+
+pub(crate) const ANN: &str = "ann-code-1";
+
+pub(crate) const BEA: &str = "bea-code-2";
+
+pub(crate) const CYR: &str = "cyr-code-3";
+
+/// A desk over the empty world in setup.
+pub(crate) fn fresh(rt: &(impl Abort + AllocGlobal)) -> MemDesk {
+    let office = Code::parse(rt.alloc(), OFFICE.as_bytes()).expect(rt, "a code");
+    Desk::new(Store::create_memory(rt.alloc(), office).expect(rt, "a store"))
+}
+
+/// What is written for one connection's bytes.
+pub(crate) fn written(
+    rt: &(impl Abort + AllocGlobal),
+    desk: &mut MemDesk,
+    bytes: &[u8],
+) -> Vec<u8> {
+    let mut source = Counted::new(bytes);
+    let mut sink = Counted::new(Vec::new(rt.alloc()));
+    let served = desk.serve(rt.alloc(), &mut source, &mut sink);
+    served.expect(rt, "served");
+    sink.into_inner()
+}
+
+/// The bytes of a request.
+fn request(rt: &(impl Abort + AllocGlobal), step: &Step) -> String {
+    let (method, path, code, body, _, _) = *step;
+    let length = body.len();
+    let text = format!(in rt.alloc();
+        "{} {} HTTP/1.1\r\nHost: h\r\nPortal-Code: {}\r\nContent-Length: {}\r\n\r\n{}",
+        method, path, code, length, body
+    );
+    text.expect(rt, "memory")
+}
+
+/// The bytes of its reply.
+fn reply(rt: &(impl Abort + AllocGlobal), step: &Step) -> String {
+    let (_, _, _, _, status, answer) = *step;
+    let length = answer.len();
+    let text = format!(in rt.alloc();
+        "HTTP/1.1 {}\r\ncontent-type: application/json\r\ncontent-length: {}\r\n\r\n{}",
+        status, length, answer
+    );
+    text.expect(rt, "memory")
+}
+
+/// Each request, on a connection of its own, gets its reply.
+pub(crate) fn play(rt: &(impl Abort + AllocGlobal), desk: &mut MemDesk, steps: &[Step]) {
+    for step in steps {
+        let bytes = request(rt, step);
+        let wanted = reply(rt, step);
+        let text = written(rt, desk, bytes.as_bytes());
+        assert_eq!(rt; text.as_slice(), wanted.as_bytes());
+    }
+}
+
+/// The rolls of the worked world.
+pub(crate) const ROLLS: &[Step] = &[
+    (
+        "POST",
+        "/rolls/lecturers",
+        OFFICE,
+        "id,name,code,capacity\nL1,Lee,lee-code-01,2\nL2,Moe,moe-code-02,1\n",
+        "200 OK",
+        r#"{"added":2,"same":0}"#,
+    ),
+    (
+        "POST",
+        "/rolls/projects",
+        OFFICE,
+        "id,lecturer,title,capacity\nP1,L1,Tides,1\nP2,L1,Kites,1\nP3,L2,Bells,1\n",
+        "200 OK",
+        r#"{"added":3,"same":0}"#,
+    ),
+    (
+        "POST",
+        "/rolls/students",
+        OFFICE,
+        "id,name,code\nS1,Ann,ann-code-1\nS2,\"Roe, Bea\",bea-code-2\n",
+        "200 OK",
+        r#"{"added":2,"same":0}"#,
+    ),
+    (
+        "POST",
+        "/rolls/students",
+        OFFICE,
+        "id,name,code\nS3,Cyr,cyr-code-3\nS1,Ann,ann-code-1\n",
+        "200 OK",
+        r#"{"added":1,"same":1}"#,
+    ),
+];
+
+/// The lists of the worked world, and the move to ranking.
+pub(crate) const LISTS: &[Step] = &[
+    (
+        "POST",
+        "/phase",
+        OFFICE,
+        r#"{"phase":"choosing"}"#,
+        "200 OK",
+        r#"{"phase":"choosing"}"#,
+    ),
+    (
+        "PUT",
+        "/choices",
+        ANN,
+        r#"{"projects":["P1","P2"]}"#,
+        "200 OK",
+        r#"{"projects":["P1","P2"]}"#,
+    ),
+    (
+        "PUT",
+        "/choices",
+        BEA,
+        r#"{"projects":["P1","P3"]}"#,
+        "200 OK",
+        r#"{"projects":["P1","P3"]}"#,
+    ),
+];
+
+/// The move to ranking.
+pub(crate) const TO_RANKING: &[Step] = &[(
+    "POST",
+    "/phase",
+    OFFICE,
+    r#"{"phase":"ranking"}"#,
+    "200 OK",
+    r#"{"phase":"ranking"}"#,
+)];
+
+/// The rankings of the worked world, and the publication.
+pub(crate) const PUBLICATION: &[Step] = &[
+    (
+        "PUT",
+        "/ranking",
+        LEE,
+        r#"{"students":["S2","S1"]}"#,
+        "200 OK",
+        r#"{"students":["S2","S1"]}"#,
+    ),
+    (
+        "POST",
+        "/phase",
+        OFFICE,
+        r#"{"phase":"published"}"#,
+        "409 Conflict",
+        r#"{"error":"still_to_rank","lecturers":["L2"]}"#,
+    ),
+    (
+        "PUT",
+        "/ranking",
+        MOE,
+        r#"{"students":["S2"]}"#,
+        "200 OK",
+        r#"{"students":["S2"]}"#,
+    ),
+    (
+        "POST",
+        "/phase",
+        OFFICE,
+        r#"{"phase":"published"}"#,
+        "200 OK",
+        r#"{"phase":"published"}"#,
+    ),
+];
