@@ -1,5 +1,5 @@
 -- What a change that was committed, or left all as it was, is to the store: whatever the change.
-use Rattle.std.proofs.Common.{inl, inr, ◌≡◌, Bool, IsTrue, Ok, Err, Result, OnOk, OnErr, false, sym, ap, subst, ◌∙◌}
+use Rattle.std.proofs.Common.{inl, inr, ◌≡◌, Bool, IsTrue, Ok, Err, Result, IfOk, OnOk, OnErr, false, sym, ap, subst, ◌∙◌}
 use Rattle.sqlite.specs.Effect.{Database, IsDatabase}
 use Rattle.sqlite.specs.State.{HasCleanDisk, IsUnchanged}
 use Rattle.sqlite.specs.Store.{Ghosts}
@@ -141,6 +141,15 @@ module _
   pub read_world : (w : World) → (IsOwn old.schema → IsDatabase (state g old).now → HasCleanDisk (state g new) → w ≡ world_of (state g old).now.trees) → IsCleanStore g (record { conn = new; own = own }) → w ≡ kept_world g before
   read_world w found on = found (own_known on.0) (kept.ready on.0 (rest on.0 on.1).0).holds.sound (law on.1) ∙ ap (λ s. kept_world g s) is
 
+  -- what is known where a call may rely on what is kept
+  pub read_holds : (P : Type 0) → (IsOwn old.schema → HasCleanDisk (state g new) → Holds (state g old).now → P) → IsCleanStore g (record { conn = new; own = own }) → P
+  read_holds P found on = found (own_known on.0) (law on.1) (kept.ready on.0 (rest on.0 on.1).0).holds
+
   -- what is known where there is a row of the office
   pub read_office : (P : Type 0) → (IsOwn old.schema → HasCleanDisk (state g new) → HasOffice ((state g old).now.trees portal_tree) → P) → IsCleanStore g (record { conn = new; own = own }) → P
   read_office P found on = found (own_known on.0) (law on.1) (kept.ready on.0 (rest on.0 on.1).0).holds.office
+
+-- what follows of an answer, whatever it is, from what is said of it under a premise
+pub when_ok : {V E : Type 0} (C : Type 0) (A B : V → Type 0) (r : Result V E) → (C → IfOk r A) → ((v : V) → (C → A v) → B v) → IfOk r B
+when_ok C A B (Ok v) h more = more v h
+when_ok C A B (Err e) h more = tt

@@ -25,3 +25,5 @@ pub mod RowsOnce
 pub mod Shapes
 pub mod Sorted
 pub mod Texts
+pub mod Queried
+pub mod Applying

@@ -11,3 +11,4 @@ pub mod Putting
 pub mod Reading
 pub mod Shown
 pub mod World
+pub mod Queried

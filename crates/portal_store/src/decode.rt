@@ -22,7 +22,7 @@ use sqlite::types::ValueRef;
 use std::alloc::Global;
 
 /// The bytes of a text, or none where the cell has no bytes.
-fn bytes_at(row: &Row, at: usize) -> &[u8]
+pub(crate) fn bytes_at(row: &Row, at: usize) -> &[u8]
     ensures { result.now ≡ bytes (column row.now at) }
 {
     match row.get_ref(at) {
@@ -54,7 +54,7 @@ pub(crate) fn key_at(alloc: Global, row: &Row, at: usize) -> Result<Key, LoadFau
 }
 
 /// The name or title in a cell.
-fn name_at(alloc: Global, row: &Row, at: usize) -> Result<Name, LoadFault>
+pub(crate) fn name_at(alloc: Global, row: &Row, at: usize) -> Result<Name, LoadFault>
     ensures ok { IfOk result (λ name. name ≡ bytes (column row.now at)) }
     ensures damaged { result ≡ Err LoadFault.Damaged → is_name (bytes (column row.now at)) ≡ false }
 {
@@ -78,7 +78,7 @@ fn code_at(alloc: Global, row: &Row, at: usize) -> Result<Code, LoadFault>
 }
 
 /// The capacity in a cell.
-fn capacity_at(row: &Row, at: usize) -> Result<u32, LoadFault>
+pub(crate) fn capacity_at(row: &Row, at: usize) -> Result<u32, LoadFault>
     ensures ok { IfOk result (λ capacity. capacity ≡ number_in (column row.now at)) }
     ensures damaged { result ≡ Err LoadFault.Damaged → 1 ≤ number_in (column row.now at) → number_in (column row.now at) ≤ 200 → ⊥ }
 {
@@ -205,7 +205,7 @@ pub(crate) fn list_from(alloc: Global, rows: &[Row]) -> Result<Vec<Key>, LoadFau
 }
 
 /// The key in a cell that may be NULL.
-fn assigned_at(alloc: Global, row: &Row, at: usize) -> Result<Option<Key>, LoadFault>
+pub(crate) fn assigned_at(alloc: Global, row: &Row, at: usize) -> Result<Option<Key>, LoadFault>
     ensures ok { IfOk result (λ key. key ≡ text_or_none (column row.now at)) }
     ensures damaged { result ≡ Err LoadFault.Damaged → IfSome (text_or_none (column row.now at)) (λ p. is_key p ≡ true) → ⊥ }
 {

@@ -8,6 +8,7 @@ ghost use Rattle.portal_core.specs.World.{World};
 ghost use Rattle.portal_core.specs.Change.{changed};
 ghost use Rattle.portal_core.specs.Good.{Good, Sound};
 ghost use Rattle.portal_core.specs.Meaning.{meant};
+ghost use Rattle.portal_core.specs.View as seen;
 ghost use Rattle.portal_tables.specs.Own.{IsOwn};
 ghost use Rattle.portal_tables.specs.Steps.{Commits, IsAfter, LeavesOnly};
 ghost use Rattle.portal_store.specs.Kept.{IsCleanStore, kept_world, Turns};
@@ -16,6 +17,7 @@ ghost use Rattle.portal_store.specs.Crash.{IsLeft};
 use crate::change::make;
 use crate::fault::keep_fault_of;
 use crate::office::office_of;
+use crate::queries::view;
 use crate::sound::load_keeper;
 use crate::store::Store;
 use portal_core::{Change, Code, KeepFault, Keeper, View};
@@ -67,6 +69,16 @@ impl<S: Alter> Store<S> {
         }
     }
 
+    /// What the caller with this code sees, by queries of what that caller may see.
+    fn shown(&mut self, alloc: Global, code: &[u8]) -> Result<View, KeepFault>
+        ensures clean { IsCleanStore S.Store self.new → IsCleanStore S.Store self.old }
+        ensures shown { IfOk result (λ view. IsCleanStore S.Store self.new → Good (kept_world S.Store self.old) → view ≡ seen.view (kept_world S.Store self.old) code.now) }
+        ensures same { IsCleanStore S.Store self.new → kept_world S.Store self.new ≡ kept_world S.Store self.old }
+    {
+        self.check_own()?;
+        view(alloc, &mut self.conn, code)
+    }
+
     /// The code of the office. `Store` comes for an error of the connection, and where there is no row of the office.
     pub fn office_code(&mut self, alloc: Global) -> Result<Code, KeepFault>
         ensures clean { IsCleanStore S.Store self.new → IsCleanStore S.Store self.old }
@@ -84,8 +96,7 @@ impl<S: Alter> Keeper for Store<S> {
     ghost clean = { λ s. IsCleanStore S.Store s };
 
     fn view(&mut self, alloc: Global, code: &[u8]) -> Result<View, KeepFault> {
-        let mut keeper = self.loaded(alloc)?;
-        keeper.view(alloc, code)
+        self.shown(alloc, code)
     }
 
     fn instance(&mut self, alloc: Global) -> Result<Instance, KeepFault> {

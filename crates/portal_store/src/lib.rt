@@ -14,6 +14,7 @@ mod office;
 mod open;
 mod phase;
 mod placing;
+pub mod queries;
 mod rolls;
 mod sound;
 mod store;

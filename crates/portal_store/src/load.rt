@@ -90,7 +90,7 @@ fn list_rows<S: Alter>(
 }
 
 /// One owner's list, whose places are 1, 2 and so on.
-fn list_in<S: Alter>(
+pub(crate) fn list_in<S: Alter>(
     alloc: Global,
     conn: &mut Connection<S>,
     lists: Lists,
@@ -197,7 +197,7 @@ fn risen(rows: Vec<Row>) -> Result<Vec<Row>, LoadFault>
 }
 
 /// The lecturers by key.
-fn lecturer_roll<S: Alter>(conn: &mut Connection<S>) -> Result<Vec<Row>, LoadFault>
+pub(crate) fn lecturer_roll<S: Alter>(conn: &mut Connection<S>) -> Result<Vec<Row>, LoadFault>
     ensures rows { IsOwn conn.old.schema → HasCleanDisk (state S.Store conn.new) → IfOk result (λ v. v.items ≡ map (columns (1 ∷ 2 ∷ 3 ∷ 4 ∷ 5 ∷ [])) (by_key ((state S.Store conn.old).now.trees lecturer_tree))) }
     ensures damaged { IsOwn conn.old.schema → IsDatabase (state S.Store conn.old).now → HasCleanDisk (state S.Store conn.new) → result ≡ Err LoadFault.Damaged → Rise (map row_key (by_key ((state S.Store conn.old).now.trees lecturer_tree))) → ⊥ }
     ensures reads { Reads result (state S.Store conn.old) (state S.Store conn.new) }
@@ -208,7 +208,7 @@ fn lecturer_roll<S: Alter>(conn: &mut Connection<S>) -> Result<Vec<Row>, LoadFau
 }
 
 /// The projects by key.
-fn project_roll<S: Alter>(conn: &mut Connection<S>) -> Result<Vec<Row>, LoadFault>
+pub(crate) fn project_roll<S: Alter>(conn: &mut Connection<S>) -> Result<Vec<Row>, LoadFault>
     ensures rows { IsOwn conn.old.schema → HasCleanDisk (state S.Store conn.new) → IfOk result (λ v. v.items ≡ map (columns (1 ∷ 2 ∷ 3 ∷ 4 ∷ [])) (by_key ((state S.Store conn.old).now.trees project_tree))) }
     ensures damaged { IsOwn conn.old.schema → IsDatabase (state S.Store conn.old).now → HasCleanDisk (state S.Store conn.new) → result ≡ Err LoadFault.Damaged → Rise (map row_key (by_key ((state S.Store conn.old).now.trees project_tree))) → ⊥ }
     ensures reads { Reads result (state S.Store conn.old) (state S.Store conn.new) }
@@ -219,7 +219,7 @@ fn project_roll<S: Alter>(conn: &mut Connection<S>) -> Result<Vec<Row>, LoadFaul
 }
 
 /// The students by key.
-fn student_roll<S: Alter>(conn: &mut Connection<S>) -> Result<Vec<Row>, LoadFault>
+pub(crate) fn student_roll<S: Alter>(conn: &mut Connection<S>) -> Result<Vec<Row>, LoadFault>
     ensures rows { IsOwn conn.old.schema → HasCleanDisk (state S.Store conn.new) → IfOk result (λ v. v.items ≡ map (columns (1 ∷ 2 ∷ 3 ∷ 4 ∷ [])) (by_key ((state S.Store conn.old).now.trees student_tree))) }
     ensures damaged { IsOwn conn.old.schema → IsDatabase (state S.Store conn.old).now → HasCleanDisk (state S.Store conn.new) → result ≡ Err LoadFault.Damaged → Rise (map row_key (by_key ((state S.Store conn.old).now.trees student_tree))) → ⊥ }
     ensures reads { Reads result (state S.Store conn.old) (state S.Store conn.new) }
@@ -332,7 +332,10 @@ fn world_in<S: Alter>(
 }
 
 /// The office.
-fn office_in<S: Alter>(alloc: Global, conn: &mut Connection<S>) -> Result<Office, LoadFault>
+pub(crate) fn office_in<S: Alter>(
+    alloc: Global,
+    conn: &mut Connection<S>,
+) -> Result<Office, LoadFault>
     ensures row { IsOwn conn.old.schema → IsDatabase (state S.Store conn.old).now → HasCleanDisk (state S.Store conn.new) → IfOk result (λ office. (state S.Store conn.old).now.trees portal_tree ≡ portal_row (pos 1) (pos (number_of office.phase)) office.code ∷ []) }
     ensures damaged { IsOwn conn.old.schema → HasCleanDisk (state S.Store conn.new) → result ≡ Err LoadFault.Damaged → (office : HasOffice ((state S.Store conn.old).now.trees portal_tree)) → is_code office.office ≡ true → ⊥ }
     ensures same { IsOwn conn.old.schema → HasCleanDisk (state S.Store conn.new) → OnOk result (IsUnchanged (state S.Store conn.old) (state S.Store conn.new)) }

@@ -18,6 +18,9 @@ fn changed(
 
 /// How the database is answered when it is opened again.
 fn opened(rt: &(impl Abort + AllocGlobal), conn: Connection<MemStore>) -> Option<OpenFault> {
+    if !conn.is_autocommit() {
+        rt.abort();
+    }
     match Store::open(rt.alloc(), conn) {
         Ok(store) => {
             let _conn = store.into_connection();

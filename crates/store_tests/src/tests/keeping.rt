@@ -43,6 +43,9 @@ fn office(rt: &(impl Abort + AllocGlobal)) -> Code {
 fn refused(rt: &(impl Abort + AllocGlobal), statement: &str) -> Option<CreateFault> {
     let mut conn = Connection::open_in_memory(rt.alloc()).expect(rt, "a connection");
     conn.execute(statement, &[]).expect(rt, "a table");
+    if !conn.is_autocommit() {
+        rt.abort();
+    }
     match Store::create(rt.alloc(), conn, office(rt)) {
         Ok(store) => {
             let _conn = store.into_connection();

@@ -1,0 +1,137 @@
+-- Applicants and placed students, of what queries show.
+use Rattle.std.proofs.Common.{◌≡◌, Bool, true, false, ◌&&◌, ◌||◌, List, [], ◌∷◌, map, filter, Option, refl, sym, ap, ap₂, subst, ◌∙◌}
+use Rattle.std.specs.Prelude.{if◌then◌else◌}
+use Rattle.std.specs.List.{AllByRecursion, list_any}
+use Rattle.std.proofs.lemmas.List.Sorted.{list_any-IsPermutation}
+use Rattle.sqlite.specs.Order.{Row, column, bytes}
+use Rattle.sqlite.specs.Tree.{Trees}
+use Rattle.sqlite.specs.Effect.{Database}
+use Rattle.sqlite_trees.proofs.ListLemmas.{filter-map}
+use Rattle.portal_core.specs.declared.phase.Phase.{Phase}
+use Rattle.portal_core.specs.declared.phase.Phase.TheVariants.{Setup, Choosing, Ranking, Published}
+use Rattle.portal_core.specs.declared.rows.LecturerRow.{LecturerRow}
+use Rattle.portal_core.specs.declared.rows.Person.{Person}
+use Rattle.portal_core.specs.declared.rows.ProjectRow.{ProjectRow}
+use Rattle.portal_core.specs.Sight.{LecturerSees}
+use Rattle.portal_core.specs.Words.{Key, is, has}
+use Rattle.portal_core.specs.World.{World, Lecturer, Student, project_key, projects_of, applicants_to, placed_at, is_at, is_from_ranking, is_published}
+use Rattle.portal_core.specs.View.{persons, catalogue, lecturer_sees}
+use Rattle.portal_core.proofs.AllLaws.{all_weaker, any_map, is_sym}
+use Rattle.portal_core.proofs.Givers.{is_mapped}
+use Rattle.portal_list.proofs.Members.{filtered_any}
+use Rattle.portal_tables.specs.Tables.{student_tree, choice_tree}
+use Rattle.portal_tables.specs.Changes.{ListsBy, columns, has_text}
+use Rattle.portal_tables.proofs.Lists.{map-map}
+use Rattle.portal_store.specs.declared.queries.applicants.Line.{Line}
+use Rattle.portal_store.specs.Kept.{Holds}
+use Rattle.portal_store.specs.Lists.{of_key, named_by, place_key, by_place, chosen}
+use Rattle.portal_store.specs.World.{world_of, row_key, student_of}
+use Rattle.portal_store.specs.Shown.{first, by_key, students_shown}
+use Rattle.portal_store.specs.Queried.{offered, line_of, shown_line, applicants_at, applicants_told, placed_told}
+use Rattle.portal_store.proofs.Listed.{permuted, all_mapped, for_each}
+use Rattle.portal_store.proofs.Loaded.{roll_columns, students_are}
+use Rattle.portal_store.proofs.Queried.{filter_alike, all_offered}
+use Rattle.portal_store.proofs.Shapes.{IsChoiceRow, has_text_of, choice_rows_formed}
+use Rattle.portal_store.proofs.Sorted.{permutes, map_alike}
+
+pub lines_told : (db : Trees) → map shown_line (students_shown db) ≡ map line_of (world_of db).students
+unfolding world_of
+lines_told db = map-map shown_line roll_columns (by_key (db student_tree)) ∙ sym (ap (map line_of) (students_are db) ∙ map-map line_of (student_of (db choice_tree)) (by_key (db student_tree)))
+
+any_alike : {X : Type 0} (p q : X → Bool) (xs : List X) → AllByRecursion (λ x. p x ≡ q x) xs → list_any p xs ≡ list_any q xs
+any_alike p q [] all = refl
+any_alike p q (x ∷ xs) all = ap₂ (λ a b. a || b) all.0 (any_alike p q xs all.1)
+
+and_turned : (a b : Bool) → (a && b) ≡ (b && a)
+and_turned true true = refl
+and_turned true false = refl
+and_turned false true = refl
+and_turned false false = refl
+
+-- a student is among those who name the project where the student's list names it
+module _ (db : Database) (holds : Holds db) (p : Key) (shown : List Row) (lists : ListsBy (1 ∷ []) (has_text 3 p) (columns (1 ∷ [])) (db.trees choice_tree) shown) where
+  abbrev table : List Row
+  table = db.trees choice_tree
+
+  alike : (k : Key) (r : Row) → IsChoiceRow r → (has_text 3 p r && is k (row_key r)) ≡ (has_text 1 k r && is p (named_by r))
+  alike k r x =
+      let of : has_text 3 p r ≡ is x.project p = has_text_of 3 p r x.project (ap (λ s. column s 3) x.is) in
+      let by : has_text 1 k r ≡ is x.student k = has_text_of 1 k r x.student (ap (λ s. column s 1) x.is) in
+      let key : is k (row_key r) ≡ is x.student k = ap (λ s. is k (bytes (column s 1))) x.is ∙ is_sym k x.student in
+      let name : is p (named_by r) ≡ is x.project p = ap (λ s. is p (bytes (column s 3))) x.is ∙ is_sym p x.project in
+      ap₂ (λ a b. a && b) of key ∙ and_turned (is x.project p) (is x.student k) ∙ sym (ap₂ (λ a b. a && b) by name)
+
+  chooser : (k : Key) → has (map first shown) k ≡ has (chosen table k) p
+  chooser k =
+      let f : Row → Row = columns (1 ∷ []) in
+      let left : has (map first shown) k ≡ list_any (λ r. has_text 3 p r && is k (row_key r)) table =
+      is_mapped first shown k
+      ∙ sym (list_any-IsPermutation (λ c. is k (first c)) (map f (filter (has_text 3 p) table)) shown (permuted _ _ _ table shown lists))
+      ∙ any_map (λ c. is k (first c)) f (filter (has_text 3 p) table)
+      ∙ filtered_any (λ r. is k (row_key r)) (has_text 3 p) table in
+      let right : has (chosen table k) p ≡ list_any (λ r. has_text 1 k r && is p (named_by r)) table =
+      is_mapped named_by (by_place (of_key k table)) p
+      ∙ sym (list_any-IsPermutation (λ r. is p (named_by r)) (of_key k table) (by_place (of_key k table)) (permutes place_key (of_key k table)))
+      ∙ filtered_any (λ r. is p (named_by r)) (has_text 1 k) table in
+      left ∙ any_alike _ _ table (all_weaker IsChoiceRow _ (alike k) table (choice_rows_formed db holds.own holds.sound holds.apart.1.1.1.1.0)) ∙ sym right
+
+  choosers : AllByRecursion (λ (s : Student). has (map first shown) s.row.key ≡ has s.choice p) (world_of db.trees).students
+  unfolding world_of
+  choosers =
+      subst (AllByRecursion (λ (s : Student). has (map first shown) s.row.key ≡ has s.choice p)) (sym (students_are db.trees))
+      (all_mapped (λ (s : Student). has (map first shown) s.row.key ≡ has s.choice p) (student_of (db.trees choice_tree)) (by_key (db.trees student_tree)) (for_each _ (by_key (db.trees student_tree)) (λ r. chooser (row_key r))))
+
+persons_of : (p : Line → Bool) (ss : List Student) → map (λ (l : Line). l.person) (filter p (map line_of ss)) ≡ persons (filter (λ s. p (line_of s)) ss)
+persons_of p ss = ap (map (λ (l : Line). l.person)) (filter-map p line_of ss) ∙ map-map (λ (l : Line). l.person) line_of (filter (λ s. p (line_of s)) ss)
+
+pub applicants_are : (db : Database) → Holds db → (p : Key) (shown : List Row) → ListsBy (1 ∷ []) (has_text 3 p) (columns (1 ∷ [])) (db.trees choice_tree) shown → (lines : List Line) → lines ≡ map line_of (world_of db.trees).students
+    → map (λ (l : Line). l.person) (filter (λ (l : Line). has (map first shown) l.person.key) lines) ≡ persons (applicants_to (world_of db.trees) p)
+applicants_are db holds p shown lists lines told =
+    let w = world_of db.trees in
+    ap (λ (ls : List Line). map (λ (l : Line). l.person) (filter (λ (l : Line). has (map first shown) l.person.key) ls)) told
+    ∙ persons_of (λ (l : Line). has (map first shown) l.person.key) w.students
+    ∙ ap persons (filter_alike (λ (s : Student). has (map first shown) s.row.key) (λ (s : Student). has s.choice p) w.students (choosers db holds p shown lists))
+
+-- what the phase shows
+
+pub placed_are : (w : World) (phase : Phase) (lines : List Line) (keys : List Key) → phase ≡ w.phase → lines ≡ map line_of w.students
+    → map (λ k. (k, if is_published phase then map (λ (l : Line). l.person) (filter (λ (l : Line). is_at k l.placed) lines) else [])) keys ≡ placed_told w keys
+placed_are w phase lines keys at told =
+    map_alike (λ k. (k, if is_published phase then map (λ (l : Line). l.person) (filter (λ (l : Line). is_at k l.placed) lines) else [])) (λ k. (k, if is_published w.phase then persons (placed_at w k) else [])) keys (λ k.
+    let here : map (λ (l : Line). l.person) (filter (λ (l : Line). is_at k l.placed) lines) ≡ persons (placed_at w k) =
+    ap (λ (ls : List Line). map (λ (l : Line). l.person) (filter (λ (l : Line). is_at k l.placed) ls)) told ∙ persons_of (λ (l : Line). is_at k l.placed) w.students in
+    ap₂ (λ (f : Phase) (list : List Person). (k, if is_published f then list else [])) at here)
+
+not_published : (f : Phase) → is_from_ranking f ≡ false → is_published f ≡ false
+not_published Setup e = refl
+not_published Choosing e = refl
+not_published Ranking e = refl
+not_published Published e = e
+
+pub all_applicants : (w : World) (phase : Phase) (keys : List Key) → is_from_ranking phase ≡ true → phase ≡ w.phase → map (applicants_at w) keys ≡ applicants_told w keys
+all_applicants w phase keys closed at =
+    map_alike (applicants_at w) (λ k. (k, if is_from_ranking w.phase then persons (applicants_to w k) else [])) keys (λ k. ap (λ b. (k, if b then persons (applicants_to w k) else [])) (sym closed ∙ ap is_from_ranking at))
+
+pub no_applicants : (w : World) (phase : Phase) (keys : List Key) → is_from_ranking phase ≡ false → phase ≡ w.phase → map (λ k. (k, [])) keys ≡ applicants_told w keys
+no_applicants w phase keys ajar at =
+    map_alike (λ k. (k, [])) (λ k. (k, if is_from_ranking w.phase then persons (applicants_to w k) else [])) keys (λ k. ap (λ b. (k, if b then persons (applicants_to w k) else [])) (sym ajar ∙ ap is_from_ranking at))
+
+pub none_placed : (w : World) (phase : Phase) (keys : List Key) → is_from_ranking phase ≡ false → phase ≡ w.phase → map (λ k. (k, [])) keys ≡ placed_told w keys
+none_placed w phase keys ajar at =
+    map_alike (λ k. (k, [])) (λ k. (k, if is_published w.phase then persons (placed_at w k) else [])) keys (λ k. ap (λ b. (k, if b then persons (placed_at w k) else [])) (sym (not_published phase ajar) ∙ ap is_published at))
+
+-- told of a lecturer's projects
+
+pub own_applicants : (w : World) (l : Lecturer) (own : List Key) → own ≡ map project_key (projects_of w l.row.key) → applicants_told w own ≡ (lecturer_sees w l).applicants
+own_applicants w l own e = ap (applicants_told w) e ∙ map-map (λ k. (k, if is_from_ranking w.phase then persons (applicants_to w k) else [])) project_key (projects_of w l.row.key)
+
+pub own_placed : (w : World) (l : Lecturer) (own : List Key) → own ≡ map project_key (projects_of w l.row.key) → placed_told w own ≡ (lecturer_sees w l).placed
+own_placed w l own e = ap (placed_told w) e ∙ map-map (λ k. (k, if is_published w.phase then persons (placed_at w k) else [])) project_key (projects_of w l.row.key)
+
+-- what a lecturer sees, of what was read
+pub lecturer_told : (w : World) (l : Lecturer) (phase : Phase) (ls : List LecturerRow) (ps : List ProjectRow) (applicants placed : List (Key × List Person)) (ranking : Option (List Key))
+    → phase ≡ w.phase → ls ≡ map (λ (l : Lecturer). l.row) w.lecturers → ps ≡ w.projects → applicants ≡ (lecturer_sees w l).applicants → placed ≡ (lecturer_sees w l).placed → ranking ≡ l.ranking
+    → ◌≡◌ {A = LecturerSees} (record { phase = phase; me = record { key = l.row.key; name = l.row.name }; capacity = l.row.capacity; catalogue = offered ls ps; applicants = applicants; ranking = ranking; placed = placed }) (lecturer_sees w l)
+lecturer_told w l phase ls ps applicants placed ranking at_phase by of at_applicants at_placed at_ranking =
+    let shown : offered ls ps ≡ catalogue w = ap₂ offered by of ∙ all_offered w.lecturers w.projects in
+    λ i. record { phase = at_phase i; me = record { key = l.row.key; name = l.row.name }; capacity = l.row.capacity; catalogue = shown i; applicants = at_applicants i; ranking = at_ranking i; placed = at_placed i }

@@ -1,0 +1,145 @@
+-- From what queries show of one caller to what the world says.
+use Rattle.std.proofs.Common.{◌≡◌, ℕ, pos, Bool, true, false, cond, Option, Some, None, option_map, List, [], ◌∷◌, map, filter, refl, sym, ap, ap₂, subst, subst₂, ◌∙◌}
+use Rattle.std.specs.Prelude.{if◌then◌else◌, slice_index_or}
+use Rattle.std.specs.List.{AllByRecursion, find, filter_map, cons_option}
+use Rattle.std.specs.List.Sorted.{IsPermutation}
+use Rattle.std.proofs.lemmas.List.Sorted.{IsPermutation-map, IsPermutation-sym, IsPermutation-trans, length_permutation}
+use Rattle.sqlite.specs.Order.{Row, column, bytes}
+use Rattle.sqlite.specs.Tree.{Trees}
+use Rattle.sqlite.specs.Effect.{Database}
+use Rattle.sqlite.proofs.Callers.{one_permutation}
+use Rattle.sqlite_trees.proofs.ListLemmas.{IsPermutation-filter, filter-map}
+use Rattle.portal_core.specs.declared.rows.LecturerRow.{LecturerRow}
+use Rattle.portal_core.specs.declared.rows.ProjectRow.{ProjectRow}
+use Rattle.portal_core.specs.Words.{Key, is}
+use Rattle.portal_core.specs.World.{World, Lecturer, Student, is_published}
+use Rattle.portal_core.specs.declared.phase.Phase.{Phase}
+use Rattle.portal_core.specs.declared.rows.Person.{Person}
+use Rattle.portal_core.specs.Sight.{StudentSees}
+use Rattle.portal_core.specs.View.{name_in, listing_with, listings, catalogue, student_sees, lecturer_with, student_with}
+use Rattle.portal_core.proofs.AllLaws.{all_weaker}
+use Rattle.portal_core.proofs.Keys.{find_map}
+use Rattle.portal_tables.specs.Rows.{portal_row}
+use Rattle.sqlite_trees.specs.Objects.{number_in}
+use Rattle.portal_tables.specs.Tables.{portal_tree, lecturer_tree, project_tree, student_tree, choice_tree, ranking_tree}
+use Rattle.portal_tables.specs.Changes.{ListsBy, columns, has_text}
+use Rattle.portal_tables.proofs.Lists.{map-map}
+use Rattle.portal_store.specs.Kept.{Holds}
+use Rattle.portal_store.specs.World.{world_of, number_of, phase_of, row_key, lecturer_of, student_of}
+use Rattle.portal_store.specs.Shown.{by_key, shown_lecturer, shown_project, lecturers_shown, projects_shown}
+use Rattle.portal_store.specs.Queried.{as_list, lecturer_from, student_from, name_of, offered}
+use Rattle.portal_store.proofs.Listed.{permuted}
+use Rattle.portal_store.proofs.Loaded.{phase_back, lecturer_columns, roll_columns, lecturers_are, projects_are, students_are}
+use Rattle.portal_store.proofs.Shapes.{IsLecturerRow, IsStudentRow, has_text_of, lecturer_rows_formed, student_rows_formed}
+use Rattle.portal_store.proofs.Sorted.{permutes, map_alike, map_twice}
+
+-- the first that passes is the only one that passes
+
+abbrev first_of : {X : Type 0} → List X → Option X
+first_of [] = None
+first_of (x ∷ xs) = Some x
+
+find_is : {X : Type 0} (p : X → Bool) (xs : List X) → find p xs ≡ first_of (filter p xs)
+find_is p [] = refl
+find_is p (x ∷ xs) = elim (p x) as (λ b. cond b (Some x) (find p xs) ≡ first_of (cond b (x ∷ filter p xs) (filter p xs))) [ true ↦ refl | false ↦ find_is p xs ]
+
+first_back : {X : Type 0} (o : Option X) → first_of (as_list o) ≡ o
+first_back None = refl
+first_back (Some x) = refl
+
+no_more : {X : Type 0} (xs : List X) → IsPermutation [] xs → xs ≡ []
+no_more [] same = refl
+no_more (x ∷ xs) same = absurd (let e = length_permutation [] (x ∷ xs) same in cc)
+
+only_one : {X : Type 0} (o : Option X) (xs : List X) → IsPermutation (as_list o) xs → xs ≡ as_list o
+only_one None xs same = no_more xs same
+only_one (Some x) xs same = one_permutation x xs same
+
+listed_map : {X Y : Type 0} (f : X → Y) (o : Option X) → map f (as_list o) ≡ as_list (option_map f o)
+listed_map f None = refl
+listed_map f (Some x) = refl
+
+pub filter_alike : {X : Type 0} (p q : X → Bool) (xs : List X) → AllByRecursion (λ x. p x ≡ q x) xs → filter p xs ≡ filter q xs
+filter_alike p q [] all = refl
+filter_alike p q (x ∷ xs) all = ap₂ (λ b l. cond b (x ∷ l) l) all.0 (filter_alike p q xs all.1)
+
+-- the row that a query by code shows is what a search of the roll finds
+found : {X : Type 0} (keys : List ℕ) (p : Row → Bool) (show : Row → Row) (of : Row → X) (from : Row → X) (test : X → Bool) → ((r : Row) → from (show r) ≡ of r) → (table shown : List Row)
+    → AllByRecursion (λ r. p r ≡ test (of r)) table → ListsBy keys p show table shown → (o : Option Row) → as_list o ≡ shown → option_map from o ≡ find test (map of (by_key table))
+found keys p show of from test alike table shown agree lists o is =
+    let one : IsPermutation (map from (map show (filter p table))) (map from shown) = IsPermutation-map from _ shown (permuted keys p show table shown lists) in
+    let two : map from (map show (filter p table)) ≡ map of (filter (λ r. test (of r)) table) =
+    sym (map_twice from show (filter p table)) ∙ map_alike (λ r. from (show r)) of (filter p table) alike ∙ ap (map of) (filter_alike p (λ r. test (of r)) table agree) in
+    let three : IsPermutation (map of (filter (λ r. test (of r)) table)) (map of (filter (λ r. test (of r)) (by_key table))) =
+    IsPermutation-map of _ _ (IsPermutation-filter (λ r. test (of r)) table (by_key table) (permutes row_key table)) in
+    let four : IsPermutation (map from shown) (filter test (map of (by_key table))) =
+    IsPermutation-trans _ _ _ (IsPermutation-sym _ _ one) (subst₂ IsPermutation (sym two) (sym (filter-map test of (by_key table))) three) in
+    let five : IsPermutation (as_list (option_map from o)) (filter test (map of (by_key table))) = subst (λ l. IsPermutation l (filter test (map of (by_key table)))) (ap (map from) (sym is) ∙ listed_map from o) four in
+    sym (find_is test (map of (by_key table)) ∙ ap first_of (only_one (option_map from o) _ five) ∙ first_back (option_map from o))
+
+module _ (db : Database) (holds : Holds db) where
+  lecturer_agrees : (code : Key) (r : Row) → IsLecturerRow r → has_text 3 code r ≡ is (bytes (column r 3)) code
+  lecturer_agrees code r x = has_text_of 3 code r x.code (ap (λ s. column s 3) x.is) ∙ ap (λ s. is (bytes (column s 3)) code) (sym x.is)
+
+  student_agrees : (code : Key) (r : Row) → IsStudentRow r → has_text 3 code r ≡ is (bytes (column r 3)) code
+  student_agrees code r x = has_text_of 3 code r x.code (ap (λ s. column s 3) x.is) ∙ ap (λ s. is (bytes (column s 3)) code) (sym x.is)
+
+  pub lecturer_found : (code : Key) (shown : List Row) → ListsBy (1 ∷ []) (has_text 3 code) (columns (1 ∷ 2 ∷ 3 ∷ 4 ∷ 5 ∷ [])) (db.trees lecturer_tree) shown → (o : Option Row) → as_list o ≡ shown
+      → option_map (lecturer_from db.trees) o ≡ lecturer_with (world_of db.trees) code
+  unfolding world_of
+  lecturer_found code shown lists o told =
+      found (1 ∷ []) (has_text 3 code) lecturer_columns (lecturer_of (db.trees ranking_tree)) (lecturer_from db.trees) (λ (l : Lecturer). is l.row.code code) (λ r. refl) (db.trees lecturer_tree) shown
+      (all_weaker IsLecturerRow (λ r. has_text 3 code r ≡ is (bytes (column r 3)) code) (lecturer_agrees code) (db.trees lecturer_tree) (lecturer_rows_formed db holds.own holds.sound holds.apart.1.0)) lists o told
+      ∙ ap (find (λ (l : Lecturer). is l.row.code code)) (sym (lecturers_are db.trees))
+
+  pub student_found : (code : Key) (shown : List Row) → ListsBy (1 ∷ []) (has_text 3 code) (columns (1 ∷ 2 ∷ 3 ∷ 4 ∷ [])) (db.trees student_tree) shown → (o : Option Row) → as_list o ≡ shown
+      → option_map (student_from db.trees) o ≡ student_with (world_of db.trees) code
+  unfolding world_of
+  student_found code shown lists o told =
+      found (1 ∷ []) (has_text 3 code) roll_columns (student_of (db.trees choice_tree)) (student_from db.trees) (λ (s : Student). is s.row.code code) (λ r. refl) (db.trees student_tree) shown
+      (all_weaker IsStudentRow (λ r. has_text 3 code r ≡ is (bytes (column r 3)) code) (student_agrees code) (db.trees student_tree) (student_rows_formed db holds.own holds.sound holds.apart.1.1.1.0)) lists o told
+      ∙ ap (find (λ (s : Student). is s.row.code code)) (sym (students_are db.trees))
+
+-- the rolls that are shown are those of the world
+
+pub lecturers_told : (db : Trees) → map shown_lecturer (lecturers_shown db) ≡ map (λ (l : Lecturer). l.row) (world_of db).lecturers
+unfolding world_of
+lecturers_told db = map-map shown_lecturer lecturer_columns (by_key (db lecturer_tree)) ∙ sym (ap (map (λ (l : Lecturer). l.row)) (lecturers_are db) ∙ map-map (λ (l : Lecturer). l.row) (lecturer_of (db ranking_tree)) (by_key (db lecturer_tree)))
+
+pub projects_told : (db : Trees) → map shown_project (projects_shown db) ≡ (world_of db).projects
+unfolding world_of
+projects_told db = map-map shown_project roll_columns (by_key (db project_tree)) ∙ sym (projects_are db)
+
+-- the catalogue
+
+some_alike : {X Z : Type 0} (f g : X → Option Z) (xs : List X) → ((x : X) → f x ≡ g x) → filter_map f xs ≡ filter_map g xs
+some_alike f g [] h = refl
+some_alike f g (x ∷ xs) h = λ i. cons_option (h x i) (some_alike f g xs h i)
+
+name_row : (o : Option Lecturer) → option_map (λ (r : LecturerRow). r.name) (option_map (λ (l : Lecturer). l.row) o) ≡ option_map (λ (l : Lecturer). l.row.name) o
+name_row None = refl
+name_row (Some l) = refl
+
+pub all_offered : (ls : List Lecturer) (ps : List ProjectRow) → offered (map (λ (l : Lecturer). l.row) ls) ps ≡ listings ls ps
+all_offered ls ps =
+    some_alike (λ p. option_map (listing_with p) (name_of (map (λ (l : Lecturer). l.row) ls) p.lecturer)) (λ p. option_map (listing_with p) (name_in ls p.lecturer)) ps (λ p.
+    ap (option_map (listing_with p)) (ap (option_map (λ (r : LecturerRow). r.name)) (find_map (λ (l : Lecturer). l.row) (λ (l : Lecturer). is l.row.key p.lecturer) (λ (r : LecturerRow). is r.key p.lecturer) (λ l. refl) ls)
+    ∙ name_row (find (λ (l : Lecturer). is l.row.key p.lecturer) ls)))
+
+-- what a student sees, of what was read
+pub student_told : (w : World) (s : Student) (phase : Phase) (me : Person) (result : Option Key) (ls : List LecturerRow) (ps : List ProjectRow) (choices : List Key)
+    → phase ≡ w.phase → me ≡ record { key = s.row.key; name = s.row.name } → result ≡ (if is_published w.phase then s.placed else None) → ls ≡ map (λ (l : Lecturer). l.row) w.lecturers → ps ≡ w.projects → choices ≡ s.choice
+    → ◌≡◌ {A = StudentSees} (record { phase = phase; me = me; catalogue = offered ls ps; choices = choices; result = result }) (student_sees w s)
+student_told w s phase me result ls ps choices at_phase at_me at_result by of listed =
+    let shown : offered ls ps ≡ catalogue w = ap₂ offered by of ∙ all_offered w.lecturers w.projects in
+    λ i. record { phase = at_phase i; me = at_me i; catalogue = shown i; choices = listed i; result = at_result i }
+
+-- the office
+module _ (db : Trees) (phase : Phase) (code : Key) (office : db portal_tree ≡ portal_row (pos 1) (pos (number_of phase)) code ∷ []) where
+  pub phase_told : phase ≡ (world_of db).phase
+  unfolding world_of
+  phase_told = sym (ap (λ rows. phase_of (number_in (column (slice_index_or rows 0 []) 3))) office ∙ phase_back phase)
+
+  pub code_told : code ≡ (world_of db).office
+  unfolding world_of
+  code_told = sym (ap (λ rows. bytes (column (slice_index_or rows 0 []) 4)) office)

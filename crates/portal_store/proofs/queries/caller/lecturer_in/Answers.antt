@@ -1,0 +1,22 @@
+use Rattle.sqlite.specs.declared.error.Error.{Error}
+use Rattle.sqlite.specs.Held.{state}
+use Rattle.portal_tables.proofs.Queries.{if_ok}
+use Rattle.portal_store.proofs.InTurn.{reads_of, reads_more, reads_failed}
+use Rattle.portal_store.proofs.Queried.{lecturer_found}
+use Rattle.portal_store.proofs.queries.caller.lecturer_in.Goals as goal
+
+pub returns-clause-found : goal.returns-clause-found
+returns-clause-found g c holds clean =
+    if_ok _ _ c.only.result (λ row told. lecturer_found (state g.S.Store c.args.conn.now).now holds c.args.code.now c.in_ok-rows.rows.items (c.in_ok-rows.ensures.rows holds.own clean) row told) c.only.ensures
+
+pub returns-clause-reads : goal.returns-clause-reads
+returns-clause-reads g c =
+    let a = state g.S.Store c.args.conn.now in
+    let b = state g.S.Store c.lecturer_by_code.new.conn in
+    reads_more {D = Error} c.in_ok-rows.rows c.only.result a b (reads_of _ a b c.in_ok-rows.ensures.same c.in_ok-rows.ensures.err c.in_ok-rows.ensures.survives)
+
+pub returns-in_err-rows-clause-reads : goal.returns-in_err-rows-clause-reads
+returns-in_err-rows-clause-reads g c =
+    let a = state g.S.Store c.args.conn.now in
+    let b = state g.S.Store c.lecturer_by_code.new.conn in
+    reads_failed {U = Unit {0}} c.in_err-rows.field-0.0 c.from_residual.result a b c.from_residual.ensures.0 (reads_of _ a b c.in_err-rows.ensures.same c.in_err-rows.ensures.err c.in_err-rows.ensures.survives)

@@ -1,0 +1,61 @@
+-- What is told of a caller and of the catalogue by rows that queries show.
+use Rattle.std.specs.Prelude.{Vec, ◌==◌, if◌then◌else◌, List, [], ◌∷◌, map, Option, Some, None, option_map}
+use Rattle.std.specs.List.{find, filter_map}
+use Rattle.std.specs.declared.alloc.Global.{Global}
+use Rattle.sqlite.specs.Order.{Row, column, bytes}
+use Rattle.sqlite.specs.Tree.{Trees}
+use Rattle.sqlite_trees.specs.Objects.{number_in}
+use Rattle.portal_core.specs.declared.rows.LecturerRow.{LecturerRow}
+use Rattle.portal_core.specs.declared.rows.Listing.{Listing}
+use Rattle.portal_core.specs.declared.rows.ProjectRow.{ProjectRow}
+use Rattle.portal_core.specs.declared.rows.Person.{Person}
+use Rattle.portal_core.specs.View.{listing_with, persons}
+use Rattle.portal_core.specs.Words.{Key, is}
+use Rattle.portal_core.specs.World.{World, Lecturer, Student, applicants_to, placed_at, is_from_ranking, is_published}
+use Rattle.portal_tables.specs.Tables.{choice_tree, ranking_tree}
+use Rattle.portal_store.specs.declared.queries.applicants.Line.{Line}
+use Rattle.portal_store.specs.Lists.{chosen}
+use Rattle.portal_store.specs.Shown.{first, shown_lecturer, shown_student}
+use Rattle.portal_store.specs.World.{text_or_none}
+
+-- one thing or none, as a list
+abbrev pub as_list : {X : Type 0} → Option X → List X
+as_list None = []
+as_list (Some x) = x ∷ []
+
+-- the lecturer whose row is shown, with the ranking in the tables
+abbrev pub lecturer_from : Trees → Row → Lecturer
+lecturer_from db c = record { row = shown_lecturer c; ranking = if number_in (column c 4) == 1 then Some (chosen (db ranking_tree) (first c)) else None }
+
+-- the student whose row is shown, with the list in the tables
+abbrev pub student_from : Trees → Row → Student
+student_from db c = record { row = shown_student c; choice = chosen (db choice_tree) (first c); placed = text_or_none (column c 3) }
+
+-- the name of the lecturer with this key
+abbrev pub name_of : List LecturerRow → Key → Option Key
+name_of ls k = option_map (λ (l : LecturerRow). l.name) (find (λ l. is l.key k) ls)
+
+-- each project with its lecturer's name
+abbrev pub offered : List LecturerRow → List ProjectRow → List Listing
+offered ls ps = filter_map (λ p. option_map (listing_with p) (name_of ls p.lecturer)) ps
+
+-- what a lecturer may be told of a student
+abbrev pub line_of : Student → Line
+line_of s = record { person = record { key = s.row.key; name = s.row.name }; placed = s.placed }
+
+abbrev pub shown_line : Row → Line
+shown_line c = record { person = record { key = first c; name = bytes (column c 1) }; placed = text_or_none (column c 3) }
+
+-- a project with persons
+abbrev pub with_persons : Key × Vec Person Global → Key × List Person
+with_persons e = (e.0, e.1.items)
+
+abbrev pub applicants_at : World → Key → Key × List Person
+applicants_at w k = (k, persons (applicants_to w k))
+
+-- applicants and placed students of the projects with these keys, each once the phase shows them
+abbrev pub applicants_told : World → List Key → List (Key × List Person)
+applicants_told w keys = map (λ k. (k, if is_from_ranking w.phase then persons (applicants_to w k) else [])) keys
+
+abbrev pub placed_told : World → List Key → List (Key × List Person)
+placed_told w keys = map (λ k. (k, if is_published w.phase then persons (placed_at w k) else [])) keys

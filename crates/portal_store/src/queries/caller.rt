@@ -1,0 +1,50 @@
+//! Whom a code names, by the rolls' columns of codes.
+
+ghost use Rattle.std.specs.Prelude.{◌≡◌, false, IfOk, option_map};
+ghost use Rattle.sqlite.specs.State.{HasCleanDisk};
+ghost use Rattle.sqlite.specs.Held.{state};
+ghost use Rattle.portal_core.specs.View.{lecturer_with, student_with};
+ghost use Rattle.portal_store.specs.World.{world_of};
+ghost use Rattle.portal_store.specs.Kept.{Holds};
+ghost use Rattle.portal_store.specs.Reading.{Reads};
+ghost use Rattle.portal_store.specs.Queried.{as_list, lecturer_from, student_from};
+
+use crate::load::LoadFault;
+use portal_tables::select::{lecturer_by_code, student_by_code};
+use sqlite::{Alter, Connection, Row};
+
+/// The row, if there is one; two are damage.
+fn only(mut rows: Vec<Row>) -> Result<Option<Row>, LoadFault>
+    ensures { IfOk result (λ row. as_list row ≡ rows.items) }
+{
+    if rows.len() > 1 {
+        return Err(LoadFault::Damaged);
+    }
+    Ok(rows.pop())
+}
+
+/// The row of the lecturer with the code.
+pub(super) fn lecturer_in<S: Alter>(
+    conn: &mut Connection<S>,
+    code: &[u8],
+) -> Result<Option<Row>, LoadFault>
+    ensures found { Holds (state S.Store conn.old).now → HasCleanDisk (state S.Store conn.new) → IfOk result (λ row. option_map (lecturer_from (state S.Store conn.old).now.trees) row ≡ lecturer_with (world_of (state S.Store conn.old).now.trees) code.now) }
+    ensures reads { Reads result (state S.Store conn.old) (state S.Store conn.new) }
+    ensures mode { conn.old.in_transaction ≡ false → conn.new.in_transaction ≡ false }
+{
+    let rows = lecturer_by_code(conn, code)?;
+    only(rows)
+}
+
+/// The row of the student with the code.
+pub(super) fn student_in<S: Alter>(
+    conn: &mut Connection<S>,
+    code: &[u8],
+) -> Result<Option<Row>, LoadFault>
+    ensures found { Holds (state S.Store conn.old).now → HasCleanDisk (state S.Store conn.new) → IfOk result (λ row. option_map (student_from (state S.Store conn.old).now.trees) row ≡ student_with (world_of (state S.Store conn.old).now.trees) code.now) }
+    ensures reads { Reads result (state S.Store conn.old) (state S.Store conn.new) }
+    ensures mode { conn.old.in_transaction ≡ false → conn.new.in_transaction ≡ false }
+{
+    let rows = student_by_code(conn, code)?;
+    only(rows)
+}

@@ -1,0 +1,140 @@
+//! What a lecturer sees.
+
+ghost use Rattle.std.specs.Prelude.{◌≡◌, ◌==◌, false, IfOk, IsTrue, if◌then◌else◌, Some, None, option_map, map, filter};
+ghost use Rattle.sqlite.specs.Order.{column, bytes};
+ghost use Rattle.sqlite.specs.State.{HasCleanDisk};
+ghost use Rattle.sqlite.specs.Held.{state};
+ghost use Rattle.sqlite_trees.specs.Objects.{number_in};
+ghost use Rattle.portal_core.specs.Words.{is};
+ghost use Rattle.portal_core.specs.World.{project_key};
+ghost use Rattle.portal_core.specs.View.{lecturer_sees};
+ghost use Rattle.portal_tables.specs.Own.{IsOwn};
+ghost use Rattle.portal_tables.specs.Tables.{ranking_tree};
+ghost use Rattle.portal_store.specs.Lists.{chosen};
+ghost use Rattle.portal_store.specs.World.{world_of};
+ghost use Rattle.portal_store.specs.Kept.{Holds};
+ghost use Rattle.portal_store.specs.Reading.{Reads};
+ghost use Rattle.portal_store.specs.Shown.{first};
+ghost use Rattle.portal_store.specs.Queried.{offered, lecturer_from, with_persons};
+
+use super::applicants::{Told, told_in};
+use super::offers::{Offers, catalogue_of, offers_in};
+use super::student::person_at;
+use crate::decode::{capacity_at, key_at, number_at};
+use crate::load::{Lists, LoadFault, list_in};
+use portal_core::{LecturerView, Phase, ProjectRow};
+use spa_rows::Key;
+use sqlite::{Alter, Connection, Row};
+use std::alloc::{AllocError, Global};
+
+/// The keys of the lecturer's projects.
+fn own_projects(
+    alloc: Global,
+    projects: &[ProjectRow],
+    lecturer: &Key,
+) -> Result<Vec<Key>, AllocError>
+    ensures { IfOk result (λ v. v.items ≡ map project_key (filter (λ p. is p.lecturer lecturer.now) projects.now)) }
+{
+    let mut own = Vec::new(alloc);
+    for project in projects {
+        if project.lecturer == *lecturer {
+            own.push(project.key.copy(alloc)?)?;
+        }
+    }
+    Ok(own)
+}
+
+/// The keys of the projects of the lecturer whose row this is.
+fn own_of(alloc: Global, projects: &[ProjectRow], row: &Row) -> Result<Vec<Key>, LoadFault>
+    ensures { IfOk result (λ v. v.items ≡ map project_key (filter (λ p. is p.lecturer (first row.now)) projects.now)) }
+{
+    let lecturer = key_at(alloc, row, 0)?;
+    Ok(own_projects(alloc, projects, &lecturer)?)
+}
+
+/// The list of the lecturer whose row this is, in the table of rankings.
+fn ranked_in<S: Alter>(
+    alloc: Global,
+    conn: &mut Connection<S>,
+    row: &Row,
+) -> Result<Vec<Key>, LoadFault>
+    ensures names { IsOwn conn.old.schema → HasCleanDisk (state S.Store conn.new) → IfOk result (λ v. v.items ≡ chosen ((state S.Store conn.old).now.trees ranking_tree) (first row.now)) }
+    ensures reads { Reads result (state S.Store conn.old) (state S.Store conn.new) }
+    ensures mode { conn.old.in_transaction ≡ false → conn.new.in_transaction ≡ false }
+{
+    let lecturer = key_at(alloc, row, 0)?;
+    list_in(alloc, conn, Lists::Rankings, &lecturer)
+}
+
+/// The lecturer's ranking, if one is there.
+fn ranking_in<S: Alter>(
+    alloc: Global,
+    conn: &mut Connection<S>,
+    row: &Row,
+) -> Result<Option<Vec<Key>>, LoadFault>
+    ensures names { IsOwn conn.old.schema → HasCleanDisk (state S.Store conn.new) → IfOk result (λ o. option_map (λ v. v.items) o ≡ (if number_in (column row.now 4) == 1 then Some (chosen ((state S.Store conn.old).now.trees ranking_tree) (first row.now)) else None)) }
+    ensures reads { Reads result (state S.Store conn.old) (state S.Store conn.new) }
+    ensures mode { conn.old.in_transaction ≡ false → conn.new.in_transaction ≡ false }
+{
+    if number_at(row, 4) != 1 {
+        return Ok(None);
+    }
+    let ranking = ranked_in(alloc, conn, row)?;
+    Ok(Some(ranking))
+}
+
+/// What was read, put together.
+fn put_together(
+    alloc: Global,
+    phase: Phase,
+    row: &Row,
+    offers: &Offers,
+    ranking: Option<Vec<Key>>,
+    told: Told,
+) -> Result<LecturerView, LoadFault>
+    ensures { IfOk result (λ v. v ≡ record { phase = phase; me = record { key = first row.now; name = bytes (column row.now 1) }; capacity = number_in (column row.now 3); catalogue = offered offers.now.lecturers.items offers.now.projects.items; applicants = map with_persons told.applicants.items; ranking = option_map (λ r. r.items) ranking; placed = map with_persons told.placed.items }) }
+{
+    Ok(LecturerView {
+        phase,
+        me: person_at(alloc, row)?,
+        capacity: capacity_at(row, 3)?,
+        catalogue: catalogue_of(alloc, offers)?,
+        applicants: told.applicants,
+        ranking,
+        placed: told.placed,
+    })
+}
+
+/// What is told of the projects of the lecturer whose row this is.
+fn own_told<S: Alter>(
+    alloc: Global,
+    conn: &mut Connection<S>,
+    phase: Phase,
+    row: &Row,
+    projects: &[ProjectRow],
+) -> Result<Told, LoadFault>
+    ensures applicants { Holds (state S.Store conn.old).now → HasCleanDisk (state S.Store conn.new) → IsTrue (state S.Store conn.old).is_open → phase ≡ (world_of (state S.Store conn.old).now.trees).phase → projects.now ≡ (world_of (state S.Store conn.old).now.trees).projects → IfOk result (λ t. map with_persons t.applicants.items ≡ (lecturer_sees (world_of (state S.Store conn.old).now.trees) (lecturer_from (state S.Store conn.old).now.trees row.now)).applicants) }
+    ensures placed { Holds (state S.Store conn.old).now → HasCleanDisk (state S.Store conn.new) → IsTrue (state S.Store conn.old).is_open → phase ≡ (world_of (state S.Store conn.old).now.trees).phase → projects.now ≡ (world_of (state S.Store conn.old).now.trees).projects → IfOk result (λ t. map with_persons t.placed.items ≡ (lecturer_sees (world_of (state S.Store conn.old).now.trees) (lecturer_from (state S.Store conn.old).now.trees row.now)).placed) }
+    ensures reads { Reads result (state S.Store conn.old) (state S.Store conn.new) }
+    ensures mode { conn.old.in_transaction ≡ false → conn.new.in_transaction ≡ false }
+{
+    let own = own_of(alloc, projects, row)?;
+    told_in(alloc, conn, phase, &own)
+}
+
+/// What the lecturer sees whose row this is.
+pub(super) fn lecturer_view<S: Alter>(
+    alloc: Global,
+    conn: &mut Connection<S>,
+    phase: Phase,
+    row: &Row,
+) -> Result<LecturerView, LoadFault>
+    ensures shows { Holds (state S.Store conn.old).now → HasCleanDisk (state S.Store conn.new) → IsTrue (state S.Store conn.old).is_open → phase ≡ (world_of (state S.Store conn.old).now.trees).phase → IfOk result (λ v. v ≡ lecturer_sees (world_of (state S.Store conn.old).now.trees) (lecturer_from (state S.Store conn.old).now.trees row.now)) }
+    ensures reads { Reads result (state S.Store conn.old) (state S.Store conn.new) }
+    ensures mode { conn.old.in_transaction ≡ false → conn.new.in_transaction ≡ false }
+{
+    let offers = offers_in(alloc, conn)?;
+    let ranking = ranking_in(alloc, conn, row)?;
+    let told = own_told(alloc, conn, phase, row, &offers.projects)?;
+    put_together(alloc, phase, row, &offers, ranking, told)
+}

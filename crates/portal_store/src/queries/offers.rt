@@ -1,0 +1,115 @@
+//! The projects, and the catalogue of them.
+
+ghost use Rattle.std.specs.Prelude.{◌≡◌, false, IfOk, IsTrue, option_map, map};
+ghost use Rattle.sqlite.specs.State.{HasCleanDisk};
+ghost use Rattle.sqlite.specs.Held.{state};
+ghost use Rattle.portal_core.specs.World.{Lecturer};
+ghost use Rattle.portal_core.specs.View.{listing_with};
+ghost use Rattle.portal_store.specs.World.{world_of};
+ghost use Rattle.portal_store.specs.Kept.{Holds};
+ghost use Rattle.portal_store.specs.Reading.{Reads};
+ghost use Rattle.portal_store.specs.Shown.{shown_lecturer, shown_project};
+ghost use Rattle.portal_store.specs.Queried.{name_of, offered};
+
+use crate::decode::decoded;
+use crate::load::{LoadFault, lecturer_roll, project_roll};
+use portal_core::{LecturerRow, Listing, Name, ProjectRow};
+use spa_rows::Key;
+use sqlite::{Alter, Connection, Row};
+use std::alloc::{AllocError, Global};
+use std::rc::Rc;
+
+/// What is offered, and by whom.
+#[derive(Drop)]
+pub(super) struct Offers {
+    pub lecturers: Vec<LecturerRow>,
+    pub projects: Vec<ProjectRow>,
+}
+
+/// The rows decoded.
+fn offers_from(alloc: Global, lecturers: &[Row], projects: &[Row]) -> Result<Offers, LoadFault>
+    ensures lecturers { IfOk result (λ o. o.lecturers.items ≡ map shown_lecturer lecturers.now) }
+    ensures projects { IfOk result (λ o. o.projects.items ≡ map shown_project projects.now) }
+{
+    Ok(Offers {
+        lecturers: decoded(alloc, lecturers)?,
+        projects: decoded(alloc, projects)?,
+    })
+}
+
+/// The projects by key, and the lecturers.
+pub(super) fn offers_in<S: Alter>(
+    alloc: Global,
+    conn: &mut Connection<S>,
+) -> Result<Offers, LoadFault>
+    ensures lecturers { Holds (state S.Store conn.old).now → HasCleanDisk (state S.Store conn.new) → IsTrue (state S.Store conn.old).is_open → IfOk result (λ o. o.lecturers.items ≡ map (λ (l : Lecturer). l.row) (world_of (state S.Store conn.old).now.trees).lecturers) }
+    ensures projects { Holds (state S.Store conn.old).now → HasCleanDisk (state S.Store conn.new) → IsTrue (state S.Store conn.old).is_open → IfOk result (λ o. o.projects.items ≡ (world_of (state S.Store conn.old).now.trees).projects) }
+    ensures reads { Reads result (state S.Store conn.old) (state S.Store conn.new) }
+    ensures mode { conn.old.in_transaction ≡ false → conn.new.in_transaction ≡ false }
+{
+    let lecturers = lecturer_roll(conn)?;
+    let projects = project_roll(conn)?;
+    offers_from(alloc, &lecturers, &projects)
+}
+
+/// The name of the lecturer with this key.
+fn name_among<'a>(lecturers: &'a [LecturerRow], key: &Key) -> Option<&'a Name>
+    ensures { option_map (λ n. n.now) result ≡ name_of lecturers.now key.now }
+{
+    for lecturer in lecturers {
+        if lecturer.key == *key {
+            return Some(&lecturer.name);
+        }
+    }
+    None
+}
+
+fn listing_of(alloc: Global, project: &ProjectRow, name: &Name) -> Result<Listing, AllocError>
+    ensures { IfOk result (λ l. l ≡ listing_with project.now name.now) }
+{
+    Ok(Listing {
+        key: project.key.copy(alloc)?,
+        title: project.title.copy(alloc)?,
+        lecturer: project.lecturer.copy(alloc)?,
+        lecturer_name: name.copy(alloc)?,
+        capacity: project.capacity,
+    })
+}
+
+fn listing_among(
+    alloc: Global,
+    lecturers: &[LecturerRow],
+    project: &ProjectRow,
+) -> Result<Option<Listing>, AllocError>
+    ensures { IfOk result (λ o. o ≡ option_map (listing_with project.now) (name_of lecturers.now project.now.lecturer)) }
+{
+    match name_among(lecturers, &project.lecturer) {
+        Some(name) => Ok(Some(listing_of(alloc, project, name)?)),
+        None => Ok(None),
+    }
+}
+
+/// Each project with its lecturer's name.
+fn listings_of(
+    alloc: Global,
+    lecturers: &[LecturerRow],
+    projects: &[ProjectRow],
+) -> Result<Vec<Listing>, AllocError>
+    ensures { IfOk result (λ v. v.items ≡ offered lecturers.now projects.now) }
+{
+    let mut found = Vec::with_capacity(alloc, projects.len())?;
+    for project in projects {
+        if let Some(listing) = listing_among(alloc, lecturers, project)? {
+            found.push(listing)?;
+        }
+    }
+    Ok(found)
+}
+
+/// The catalogue.
+pub(super) fn catalogue_of(alloc: Global, offers: &Offers) -> Result<Rc<Vec<Listing>>, AllocError>
+    ensures { IfOk result (λ shared. shared.value.items ≡ offered offers.now.lecturers.items offers.now.projects.items) }
+{
+    let listings = listings_of(alloc, &offers.lecturers, &offers.projects)?;
+    Ok(Rc::new(alloc, listings)?)
+}

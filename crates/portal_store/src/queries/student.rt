@@ -1,0 +1,93 @@
+//! What a student sees.
+
+ghost use Rattle.std.specs.Prelude.{◌≡◌, false, IfOk, IsTrue, if◌then◌else◌, None};
+ghost use Rattle.sqlite.specs.Order.{column, bytes};
+ghost use Rattle.sqlite.specs.State.{HasCleanDisk};
+ghost use Rattle.sqlite.specs.Held.{state};
+ghost use Rattle.portal_core.specs.World.{is_published};
+ghost use Rattle.portal_core.specs.View.{student_sees};
+ghost use Rattle.portal_tables.specs.Own.{IsOwn};
+ghost use Rattle.portal_tables.specs.Tables.{choice_tree};
+ghost use Rattle.portal_store.specs.Lists.{chosen};
+ghost use Rattle.portal_store.specs.World.{world_of, text_or_none};
+ghost use Rattle.portal_store.specs.Kept.{Holds};
+ghost use Rattle.portal_store.specs.Reading.{Reads};
+ghost use Rattle.portal_store.specs.Shown.{first};
+ghost use Rattle.portal_store.specs.Queried.{offered, student_from};
+
+use super::offers::{Offers, catalogue_of, offers_in};
+use crate::decode::{assigned_at, key_at, name_at};
+use crate::load::{Lists, LoadFault, list_in};
+use portal_core::{Person, Phase, StudentView};
+use spa_rows::Key;
+use sqlite::{Alter, Connection, Row};
+use std::alloc::Global;
+
+/// The person whose row of a roll this is.
+pub(super) fn person_at(alloc: Global, row: &Row) -> Result<Person, LoadFault>
+    ensures { IfOk result (λ p. p ≡ record { key = first row.now; name = bytes (column row.now 1) }) }
+{
+    Ok(Person {
+        key: key_at(alloc, row, 0)?,
+        name: name_at(alloc, row, 1)?,
+    })
+}
+
+/// The student's project, once the result is shown.
+fn result_at(alloc: Global, phase: Phase, row: &Row) -> Result<Option<Key>, LoadFault>
+    ensures { IfOk result (λ p. p ≡ (if is_published phase then text_or_none (column row.now 3) else None)) }
+{
+    match phase {
+        Phase::Published => assigned_at(alloc, row, 3),
+        Phase::Setup | Phase::Choosing | Phase::Ranking => Ok(None),
+    }
+}
+
+/// The student's list.
+fn choices_in<S: Alter>(
+    alloc: Global,
+    conn: &mut Connection<S>,
+    row: &Row,
+) -> Result<Vec<Key>, LoadFault>
+    ensures names { IsOwn conn.old.schema → HasCleanDisk (state S.Store conn.new) → IfOk result (λ v. v.items ≡ chosen ((state S.Store conn.old).now.trees choice_tree) (first row.now)) }
+    ensures reads { Reads result (state S.Store conn.old) (state S.Store conn.new) }
+    ensures mode { conn.old.in_transaction ≡ false → conn.new.in_transaction ≡ false }
+{
+    let student = key_at(alloc, row, 0)?;
+    list_in(alloc, conn, Lists::Choices, &student)
+}
+
+/// What was read, put together.
+fn put_together(
+    alloc: Global,
+    phase: Phase,
+    row: &Row,
+    offers: &Offers,
+    choices: Vec<Key>,
+) -> Result<StudentView, LoadFault>
+    ensures { IfOk result (λ v. v ≡ record { phase = phase; me = record { key = first row.now; name = bytes (column row.now 1) }; catalogue = offered offers.now.lecturers.items offers.now.projects.items; choices = choices.items; result = if is_published phase then text_or_none (column row.now 3) else None }) }
+{
+    Ok(StudentView {
+        phase,
+        me: person_at(alloc, row)?,
+        catalogue: catalogue_of(alloc, offers)?,
+        choices,
+        result: result_at(alloc, phase, row)?,
+    })
+}
+
+/// What the student sees whose row this is.
+pub(super) fn student_view<S: Alter>(
+    alloc: Global,
+    conn: &mut Connection<S>,
+    phase: Phase,
+    row: &Row,
+) -> Result<StudentView, LoadFault>
+    ensures shows { Holds (state S.Store conn.old).now → HasCleanDisk (state S.Store conn.new) → IsTrue (state S.Store conn.old).is_open → phase ≡ (world_of (state S.Store conn.old).now.trees).phase → IfOk result (λ v. v ≡ student_sees (world_of (state S.Store conn.old).now.trees) (student_from (state S.Store conn.old).now.trees row.now)) }
+    ensures reads { Reads result (state S.Store conn.old) (state S.Store conn.new) }
+    ensures mode { conn.old.in_transaction ≡ false → conn.new.in_transaction ≡ false }
+{
+    let offers = offers_in(alloc, conn)?;
+    let choices = choices_in(alloc, conn, row)?;
+    put_together(alloc, phase, row, &offers, choices)
+}
