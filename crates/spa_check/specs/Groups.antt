@@ -12,7 +12,8 @@ pub record IsGroup (list : List ℕ) (IsIn : ℕ → Type 0) (n : ℕ) (g : Grou
 -- the students at each project
 pub record AreProjectGroups (i : Spa) (m : List (Option ℕ)) (groups : List Group) : Type 0 where
   pub size : length groups ≡ length i.lecturers
-  pub each : (p : ℕ) (d : Group) → p < length groups → IsGroup (ranking_of i (lecturer_of i p)) (λ t. project_of m t ≡ Some p) (at_project m p) (slice_index_or groups p d)
+  pub each : (p : ℕ) (d : Group) → p < length groups
+      → IsGroup (ranking_of i (lecturer_of i p)) (λ t. project_of m t ≡ Some p) (at_project m p) (slice_index_or groups p d)
 
 -- the students of each lecturer
 pub record AreLecturerGroups (i : Spa) (m : List (Option ℕ)) (groups : List Group) : Type 0 where

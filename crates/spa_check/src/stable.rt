@@ -2,24 +2,10 @@
 
 ghost use Rattle.std.specs.Prelude.{◌≡◌, ◌<◌, ◌↔◌, ◌⊎◌, ℕ, IsTrue, MatchOption, length};
 ghost use Rattle.spa_model.specs.declared.letter.Letter.{Letter};
-ghost use Rattle.spa_model.specs.Spa.{IsMatching, Blocks, Wants, SomeWorseAt, SomeWorseWith, IsWith, IsStable, is_lecturer, at_project, at_lecturer, project_of, lecturer_of};
+ghost use Rattle.spa_model.specs.Spa.{IsMatching, Blocks, Wants, SomeWorseAt, SomeWorseWith, IsWith, IsStable, is_lecturer, project_of, lecturer_of};
 
 use crate::wants::wanted;
 use spa_model::{Instance, Letter, Matching};
-
-/// How many students the project has.
-fn count_at(instance: &Instance, matching: &Matching, p: usize) -> usize
-    requires { IsMatching instance.now matching.now }
-    ensures { result ≡ at_project matching.now p }
-{
-    let mut count = 0;
-    for s in 0..instance.students() {
-        if instance.project_of(matching, s) == Some(p) {
-            count += 1;
-        }
-    }
-    count
-}
 
 /// Whether the student is at a project of the lecturer.
 pub(crate) fn is_with(instance: &Instance, matching: &Matching, l: usize, s: usize) -> bool
@@ -32,20 +18,6 @@ pub(crate) fn is_with(instance: &Instance, matching: &Matching, l: usize, s: usi
         Some(q) => instance.lecturer_of(q) == l,
         None => false,
     }
-}
-
-/// How many students the lecturer has.
-fn count_with(instance: &Instance, matching: &Matching, l: usize) -> usize
-    requires { IsMatching instance.now matching.now }
-    ensures { result ≡ at_lecturer instance.now matching.now l }
-{
-    let mut count = 0;
-    for s in 0..instance.students() {
-        if is_with(instance, matching, l, s) {
-            count += 1;
-        }
-    }
-    count
 }
 
 /// Whether some student at the project stands after s on its lecturer's list.
@@ -108,8 +80,8 @@ pub(crate) fn letter_of(
     ensures { MatchOption result ((x : Letter) → Blocks instance.now matching.now s p x → ⊥) (λ x. Blocks instance.now matching.now s p x) }
 {
     let l = instance.lecturer_of(p);
-    if count_at(instance, matching, p) < instance.project_capacity(p) as usize {
-        if count_with(instance, matching, l) < instance.lecturer_capacity(l) as usize {
+    if instance.students_at(matching, p) < instance.project_capacity(p) as usize {
+        if instance.students_with(matching, l) < instance.lecturer_capacity(l) as usize {
             Some(Letter::A)
         } else if may_replace(instance, matching, l, s) {
             Some(Letter::B)

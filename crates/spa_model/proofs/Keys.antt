@@ -1,6 +1,6 @@
 -- Lemmas on keys that rise.
-use Rattle.std.proofs.Common.{◌≡◌, inl, inr, ℕ, ◌+◌, ◌<◌, false, List, [], ◌∷◌, length, get_or, map, Less, Equal, refl, sym, ◌∙◌, arith, IsSortedByKey}
-use Rattle.std.specs.Ordering.{nat_cmp, is_lt}
+use Rattle.std.proofs.Common.{◌≡◌, inl, inr, ℕ, ◌<◌, List, [], ◌∷◌, length, get_or, map, Less, Equal, sym, ◌∙◌, arith}
+use Rattle.std.specs.Ordering.{nat_cmp}
 use Rattle.std.specs.Cmp.Lexicographic.{slice_cmp}
 use Rattle.std.proofs.lemmas.Cmp.{nat_list_cmp_total, tied_itself}
 use Rattle.std.proofs.lemmas.Bool.{cases_lt}
@@ -10,16 +10,6 @@ use Rattle.spa_rows.specs.Faults.{IsKeyOf}
 use Rattle.spa_rows.proofs.Lists.{at_place, map_at}
 use Rattle.spa_model.specs.Spa.{Rise}
 use Rattle.spa_model.specs.Built.{HasKey}
-
-not_less : (a b : Text) → slice_cmp nat_cmp a b ≡ Less → is_lt (slice_cmp nat_cmp b a) ≡ false
-not_less a b h = rw (nat_list_cmp_total.antisymm b a, h) refl
-
--- lines whose keys rise are sorted by key
-pub sorted_from_rise : {X : Type 0} (key : X → Text) (lines : List X) → Rise (map key lines) → IsSortedByKey key (slice_cmp nat_cmp) lines
-sorted_from_rise key lines rise k d low h =
-    let long : length (map key lines) ≡ length lines = length-map lines key in
-    let less : slice_cmp nat_cmp (get_or (map key lines) k (key d)) (get_or (map key lines) (k + 1) (key d)) ≡ Less = rise k (k + 1) (key d) (omega arith) (omega arith) in
-    not_less (key (get_or lines k d)) (key (get_or lines (k + 1) d)) (rw (get_or-map key lines k d (key d) (omega arith), get_or-map key lines (k + 1) d (key d) (omega arith)) at less)
 
 -- the key at a place
 pub has_key : {X : Type 0} (key : X → Text) (lines : List X) (k : ℕ) (text : Text) → k < length lines → ((d : X) → key (get_or lines k d) ≡ text) → HasKey (map key lines) k text

@@ -15,7 +15,8 @@ abbrev pub StandsStudent : Spa → Student → Type 0
 StandsStudent i x = (s : ℕ) × HasKey i.student_keys s x.key × (keys_at i.project_keys (choices_of i s) ≡ x.list)
 
 abbrev pub StandsProject : Spa → Project → Type 0
-StandsProject i x = (p : ℕ) × HasKey i.project_keys p x.key × (capacity_of i p ≡ x.capacity) × (slice_index_or i.lecturer_keys (lecturer_of i p) [] ≡ x.lecturer)
+StandsProject i x =
+    (p : ℕ) × HasKey i.project_keys p x.key × (capacity_of i p ≡ x.capacity) × (slice_index_or i.lecturer_keys (lecturer_of i p) [] ≡ x.lecturer)
 
 abbrev pub StandsLecturer : Spa → Lecturer → Type 0
 StandsLecturer i x = (l : ℕ) × HasKey i.lecturer_keys l x.key × (limit_of i l ≡ x.capacity) × (keys_at i.student_keys (ranking_of i l) ≡ x.list)

@@ -74,7 +74,8 @@ rank_at lecturers l s = slice_index_or (slice_index_or (map (λ x. x.ranks.items
 
 -- one of the choices of s is a project of a lecturer, in the row r, who has no place for s
 abbrev pub Misses : List Lines.Lecturer → List Lecturer → List Project → List ℕ → ℕ → ℕ → Type 0
-Misses lines lecturers projects choices s r = BadAt choices (λ p. row_at lines (lecturer_at projects p)) (λ _ p. rank_at lecturers (lecturer_at projects p) s ≡ None) r
+Misses lines lecturers projects choices s r =
+    BadAt choices (λ p. row_at lines (lecturer_at projects p)) (λ _ p. rank_at lecturers (lecturer_at projects p) s ≡ None) r
 
 -- such a choice of one of the first n students
 abbrev pub MissesBelow : List Lines.Lecturer → List Lecturer → List Project → List Student → ℕ → ℕ → Type 0

@@ -6,7 +6,8 @@ use Rattle.spa_rows.specs.Lines.{Text, Pair}
 use Rattle.spa_rows.specs.Least.{BadAt}
 use Rattle.spa_model.specs.Spa.{Spa, lecturer_of, capacity_of, limit_of, project_of, IsAcceptable}
 use Rattle.spa_model.specs.declared.matching.MatchingFault.{MatchingFault}
-use Rattle.spa_model.specs.declared.matching.MatchingFault.TheVariants.{NoSuchStudent, NoSuchProject, NotAcceptable, StudentTwice, ProjectOver, LecturerOver, Memory}
+use Rattle.spa_model.specs.declared.matching.MatchingFault.TheVariants.{NoSuchStudent, NoSuchProject, NotAcceptable, StudentTwice, ProjectOver}
+use Rattle.spa_model.specs.declared.matching.MatchingFault.TheVariants.{LecturerOver, Memory}
 
 -- the number of a key; the count of keys where the text is none
 abbrev pub number_in : List Text → Text → ℕ
@@ -28,8 +29,10 @@ HasPairFault i lines NoSuchStudent r = BadAt lines (λ x. x.row) (λ _ x. Contai
 HasPairFault i lines NoSuchProject r = BadAt lines (λ x. x.row) (λ _ x. Contains i.project_keys x.project → ⊥) r
 HasPairFault i lines NotAcceptable r = BadAt lines (λ x. x.row) (λ _ x. IsAcceptable i (student_in i x) (project_in i x) → ⊥) r
 HasPairFault i lines StudentTwice r = BadAt lines (λ x. x.row) (λ j x. Any (λ y. y.student ≡ x.student) (take j lines)) r
-HasPairFault i lines ProjectOver r = BadAt lines (λ x. x.row) (λ j x. capacity_of i (project_in i x) < count_by (λ y. project_in i y == project_in i x) (take (j + 1) lines)) r
-HasPairFault i lines LecturerOver r = BadAt lines (λ x. x.row) (λ j x. limit_of i (lecturer_in i x) < count_by (λ y. lecturer_in i y == lecturer_in i x) (take (j + 1) lines)) r
+HasPairFault i lines ProjectOver r =
+    BadAt lines (λ x. x.row) (λ j x. capacity_of i (project_in i x) < count_by (λ y. project_in i y == project_in i x) (take (j + 1) lines)) r
+HasPairFault i lines LecturerOver r =
+    BadAt lines (λ x. x.row) (λ j x. limit_of i (lecturer_in i x) < count_by (λ y. lecturer_in i y == lecturer_in i x) (take (j + 1) lines)) r
 HasPairFault i lines Memory r = ⊥
 
 -- the faults in their order

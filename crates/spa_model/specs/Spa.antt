@@ -1,6 +1,7 @@
 -- Student-project allocation with lecturer preferences over students: instances, matchings, blocking pairs.
 -- Students, projects and lecturers are numbers from 0, in the order of their keys.
-use Rattle.std.specs.Prelude.{◌≡◌, ◌≢◌, ℕ, ◌+◌, ◌<◌, ◌≤◌, ◌==◌, nat_lt, ◌⊎◌, ⊤, Bool, false, if◌then◌else◌, List, [], ◌∷◌, length, Option, Some, None, count_by, slice_index_or, AllPairs}
+use Rattle.std.specs.Prelude.{◌≡◌, ◌≢◌, ℕ, ◌+◌, ◌<◌, ◌≤◌, ◌==◌, nat_lt, ◌⊎◌, ⊤, Bool, false, if◌then◌else◌, List, [], ◌∷◌, length, Option, Some, None}
+use Rattle.std.specs.Prelude.{count_by, slice_index_or, AllPairs}
 use Rattle.std.specs.declared.cmp.Ordering.TheVariants.{Less}
 use Rattle.std.specs.Ordering.{nat_cmp}
 use Rattle.std.specs.Cmp.Lexicographic.{slice_cmp}
@@ -107,7 +108,9 @@ SomeWorseWith i m l s = (t : ℕ) × IsWith i m l t × IsBefore (ranking_of i l)
 -- has s already or some worse student (b); or at a full p with some worse student (c)
 abbrev pub Blocks : Spa → List (Option ℕ) → ℕ → ℕ → Letter → Type 0
 Blocks i m s p A = Wants i m s p × (at_project m p < capacity_of i p) × (at_lecturer i m (lecturer_of i p) < limit_of i (lecturer_of i p))
-Blocks i m s p B = Wants i m s p × (at_project m p < capacity_of i p) × (at_lecturer i m (lecturer_of i p) ≡ limit_of i (lecturer_of i p)) × (IsWith i m (lecturer_of i p) s ⊎ SomeWorseWith i m (lecturer_of i p) s)
+Blocks i m s p B =
+    Wants i m s p × (at_project m p < capacity_of i p) × (at_lecturer i m (lecturer_of i p) ≡ limit_of i (lecturer_of i p))
+    × (IsWith i m (lecturer_of i p) s ⊎ SomeWorseWith i m (lecturer_of i p) s)
 Blocks i m s p C = Wants i m s p × (at_project m p ≡ capacity_of i p) × SomeWorseAt i m p s
 
 -- a matching that no pair blocks

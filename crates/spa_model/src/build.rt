@@ -39,7 +39,7 @@ fn instance_of(
     let project_rows = number_projects(alloc, projects, lecturers)?;
     refuse(
         InstanceFault::NotApplicant,
-        not_applicant(lecturers, students, &student_rows, &project_rows),
+        not_applicant(alloc, lecturers, students, &student_rows, &project_rows)?,
     )?;
     let lecturer_rows = number_lecturers(alloc, lecturers, students)?;
     refuse(

@@ -29,7 +29,7 @@ pub(crate) fn are_acceptable(instance: &Instance, projects: &[Option<usize>]) ->
 }
 
 /// How many students the project has.
-fn count_at(projects: &[Option<usize>], p: usize) -> usize
+pub(crate) fn count_at(projects: &[Option<usize>], p: usize) -> usize
     ensures { result ≡ at_project projects.now p }
 {
     projects.iter().filter(|q| **q == Some(p)).count()
@@ -63,7 +63,7 @@ fn is_with(instance: &Instance, projects: &[Option<usize>], l: usize, s: usize) 
 }
 
 /// How many students the lecturer has.
-fn count_with(instance: &Instance, projects: &[Option<usize>], l: usize) -> usize
+pub(crate) fn count_with(instance: &Instance, projects: &[Option<usize>], l: usize) -> usize
     requires { AreAcceptable instance.now projects.now }
     ensures { result ≡ at_lecturer instance.now projects.now l }
 {

@@ -4,9 +4,9 @@ ghost use Rattle.std.specs.Prelude.{◌≡◌, ◌<◌, ◌↔◌, [], IsTrue, I
 ghost use Rattle.std.specs.Ordering.{nat_cmp};
 ghost use Rattle.std.specs.Cmp.Lexicographic.{slice_cmp};
 ghost use Rattle.spa_model.specs.Pairs.{number_in};
-ghost use Rattle.spa_model.specs.Spa.{choices_of, lecturer_of, capacity_of, ranking_of, limit_of, rank_in, IsBefore, IsLawful, IsMatching, IsAcceptable, project_of};
+ghost use Rattle.spa_model.specs.Spa.{choices_of, lecturer_of, capacity_of, ranking_of, limit_of, rank_in, IsBefore, IsLawful, IsMatching, IsAcceptable, project_of, at_project, at_lecturer};
 
-use crate::fits::{are_acceptable, lecturers_fit, projects_fit};
+use crate::fits::{are_acceptable, count_at, count_with, lecturers_fit, projects_fit};
 use crate::matching::Matching;
 use spa_rows::Key;
 use std::cmp::Ordering;
@@ -220,5 +220,21 @@ impl Instance {
     {
         let _lawful = &self.students;
         matching.project(student)
+    }
+
+    /// How many students a project has in a matching of this instance.
+    pub fn students_at(&self, matching: &Matching, p: usize) -> usize
+        requires { IsMatching self.now matching.now }
+        ensures { result ≡ at_project matching.now p }
+    {
+        count_at(matching.projects(), p)
+    }
+
+    /// How many students a lecturer has in a matching of this instance.
+    pub fn students_with(&self, matching: &Matching, l: usize) -> usize
+        requires { IsMatching self.now matching.now }
+        ensures { result ≡ at_lecturer self.now matching.now l }
+    {
+        count_with(self, matching.projects(), l)
     }
 }

@@ -1,5 +1,5 @@
 -- Faults that do not depend on the order of the lines: rows have them exactly where a permutation of the rows has them.
-use Rattle.std.proofs.Common.{◌≡◌, ◌≢◌, ◌⊎◌, inl, inr, ℕ, ◌<◌, false, List, length, map, take, get_or, ◌↔◌, refl, sym, ◌∙◌, ap, subst, arith}
+use Rattle.std.proofs.Common.{◌≡◌, ◌≢◌, ◌⊎◌, inl, inr, ℕ, ◌<◌, false, List, length, map, take, get_or, refl, sym, ◌∙◌, ap, subst, arith}
 use Rattle.std.proofs.lemmas.Bool.{false≢true, false_from_ne_true, cases_eq}
 use Rattle.std.proofs.lemmas.Cmp.{nat_list_eq_equiv}
 use Rattle.std.proofs.lemmas.Slice.Eq.{bytes_eq-Decides}
@@ -97,10 +97,6 @@ module _ (a b : Rows) (same : SameLines a b) where
   fault_carry NotApplicant ne r has = lecturer_carry (λ x. Any (λ text. IsApplicant a x.key text → ⊥) x.list) (λ x. Any (λ text. IsApplicant b x.key text → ⊥) x.list) (λ x named. any_step (λ text. IsApplicant a x.key text → ⊥) (λ text. IsApplicant b x.key text → ⊥) x.list (λ text none is. none (applicant_carry b a (same_lines_sym a b same) x.key text is)) named) r has
   fault_carry ApplicantMissing ne r has = lecturer_carry (λ x. MissesOne a x) (λ x. MissesOne b x) (λ x missed. misses_carry a b same x missed) r has
   fault_carry Memory ne r has = has
-
--- the same both ways
-pub fault_iff : (a b : Rows) → SameLines a b → (f : InstanceFault) → f ≢ KeyTwice → (r : ℕ) → HasFault a f r ↔ HasFault b f r
-fault_iff a b same f ne r = (fault_carry a b same f ne r, fault_carry b a (same_lines_sym a b same) f ne r)
 
 -- the keys of lines that do not repeat are distinct, and the other way round
 keys_apart : {X : Type 0} (key : X → Text) (xs : List X) → ((j : ℕ) (x : X) → j < length xs → get_or xs j x ≡ x → IsEarlierKey xs key j (key x) → ⊥) → IsDistinct bytes_eq (map key xs)

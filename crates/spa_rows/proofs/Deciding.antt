@@ -1,6 +1,6 @@
 -- Tests and what they say.
-use Rattle.std.proofs.Common.{◌≡◌, ℕ, ◌<◌, arith, Option, Some, None, Bool, true, false, IsTrue, ◌↔◌, refl, sym}
-use Rattle.std.specs.Prelude.{not, nat_lt, is_some, IfSome, IfNone}
+use Rattle.std.proofs.Common.{◌≡◌, ℕ, ◌<◌, arith, Bool, true, false, IsTrue, ◌↔◌, refl, sym}
+use Rattle.std.specs.Prelude.{not, nat_lt}
 use Rattle.std.proofs.lemmas.Bool.{false≢true}
 use Rattle.std.proofs.lemmas.Bool.Decides.{nat_tests}
 
@@ -13,11 +13,6 @@ not_iff false P h = (λ e. λ p. false≢true (h.1 p), λ none. refl)
 pub not_false : (b t : Bool) → b ≡ t → (IsTrue (not b) ↔ (t ≡ false))
 not_false b true is = rw is (λ e. absurd (false≢true e), λ e. absurd (false≢true (sym e)))
 not_false b false is = rw is (λ e. refl, λ e. refl)
-
--- a look-up that finds exactly what is there
-pub found_iff : (o : Option ℕ) (Q : ℕ → Type 0) (P : Type 0) → IfSome o Q → IfNone o (P → ⊥) → ((k : ℕ) → Q k → P) → (IsTrue (is_some o) ↔ P)
-found_iff None Q P some none there = (λ e. absurd (false≢true e), λ p. absurd (none p))
-found_iff (Some k) Q P some none there = (λ _. there k some, λ _. refl)
 
 -- a comparison says what it compares
 pub over_iff : (k n m : ℕ) → n ≡ m → (IsTrue (nat_lt k n) ↔ (k < m))

@@ -2,9 +2,9 @@
 use Rattle.std.proofs.Common.{◌≡◌, ℕ, ◌<◌, Bool, true, false, List, [], ◌∷◌, refl, arith}
 use Rattle.std.specs.Prelude.{◌&&◌}
 use Rattle.std.specs.List.{list_all}
-use Rattle.std.specs.Str.{IsUtf8, IsAscii, is_utf8}
+use Rattle.std.specs.Str.{IsUtf8, IsAscii}
 use Rattle.std.proofs.lemmas.Bool.Decides.{nat_tests}
-use Rattle.std.proofs.lemmas.Str.{is_utf8-from_IsUtf8, IsUtf8-from_is_utf8, IsUtf8-from_ascii}
+use Rattle.std.proofs.lemmas.Str.{IsUtf8-from_ascii}
 use Rattle.std.proofs.lemmas.Str.Ascii.{IsAscii-nil, IsAscii-cons}
 use Rattle.spa_rows.specs.Form.{is_key, is_key_byte}
 
@@ -19,15 +19,5 @@ ascii : (bs : List ℕ) → list_all is_key_byte bs ≡ true → IsAscii bs
 ascii [] h = IsAscii-nil
 ascii (b ∷ bs) h = let parts : (is_key_byte b ≡ true) × (list_all is_key_byte bs ≡ true) = both (is_key_byte b) (list_all is_key_byte bs) h in IsAscii-cons b bs (key_byte b parts.0) (ascii bs parts.1)
 
-pub key_text : (bs : List ℕ) → is_key bs ≡ true → is_utf8 bs ≡ true
-key_text bs h = is_utf8-from_IsUtf8 bs (IsUtf8-from_ascii bs (ascii bs (both _ (list_all is_key_byte bs) h).1))
-
-pub no_text : (bs : List ℕ) → ¬ (IsUtf8 bs) → is_utf8 bs ≡ false
-no_text bs none = go (is_utf8 bs) refl
-  where
-    go : (b : Bool) → is_utf8 bs ≡ b → is_utf8 bs ≡ false
-    go true e = absurd (none (IsUtf8-from_is_utf8 bs e))
-    go false e = e
-
-pub a_text : (bs : List ℕ) → IsUtf8 bs → is_utf8 bs ≡ true
-a_text bs h = is_utf8-from_IsUtf8 bs h
+pub key_text : (bs : List ℕ) → is_key bs ≡ true → IsUtf8 bs
+key_text bs h = IsUtf8-from_ascii bs (ascii bs (both _ (list_all is_key_byte bs) h).1)

@@ -4,7 +4,8 @@ use Rattle.spa_rows.specs.Form.{is_key}
 use Rattle.spa_rows.specs.Lines.{Text, Lecturer, Project, Student, Rows}
 use Rattle.spa_rows.specs.Least.{BadAt}
 use Rattle.spa_rows.specs.declared.faults.InstanceFault.{InstanceFault}
-use Rattle.spa_rows.specs.declared.faults.InstanceFault.TheVariants.{TooMany, BadKey, KeyTwice, BadCapacity, NoSuchLecturer, NoSuchProject, RepeatInList, ListTooLong, NotApplicant, ApplicantMissing, Memory}
+use Rattle.spa_rows.specs.declared.faults.InstanceFault.TheVariants.{TooMany, BadKey, KeyTwice, BadCapacity, NoSuchLecturer, NoSuchProject}
+use Rattle.spa_rows.specs.declared.faults.InstanceFault.TheVariants.{RepeatInList, ListTooLong, NotApplicant, ApplicantMissing, Memory}
 
 -- some lecturer's, project's or student's line in the row r is bad
 abbrev pub BadLecturer : Rows → (ℕ → Lecturer → Type 0) → ℕ → Type 0
@@ -59,8 +60,11 @@ MissesOne rows x = Any (λ s. FindsOne rows s x.key × (Any (λ text. text ≡ s
 -- the row r has the fault
 abbrev pub HasFault : Rows → InstanceFault → ℕ → Type 0
 HasFault rows TooMany r = (r ≡ 0) × AreTooMany rows
-HasFault rows BadKey r = BadLecturer rows (λ _ x. is_key x.key ≡ false) r ⊎ (BadProject rows (λ _ x. is_key x.key ≡ false) r ⊎ BadStudent rows (λ _ x. is_key x.key ≡ false) r)
-HasFault rows KeyTwice r = BadLecturer rows (λ j x. IsEarlierKey rows.lecturers (λ y. y.key) j x.key) r ⊎ (BadProject rows (λ j x. IsEarlierKey rows.projects (λ y. y.key) j x.key) r ⊎ BadStudent rows (λ j x. IsEarlierKey rows.students (λ y. y.key) j x.key) r)
+HasFault rows BadKey r =
+    BadLecturer rows (λ _ x. is_key x.key ≡ false) r ⊎ (BadProject rows (λ _ x. is_key x.key ≡ false) r ⊎ BadStudent rows (λ _ x. is_key x.key ≡ false) r)
+HasFault rows KeyTwice r =
+    BadLecturer rows (λ j x. IsEarlierKey rows.lecturers (λ y. y.key) j x.key) r
+    ⊎ (BadProject rows (λ j x. IsEarlierKey rows.projects (λ y. y.key) j x.key) r ⊎ BadStudent rows (λ j x. IsEarlierKey rows.students (λ y. y.key) j x.key) r)
 HasFault rows BadCapacity r = BadLecturer rows (λ _ x. IsBadCapacity x.capacity) r ⊎ BadProject rows (λ _ x. IsBadCapacity x.capacity) r
 HasFault rows NoSuchLecturer r = BadProject rows (λ _ x. IsKeyOf rows.lecturers (λ y. y.key) x.lecturer → ⊥) r
 HasFault rows NoSuchProject r = BadStudent rows (λ _ x. NamesNone rows.projects (λ y. y.key) x.list) r

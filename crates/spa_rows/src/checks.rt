@@ -1,12 +1,11 @@
 //! The faults of rows in their order, up to those that speak of applicants.
 
-ghost use Rattle.std.specs.Prelude.{◌≡◌, Err, IfErr, IfOk, IsOk, IsSortedByKey, MatchOption, OnOk};
-ghost use Rattle.std.specs.Ordering.{nat_cmp};
-ghost use Rattle.std.specs.Cmp.Lexicographic.{slice_cmp};
+ghost use Rattle.std.specs.Prelude.{◌≡◌, Err, IfErr, IfOk, IsOk, MatchOption, OnOk};
 ghost use Rattle.spa_rows.specs.Faults.{HasFault, HasNoneBefore, IsRefusal};
 ghost use Rattle.spa_rows.specs.Least.{IsLeastOf, lesser_row};
 
 use crate::faults::{BadInstance, InstanceFault};
+use crate::index::Places;
 use crate::least::{
     bad_capacity, bad_key, key_twice, least, list_too_long, no_such_lecturer, no_such_project,
     repeat_in_list,
@@ -59,18 +58,18 @@ fn bad_capacities(rows: &InstanceRows) -> Option<u32>
     lesser(lecturer, project)
 }
 
-fn lecturers_missing(rows: &InstanceRows) -> Option<u32>
-    requires { IsSortedByKey (λ x. x.key) (slice_cmp nat_cmp) rows.now.lecturers }
-    ensures { IsLeastOf (HasFault rows.now InstanceFault.NoSuchLecturer) result }
+fn lecturers_missing(alloc: Global, rows: &InstanceRows) -> Result<Option<u32>, AllocError>
+    ensures { IfOk result (IsLeastOf (HasFault rows.now InstanceFault.NoSuchLecturer)) }
 {
-    no_such_lecturer(&rows.lecturers, &rows.projects)
+    let lecturers = Places::of(alloc, &rows.lecturers)?;
+    Ok(no_such_lecturer(&lecturers, &rows.projects))
 }
 
-fn projects_missing(rows: &InstanceRows) -> Option<u32>
-    requires { IsSortedByKey (λ x. x.key) (slice_cmp nat_cmp) rows.now.projects }
-    ensures { IsLeastOf (HasFault rows.now InstanceFault.NoSuchProject) result }
+fn projects_missing(alloc: Global, rows: &InstanceRows) -> Result<Option<u32>, AllocError>
+    ensures { IfOk result (IsLeastOf (HasFault rows.now InstanceFault.NoSuchProject)) }
 {
-    no_such_project(&rows.projects, &rows.students)
+    let projects = Places::of(alloc, &rows.projects)?;
+    Ok(no_such_project(&projects, &rows.students))
 }
 
 fn repeats_in_lists(alloc: Global, rows: &InstanceRows) -> Result<Option<u32>, AllocError>
@@ -110,14 +109,15 @@ pub fn check_lines(alloc: Global, rows: &InstanceRows) -> Result<(), BadInstance
 
 /// Refuses rows in which a line names what has no line, or a list repeats a text or is too long.
 pub fn check_lists(alloc: Global, rows: &InstanceRows) -> Result<(), BadInstance>
-    requires lecturers { IsSortedByKey (λ x. x.key) (slice_cmp nat_cmp) rows.now.lecturers }
-    requires projects { IsSortedByKey (λ x. x.key) (slice_cmp nat_cmp) rows.now.projects }
-    requires lines { HasNoneBefore rows.now InstanceFault.NoSuchLecturer }
+    requires { HasNoneBefore rows.now InstanceFault.NoSuchLecturer }
     ensures ok { OnOk result (HasNoneBefore rows.now InstanceFault.NotApplicant) }
     ensures err { IfErr result (λ e. IsRefusal rows.now e.fault e.row) }
 {
-    refuse(InstanceFault::NoSuchLecturer, lecturers_missing(rows))?;
-    refuse(InstanceFault::NoSuchProject, projects_missing(rows))?;
+    refuse(
+        InstanceFault::NoSuchLecturer,
+        lecturers_missing(alloc, rows)?,
+    )?;
+    refuse(InstanceFault::NoSuchProject, projects_missing(alloc, rows)?)?;
     refuse(InstanceFault::RepeatInList, repeats_in_lists(alloc, rows)?)?;
     refuse(InstanceFault::ListTooLong, lists_too_long(rows))
 }

@@ -60,18 +60,6 @@ pub(crate) fn is_key_text(bytes: &[u8]) -> bool
     !bytes.is_empty() && bytes.len() <= 16 && are_key_bytes(bytes)
 }
 
-/// The bytes as text, if they are one.
-#[tactic(auto, using(crate::proofs::Texts::no_text, crate::proofs::Texts::a_text))]
-fn text_of(bytes: &[u8]) -> Option<&str>
-    ensures some { IfSome result (λ s. s.now ≡ bytes.now) }
-    ensures none { IfNone result (is_utf8 bytes.now ≡ false) }
-{
-    match str::from_utf8(bytes) {
-        Ok(text) => Some(text),
-        Err(_) => None,
-    }
-}
-
 impl Key {
     /// The key of these bytes.
     #[tactic(auto, using(crate::proofs::Texts::key_text))]
@@ -79,11 +67,13 @@ impl Key {
         ensures ok { IfOk result (λ key. key ≡ bytes.now) }
         ensures form { OnOk result (IsTrue (is_key bytes.now)) }
         ensures bad { result ≡ Err KeyFault.BadKey → is_key bytes.now ≡ false }
+        // What has no form is always told so, and never as want of memory.
+        ensures formless { is_key bytes.now ≡ false → result ≡ Err KeyFault.BadKey }
     {
         if !is_key_text(bytes) {
             return Err(KeyFault::BadKey);
         }
-        let Some(text) = text_of(bytes) else {
+        let Ok(text) = str::from_utf8(bytes) else {
             return Err(KeyFault::BadKey);
         };
         match String::from_str(alloc, text) {

@@ -5,7 +5,7 @@ ghost use Rattle.std.specs.Prelude.{◌≡◌, ℕ, List, map};
 use crate::lines::{LecturerLine, ProjectLine, StudentLine};
 
 /// A line with a row and a key.
-pub(crate) trait Line {
+pub trait Line {
     ghost row_of: { Self → ℕ };
 
     ghost key_of: { Self → List ℕ };

@@ -7,12 +7,12 @@ ghost use Rattle.spa_rows.specs.Faults.{IsBadCapacity, IsEarlierKey, IsKeyOf, Na
 ghost use Rattle.spa_rows.specs.Form.{is_key};
 ghost use Rattle.spa_rows.specs.Least.{IsLeastOf, BadAt, least_row};
 
+use crate::index::Places;
 use crate::key::is_key_text;
 use crate::kinds::{Limited, Line, Listing};
 use crate::lines::{LecturerLine, ProjectLine, StudentLine};
-use crate::order::is_key_of;
 use std::alloc::{AllocError, Global};
-use std::collections::BTreeSet;
+use std::collections::{BTreeSet, HashSet};
 
 /// The lesser of the row and the least one so far.
 pub(crate) fn least(best: Option<u32>, row: u32) -> u32
@@ -73,25 +73,26 @@ pub(crate) fn bad_capacity<L: Limited>(lines: &[L]) -> Option<u32>
 }
 
 /// The least row of a project whose lecturer has no line.
-pub(crate) fn no_such_lecturer(lecturers: &[LecturerLine], projects: &[ProjectLine]) -> Option<u32>
-    requires { IsSortedByKey (λ x. x.key) (slice_cmp nat_cmp) lecturers.now }
+pub(crate) fn no_such_lecturer(
+    lecturers: &Places<LecturerLine>,
+    projects: &[ProjectLine],
+) -> Option<u32>
     ensures { IsLeastOf (BadAt projects.now (λ x. x.row) (λ _ x. IsKeyOf lecturers.now (λ y. y.key) x.lecturer → ⊥)) result }
 {
     let mut best = None;
     for project in projects {
-        let is_known = is_key_of(lecturers, &project.lecturer);
+        let is_known = lecturers.has(&project.lecturer);
         best = least_with(best, project.row, !is_known);
     }
     best
 }
 
 /// Whether some text is the key of no project.
-fn names_none(projects: &[ProjectLine], list: &[Vec<u8>]) -> bool
-    requires { IsSortedByKey (λ x. x.key) (slice_cmp nat_cmp) projects.now }
+fn names_none(projects: &Places<ProjectLine>, list: &[Vec<u8>]) -> bool
     ensures { IsTrue result ↔ NamesNone projects.now (λ x. x.key) (map (λ text. text.items) list.now) }
 {
     for text in list {
-        if !is_key_of(projects, text) {
+        if !projects.has(text) {
             return true;
         }
     }
@@ -99,8 +100,10 @@ fn names_none(projects: &[ProjectLine], list: &[Vec<u8>]) -> bool
 }
 
 /// The least row of a student who lists what is no project.
-pub(crate) fn no_such_project(projects: &[ProjectLine], students: &[StudentLine]) -> Option<u32>
-    requires { IsSortedByKey (λ x. x.key) (slice_cmp nat_cmp) projects.now }
+pub(crate) fn no_such_project(
+    projects: &Places<ProjectLine>,
+    students: &[StudentLine],
+) -> Option<u32>
     ensures { IsLeastOf (BadAt students.now (λ x. x.row) (λ _ x. NamesNone projects.now (λ y. y.key) x.list)) result }
 {
     let mut best = None;
@@ -110,8 +113,22 @@ pub(crate) fn no_such_project(projects: &[ProjectLine], students: &[StudentLine]
     best
 }
 
-/// Whether two places of the list have one text.
-fn repeats(alloc: Global, list: &[Vec<u8>]) -> Result<bool, AllocError>
+/// Whether two places of a short list have one text.
+fn repeats_in_few(alloc: Global, list: &[Vec<u8>]) -> Result<bool, AllocError>
+    ensures { IfOk result (λ yes. IsTrue yes ↔ Repeats (map (λ text. text.items) list.now)) }
+{
+    let mut seen = HashSet::with_capacity(alloc, list.len())?;
+    for text in list {
+        if !seen.insert(text.as_slice())? {
+            return Ok(true);
+        }
+    }
+    Ok(false)
+}
+
+/// Whether two places of a long list have one text. Texts can be made that a hash set tells apart one by one, and a
+/// tree never takes long.
+fn repeats_in_many(alloc: Global, list: &[Vec<u8>]) -> Result<bool, AllocError>
     ensures { IfOk result (λ yes. IsTrue yes ↔ Repeats (map (λ text. text.items) list.now)) }
 {
     let mut seen = BTreeSet::new(alloc);
@@ -121,6 +138,17 @@ fn repeats(alloc: Global, list: &[Vec<u8>]) -> Result<bool, AllocError>
         }
     }
     Ok(false)
+}
+
+/// Whether two places of the list have one text.
+fn repeats(alloc: Global, list: &[Vec<u8>]) -> Result<bool, AllocError>
+    ensures { IfOk result (λ yes. IsTrue yes ↔ Repeats (map (λ text. text.items) list.now)) }
+{
+    if list.len() <= 256 {
+        repeats_in_few(alloc, list)
+    } else {
+        repeats_in_many(alloc, list)
+    }
 }
 
 /// The least row of a line whose list has one text twice.

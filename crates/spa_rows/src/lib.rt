@@ -3,6 +3,7 @@
 
 mod checks;
 mod faults;
+mod index;
 mod key;
 mod kinds;
 mod least;
@@ -11,7 +12,9 @@ mod order;
 
 pub use checks::{check_lines, check_lists, refuse};
 pub use faults::{BadInstance, InstanceFault};
+pub use index::Places;
 pub use key::{Key, KeyFault};
+pub use kinds::Line;
 pub use least::least_with;
 pub use lines::{InstanceRows, LecturerLine, PairLine, ProjectLine, StudentLine};
-pub use order::{find_lecturer, find_project, find_student, sort_rows};
+pub use order::sort_rows;

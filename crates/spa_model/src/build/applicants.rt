@@ -1,12 +1,13 @@
 //! The faults that speak of applicants: one function for each, over numbered rows.
 
-ghost use Rattle.std.specs.Prelude.{◌≡◌, ◌<◌, ◌↔◌, All, Any, IsTrue, None, length, map};
+ghost use Rattle.std.specs.Prelude.{◌≡◌, ◌<◌, ◌↔◌, All, Any, IfOk, IsTrue, None, length, map};
 ghost use Rattle.spa_rows.specs.Least.{IsLeastOf, BadAt};
 ghost use Rattle.spa_model.specs.Spa.{Rise};
 ghost use Rattle.spa_model.specs.Numbers.{student_keys, lecturer_at, rank_at, row_at, HaveChoicesBelow, Finds, IsApplicantOf, Misses, MissesBelow};
 
 use crate::instance::{Lecturer, Project, Student};
-use spa_rows::{LecturerLine, StudentLine, find_student, least_with};
+use spa_rows::{LecturerLine, Places, StudentLine, least_with};
+use std::alloc::{AllocError, Global};
 
 /// Whether one of the choices is a project of the lecturer.
 fn finds(projects: &[Project], choices: &[usize], lecturer: usize) -> bool
@@ -24,7 +25,7 @@ fn finds(projects: &[Project], choices: &[usize], lecturer: usize) -> bool
 
 /// Whether the text is the key of a student who lists a project of the lecturer.
 fn is_applicant(
-    lines: &[StudentLine],
+    lines: &Places<StudentLine>,
     students: &[Student],
     projects: &[Project],
     lecturer: usize,
@@ -35,7 +36,7 @@ fn is_applicant(
     requires choices { HaveChoicesBelow (length projects.now) students.now }
     ensures { IsTrue result ↔ IsApplicantOf lines.now students.now projects.now lecturer text.now }
 {
-    match find_student(lines, text) {
+    match lines.find(text) {
         Some(number) => {
             let student = &students[number];
             finds(projects, &student.choices, lecturer)
@@ -46,7 +47,7 @@ fn is_applicant(
 
 /// Whether some text of the list is no applicant of the lecturer.
 fn lists_other(
-    lines: &[StudentLine],
+    lines: &Places<StudentLine>,
     students: &[Student],
     projects: &[Project],
     lecturer: usize,
@@ -67,22 +68,24 @@ fn lists_other(
 
 /// The least row of a lecturer whose list names one who is no applicant.
 pub(crate) fn not_applicant(
+    alloc: Global,
     lecturers: &[LecturerLine],
     lines: &[StudentLine],
     students: &[Student],
     projects: &[Project],
-) -> Option<u32>
+) -> Result<Option<u32>, AllocError>
     requires rise { Rise (student_keys lines.now) }
     requires count { length students.now ≡ length lines.now }
     requires choices { HaveChoicesBelow (length projects.now) students.now }
-    ensures { IsLeastOf (BadAt lecturers.now (λ x. x.row) (λ l x. Any (λ text. IsApplicantOf lines.now students.now projects.now l text → ⊥) x.list)) result }
+    ensures { IfOk result (IsLeastOf (BadAt lecturers.now (λ x. x.row) (λ l x. Any (λ text. IsApplicantOf lines.now students.now projects.now l text → ⊥) x.list))) }
 {
+    let places = Places::of(alloc, lines)?;
     let mut best = None;
     for (number, lecturer) in lecturers.iter().enumerate() {
-        let is_bad = lists_other(lines, students, projects, number, &lecturer.list);
+        let is_bad = lists_other(&places, students, projects, number, &lecturer.list);
         best = least_with(best, lecturer.row, is_bad);
     }
-    best
+    Ok(best)
 }
 
 /// The least row of a lecturer of one of the choices who has no place for the student.

@@ -3,16 +3,13 @@
 ghost use Rattle.std.specs.Prelude.{◌≡◌, ◌<◌, ◌≤◌, All, IfOk, true, length, map};
 ghost use Rattle.spa_rows.specs.Form.{is_key};
 ghost use Rattle.spa_rows.specs.Faults.{IsKeyOf, NamesNone, Repeats};
-ghost use Rattle.spa_model.specs.Spa.{Rise, IsDistinct};
+ghost use Rattle.spa_model.specs.Spa.{IsDistinct};
 ghost use Rattle.spa_model.specs.Inside.{AreRanks};
 ghost use Rattle.spa_model.specs.Numbers.{student_keys, project_keys, lecturer_keys, AreNumbers, IsStudentOf, IsProjectOf, IsLecturerOf};
 ghost use Rattle.std.specs.List.{AllZip};
 
 use crate::instance::{Lecturer, Project, Student};
-use spa_rows::{
-    Key, KeyFault, LecturerLine, ProjectLine, StudentLine, find_lecturer, find_project,
-    find_student,
-};
+use spa_rows::{Key, KeyFault, LecturerLine, Places, ProjectLine, StudentLine};
 use std::alloc::{AllocError, Global};
 
 /// The key of these bytes, which have the form of one.
@@ -30,16 +27,15 @@ fn key_of(alloc: Global, bytes: &[u8]) -> Result<Key, AllocError>
 /// The number of each project on a list.
 fn project_numbers(
     alloc: Global,
-    lines: &[ProjectLine],
+    lines: &Places<ProjectLine>,
     list: &[Vec<u8>],
 ) -> Result<Vec<usize>, AllocError>
-    requires rise { Rise (project_keys lines.now) }
-    requires known { NamesNone lines.now (λ x. x.key) (map (λ text. text.items) list.now) → ⊥ }
+    requires { NamesNone lines.now (λ x. x.key) (map (λ text. text.items) list.now) → ⊥ }
     ensures { IfOk result (λ choices. AreNumbers (project_keys lines.now) (map (λ text. text.items) list.now) choices.items) }
 {
     let mut choices = Vec::with_capacity(alloc, list.len())?;
     for text in list {
-        let Some(project) = find_project(lines, text) else {
+        let Some(project) = lines.find(text) else {
             unreachable!()
         };
         choices.push(project)?;
@@ -50,16 +46,15 @@ fn project_numbers(
 /// The number of each student on a list.
 fn student_numbers(
     alloc: Global,
-    lines: &[StudentLine],
+    lines: &Places<StudentLine>,
     list: &[Vec<u8>],
 ) -> Result<Vec<usize>, AllocError>
-    requires rise { Rise (student_keys lines.now) }
-    requires known { NamesNone lines.now (λ x. x.key) (map (λ text. text.items) list.now) → ⊥ }
+    requires { NamesNone lines.now (λ x. x.key) (map (λ text. text.items) list.now) → ⊥ }
     ensures { IfOk result (λ ranking. AreNumbers (student_keys lines.now) (map (λ text. text.items) list.now) ranking.items) }
 {
     let mut ranking = Vec::with_capacity(alloc, list.len())?;
     for text in list {
-        let Some(student) = find_student(lines, text) else {
+        let Some(student) = lines.find(text) else {
             unreachable!()
         };
         ranking.push(student)?;
@@ -85,10 +80,9 @@ fn ranks_of(alloc: Global, count: usize, ranking: &[usize]) -> Result<Vec<Option
 fn numbered_student(
     alloc: Global,
     line: &StudentLine,
-    projects: &[ProjectLine],
+    projects: &Places<ProjectLine>,
 ) -> Result<Student, AllocError>
     requires form { is_key line.now.key ≡ true }
-    requires rise { Rise (project_keys projects.now) }
     requires known { NamesNone projects.now (λ x. x.key) line.now.list → ⊥ }
     ensures { IfOk result (IsStudentOf (project_keys projects.now) line.now) }
 {
@@ -102,14 +96,13 @@ fn numbered_student(
 fn numbered_project(
     alloc: Global,
     line: &ProjectLine,
-    lecturers: &[LecturerLine],
+    lecturers: &Places<LecturerLine>,
 ) -> Result<Project, AllocError>
     requires form { is_key line.now.key ≡ true }
-    requires rise { Rise (lecturer_keys lecturers.now) }
     requires known { (IsKeyOf lecturers.now (λ x. x.key) line.now.lecturer → ⊥) → ⊥ }
     ensures { IfOk result (IsProjectOf (lecturer_keys lecturers.now) line.now) }
 {
-    let Some(number) = find_lecturer(lecturers, &line.lecturer) else {
+    let Some(number) = lecturers.find(&line.lecturer) else {
         unreachable!()
     };
     Ok(Project {
@@ -123,10 +116,9 @@ fn numbered_project(
 fn numbered_lecturer(
     alloc: Global,
     line: &LecturerLine,
-    students: &[StudentLine],
+    students: &Places<StudentLine>,
 ) -> Result<Lecturer, AllocError>
     requires form { is_key line.now.key ≡ true }
-    requires rise { Rise (student_keys students.now) }
     requires count { length students.now ≤ 2000 }
     requires known { NamesNone students.now (λ x. x.key) line.now.list → ⊥ }
     requires apart { Repeats line.now.list → ⊥ }
@@ -149,13 +141,13 @@ pub(crate) fn number_students(
     projects: &[ProjectLine],
 ) -> Result<Vec<Student>, AllocError>
     requires form { All (λ x. is_key x.key ≡ true) lines.now }
-    requires rise { Rise (project_keys projects.now) }
     requires known { All (λ x. NamesNone projects.now (λ y. y.key) x.list → ⊥) lines.now }
     ensures { IfOk result (λ students. AllZip (IsStudentOf (project_keys projects.now)) lines.now students.items) }
 {
+    let places = Places::of(alloc, projects)?;
     let mut students = Vec::with_capacity(alloc, lines.len())?;
     for line in lines {
-        students.push(numbered_student(alloc, line, projects)?)?;
+        students.push(numbered_student(alloc, line, &places)?)?;
     }
     Ok(students)
 }
@@ -167,13 +159,13 @@ pub(crate) fn number_projects(
     lecturers: &[LecturerLine],
 ) -> Result<Vec<Project>, AllocError>
     requires form { All (λ x. is_key x.key ≡ true) lines.now }
-    requires rise { Rise (lecturer_keys lecturers.now) }
     requires known { All (λ x. (IsKeyOf lecturers.now (λ y. y.key) x.lecturer → ⊥) → ⊥) lines.now }
     ensures { IfOk result (λ projects. AllZip (IsProjectOf (lecturer_keys lecturers.now)) lines.now projects.items) }
 {
+    let places = Places::of(alloc, lecturers)?;
     let mut projects = Vec::with_capacity(alloc, lines.len())?;
     for line in lines {
-        projects.push(numbered_project(alloc, line, lecturers)?)?;
+        projects.push(numbered_project(alloc, line, &places)?)?;
     }
     Ok(projects)
 }
@@ -185,15 +177,15 @@ pub(crate) fn number_lecturers(
     students: &[StudentLine],
 ) -> Result<Vec<Lecturer>, AllocError>
     requires form { All (λ x. is_key x.key ≡ true) lines.now }
-    requires rise { Rise (student_keys students.now) }
     requires count { length students.now ≤ 2000 }
     requires known { All (λ x. NamesNone students.now (λ y. y.key) x.list → ⊥) lines.now }
     requires apart { All (λ x. Repeats x.list → ⊥) lines.now }
     ensures { IfOk result (λ lecturers. AllZip (IsLecturerOf (student_keys students.now)) lines.now lecturers.items) }
 {
+    let places = Places::of(alloc, students)?;
     let mut lecturers = Vec::with_capacity(alloc, lines.len())?;
     for line in lines {
-        lecturers.push(numbered_lecturer(alloc, line, students)?)?;
+        lecturers.push(numbered_lecturer(alloc, line, &places)?)?;
     }
     Ok(lecturers)
 }

@@ -22,12 +22,6 @@ number_students-requires-clause-form c =
     let good : AreGood rows = are_good rows c.requires.lecturers c.requires.projects c.requires.students c.requires.faultless in
     good.form_students
 
-pub number_students-requires-clause-rise : goal.number_students-requires-clause-rise
-number_students-requires-clause-rise c =
-    let rows : Rows = rows_of c.args.lecturers.now c.args.projects.now c.args.students.now in
-    let good : AreGood rows = are_good rows c.requires.lecturers c.requires.projects c.requires.students c.requires.faultless in
-    good.rise_projects
-
 pub number_students-requires-clause-known : goal.number_students-requires-clause-known
 number_students-requires-clause-known c =
     let rows : Rows = rows_of c.args.lecturers.now c.args.projects.now c.args.students.now in
@@ -39,12 +33,6 @@ number_projects-requires-clause-form c =
     let rows : Rows = rows_of c.args.lecturers.now c.args.projects.now c.args.students.now in
     let good : AreGood rows = are_good rows c.requires.lecturers c.requires.projects c.requires.students c.requires.faultless in
     good.form_projects
-
-pub number_projects-requires-clause-rise : goal.number_projects-requires-clause-rise
-number_projects-requires-clause-rise c =
-    let rows : Rows = rows_of c.args.lecturers.now c.args.projects.now c.args.students.now in
-    let good : AreGood rows = are_good rows c.requires.lecturers c.requires.projects c.requires.students c.requires.faultless in
-    good.rise_lecturers
 
 pub number_projects-requires-clause-known : goal.number_projects-requires-clause-known
 number_projects-requires-clause-known c =
@@ -83,8 +71,8 @@ returns-in_err-refuse-clause-err c =
     let students : List Student = c.in_ok-student_rows.student_rows.items in
     let projects : List Project = c.in_ok-project_rows.project_rows.items in
     let so : AreNumbered rows students projects = Stages.numbered rows students projects good c.in_ok-student_rows.ensures c.in_ok-project_rows.ensures in
-    let least : IsLeastOf (HasFault rows NotApplicant) c.not_applicant.result = Stages.other_least rows students projects so c.not_applicant.result (rw (← c.deref.ensures.value, ← c.deref-2.ensures.value) c.not_applicant.ensures) in
-    let refusal = refuse_err rows NotApplicant c.not_applicant.result (Err c.in_err-refuse.field-0.0) c.in_err-refuse.ensures c.requires.faultless least in
+    let least : IsLeastOf (HasFault rows NotApplicant) c.in_ok-not_applicant.field-0 = Stages.other_least rows students projects so c.in_ok-not_applicant.field-0 (rw (← c.deref.ensures.value, ← c.deref-2.ensures.value) c.in_ok-not_applicant.ensures) in
+    let refusal = refuse_err rows NotApplicant c.in_ok-not_applicant.field-0 (Err c.in_err-refuse.field-0.0) c.in_err-refuse.ensures c.requires.faultless least in
     handed_on c.from_residual-in_err-refuse.result c.in_err-refuse.field-0.0 (λ e. IsRefusal rows e.fault e.row) c.from_residual-in_err-refuse.ensures.1 refusal
 
 pub number_lecturers-requires-clause-form : goal.number_lecturers-requires-clause-form
@@ -93,12 +81,6 @@ number_lecturers-requires-clause-form c =
     let good : AreGood rows = are_good rows c.requires.lecturers c.requires.projects c.requires.students c.requires.faultless in
     good.form_lecturers
 
-pub number_lecturers-requires-clause-rise : goal.number_lecturers-requires-clause-rise
-number_lecturers-requires-clause-rise c =
-    let rows : Rows = rows_of c.args.lecturers.now c.args.projects.now c.args.students.now in
-    let good : AreGood rows = are_good rows c.requires.lecturers c.requires.projects c.requires.students c.requires.faultless in
-    good.rise_students
-
 pub number_lecturers-requires-clause-known : goal.number_lecturers-requires-clause-known
 number_lecturers-requires-clause-known c =
     let rows : Rows = rows_of c.args.lecturers.now c.args.projects.now c.args.students.now in
@@ -106,8 +88,8 @@ number_lecturers-requires-clause-known c =
     let students : List Student = c.in_ok-student_rows.student_rows.items in
     let projects : List Project = c.in_ok-project_rows.project_rows.items in
     let so : AreNumbered rows students projects = Stages.numbered rows students projects good c.in_ok-student_rows.ensures c.in_ok-project_rows.ensures in
-    let least : IsLeastOf (HasFault rows NotApplicant) c.not_applicant.result = Stages.other_least rows students projects so c.not_applicant.result (rw (← c.deref.ensures.value, ← c.deref-2.ensures.value) c.not_applicant.ensures) in
-    let none : HasNoneBefore rows ApplicantMissing = refuse_ok rows NotApplicant ApplicantMissing c.not_applicant.result (Ok c.in_ok-refuse.field-0) refl c.in_ok-refuse.ensures c.requires.faultless least in
+    let least : IsLeastOf (HasFault rows NotApplicant) c.in_ok-not_applicant.field-0 = Stages.other_least rows students projects so c.in_ok-not_applicant.field-0 (rw (← c.deref.ensures.value, ← c.deref-2.ensures.value) c.in_ok-not_applicant.ensures) in
+    let none : HasNoneBefore rows ApplicantMissing = refuse_ok rows NotApplicant ApplicantMissing c.in_ok-not_applicant.field-0 (Ok c.in_ok-refuse.field-0) refl c.in_ok-refuse.ensures c.requires.faultless least in
     Stages.lists_known rows students projects so none
 
 pub number_lecturers-requires-clause-apart : goal.number_lecturers-requires-clause-apart
@@ -165,8 +147,8 @@ returns-in_err-refuse-2-clause-err c =
     let students : List Student = c.in_ok-student_rows.student_rows.items in
     let projects : List Project = c.in_ok-project_rows.project_rows.items in
     let so : AreNumbered rows students projects = Stages.numbered rows students projects good c.in_ok-student_rows.ensures c.in_ok-project_rows.ensures in
-    let least : IsLeastOf (HasFault rows NotApplicant) c.not_applicant.result = Stages.other_least rows students projects so c.not_applicant.result (rw (← c.deref.ensures.value, ← c.deref-2.ensures.value) c.not_applicant.ensures) in
-    let none : HasNoneBefore rows ApplicantMissing = refuse_ok rows NotApplicant ApplicantMissing c.not_applicant.result (Ok c.in_ok-refuse.field-0) refl c.in_ok-refuse.ensures c.requires.faultless least in
+    let least : IsLeastOf (HasFault rows NotApplicant) c.in_ok-not_applicant.field-0 = Stages.other_least rows students projects so c.in_ok-not_applicant.field-0 (rw (← c.deref.ensures.value, ← c.deref-2.ensures.value) c.in_ok-not_applicant.ensures) in
+    let none : HasNoneBefore rows ApplicantMissing = refuse_ok rows NotApplicant ApplicantMissing c.in_ok-not_applicant.field-0 (Ok c.in_ok-refuse.field-0) refl c.in_ok-refuse.ensures c.requires.faultless least in
     let lecturers : List Lecturer = c.in_ok-lecturer_rows.lecturer_rows.items in
     let lists = c.in_ok-lecturer_rows.ensures in
     let missing : IsLeastOf (HasFault rows ApplicantMissing) c.applicant_missing.result = Stages.missing_least rows students projects so lecturers lists c.applicant_missing.result (rw (← c.deref-3.ensures.value, ← c.deref-4.ensures.value, ← c.deref-5.ensures.value) c.applicant_missing.ensures) in
@@ -180,8 +162,8 @@ invariant_of-result c =
     let students : List Student = c.in_ok-student_rows.student_rows.items in
     let projects : List Project = c.in_ok-project_rows.project_rows.items in
     let so : AreNumbered rows students projects = Stages.numbered rows students projects good c.in_ok-student_rows.ensures c.in_ok-project_rows.ensures in
-    let least : IsLeastOf (HasFault rows NotApplicant) c.not_applicant.result = Stages.other_least rows students projects so c.not_applicant.result (rw (← c.deref.ensures.value, ← c.deref-2.ensures.value) c.not_applicant.ensures) in
-    let none : HasNoneBefore rows ApplicantMissing = refuse_ok rows NotApplicant ApplicantMissing c.not_applicant.result (Ok c.in_ok-refuse.field-0) refl c.in_ok-refuse.ensures c.requires.faultless least in
+    let least : IsLeastOf (HasFault rows NotApplicant) c.in_ok-not_applicant.field-0 = Stages.other_least rows students projects so c.in_ok-not_applicant.field-0 (rw (← c.deref.ensures.value, ← c.deref-2.ensures.value) c.in_ok-not_applicant.ensures) in
+    let none : HasNoneBefore rows ApplicantMissing = refuse_ok rows NotApplicant ApplicantMissing c.in_ok-not_applicant.field-0 (Ok c.in_ok-refuse.field-0) refl c.in_ok-refuse.ensures c.requires.faultless least in
     let lecturers : List Lecturer = c.in_ok-lecturer_rows.lecturer_rows.items in
     let lists = c.in_ok-lecturer_rows.ensures in
     let missing : IsLeastOf (HasFault rows ApplicantMissing) c.applicant_missing.result = Stages.missing_least rows students projects so lecturers lists c.applicant_missing.result (rw (← c.deref-3.ensures.value, ← c.deref-4.ensures.value, ← c.deref-5.ensures.value) c.applicant_missing.ensures) in
@@ -195,8 +177,8 @@ returns-clause-ok c =
     let students : List Student = c.in_ok-student_rows.student_rows.items in
     let projects : List Project = c.in_ok-project_rows.project_rows.items in
     let so : AreNumbered rows students projects = Stages.numbered rows students projects good c.in_ok-student_rows.ensures c.in_ok-project_rows.ensures in
-    let least : IsLeastOf (HasFault rows NotApplicant) c.not_applicant.result = Stages.other_least rows students projects so c.not_applicant.result (rw (← c.deref.ensures.value, ← c.deref-2.ensures.value) c.not_applicant.ensures) in
-    let none : HasNoneBefore rows ApplicantMissing = refuse_ok rows NotApplicant ApplicantMissing c.not_applicant.result (Ok c.in_ok-refuse.field-0) refl c.in_ok-refuse.ensures c.requires.faultless least in
+    let least : IsLeastOf (HasFault rows NotApplicant) c.in_ok-not_applicant.field-0 = Stages.other_least rows students projects so c.in_ok-not_applicant.field-0 (rw (← c.deref.ensures.value, ← c.deref-2.ensures.value) c.in_ok-not_applicant.ensures) in
+    let none : HasNoneBefore rows ApplicantMissing = refuse_ok rows NotApplicant ApplicantMissing c.in_ok-not_applicant.field-0 (Ok c.in_ok-refuse.field-0) refl c.in_ok-refuse.ensures c.requires.faultless least in
     let lecturers : List Lecturer = c.in_ok-lecturer_rows.lecturer_rows.items in
     let lists = c.in_ok-lecturer_rows.ensures in
     let missing : IsLeastOf (HasFault rows ApplicantMissing) c.applicant_missing.result = Stages.missing_least rows students projects so lecturers lists c.applicant_missing.result (rw (← c.deref-3.ensures.value, ← c.deref-4.ensures.value, ← c.deref-5.ensures.value) c.applicant_missing.ensures) in
@@ -210,8 +192,8 @@ returns-clause-sound c =
     let students : List Student = c.in_ok-student_rows.student_rows.items in
     let projects : List Project = c.in_ok-project_rows.project_rows.items in
     let so : AreNumbered rows students projects = Stages.numbered rows students projects good c.in_ok-student_rows.ensures c.in_ok-project_rows.ensures in
-    let least : IsLeastOf (HasFault rows NotApplicant) c.not_applicant.result = Stages.other_least rows students projects so c.not_applicant.result (rw (← c.deref.ensures.value, ← c.deref-2.ensures.value) c.not_applicant.ensures) in
-    let none : HasNoneBefore rows ApplicantMissing = refuse_ok rows NotApplicant ApplicantMissing c.not_applicant.result (Ok c.in_ok-refuse.field-0) refl c.in_ok-refuse.ensures c.requires.faultless least in
+    let least : IsLeastOf (HasFault rows NotApplicant) c.in_ok-not_applicant.field-0 = Stages.other_least rows students projects so c.in_ok-not_applicant.field-0 (rw (← c.deref.ensures.value, ← c.deref-2.ensures.value) c.in_ok-not_applicant.ensures) in
+    let none : HasNoneBefore rows ApplicantMissing = refuse_ok rows NotApplicant ApplicantMissing c.in_ok-not_applicant.field-0 (Ok c.in_ok-refuse.field-0) refl c.in_ok-refuse.ensures c.requires.faultless least in
     let lecturers : List Lecturer = c.in_ok-lecturer_rows.lecturer_rows.items in
     let lists = c.in_ok-lecturer_rows.ensures in
     let missing : IsLeastOf (HasFault rows ApplicantMissing) c.applicant_missing.result = Stages.missing_least rows students projects so lecturers lists c.applicant_missing.result (rw (← c.deref-3.ensures.value, ← c.deref-4.ensures.value, ← c.deref-5.ensures.value) c.applicant_missing.ensures) in

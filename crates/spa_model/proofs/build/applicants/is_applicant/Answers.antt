@@ -1,12 +1,9 @@
 use Rattle.std.proofs.Common.{◌≡◌, ◌↔◌, IsTrue, arith}
 use Rattle.spa_model.specs.Built.{HasKey}
 use Rattle.spa_model.specs.Numbers.{student_keys, choices_at, Finds}
-use Rattle.spa_model.proofs.Keys.{sorted_from_rise, has_key}
+use Rattle.spa_model.proofs.Keys.{has_key}
 use Rattle.spa_model.proofs.Applicants.{applicant_iff, no_applicant, choices_here}
 use Rattle.spa_model.proofs.build.applicants.is_applicant.Goals as goal
-
-pub find_student-requires : goal.find_student-requires
-find_student-requires c = sorted_from_rise (λ x. x.key) c.args.lines.now c.requires.rise
 
 pub returns-in-Some : goal.returns-in-Some
 returns-in-Some c =

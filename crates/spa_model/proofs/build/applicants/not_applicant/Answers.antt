@@ -7,7 +7,7 @@ use Rattle.spa_model.proofs.build.applicants.not_applicant.Goals as goal
 pub loop-number-preserved : goal.loop-number-preserved
 loop-number-preserved c =
     let Bad : ℕ → Lines.Lecturer → Type 0 = λ l x. Any (λ text. IsApplicantOf c.args.lines.now c.args.students.now c.args.projects.now l text → ⊥) x.list in
-    let tells : IsTrue c.lists_other-is_bad.result ↔ Bad c.loop-number.number c.index-lecturers-number.result = rw (← c.lecturer.view_is, ← c.deref.ensures.value) c.lists_other-is_bad.ensures in
+    let tells : IsTrue c.lists_other-is_bad.result ↔ Bad c.loop-number.number c.index-lecturers-number.result = rw (← c.lecturer.view_is, ← c.deref.ensures.value) (rw c.in_ok-places.ensures at c.lists_other-is_bad.ensures) in
     least_step c.args.lecturers.now (λ x. x.row) Bad c.loop-number.number c.index-lecturers-number.result c.loop-number.best _ _ _ c.least_with-best.ensures (ap (λ x. x.row) c.lecturer.view_is) c.loop-number-test.true (sym c.index-lecturers-number.is) tells c.loop-number.invariant
 
 pub returns : goal.returns

@@ -6,10 +6,10 @@ use Rattle.spa_model.proofs.build.numbers.number_projects.Goals as goal
 
 pub loop-line-preserved : goal.loop-line-preserved
 loop-line-preserved c =
-    rw c.in_ok-push.ensures.items (zip_more (IsProjectOf (lecturer_keys c.args.lecturers.now)) c.args.lines.now c.loop-line.projects.items c.loop-line.line-index c.line-item.result _ c.loop-line-test.true c.line-item.is c.loop-line.invariant c.in_ok-numbered_project.ensures)
+    rw c.in_ok-push.ensures.items (zip_more (IsProjectOf (lecturer_keys c.args.lecturers.now)) c.args.lines.now c.loop-line.projects.items c.loop-line.line-index c.line-item.result _ c.loop-line-test.true c.line-item.is c.loop-line.invariant (rw c.in_ok-places.ensures at c.in_ok-numbered_project.ensures))
 
 pub returns : goal.returns
 returns c = subst (λ lines. AllZip (IsProjectOf (lecturer_keys c.args.lecturers.now)) lines c.loop-line.projects.items) (take_all c.loop-line.line-index c.args.lines.now c.loop-line-test.false) c.loop-line.invariant
 
 pub numbered_project-requires-clause-known : goal.numbered_project-requires-clause-known
-numbered_project-requires-clause-known c = rw c.line-item.is (c.requires.known c.loop-line.line-index c.line-item.result c.loop-line-test.true)
+numbered_project-requires-clause-known c = rw (c.in_ok-places.ensures, c.line-item.is) (c.requires.known c.loop-line.line-index c.line-item.result c.loop-line-test.true)

@@ -6,10 +6,10 @@ use Rattle.spa_model.proofs.build.numbers.number_students.Goals as goal
 
 pub loop-line-preserved : goal.loop-line-preserved
 loop-line-preserved c =
-    rw c.in_ok-push.ensures.items (zip_more (IsStudentOf (project_keys c.args.projects.now)) c.args.lines.now c.loop-line.students.items c.loop-line.line-index c.line-item.result _ c.loop-line-test.true c.line-item.is c.loop-line.invariant c.in_ok-numbered_student.ensures)
+    rw c.in_ok-push.ensures.items (zip_more (IsStudentOf (project_keys c.args.projects.now)) c.args.lines.now c.loop-line.students.items c.loop-line.line-index c.line-item.result _ c.loop-line-test.true c.line-item.is c.loop-line.invariant (rw c.in_ok-places.ensures at c.in_ok-numbered_student.ensures))
 
 pub returns : goal.returns
 returns c = subst (λ lines. AllZip (IsStudentOf (project_keys c.args.projects.now)) lines c.loop-line.students.items) (take_all c.loop-line.line-index c.args.lines.now c.loop-line-test.false) c.loop-line.invariant
 
 pub numbered_student-requires-clause-known : goal.numbered_student-requires-clause-known
-numbered_student-requires-clause-known c = rw c.line-item.is (c.requires.known c.loop-line.line-index c.line-item.result c.loop-line-test.true)
+numbered_student-requires-clause-known c = rw (c.in_ok-places.ensures, c.line-item.is) (c.requires.known c.loop-line.line-index c.line-item.result c.loop-line-test.true)

@@ -9,7 +9,7 @@ numbered c = rw (c.deref-2.ensures.value, ← c.line.view_is, ← c.deref.ensure
 
 pub ranks_of-requires-clause-below : goal.ranks_of-requires-clause-below
 ranks_of-requires-clause-below c =
-    subst (λ n. All (λ s. s < n) c.deref-2.result.now) (length-map c.args.students.now (λ x. x.key)) (numbers_below (student_keys c.args.students.now) c.args.line.now.list c.deref-2.result.now (numbered c))
+    rw c.len.ensures (subst (λ n. All (λ s. s < n) c.deref-2.result.now) (length-map c.args.students.now (λ x. x.key)) (numbers_below (student_keys c.args.students.now) c.args.line.now.list c.deref-2.result.now (numbered c)))
 
 pub ranks_of-requires-clause-distinct : goal.ranks_of-requires-clause-distinct
 ranks_of-requires-clause-distinct c = distinct_numbers (student_keys c.args.students.now) c.args.line.now.list c.deref-2.result.now (numbered c) c.requires.apart

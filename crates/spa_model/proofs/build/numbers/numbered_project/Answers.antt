@@ -1,9 +1,6 @@
 use Rattle.std.proofs.Common.{◌∙◌, ap}
-use Rattle.spa_model.proofs.Keys.{sorted_from_rise, has_key}
+use Rattle.spa_model.proofs.Keys.{has_key}
 use Rattle.spa_model.proofs.build.numbers.numbered_project.Goals as goal
-
-pub find_lecturer-requires : goal.find_lecturer-requires
-find_lecturer-requires c = sorted_from_rise (λ x. x.key) c.args.lecturers.now c.requires.rise
 
 pub returns : goal.returns
 returns c = record {

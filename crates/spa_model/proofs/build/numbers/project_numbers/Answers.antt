@@ -3,15 +3,12 @@ use Rattle.std.specs.List.{AllZip}
 use Rattle.spa_rows.specs.Faults.{IsKeyOf}
 use Rattle.spa_model.specs.Built.{HasKey}
 use Rattle.spa_model.specs.Numbers.{project_keys}
-use Rattle.spa_model.proofs.Keys.{sorted_from_rise, has_key}
+use Rattle.spa_model.proofs.Keys.{has_key}
 use Rattle.spa_model.proofs.Zips.{zip_more, zip_map, any_map, take_all}
 use Rattle.spa_model.proofs.build.numbers.project_numbers.Goals as goal
 
-pub find_project-requires : goal.find_project-requires
-find_project-requires c = sorted_from_rise (λ x. x.key) c.args.lines.now c.requires.rise
-
 pub unreachable-requires : goal.unreachable-requires
-unreachable-requires c = c.requires.known (any_map (λ text. IsKeyOf c.args.lines.now (λ x. x.key) text → ⊥) (λ text. text.items) c.args.list.now c.loop-text.text-index c.text-item.result c.loop-text-test.true c.text-item.is (rw c.deref.ensures.value at c.in_default.ensures.none))
+unreachable-requires c = c.requires (any_map (λ text. IsKeyOf c.args.lines.now (λ x. x.key) text → ⊥) (λ text. text.items) c.args.list.now c.loop-text.text-index c.text-item.result c.loop-text-test.true c.text-item.is (rw c.deref.ensures.value at c.in_default.ensures.none))
 
 pub loop-text-preserved : goal.loop-text-preserved
 loop-text-preserved c =

@@ -8,8 +8,8 @@ use Rattle.spa_model.specs.Built.{StandsFor}
 use Rattle.spa_model.proofs.Sorted.{refusal_of_rows, stands_for_rows}
 use Rattle.spa_model.proofs.instance.Instance.build.Goals as goal
 
-pub check_lists-requires-clause-lines : goal.check_lists-requires-clause-lines
-check_lists-requires-clause-lines c =
+pub check_lists-requires : goal.check_lists-requires
+check_lists-requires c =
     let same : SameLines c.args.rows c.sort_rows.new.rows = record { lecturers = c.sort_rows.ensures.lecturers; projects = c.sort_rows.ensures.projects; students = c.sort_rows.ensures.students } in
     none_before_carry c.args.rows c.sort_rows.new.rows same NoSuchLecturer c.in_ok-check_lines.ensures.ok
 

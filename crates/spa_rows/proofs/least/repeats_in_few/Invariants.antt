@@ -1,0 +1,12 @@
+use Rattle.std.proofs.Common.{◌≡◌, ℕ, ◌<◌, map, get_or}
+use Rattle.spa_rows.specs.Lines.{Text}
+use Rattle.spa_rows.specs.Faults.{IsEarlierKey}
+use Rattle.spa_rows.proofs.Seen.{IsInHash}
+use Rattle.spa_rows.proofs.least.repeats_in_few.Given as goal
+
+-- the texts so far are in the set, and none of them repeats
+abbrev pub invariant-loop-text : goal.invariant-loop-text
+invariant-loop-text l = record {
+  seen : IsInHash (map (λ text. text.items) l.list) (λ text. text) l.seen l.text-index;
+  distinct : (j : ℕ) (text : Text) → j < l.text-index → get_or (map (λ text. text.items) l.list) j text ≡ text → IsEarlierKey (map (λ text. text.items) l.list) (λ text. text) j text → ⊥;
+}
