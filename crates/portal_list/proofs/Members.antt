@@ -12,7 +12,8 @@ use Rattle.spa_rows.proofs.Lists.{at_place, map_at}
 use Rattle.spa_model.proofs.Zips.{any_map, any_unmap}
 use Rattle.portal_core.specs.Words.{Key, is, has, Rise, AreDistinct}
 use Rattle.portal_core.proofs.Keys.{is_same, is_own}
-use Rattle.portal_list.proofs.Rising.{all_at, pairs_rise, never_itself}
+use Rattle.spa_model.proofs.Rising.{never_itself}
+use Rattle.portal_list.proofs.Rising.{all_at, pairs_rise}
 
 pub and_parts : (a b : Bool) → (a && b) ≡ true → (a ≡ true) × (b ≡ true)
 and_parts true b h = (refl, h)

@@ -1,17 +1,15 @@
 -- The only lawful instance that stands for rows whose keys rise.
-use Rattle.std.proofs.Common.{◌≡◌, inl, inr, ℕ, zero, suc, ◌<◌, ◌≤◌, List, [], ◌∷◌, map, length, get_or, All, Contains, refl, sym, ◌∙◌, ap, arith}
-use Rattle.std.proofs.lemmas.Bool.{cases_lt}
-use Rattle.std.proofs.lemmas.List.{ext_get_or, get_or_past, length-map}
+use Rattle.std.proofs.Common.{◌≡◌, ℕ, ◌<◌, List, [], map, length, get_or, sym, ◌∙◌, ap, arith}
+use Rattle.std.proofs.lemmas.List.{ext_get_or, length-map}
 use Rattle.spa_rows.specs.Lines.{Text, Lecturer, Project, Student, Rows}
 use Rattle.spa_rows.proofs.Lists.{at_place, map_at}
-use Rattle.spa_model.specs.Spa.{Spa, Rise, IsLawful, IsOn, place, choices_of, lecturer_of, capacity_of, ranking_of, limit_of}
+use Rattle.spa_model.specs.Spa.{Spa, Rise, IsLawful, choices_of, lecturer_of, capacity_of, ranking_of, limit_of}
 use Rattle.spa_model.specs.Built.{HasKey, keys_at, StandsFor, StandsStudent, StandsProject, StandsLecturer}
 use Rattle.spa_model.specs.Numbers.{student_keys, project_keys, lecturer_keys}
 use Rattle.spa_model.specs.Pairs.{number_in}
 use Rattle.spa_model.proofs.Keys.{one_number}
-use Rattle.spa_model.proofs.Numbers.{number_is, number_known}
-use Rattle.spa_model.proofs.Places.{place-get_or-le}
-use Rattle.portal_list.proofs.Rising
+use Rattle.spa_model.proofs.Rising
+use Rattle.spa_model.proofs.OneInstance.{own_number, numbers_back, choices_below, ranking_below}
 
 -- the instance of these rows, whose keys rise: a text becomes its place
 abbrev pub spa_of_rows : Rows → Spa
@@ -26,30 +24,6 @@ spa_of_rows rows =
       rankings = map (λ (x : Lecturer). map (number_in (student_keys rows.students)) x.list) rows.lecturers;
       limits = map (λ (x : Lecturer). x.capacity) rows.lecturers;
     }
-
--- a key's number is its place
-own_number : (keys : List Text) (n : ℕ) → Rise keys → n < length keys → number_in keys (get_or keys n []) ≡ n
-own_number keys n rise h =
-    let text : Text = get_or keys n [] in
-    let there : Contains keys text = (n, h, refl_at keys n text h) in
-    let low : number_in keys text < length keys = number_known keys text there in
-    one_number keys (number_in keys text) n text rise (low, number_is keys text low) (h, refl)
-  where
-    refl_at : (ks : List Text) (k : ℕ) (d : Text) → k < length ks → get_or ks k (get_or ks k []) ≡ get_or ks k []
-    refl_at [] k d l = absurd (omega arith)
-    refl_at (x ∷ xs) zero d l = refl
-    refl_at (x ∷ xs) (suc k) d l = refl_at xs k d (omega arith)
-
-numbers_back : (keys : List Text) (list : List ℕ) → Rise keys → All (λ n. n < length keys) list → map (number_in keys) (keys_at keys list) ≡ list
-numbers_back keys [] rise all = refl
-numbers_back keys (n ∷ ns) rise all =
-    let here : number_in keys (get_or keys n []) ≡ n = own_number keys n rise (all zero n (omega arith)) in
-    let rest : map (number_in keys) (keys_at keys ns) ≡ ns = numbers_back keys ns rise (λ k d h. all (suc k) d (omega arith)) in
-    cc
-
--- what is known of those on a list is known at each place
-all_on : (P : ℕ → Type 0) (list : List ℕ) → ((n : ℕ) → IsOn list n → P n) → All P list
-all_on P list known k d h = let low : place list (get_or list k d) ≤ k = place-get_or-le list k d h in known (get_or list k d) (omega arith)
 
 module _ (rows : Rows) (i : Spa) (lawful : IsLawful i) (for : StandsFor rows i)
     (students_rise : Rise (student_keys rows.students)) (projects_rise : Rise (project_keys rows.projects)) (lecturers_rise : Rise (lecturer_keys rows.lecturers)) where
@@ -96,25 +70,11 @@ module _ (rows : Rows) (i : Spa) (lawful : IsLawful i) (for : StandsFor rows i)
       let one : stands.0 ≡ k = one_number i.lecturer_keys stands.0 k x.key lawful.lecturer_keys_rise stands.1 own in
       (rw one at stands.2, rw one at stands.3)
 
-  choices_below : (s : ℕ) → All (λ p. p < length i.project_keys) (choices_of i s)
-  choices_below s = all_on (λ p. p < length i.project_keys) (choices_of i s) (λ p on. omega (arith, lawful.known s p on, lawful.project_key_rows))
-
-  student_there : (s p : ℕ) → IsOn (choices_of i s) p → s < length i.choices
-  student_there s p on = elim (cases_lt s (length i.choices)) [
-    | inl low ↦ low
-    | inr past ↦ let none : choices_of i s ≡ [] = get_or_past i.choices s [] past in absurd (omega (arith, ap length none))
-  ]
-
-  ranking_below : (l : ℕ) → All (λ s. s < length i.student_keys) (ranking_of i l)
-  ranking_below l = all_on (λ s. s < length i.student_keys) (ranking_of i l) (λ s on.
-      let applied = lawful.applicants l s on in
-      omega (arith, student_there s applied.0 applied.1, lawful.student_rows))
-
   same_choices : i.choices ≡ map (λ (x : Student). map (number_in i.project_keys) x.list) rows.students
   same_choices = ext_get_or [] i.choices (map (λ (x : Student). map (number_in i.project_keys) x.list) rows.students) (sym lawful.student_rows ∙ for.student_count ∙ sym (length-map rows.students (λ (x : Student). map (number_in i.project_keys) x.list))) (λ k h.
       let low : k < length rows.students = omega (arith, lawful.student_rows, for.student_count) in
       let x = at_place rows.students k low in
-      sym (numbers_back i.project_keys (choices_of i k) lawful.project_keys_rise (choices_below k))
+      sym (numbers_back i.project_keys (choices_of i k) lawful.project_keys_rise (choices_below i lawful k))
       ∙ ap (map (number_in i.project_keys)) (student_at k x.0 low x.1)
       ∙ sym (map_at (λ (y : Student). map (number_in i.project_keys) y.list) rows.students k x.0 [] low x.1))
 
@@ -136,7 +96,7 @@ module _ (rows : Rows) (i : Spa) (lawful : IsLawful i) (for : StandsFor rows i)
   same_rankings = ext_get_or [] i.rankings (map (λ (x : Lecturer). map (number_in i.student_keys) x.list) rows.lecturers) (sym lawful.lecturer_key_rows ∙ for.lecturer_count ∙ sym (length-map rows.lecturers (λ (x : Lecturer). map (number_in i.student_keys) x.list))) (λ k h.
       let low : k < length rows.lecturers = omega (arith, lawful.lecturer_key_rows, for.lecturer_count) in
       let x = at_place rows.lecturers k low in
-      sym (numbers_back i.student_keys (ranking_of i k) lawful.student_keys_rise (ranking_below k))
+      sym (numbers_back i.student_keys (ranking_of i k) lawful.student_keys_rise (ranking_below i lawful k))
       ∙ ap (map (number_in i.student_keys)) (lecturer_at k x.0 low x.1).1
       ∙ sym (map_at (λ (y : Lecturer). map (number_in i.student_keys) y.list) rows.lecturers k x.0 [] low x.1))
 

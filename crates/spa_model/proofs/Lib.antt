@@ -16,3 +16,5 @@ pub mod Lawful
 pub mod Stages
 pub mod Sorted
 pub mod OneOnly
+pub mod Rising
+pub mod OneInstance

@@ -1,7 +1,11 @@
 //! Laws over the definitions alone.
 
 ghost use Rattle.std.specs.Prelude.{◌≡◌, ℕ, List, Option};
-ghost use Rattle.spa_model.specs.Spa.{Spa, Blocks, IsBest};
+ghost use Rattle.spa_rows.specs.Lines.{Rows};
+ghost use Rattle.spa_rows.specs.Faults.{HasNoneBefore};
+ghost use Rattle.spa_rows.specs.declared.faults.InstanceFault.TheVariants.{Memory};
+ghost use Rattle.spa_model.specs.Spa.{Spa, Blocks, IsBest, IsLawful};
+ghost use Rattle.spa_model.specs.Built.{StandsFor};
 ghost use Rattle.spa_model.specs.declared.letter.Letter.{Letter};
 
 /// A pair that blocks a matching blocks it by one letter alone.
@@ -12,4 +16,9 @@ pub fn one_letter()
 /// Two matchings that are best for the students are one.
 pub fn best_is_one()
     ensures { (i : Spa) (m n : List (Option ℕ)) → IsBest i m → IsBest i n → m ≡ n }
+{}
+
+/// Rows without a fault are those of one instance alone.
+pub fn instance_is_one()
+    ensures { (rows : Rows) (i j : Spa) → HasNoneBefore rows Memory → IsLawful i → StandsFor rows i → IsLawful j → StandsFor rows j → i ≡ j }
 {}
