@@ -6,7 +6,7 @@ pub mod Puts
 pub mod Fills
 pub mod Numbers
 pub mod Acts
-pub mod Told
+pub mod Hearing
 pub mod Unseen
 pub mod Kept
 pub mod Adds
@@ -17,6 +17,7 @@ pub mod Once
 pub mod Whole
 pub mod Reorder
 mod Taken
+mod FirstBad
 pub mod Similar
 pub mod Disclosed
 pub mod Example

@@ -1,6 +1,6 @@
--- What is legal is taken, and a fault is told at the first faulty position.
+-- What is legal is taken.
 use Rattle.std.proofs.Common.{◌≡◌, ℕ, ◌+◌, ◌<◌, Bool, true, false, cond, List, [], ◌∷◌, ◌++◌, length, refl, sym, ◌∙◌, ap, subst, arith, append_assoc, append-nil}
-use Rattle.std.specs.Prelude.{map, Some, None, not, ◌||◌, ◌==◌, nat_le, codes, if◌then◌else◌}
+use Rattle.std.specs.Prelude.{map, Some, None, not, ◌||◌, nat_le, codes, if◌then◌else◌}
 use Rattle.std.specs.List.{list_any, find, AllByRecursion}
 use Rattle.std.proofs.lemmas.Bool.Decides.{nat_tests}
 use Rattle.portal_core.specs.Words.{Key, is, has, AreDistinct}
@@ -9,10 +9,10 @@ use Rattle.portal_core.specs.World as rows
 use Rattle.portal_core.specs.declared.rows.Listing.{Listing}
 use Rattle.portal_core.specs.declared.rows.Person.{Person}
 use Rattle.portal_core.specs.View.{lecturer_sees}
-use Rattle.portal_core.specs.Faults.{ListFault, fault_at, choice_fault, ranking_fault, in_catalogue, is_applicant, lacks_one}
+use Rattle.portal_core.specs.Faults.{ListFault, fault_at, choice_fault, ranking_fault, is_applicant, lacks_one}
 use Rattle.portal_core.specs.Rolls.{Roll, Took, take_rows}
 use Rattle.portal_core.specs.Good.{IsChoice, IsRanking}
-use Rattle.portal_core.specs.Legal.{AreFresh, IsFirstAt}
+use Rattle.portal_core.specs.Legal.{AreFresh}
 use Rattle.portal_core.proofs.AllLaws.{all_weaker, all_both, any_map, any_alike, any_append, is_sym, or_parts}
 use Rattle.portal_core.proofs.Kept.{Ranked, shown_sets, union_any}
 use Rattle.portal_core.proofs.Reorder.{taken}
@@ -32,44 +32,6 @@ choice_taken catalogue list c =
       once = c.once;
       new = none_yet list;
     })
-
-module _ (catalogue : List Listing) where
-  abbrev Found : ℕ → List Key → List Key → ℕ → Type 0
-  Found at earlier list place = (front : List Key) × (k : Key) × (rest : List Key) × (list ≡ front ++ k ∷ rest) × (place ≡ at + length front) × (choice_fault catalogue at earlier front ≡ None)
-
-  first : (at : ℕ) (earlier list : List Key) (f : ListFault) → choice_fault catalogue at earlier list ≡ Some f → Found at earlier list f.at
-  first at earlier [] f e = cc
-  first at earlier (k ∷ ks) f e = go (λ h. first (at + 1) (earlier ++ k ∷ []) ks f h) (at == 21) (in_catalogue catalogue k) (has earlier k) refl refl refl _ _ _ e
-    where
-      here : (word : List ℕ) → Some (fault_at at word) ≡ Some f → Found at earlier (k ∷ ks) f.at
-      here word e =
-          let same : fault_at at word ≡ f = cc in
-          let place : at ≡ f.at = ap (λ (x : ListFault). x.at) same in
-          ([], k, ks, refl, (omega arith), refl)
-
-      passed : (full known twice : Bool) → full ≡ false → known ≡ true → twice ≡ false → (a b d : ListFault) (front : List Key)
-          → choice_fault catalogue (at + 1) (earlier ++ k ∷ []) front ≡ None
-          → (if full then Some a else if not known then Some b else if twice then Some d else choice_fault catalogue (at + 1) (earlier ++ k ∷ []) front) ≡ None
-      passed full known twice f e t a b d front h = rw (f, e, t) h
-
-      later : (at == 21) ≡ false → in_catalogue catalogue k ≡ true → has earlier k ≡ false → Found (at + 1) (earlier ++ k ∷ []) ks f.at → Found at earlier (k ∷ ks) f.at
-      later ef ek et r =
-          let place = r.4 in
-          (k ∷ r.0, r.1, r.2, ap (λ l. k ∷ l) r.3, (omega arith), passed (at == 21) (in_catalogue catalogue k) (has earlier k) ef ek et _ _ _ r.0 r.5)
-
-      go : (choice_fault catalogue (at + 1) (earlier ++ k ∷ []) ks ≡ Some f → Found (at + 1) (earlier ++ k ∷ []) ks f.at) → (full known twice : Bool) → (at == 21) ≡ full → in_catalogue catalogue k ≡ known → has earlier k ≡ twice → (a b c : List ℕ)
-          → (if full then Some (fault_at at a) else if not known then Some (fault_at at b) else if twice then Some (fault_at at c) else choice_fault catalogue (at + 1) (earlier ++ k ∷ []) ks) ≡ Some f
-          → Found at earlier (k ∷ ks) f.at
-      go again true known twice ef ek et a b c h = here a h
-      go again false false twice ef ek et a b c h = here b h
-      go again false true true ef ek et a b c h = here c h
-      go again false true false ef ek et a b c h = later ef ek et (again h)
-
-  pub first_fault : (list : List Key) (f : ListFault) → choice_fault catalogue 1 [] list ≡ Some f → IsFirstAt (choice_fault catalogue 1 []) list f.at
-  first_fault list f e =
-      let r : Found 1 [] list f.at = first 1 [] list f e in
-      let place = r.4 in
-      (r.0, r.1, r.2, r.3, (omega arith), r.5)
 
 -- a lecturer's ranking
 

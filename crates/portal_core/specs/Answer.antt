@@ -14,7 +14,8 @@ use Rattle.portal_core.specs.declared.decision.Sheet.{Sheet}
 use Rattle.portal_core.specs.declared.decision.Sheet.TheVariants as sheet
 use Rattle.portal_core.specs.Ask.{Ask}
 use Rattle.portal_core.specs.Json.{dictionary, texts, count}
-use Rattle.portal_core.specs.Bodies.{catalogue_body, projects_body, students_body, applicants_body, placed_body, project_body, phase_body, student_me, lecturer_me, office_me, roll_body, status_body, allocation_body, filled_body}
+use Rattle.portal_core.specs.Bodies.{catalogue_body, projects_body, students_body, applicants_body, placed_body, project_body, phase_body, student_me}
+use Rattle.portal_core.specs.Bodies.{lecturer_me, office_me, roll_body, status_body, allocation_body, filled_body}
 use Rattle.portal_core.specs.Sheets.{csv_text, report_text}
 use Rattle.portal_core.specs.Faults.{ListFault, choice_fault, ranking_fault}
 use Rattle.portal_core.specs.Rolls.{Taken, Faulty, Took, take_rows, lecturer_roll, project_roll, student_roll}
@@ -88,7 +89,8 @@ abbrev pub to_student : StudentSees → Ask → Decision
 to_student v Ask.Me = shows (student_me v)
 to_student v Ask.Catalogue = shows (catalogue_body v.catalogue)
 to_student v Ask.ShowChoices = shows (projects_body v.choices)
-to_student v (Ask.SetChoices list) = only (is_choosing v.phase) (unless (choice_fault v.catalogue 1 [] list) (applies (projects_body list) (Choices v.me.key list)))
+to_student v (Ask.SetChoices list) =
+    only (is_choosing v.phase) (unless (choice_fault v.catalogue 1 [] list) (applies (projects_body list) (Choices v.me.key list)))
 to_student v Ask.Result = only (is_published v.phase) (shows (project_body v.result))
 to_student v _ = not_yours
 
@@ -99,7 +101,8 @@ to_lecturer v Ask.Me = shows (lecturer_me v)
 to_lecturer v Ask.Catalogue = shows (catalogue_body v.catalogue)
 to_lecturer v Ask.Applicants = only (is_from_ranking v.phase) (shows (applicants_body v.applicants))
 to_lecturer v Ask.ShowRanking = only (is_from_ranking v.phase) (shows (students_body v.ranking))
-to_lecturer v (Ask.SetRanking list) = only (is_ranking v.phase) (unless (ranking_fault v.applicants 1 [] list) (applies (students_body (Some list)) (Ranks v.me.key list)))
+to_lecturer v (Ask.SetRanking list) =
+    only (is_ranking v.phase) (unless (ranking_fault v.applicants 1 [] list) (applies (students_body (Some list)) (Ranks v.me.key list)))
 to_lecturer v Ask.Result = only (is_published v.phase) (shows (placed_body v.placed))
 to_lecturer v _ = not_yours
 

@@ -11,7 +11,9 @@ use Rattle.portal_core.specs.Sight.{StudentSees, LecturerSees, OfficeSees}
 use Rattle.portal_core.specs.Json.{dictionary, several, texts, count, text_or_null, texts_or_null}
 
 abbrev pub listing : Listing → Data
-listing l = dictionary ((codes "capacity", count l.capacity) ∷ (codes "id", string l.key) ∷ (codes "lecturer", string l.lecturer) ∷ (codes "lecturer_name", string l.lecturer_name) ∷ (codes "title", string l.title) ∷ [])
+listing l =
+    dictionary ((codes "capacity", count l.capacity) ∷ (codes "id", string l.key) ∷ (codes "lecturer", string l.lecturer)
+    ∷ (codes "lecturer_name", string l.lecturer_name) ∷ (codes "title", string l.title) ∷ [])
 
 abbrev pub person : Person → Data
 person p = dictionary ((codes "key", string p.key) ∷ (codes "name", string p.name) ∷ [])
@@ -26,10 +28,12 @@ abbrev pub students_body : Option (List Key) → Data
 students_body o = dictionary ((codes "students", texts_or_null o) ∷ [])
 
 abbrev pub applicants_body : List (Key × List Person) → Data
-applicants_body ps = dictionary ((codes "projects", several (map (λ p. dictionary ((codes "applicants", several (map person p.1)) ∷ (codes "id", string p.0) ∷ [])) ps)) ∷ [])
+applicants_body ps =
+    dictionary ((codes "projects", several (map (λ p. dictionary ((codes "applicants", several (map person p.1)) ∷ (codes "id", string p.0) ∷ [])) ps)) ∷ [])
 
 abbrev pub placed_body : List (Key × List Person) → Data
-placed_body ps = dictionary ((codes "projects", several (map (λ p. dictionary ((codes "id", string p.0) ∷ (codes "students", several (map person p.1)) ∷ [])) ps)) ∷ [])
+placed_body ps =
+    dictionary ((codes "projects", several (map (λ p. dictionary ((codes "id", string p.0) ∷ (codes "students", several (map person p.1)) ∷ [])) ps)) ∷ [])
 
 abbrev pub project_body : Option Key → Data
 project_body o = dictionary ((codes "project", text_or_null o) ∷ [])
@@ -40,10 +44,14 @@ phase_body phase = dictionary ((codes "phase", string (phase_word phase)) ∷ []
 -- who the caller is
 
 abbrev pub student_me : StudentSees → Data
-student_me v = dictionary ((codes "key", string v.me.key) ∷ (codes "name", string v.me.name) ∷ (codes "phase", string (phase_word v.phase)) ∷ (codes "role", string (codes "student")) ∷ [])
+student_me v =
+    dictionary ((codes "key", string v.me.key) ∷ (codes "name", string v.me.name)
+    ∷ (codes "phase", string (phase_word v.phase)) ∷ (codes "role", string (codes "student")) ∷ [])
 
 abbrev pub lecturer_me : LecturerSees → Data
-lecturer_me v = dictionary ((codes "capacity", count v.capacity) ∷ (codes "key", string v.me.key) ∷ (codes "name", string v.me.name) ∷ (codes "phase", string (phase_word v.phase)) ∷ (codes "role", string (codes "lecturer")) ∷ [])
+lecturer_me v =
+    dictionary ((codes "capacity", count v.capacity) ∷ (codes "key", string v.me.key) ∷ (codes "name", string v.me.name)
+    ∷ (codes "phase", string (phase_word v.phase)) ∷ (codes "role", string (codes "lecturer")) ∷ [])
 
 abbrev pub office_me : OfficeSees → Data
 office_me v = dictionary ((codes "phase", string (phase_word v.phase)) ∷ (codes "role", string (codes "office")) ∷ [])
@@ -73,4 +81,5 @@ abbrev pub filled_body : List Key → Data
 filled_body ks = dictionary ((codes "filled", texts ks) ∷ [])
 
 abbrev pub allocation_body : List (Key × Key) → Data
-allocation_body pairs = dictionary ((codes "pairs", several (map (λ (x : Key × Key). dictionary ((codes "project", string x.1) ∷ (codes "student", string x.0) ∷ [])) pairs)) ∷ [])
+allocation_body pairs =
+    dictionary ((codes "pairs", several (map (λ (x : Key × Key). dictionary ((codes "project", string x.1) ∷ (codes "student", string x.0) ∷ [])) pairs)) ∷ [])

@@ -29,8 +29,14 @@ worked phase =
       phase = phase;
       office = codes "office-code-0";
       lecturers =
-          record { row = record { key = codes "L1"; name = codes "Lee"; code = codes "lee-code-01"; capacity = 2 }; ranking = ranking_in phase (codes "S2" ∷ codes "S1" ∷ []) }
-          ∷ record { row = record { key = codes "L2"; name = codes "Moe"; code = codes "moe-code-02"; capacity = 1 }; ranking = ranking_in phase (codes "S2" ∷ []) }
+          record {
+            row = record { key = codes "L1"; name = codes "Lee"; code = codes "lee-code-01"; capacity = 2 };
+            ranking = ranking_in phase (codes "S2" ∷ codes "S1" ∷ []);
+          }
+          ∷ record {
+            row = record { key = codes "L2"; name = codes "Moe"; code = codes "moe-code-02"; capacity = 1 };
+            ranking = ranking_in phase (codes "S2" ∷ []);
+          }
           ∷ [];
       projects =
           record { key = codes "P1"; lecturer = codes "L1"; title = codes "Tides"; capacity = 1 }
@@ -38,8 +44,16 @@ worked phase =
           ∷ record { key = codes "P3"; lecturer = codes "L2"; title = codes "Bells"; capacity = 1 }
           ∷ [];
       students =
-          record { row = record { key = codes "S1"; name = codes "Ann"; code = codes "ann-code-1" }; choice = choice_in phase (codes "P1" ∷ codes "P2" ∷ []); placed = placed_in phase (Some (codes "P2")) }
-          ∷ record { row = record { key = codes "S2"; name = codes "Roe, Bea"; code = codes "bea-code-2" }; choice = choice_in phase (codes "P1" ∷ codes "P3" ∷ []); placed = placed_in phase (Some (codes "P1")) }
+          record {
+            row = record { key = codes "S1"; name = codes "Ann"; code = codes "ann-code-1" };
+            choice = choice_in phase (codes "P1" ∷ codes "P2" ∷ []);
+            placed = placed_in phase (Some (codes "P2"));
+          }
+          ∷ record {
+            row = record { key = codes "S2"; name = codes "Roe, Bea"; code = codes "bea-code-2" };
+            choice = choice_in phase (codes "P1" ∷ codes "P3" ∷ []);
+            placed = placed_in phase (Some (codes "P1"));
+          }
           ∷ record { row = record { key = codes "S3"; name = codes "Cyr"; code = codes "cyr-code-3" }; choice = []; placed = None }
           ∷ [];
     }
@@ -82,8 +96,12 @@ bea_row = record { key = codes "S2"; name = codes "Roe, Bea"; code = codes "bea-
 -- each caller is told who it is, and nobody else is told anything
 pub record TellsWho : Type 0 where
   pub office_me : reply Setup office Ask.Me ≡ body ((codes "phase", string (codes "setup")) ∷ (codes "role", string (codes "office")) ∷ [])
-  pub student_me : reply Setup ann Ask.Me ≡ body ((codes "key", string (codes "S1")) ∷ (codes "name", string (codes "Ann")) ∷ (codes "phase", string (codes "setup")) ∷ (codes "role", string (codes "student")) ∷ [])
-  pub lecturer_me : reply Setup lee Ask.Me ≡ body ((codes "capacity", count 2) ∷ (codes "key", string (codes "L1")) ∷ (codes "name", string (codes "Lee")) ∷ (codes "phase", string (codes "setup")) ∷ (codes "role", string (codes "lecturer")) ∷ [])
+  pub student_me : reply Setup ann Ask.Me
+      ≡ body ((codes "key", string (codes "S1")) ∷ (codes "name", string (codes "Ann"))
+      ∷ (codes "phase", string (codes "setup")) ∷ (codes "role", string (codes "student")) ∷ [])
+  pub lecturer_me : reply Setup lee Ask.Me
+      ≡ body ((codes "capacity", count 2) ∷ (codes "key", string (codes "L1"))
+      ∷ (codes "name", string (codes "Lee")) ∷ (codes "phase", string (codes "setup")) ∷ (codes "role", string (codes "lecturer")) ∷ [])
   pub nobody : reply Setup [] Ask.Me ≡ refusal 403 (word (codes "no_caller") ∷ [])
   pub not_the_office : reply Published office Ask.ShowChoices ≡ refusal 403 (word (codes "not_yours") ∷ [])
 
@@ -92,26 +110,33 @@ pub record TellsApplicants : Type 0 where
   pub sets : reply Ranking lee Ask.Applicants ≡ body ((
     codes "projects",
     several (
-        dictionary ((codes "applicants", several (someone (codes "S1") (codes "Ann") ∷ someone (codes "S2") (codes "Roe, Bea") ∷ [])) ∷ (codes "id", string (codes "P1")) ∷ [])
+        dictionary ((codes "applicants", several (someone (codes "S1") (codes "Ann") ∷ someone (codes "S2") (codes "Roe, Bea") ∷ []))
+        ∷ (codes "id", string (codes "P1")) ∷ [])
         ∷ dictionary ((codes "applicants", several (someone (codes "S1") (codes "Ann") ∷ [])) ∷ (codes "id", string (codes "P2")) ∷ []) ∷ []),
   ) ∷ [])
-  pub in_another_order : answer (view (changed (worked Ranking) (Choices (codes "S1") (codes "P2" ∷ codes "P1" ∷ []))) lee) Ask.Applicants ≡ reply Ranking lee Ask.Applicants
+  pub in_another_order : answer (view (changed (worked Ranking) (Choices (codes "S1") (codes "P2" ∷ codes "P1" ∷ []))) lee) Ask.Applicants
+      ≡ reply Ranking lee Ask.Applicants
   pub too_early : reply Choosing lee Ask.Applicants ≡ refusal 409 (word (codes "wrong_phase") ∷ [])
   pub to_a_student : reply Choosing ann Ask.Applicants ≡ refusal 403 (word (codes "not_yours") ∷ [])
 
 -- lists and rankings are taken whole or refused at their first fault
 pub record TellsLists : Type 0 where
   pub taken : reply Choosing ann (Ask.SetChoices (codes "P2" ∷ codes "P1" ∷ [])) ≡ body ((codes "projects", texts (codes "P2" ∷ codes "P1" ∷ [])) ∷ [])
-  pub repeated : reply Choosing ann (Ask.SetChoices (codes "P1" ∷ codes "P1" ∷ [])) ≡ refusal 422 ((codes "at", count 2) ∷ word (codes "bad_list") ∷ (codes "fault", string (codes "repeated")) ∷ [])
-  pub unknown : reply Choosing ann (Ask.SetChoices (codes "P1" ∷ codes "P9x" ∷ [])) ≡ refusal 422 ((codes "at", count 2) ∷ word (codes "bad_list") ∷ (codes "fault", string (codes "unknown_project")) ∷ [])
-  pub missing : reply Ranking lee (Ask.SetRanking (codes "S2" ∷ [])) ≡ refusal 422 ((codes "at", count 0) ∷ word (codes "bad_list") ∷ (codes "fault", string (codes "missing")) ∷ [])
-  pub not_an_applicant : reply Ranking lee (Ask.SetRanking (codes "S1" ∷ codes "S3" ∷ [])) ≡ refusal 422 ((codes "at", count 2) ∷ word (codes "bad_list") ∷ (codes "fault", string (codes "not_an_applicant")) ∷ [])
+  pub repeated : reply Choosing ann (Ask.SetChoices (codes "P1" ∷ codes "P1" ∷ []))
+      ≡ refusal 422 ((codes "at", count 2) ∷ word (codes "bad_list") ∷ (codes "fault", string (codes "repeated")) ∷ [])
+  pub unknown : reply Choosing ann (Ask.SetChoices (codes "P1" ∷ codes "P9x" ∷ []))
+      ≡ refusal 422 ((codes "at", count 2) ∷ word (codes "bad_list") ∷ (codes "fault", string (codes "unknown_project")) ∷ [])
+  pub missing : reply Ranking lee (Ask.SetRanking (codes "S2" ∷ []))
+      ≡ refusal 422 ((codes "at", count 0) ∷ word (codes "bad_list") ∷ (codes "fault", string (codes "missing")) ∷ [])
+  pub not_an_applicant : reply Ranking lee (Ask.SetRanking (codes "S1" ∷ codes "S3" ∷ []))
+      ≡ refusal 422 ((codes "at", count 2) ∷ word (codes "bad_list") ∷ (codes "fault", string (codes "not_an_applicant")) ∷ [])
   pub no_ranking_yet : reply Ranking lee Ask.ShowRanking ≡ body ((codes "students", null) ∷ [])
 
 -- rolls and moves of the office
 pub record TellsMoves : Type 0 where
   pub same_rows : reply Setup office (Ask.AddStudents (ann_row ∷ bea_row ∷ [])) ≡ body ((codes "added", count 0) ∷ (codes "same", count 2) ∷ [])
-  pub other_row : reply Setup office (Ask.AddStudents (record ann_row { name = codes "Anna" } ∷ bea_row ∷ [])) ≡ refusal 409 (word (codes "roll_conflict") ∷ (codes "row", count 1) ∷ [])
+  pub other_row : reply Setup office (Ask.AddStudents (record ann_row { name = codes "Anna" } ∷ bea_row ∷ []))
+      ≡ refusal 409 (word (codes "roll_conflict") ∷ (codes "row", count 1) ∷ [])
   pub current : reply Choosing office (Ask.Move Choosing) ≡ body ((codes "phase", string (codes "choosing")) ∷ [])
   pub too_far : reply Choosing office (Ask.Move Published) ≡ refusal 409 (word (codes "wrong_phase") ∷ [])
   pub one_to_rank : answer (view (changed (worked Ranking) (Ranks (codes "L1") (codes "S2" ∷ codes "S1" ∷ []))) office) (Ask.Move Published)
@@ -128,7 +153,8 @@ pub record TellsResult : Type 0 where
         ∷ dictionary ((codes "id", string (codes "P2")) ∷ (codes "students", several (someone (codes "S1") (codes "Ann") ∷ [])) ∷ []) ∷ []),
   ) ∷ [])
   pub status : reply Published office Ask.Status ≡ body (
-      (codes "assigned", count 2) ∷ (codes "lecturers", count 2) ∷ (codes "phase", string (codes "published")) ∷ (codes "projects", count 3) ∷ (codes "still_to_rank", texts [])
+      (codes "assigned", count 2) ∷ (codes "lecturers", count 2) ∷ (codes "phase", string (codes "published"))
+      ∷ (codes "projects", count 3) ∷ (codes "still_to_rank", texts [])
       ∷ (codes "students", count 3) ∷ (codes "unassigned", texts (codes "S3" ∷ [])) ∷ (codes "without_list", texts (codes "S3" ∷ [])) ∷ [])
 
 abbrev pub lines : List (List ℕ) → List ℕ

@@ -1,14 +1,15 @@
 //! Laws over the definitions alone: what each caller may learn, whatever a keeper does.
 
-ghost use Rattle.std.specs.Prelude.{◌≡◌, ◌++◌, ◌∷◌, [], List, map, true, false, Some, None};
+ghost use Rattle.std.specs.Prelude.{◌≡◌, ◌⊎◌, ◌++◌, ◌∷◌, [], List, map, true, false, Some, None};
 ghost use Rattle.portal_core.specs.Words.{Key, is, has};
 ghost use Rattle.portal_core.specs.World.{World, Lecturer, student_key, applicants_of, is_from_ranking};
 ghost use Rattle.portal_core.specs.Good.{Good, codes_of, IsChoice, IsRanking};
-ghost use Rattle.portal_core.specs.Faults.{ListFault, choice_fault, ranking_fault};
-ghost use Rattle.portal_core.specs.Rolls.{Took, take_rows, lecturer_roll, project_roll, student_roll};
-ghost use Rattle.portal_core.specs.Legal.{AreFresh, IsFirstAt};
+ghost use Rattle.portal_core.specs.Faults.{ListFault, choice_fault, ranking_fault, lacks_one};
+ghost use Rattle.portal_core.specs.Rolls.{RollFault, Faulty, Took, take_rows, lecturer_roll, project_roll, student_roll};
+ghost use Rattle.portal_core.specs.Legal.{AreFresh, IsBadChoice, IsBadRank, NoneBad, IsFirstBad, IsFirstRefused};
 ghost use Rattle.portal_core.specs.Sight.{OfficeSees};
 ghost use Rattle.portal_core.specs.declared.rows.LecturerRow.{LecturerRow};
+ghost use Rattle.portal_core.specs.declared.rows.Person.{Person};
 ghost use Rattle.portal_core.specs.declared.rows.StudentRow.{StudentRow};
 ghost use Rattle.portal_core.specs.Ask.{Ask};
 ghost use Rattle.portal_core.specs.Answer.{Answer, own};
@@ -74,13 +75,10 @@ pub fn step_once()
 {}
 
 /// What is legal is taken: a list of at most 20 known projects, none twice; a ranking that lists each
-/// applicant once, and no other; new rows that are not bad, within the limit. A fault of a student's
-/// list is told at the first faulty position.
+/// applicant once, and no other; new rows that are not bad, within the limit.
 pub fn legal_is_taken()
     ensures choices { (catalogue : List Listing) (list : List Key)
         → IsChoice (map (λ (l : Listing). l.key) catalogue) list → choice_fault catalogue 1 [] list ≡ None }
-    ensures first_fault { (catalogue : List Listing) (list : List Key) (fault : ListFault)
-        → choice_fault catalogue 1 [] list ≡ Some fault → IsFirstAt (choice_fault catalogue 1 []) list fault.at }
     ensures rankings { (w : World) (l : Lecturer) (list : List Key)
         → is_from_ranking w.phase ≡ true → IsRanking (map student_key (applicants_of w l.row.key)) list
         → ranking_fault (lecturer_sees w l).applicants 1 [] list ≡ None }
@@ -90,6 +88,24 @@ pub fn legal_is_taken()
         → AreFresh (project_roll v) v.projects rows → take_rows (project_roll v) 1 v.projects rows ≡ Took rows 0 }
     ensures students { (v : OfficeSees) (rows : List StudentRow)
         → AreFresh (student_roll v) v.students rows → take_rows (student_roll v) 1 v.students rows ≡ Took rows 0 }
+{}
+
+/// A fault is told where it is first: of a student's list, of a ranking and of a roll. That an applicant is
+/// missing in a ranking is told at place 0, and only where no place has a fault; a roll that is full is told
+/// without a row.
+pub fn least_is_told()
+    ensures choices { (catalogue : List Listing) (list : List Key) (fault : ListFault)
+        → choice_fault catalogue 1 [] list ≡ Some fault → IsFirstBad (IsBadChoice catalogue) list fault.at }
+    ensures rankings { (applicants : List (Key × List Person)) (list : List Key) (fault : ListFault)
+        → ranking_fault applicants 1 [] list ≡ Some fault
+        → IsFirstBad (IsBadRank applicants) list fault.at
+        ⊎ ((fault.at ≡ 0) × NoneBad (IsBadRank applicants) list × (lacks_one applicants list ≡ true)) }
+    ensures lecturers { (v : OfficeSees) (rows : List LecturerRow) (fault : RollFault)
+        → take_rows (lecturer_roll v) 1 v.lecturers rows ≡ Faulty fault → IsFirstRefused (lecturer_roll v) v.lecturers rows fault }
+    ensures projects { (v : OfficeSees) (rows : List ProjectRow) (fault : RollFault)
+        → take_rows (project_roll v) 1 v.projects rows ≡ Faulty fault → IsFirstRefused (project_roll v) v.projects rows fault }
+    ensures students { (v : OfficeSees) (rows : List StudentRow) (fault : RollFault)
+        → take_rows (student_roll v) 1 v.students rows ≡ Faulty fault → IsFirstRefused (student_roll v) v.students rows fault }
 {}
 
 /// In a good world the catalogue shows each project.

@@ -11,7 +11,6 @@ mod name;
 mod phase;
 mod placing;
 mod rows;
-mod text;
 mod view;
 
 pub use call::Call;

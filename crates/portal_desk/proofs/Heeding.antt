@@ -10,7 +10,7 @@ use Rattle.portal_core.specs.Answer.{Answer}
 use Rattle.portal_core.specs.Run.{Run, end_of}
 use Rattle.portal_core.specs.Heard.{Item, Asked, Sees, own_item, SeenIf, Heard, replies_to}
 use Rattle.portal_core.specs.Places.{SameButPlaces, SameRequest, AlikeUntilPublished, Unless, has_places, opens_result}
-use Rattle.portal_core.proofs.Told.{same_replies}
+use Rattle.portal_core.proofs.Hearing.{same_replies}
 use Rattle.portal_core.proofs.Disclosed.{places_unseen}
 use Rattle.portal_wire.specs.Text.{reply_text}
 use Rattle.portal_wire.specs.Conversation.{Exchange, asked_in, told_in, text, text_of}

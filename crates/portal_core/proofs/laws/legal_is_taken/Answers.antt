@@ -5,7 +5,6 @@ use Rattle.portal_core.proofs.laws.legal_is_taken.Goals as goal
 pub returns : goal.returns
 returns c = record {
   choices = taken.choice_taken;
-  first_fault = taken.first_fault;
   rankings = taken.ranking_taken;
   lecturers = λ v rows fresh. taken.rows_taken (lecturer_roll v) 1 v.lecturers rows fresh;
   projects = λ v rows fresh. taken.rows_taken (project_roll v) 1 v.projects rows fresh;
