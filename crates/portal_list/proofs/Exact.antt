@@ -51,22 +51,13 @@ exact w i sound lawful for =
     (keys_rise lecturer_line (λ x. x.key) w.lecturers sound.lecturers_rise)
     ∙ same_instance w
 
--- of the entries that some sound world has, as instance_of is told
-module _ (ls : List Lecturer) (ps : List ProjectRow) (ss : List Student) (ready : (w : World) × HasEntries ls ps ss w × Sound w × AllByRecursion (λ l. is_still_to_rank w l ≡ false) w.lecturers) where
-  pub none_before_memory : HasNoneBefore (lines_of ls ps ss) Memory
-  none_before_memory =
-      let has : HasEntries ls ps ss ready.0 = ready.1 in
-      let same : lines_of ready.0.lecturers ready.0.projects ready.0.students ≡ lines_of ls ps ss = λ j. lines_of (has.lecturers_there j) (has.projects_there j) (has.students_there j) in
-      subst (λ rows. HasNoneBefore rows Memory) same (faultless ready.0 ready.2 ready.3)
+-- of the entries of a sound world
+module _ (ls : List Lecturer) (ps : List ProjectRow) (ss : List Student) (w : World) (has : HasEntries ls ps ss w) (sound : Sound w) where
+  same_lines : lines_of w.lecturers w.projects w.students ≡ lines_of ls ps ss
+  same_lines = λ j. lines_of (has.lecturers_there j) (has.projects_there j) (has.students_there j)
 
-  pub only_meant : (i : Spa) → IsLawful i → StandsFor (lines_of ls ps ss) i → (v : World) → HasEntries ls ps ss v → i ≡ instance v
-  only_meant i lawful for v hv =
-      let w : World = ready.0 in
-      let has : HasEntries ls ps ss w = ready.1 in
-      let same : lines_of w.lecturers w.projects w.students ≡ lines_of ls ps ss = λ j. lines_of (has.lecturers_there j) (has.projects_there j) (has.students_there j) in
-      let ours : i ≡ instance w = exact w i ready.2 lawful (subst (λ rows. StandsFor rows i) (sym same) for) in
-      let l : w.lecturers ≡ v.lecturers = has.lecturers_there ∙ sym hv.lecturers_there in
-      let p : w.projects ≡ v.projects = has.projects_there ∙ sym hv.projects_there in
-      let s : w.students ≡ v.students = has.students_there ∙ sym hv.students_there in
-      let theirs : instance w ≡ instance v = λ j. instance (record { phase = w.phase; office = w.office; lecturers = l j; projects = p j; students = s j }) in
-      ours ∙ theirs
+  pub none_before_memory : AllByRecursion (λ l. is_still_to_rank w l ≡ false) w.lecturers → HasNoneBefore (lines_of ls ps ss) Memory
+  none_before_memory ranked = subst (λ rows. HasNoneBefore rows Memory) same_lines (faultless w sound ranked)
+
+  pub only_meant : (i : Spa) → IsLawful i → StandsFor (lines_of ls ps ss) i → i ≡ instance w
+  only_meant i lawful for = exact w i sound lawful (subst (λ rows. StandsFor rows i) (sym same_lines) for)

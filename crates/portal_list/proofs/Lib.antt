@@ -17,6 +17,5 @@ pub mod Parted
 pub mod Fresh
 pub mod Shared
 pub mod Filled
-pub mod AllRanked
 pub mod Missing
 pub mod Stable

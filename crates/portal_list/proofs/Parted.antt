@@ -5,12 +5,14 @@ use Rattle.std.specs.List.{AllByRecursion}
 use Rattle.std.proofs.lemmas.List.{length-map}
 use Rattle.portal_core.specs.Words.{Key, has, is_empty, Rise, AreDistinct}
 use Rattle.portal_core.specs.World.{World, Lecturer, Student, project_key, student_key, projects_of, applicants_of, is_still_to_rank, is_published}
+use Rattle.portal_core.specs.declared.rows.ProjectRow.{ProjectRow}
 use Rattle.portal_core.specs.Good.{Sound, codes_of, IsLecturer, IsStudent}
 use Rattle.portal_core.specs.Instance.{lecturer_keys, student_keys}
 use Rattle.portal_core.proofs.Keys.{all_unmap}
 use Rattle.portal_core.proofs.AllLaws as laws
 use Rattle.portal_list.specs.Rows.{Rows, rows_of}
 use Rattle.portal_list.specs.Fit.{lecturers_fitting, students_fitting}
+use Rattle.portal_list.specs.Lines.{HasEntries}
 use Rattle.portal_list.specs.Parts.{codes_in, lecturer_row_keys, student_row_keys, applicant_keys, IsRanked, RollsFit, ListsFit}
 use Rattle.portal_list.proofs.Rising.{map_map}
 use Rattle.portal_list.proofs.Fitting.{lecturers_back, lecturers_rows, students_back, students_rows}
@@ -127,6 +129,22 @@ module _ (rows : Rows) where
 
   pub students_come : Rise (student_row_keys rows.students) → (w : World) → rows ≡ rows_of w → students_fitting rows.students rows.choices rows.pairs ≡ Some w.students
   students_come rise w e = ap (λ r. students_fitting r.students r.choices r.pairs) e ∙ students_come_back w (subst (λ r. Rise (student_row_keys r.students)) e rise)
+
+  -- the entries of a sound world come again
+  pub lecturers_of_sound : (w : World) → rows ≡ rows_of w → Sound w → lecturers_fitting rows.lecturers rows.rankings ≡ Some w.lecturers
+  lecturers_of_sound w e sound = ap (λ r. lecturers_fitting r.lecturers r.rankings) e ∙ lecturers_back w.lecturers sound.lecturers_rise
+
+  pub students_of_sound : (w : World) → rows ≡ rows_of w → Sound w → students_fitting rows.students rows.choices rows.pairs ≡ Some w.students
+  students_of_sound w e sound = ap (λ r. students_fitting r.students r.choices r.pairs) e ∙ students_back w.students sound.students_rise
+
+  pub entries_of_sound : (w : World) → rows ≡ rows_of w → Sound w → (ls : List Lecturer) (ps : List ProjectRow) (ss : List Student)
+      → lecturers_fitting rows.lecturers rows.rankings ≡ Some ls → rows.projects ≡ ps → students_fitting rows.students rows.choices rows.pairs ≡ Some ss → HasEntries ls ps ss w
+  entries_of_sound w e sound ls ps ss lecturers projects students =
+      let l : Some w.lecturers ≡ Some ls = sym (lecturers_of_sound w e sound) ∙ lecturers in
+      let s : Some w.students ≡ Some ss = sym (students_of_sound w e sound) ∙ students in
+      let same_lecturers : w.lecturers ≡ ls = cc in
+      let same_students : w.students ≡ ss = cc in
+      record { lecturers_there = same_lecturers; projects_there = sym (ap (λ r. r.projects) e) ∙ projects; students_there = same_students }
 
   -- these rows are of one world
   pub one_world : Rise (lecturer_row_keys rows.lecturers) → Rise (student_row_keys rows.students) → (v w : World) → rows ≡ rows_of v → rows ≡ rows_of w → v ≡ w

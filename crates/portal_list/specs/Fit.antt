@@ -17,7 +17,8 @@ rest_for k (x ∷ xs) = if is x.0 k then xs else x ∷ xs
 
 abbrev pub lecturers_fitting : List LecturerRow → List (Key × List Key) → Option (List Lecturer)
 lecturers_fitting [] rankings = if is_empty rankings then Some [] else None
-lecturers_fitting (r ∷ rs) rankings = option_map (λ ls. record { row = r; ranking = next_for r.key rankings } ∷ ls) (lecturers_fitting rs (rest_for r.key rankings))
+lecturers_fitting (r ∷ rs) rankings =
+    option_map (λ ls. record { row = r; ranking = next_for r.key rankings } ∷ ls) (lecturers_fitting rs (rest_for r.key rankings))
 
 -- a student with the list, if there is one, before other students
 abbrev pub with_list : StudentRow → Option (List Key) → Option Key → Option (List Student) → Option (List Student)
@@ -26,4 +27,5 @@ with_list r (Some list) place others = option_map (λ ss. record { row = r; choi
 
 abbrev pub students_fitting : List StudentRow → List (Key × List Key) → List (Key × Key) → Option (List Student)
 students_fitting [] choices pairs = if is_empty choices && is_empty pairs then Some [] else None
-students_fitting (r ∷ rs) choices pairs = with_list r (next_for r.key choices) (next_for r.key pairs) (students_fitting rs (rest_for r.key choices) (rest_for r.key pairs))
+students_fitting (r ∷ rs) choices pairs =
+    with_list r (next_for r.key choices) (next_for r.key pairs) (students_fitting rs (rest_for r.key choices) (rest_for r.key pairs))

@@ -16,7 +16,8 @@ abbrev pub student_line : Student → Lines.Student
 student_line s = record { row = 0; key = s.row.key; list = s.choice }
 
 abbrev pub lines_of : List Lecturer → List ProjectRow → List Student → Rows
-lines_of lecturers projects students = record { lecturers = map lecturer_line lecturers; projects = map project_line projects; students = map student_line students }
+lines_of lecturers projects students =
+    record { lecturers = map lecturer_line lecturers; projects = map project_line projects; students = map student_line students }
 
 -- the world has these entries
 pub record HasEntries (lecturers : List Lecturer) (projects : List ProjectRow) (students : List Student) (w : World) : Type 0 where

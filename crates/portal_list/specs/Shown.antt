@@ -13,7 +13,8 @@ applicants_shown closed ss l ps = map (λ p. (p.key, if closed then persons (fil
 
 -- a lecturer's projects, with the placed students once the result is shown
 abbrev pub placed_shown : Bool → List Student → Key → List ProjectRow → List (Key × List Person)
-placed_shown published ss l ps = map (λ p. (p.key, if published then persons (filter (λ s. is_at p.key s.placed) ss) else [])) (filter (λ p. is p.lecturer l) ps)
+placed_shown published ss l ps =
+    map (λ p. (p.key, if published then persons (filter (λ s. is_at p.key s.placed) ss) else [])) (filter (λ p. is p.lecturer l) ps)
 
 -- some list holds a project of the lecturer
 abbrev pub is_wanted : List Student → List ProjectRow → Key → Bool

@@ -1,10 +1,15 @@
 //! Rows put together to entries.
 
-ghost use Rattle.std.specs.Prelude.{◌≡◌, IfOk, map, option_map};
+ghost use Rattle.std.specs.Prelude.{◌≡◌, Err, IfOk, map, option_map};
+ghost use Rattle.portal_core.specs.World.{World};
+ghost use Rattle.portal_core.specs.Good.{Sound};
 ghost use Rattle.portal_list.specs.Fit.{next_for, rest_for, lecturers_fitting, students_fitting};
+ghost use Rattle.portal_list.specs.Lines.{HasEntries};
+ghost use Rattle.portal_list.specs.Rows.{rows_of};
 
 use crate::entries::{LecturerEntry, StudentEntry};
-use portal_core::{LecturerRow, StudentRow};
+use crate::from_rows::{RowsFault, WorldRows};
+use portal_core::{LecturerRow, ProjectRow, StudentRow};
 use spa_rows::Key;
 use std::alloc::{AllocError, Global};
 use std::collections::VecDeque;
@@ -70,5 +75,41 @@ pub(crate) fn student_entries(
         Some(entries)
     } else {
         None
+    })
+}
+
+/// The entries of a world.
+#[derive(Drop)]
+pub(crate) struct Entries {
+    pub lecturers: Vec<LecturerEntry>,
+    pub projects: Vec<ProjectRow>,
+    pub students: Vec<StudentEntry>,
+}
+
+/// The entries of the rows of a sound world. No list is judged: of other rows entries may come that mean nothing, or `NotGood`.
+pub(crate) fn entries_of(alloc: Global, rows: WorldRows) -> Result<Entries, RowsFault>
+    ensures entries { IfOk result (λ e. (w : World) → rows ≡ rows_of w → Sound w → HasEntries e.lecturers.items e.projects.items e.students.items w) }
+    ensures refused { result ≡ Err RowsFault.NotGood → (w : World) → rows ≡ rows_of w → Sound w → ⊥ }
+{
+    let WorldRows {
+        phase: _,
+        office: _,
+        lecturers,
+        projects,
+        students,
+        choices,
+        rankings,
+        pairs,
+    } = rows;
+    let Some(lecturers) = lecturer_entries(alloc, lecturers, rankings)? else {
+        return Err(RowsFault::NotGood);
+    };
+    let Some(students) = student_entries(alloc, students, choices, pairs)? else {
+        return Err(RowsFault::NotGood);
+    };
+    Ok(Entries {
+        lecturers,
+        projects,
+        students,
     })
 }

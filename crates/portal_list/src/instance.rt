@@ -1,13 +1,16 @@
-//! The instance of the entries.
+//! The instance of entries, and of rows.
 
-ghost use Rattle.std.specs.Prelude.{◌≡◌, false, IfOk, map};
+ghost use Rattle.std.specs.Prelude.{◌≡◌, false, Err, IfOk, map};
 ghost use Rattle.std.specs.List.{AllByRecursion};
 ghost use Rattle.portal_core.specs.World.{World, is_still_to_rank};
 ghost use Rattle.portal_core.specs.Good.{Sound};
 ghost use Rattle.portal_core.specs.Instance as meant_by;
 ghost use Rattle.portal_list.specs.Lines.{lecturer_line, project_line, student_line, lines_of, HasEntries};
+ghost use Rattle.portal_list.specs.Rows.{rows_of as of_world};
 
 use crate::entries::{LecturerEntry, StudentEntry};
+use crate::fit::entries_of;
+use crate::from_rows::{RowsFault, WorldRows};
 use portal_core::ProjectRow;
 use spa_model::{Instance, InstanceFault, InstanceRows, LecturerLine, ProjectLine, StudentLine};
 use spa_rows::Key;
@@ -113,15 +116,15 @@ fn rows_of(
     })
 }
 
-/// The instance of the entries of a sound world in which nobody is still to rank.
-pub(crate) fn instance_of(
+/// The instance of the entries, which are not judged; `NotGood` where they have none.
+fn instance_among(
     alloc: Global,
     lecturers: &[LecturerEntry],
     projects: &[ProjectRow],
     students: &[StudentEntry],
-) -> Result<Instance, AllocError>
-    requires ready { (w : World) × HasEntries lecturers.now projects.now students.now w × Sound w × AllByRecursion (λ l. is_still_to_rank w l ≡ false) w.lecturers }
-    ensures instance { IfOk result (λ instance. (w : World) → HasEntries lecturers.now projects.now students.now w → instance ≡ meant_by.instance w) }
+) -> Result<Instance, RowsFault>
+    ensures instance { IfOk result (λ instance. (w : World) → HasEntries lecturers.now projects.now students.now w → Sound w → instance ≡ meant_by.instance w) }
+    ensures refused { result ≡ Err RowsFault.NotGood → (w : World) → HasEntries lecturers.now projects.now students.now w → Sound w → AllByRecursion (λ l. is_still_to_rank w l ≡ false) w.lecturers → ⊥ }
 {
     let rows = rows_of(alloc, lecturers, projects, students)?;
     match Instance::build(alloc, rows) {
@@ -130,8 +133,40 @@ pub(crate) fn instance_of(
             Ok(instance)
         }
         Err(bad) => match bad.fault {
-            InstanceFault::Memory => Err(AllocError),
-            _ => unreachable!(),
+            InstanceFault::Memory => Err(RowsFault::Memory),
+            _ => Err(RowsFault::NotGood),
         },
     }
+}
+
+/// The instance of the entries of a sound world in which nobody is still to rank.
+pub(crate) fn instance_of(
+    alloc: Global,
+    lecturers: &[LecturerEntry],
+    projects: &[ProjectRow],
+    students: &[StudentEntry],
+) -> Result<Instance, AllocError>
+    requires ready { (w : World) × HasEntries lecturers.now projects.now students.now w × Sound w × AllByRecursion (λ l. is_still_to_rank w l ≡ false) w.lecturers }
+    ensures instance { IfOk result (λ instance. (w : World) → HasEntries lecturers.now projects.now students.now w → Sound w → instance ≡ meant_by.instance w) }
+{
+    match instance_among(alloc, lecturers, projects, students) {
+        Ok(instance) => Ok(instance),
+        Err(RowsFault::Memory) => Err(AllocError),
+        Err(RowsFault::NotGood) => unreachable!(),
+    }
+}
+
+/// The instance of the rows of a sound world in which nobody is still to rank. No list is judged: of other rows an instance may
+/// come that means nothing, or `NotGood`.
+pub fn instance_of_rows(alloc: Global, rows: WorldRows) -> Result<Instance, RowsFault>
+    ensures instance { IfOk result (λ instance. (w : World) → rows ≡ of_world w → Sound w → instance ≡ meant_by.instance w) }
+    ensures refused { result ≡ Err RowsFault.NotGood → (w : World) → rows ≡ of_world w → Sound w → AllByRecursion (λ l. is_still_to_rank w l ≡ false) w.lecturers → ⊥ }
+{
+    let entries = entries_of(alloc, rows)?;
+    instance_among(
+        alloc,
+        &entries.lecturers,
+        &entries.projects,
+        &entries.students,
+    )
 }

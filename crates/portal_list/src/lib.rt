@@ -14,9 +14,10 @@ mod instance;
 mod keeper;
 mod keyed;
 mod lists;
-mod ready;
 mod rolls;
 mod views;
 
+pub use fills::fills_of_rows;
 pub use from_rows::{RowsFault, WorldRows};
+pub use instance::instance_of_rows;
 pub use keeper::ListKeeper;

@@ -15,7 +15,7 @@ use crate::entries::{LecturerEntry, StudentEntry};
 use crate::keeper::ListKeeper;
 use by_project::{applicants_by_project, placed_by_project};
 pub(crate) use catalogue::catalogue_of;
-pub(crate) use office::{has_applicant, waiting};
+pub(crate) use office::waiting;
 use office::{lecturer_rows, pairs_of, still_to_rank, student_rows, without_list};
 use portal_core::{LecturerView, OfficeView, Phase, StudentView};
 use spa_rows::Key;

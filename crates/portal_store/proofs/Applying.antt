@@ -9,9 +9,8 @@ use Rattle.sqlite.specs.Effect.{Database}
 use Rattle.sqlite_trees.proofs.ListLemmas.{filter-map}
 use Rattle.portal_core.specs.declared.phase.Phase.{Phase}
 use Rattle.portal_core.specs.declared.phase.Phase.TheVariants.{Setup, Choosing, Ranking, Published}
-use Rattle.portal_core.specs.declared.rows.LecturerRow.{LecturerRow}
+use Rattle.portal_core.specs.declared.rows.Listing.{Listing}
 use Rattle.portal_core.specs.declared.rows.Person.{Person}
-use Rattle.portal_core.specs.declared.rows.ProjectRow.{ProjectRow}
 use Rattle.portal_core.specs.Sight.{LecturerSees}
 use Rattle.portal_core.specs.Words.{Key, is, has}
 use Rattle.portal_core.specs.World.{World, Lecturer, Student, project_key, projects_of, applicants_to, placed_at, is_at, is_from_ranking, is_published}
@@ -27,10 +26,10 @@ use Rattle.portal_store.specs.Kept.{Holds}
 use Rattle.portal_store.specs.Lists.{of_key, named_by, place_key, by_place, chosen}
 use Rattle.portal_store.specs.World.{world_of, row_key, student_of}
 use Rattle.portal_store.specs.Shown.{first, by_key, students_shown}
-use Rattle.portal_store.specs.Queried.{offered, line_of, shown_line, applicants_at, applicants_told, placed_told}
+use Rattle.portal_store.specs.Queried.{line_of, shown_line, applicants_at, applicants_told, placed_told}
 use Rattle.portal_store.proofs.Listed.{permuted, all_mapped, for_each}
 use Rattle.portal_store.proofs.Loaded.{roll_columns, students_are}
-use Rattle.portal_store.proofs.Queried.{filter_alike, all_offered}
+use Rattle.portal_store.proofs.Queried.{filter_alike}
 use Rattle.portal_store.proofs.Shapes.{IsChoiceRow, has_text_of, choice_rows_formed}
 use Rattle.portal_store.proofs.Sorted.{permutes, map_alike}
 
@@ -38,7 +37,7 @@ pub lines_told : (db : Trees) → map shown_line (students_shown db) ≡ map lin
 unfolding world_of
 lines_told db = map-map shown_line roll_columns (by_key (db student_tree)) ∙ sym (ap (map line_of) (students_are db) ∙ map-map line_of (student_of (db choice_tree)) (by_key (db student_tree)))
 
-any_alike : {X : Type 0} (p q : X → Bool) (xs : List X) → AllByRecursion (λ x. p x ≡ q x) xs → list_any p xs ≡ list_any q xs
+pub any_alike : {X : Type 0} (p q : X → Bool) (xs : List X) → AllByRecursion (λ x. p x ≡ q x) xs → list_any p xs ≡ list_any q xs
 any_alike p q [] all = refl
 any_alike p q (x ∷ xs) all = ap₂ (λ a b. a || b) all.0 (any_alike p q xs all.1)
 
@@ -75,7 +74,7 @@ module _ (db : Database) (holds : Holds db) (p : Key) (shown : List Row) (lists 
       ∙ filtered_any (λ r. is p (named_by r)) (has_text 1 k) table in
       left ∙ any_alike _ _ table (all_weaker IsChoiceRow _ (alike k) table (choice_rows_formed db holds.own holds.sound holds.apart.1.1.1.1.0)) ∙ sym right
 
-  choosers : AllByRecursion (λ (s : Student). has (map first shown) s.row.key ≡ has s.choice p) (world_of db.trees).students
+  pub choosers : AllByRecursion (λ (s : Student). has (map first shown) s.row.key ≡ has s.choice p) (world_of db.trees).students
   unfolding world_of
   choosers =
       subst (AllByRecursion (λ (s : Student). has (map first shown) s.row.key ≡ has s.choice p)) (sym (students_are db.trees))
@@ -129,9 +128,8 @@ pub own_placed : (w : World) (l : Lecturer) (own : List Key) → own ≡ map pro
 own_placed w l own e = ap (placed_told w) e ∙ map-map (λ k. (k, if is_published w.phase then persons (placed_at w k) else [])) project_key (projects_of w l.row.key)
 
 -- what a lecturer sees, of what was read
-pub lecturer_told : (w : World) (l : Lecturer) (phase : Phase) (ls : List LecturerRow) (ps : List ProjectRow) (applicants placed : List (Key × List Person)) (ranking : Option (List Key))
-    → phase ≡ w.phase → ls ≡ map (λ (l : Lecturer). l.row) w.lecturers → ps ≡ w.projects → applicants ≡ (lecturer_sees w l).applicants → placed ≡ (lecturer_sees w l).placed → ranking ≡ l.ranking
-    → ◌≡◌ {A = LecturerSees} (record { phase = phase; me = record { key = l.row.key; name = l.row.name }; capacity = l.row.capacity; catalogue = offered ls ps; applicants = applicants; ranking = ranking; placed = placed }) (lecturer_sees w l)
-lecturer_told w l phase ls ps applicants placed ranking at_phase by of at_applicants at_placed at_ranking =
-    let shown : offered ls ps ≡ catalogue w = ap₂ offered by of ∙ all_offered w.lecturers w.projects in
-    λ i. record { phase = at_phase i; me = record { key = l.row.key; name = l.row.name }; capacity = l.row.capacity; catalogue = shown i; applicants = at_applicants i; ranking = at_ranking i; placed = at_placed i }
+pub lecturer_told : (w : World) (l : Lecturer) (phase : Phase) (shown : List Listing) (applicants placed : List (Key × List Person)) (ranking : Option (List Key))
+    → phase ≡ w.phase → shown ≡ catalogue w → applicants ≡ (lecturer_sees w l).applicants → placed ≡ (lecturer_sees w l).placed → ranking ≡ l.ranking
+    → ◌≡◌ {A = LecturerSees} (record { phase = phase; me = record { key = l.row.key; name = l.row.name }; capacity = l.row.capacity; catalogue = shown; applicants = applicants; ranking = ranking; placed = placed }) (lecturer_sees w l)
+lecturer_told w l phase shown applicants placed ranking at_phase all at_applicants at_placed at_ranking =
+    λ i. record { phase = at_phase i; me = record { key = l.row.key; name = l.row.name }; capacity = l.row.capacity; catalogue = all i; applicants = at_applicants i; ranking = at_ranking i; placed = at_placed i }

@@ -1,15 +1,12 @@
 -- The world with rankings put one after the other; those that a fill would put make the filled world.
-use Rattle.std.proofs.Common.{◌≡◌, inl, inr, ℕ, ◌≤◌, Bool, true, false, ◌||◌, not, cond, Some, List, [], ◌∷◌, ◌++◌, map, filter, length, refl, sym, ap, subst, ◌∙◌, arith}
+use Rattle.std.proofs.Common.{◌≡◌, inl, inr, Bool, true, false, ◌||◌, not, cond, Some, List, [], ◌∷◌, ◌++◌, map, filter, refl, sym, ap, subst, ◌∙◌}
 use Rattle.std.proofs.Math.Bool.{or-true}
-use Rattle.std.proofs.lemmas.List.{length-map}
-use Rattle.std.proofs.lemmas.List.Filters.{length-filter_both}
-use Rattle.std.specs.List.{AllByRecursion, IsDistinct, list_any}
+use Rattle.std.specs.List.{AllByRecursion, IsDistinct}
 use Rattle.sqlite_rules.specs.Lists.{Has}
 use Rattle.portal_core.specs.Words.{Key, is, has, Rise}
-use Rattle.portal_core.specs.World.{World, Lecturer, Student, lecturer_key, student_key, applicants_of, projects_of, is_still_to_rank}
+use Rattle.portal_core.specs.World.{World, Lecturer, lecturer_key, student_key, applicants_of, is_still_to_rank}
 use Rattle.portal_core.specs.Change.{changed, Ranks, Fill, with_ranking, with_fill}
-use Rattle.portal_core.specs.Good.{Sound}
-use Rattle.portal_core.proofs.Keys.{is_own, all_unmap}
+use Rattle.portal_core.proofs.Keys.{is_own}
 use Rattle.portal_core.proofs.AllLaws.{is_sym, map_same}
 use Rattle.portal_list.specs.Fill.{fills}
 use Rattle.portal_list.proofs.Replaced.{ranking_elsewhere, ranking_here}
@@ -109,18 +106,3 @@ module _ (w : World) where
 
   pub fills_there : AllByRecursion (λ (f : Key × List Key). has (map lecturer_key w.lecturers) f.0 ≡ true) (fills w)
   fills_there = all_shown _ fill_for (is_still_to_rank w) w.lecturers (λ l h. key_there w.lecturers l h)
-
-  -- no ranking is longer than the roll of students
-  fills_few : (most : ℕ) → length w.students ≤ most → AllByRecursion (λ (f : Key × List Key). length f.1 ≤ most) (fills w)
-  fills_few most few = all_shown _ fill_for (is_still_to_rank w) w.lecturers (λ l h. long l.row.key)
-    where
-      long : (k : Key) → length (map student_key (applicants_of w k)) ≤ most
-      long k =
-          let wants = λ (s : Student). list_any (λ p. has s.choice p.key) (projects_of w k) in
-          omega (arith, few, length-map (applicants_of w k) student_key, length-filter_both wants (λ s. not (wants s)) (λ s. refl) w.students)
-
-pub few_fills : {X : Type 0} (show : X → Key × List Key) (w : World) → Sound w → (xs : List X) → map show xs ≡ fills w
-    → AllByRecursion (λ x. length (show x).1 ≤ 2000) xs
-few_fills show w sound xs is =
-    let P = λ (f : Key × List Key). length f.1 ≤ 2000 in
-    all_unmap P show xs (subst (AllByRecursion P) (sym is) (fills_few w 2000 sound.few_students))

@@ -1,17 +1,25 @@
 -- What a change that was committed, or left all as it was, is to the store: whatever the change.
-use Rattle.std.proofs.Common.{inl, inr, ◌≡◌, Bool, IsTrue, Ok, Err, Result, IfOk, OnOk, OnErr, false, sym, ap, subst, ◌∙◌}
+use Rattle.std.proofs.Common.{inl, inr, ◌≡◌, Bool, IsTrue, Ok, Err, Result, Option, IfOk, OnOk, OnErr, false, sym, ap, subst, ◌∙◌}
+use Rattle.std.specs.Prelude.{Vec}
+use Rattle.std.specs.declared.alloc.Global.{Global}
+use Rattle.std.specs.declared.rc.Rc.{Rc}
+use Rattle.portal_core.specs.declared.rows.Listing.{Listing}
 use Rattle.sqlite.specs.Effect.{Database, IsDatabase}
-use Rattle.sqlite.specs.State.{HasCleanDisk, IsUnchanged}
+use Rattle.sqlite.specs.State.{HasCleanDisk, IsUnchanged, Survives}
+use Rattle.sqlite.specs.Tree.{Trees}
 use Rattle.sqlite.specs.Store.{Ghosts}
 use Rattle.sqlite.specs.Held.{Held, state}
 use Rattle.portal_core.specs.Change.{Change, changed}
 use Rattle.portal_core.specs.World.{World}
 use Rattle.portal_core.specs.Good.{Good}
+use Rattle.portal_core.specs.View.{catalogue}
 use Rattle.portal_tables.specs.Tables.{portal_tree}
 use Rattle.portal_tables.specs.Own.{IsOwn}
-use Rattle.portal_tables.specs.Steps.{Commits, Stays, Leaves}
+use Rattle.portal_tables.specs.Steps.{Commits, Stays, Leaves, IsAfter}
 use Rattle.portal_store.specs.World.{world_of}
-use Rattle.portal_store.specs.Kept.{HasOffice, Holds, Turned, Turns, Seen, IsKept, IsCleanStore, kept_world}
+use Rattle.portal_store.specs.Kept.{HasOffice, Holds, Turned, Turns, Seen, IsKept, IsCleanStore, kept_world, Remembers}
+use Rattle.portal_store.specs.Crash.{IsLeft}
+use Rattle.portal_store.specs.Reading.{KeepsInMind}
 
 -- nothing is changed
 pub still : {S : Type 0} (g : Ghosts S) (old new : Held S) (own : Bool) → IsKept g (record { conn = old; own = own }) → new.in_transaction ≡ false
@@ -50,6 +58,24 @@ module _
       let was = kept.ready mine done.was_open in
       done.changed was.holds (subst (λ s. IsCleanStore g s → Good (kept_world g s)) (sym is) good (mine, done.was_open)) (subst (λ s. IsCleanStore g s → Good (changed (kept_world g s) change)) (sym is) leaves (mine, done.was_open))
 
+  -- what a crash leaves, as the caller sees the tables before: an open store leaves what is committed alone
+  pub change_left : ((db : Trees) → IsTrue (state g old).is_open → (state g old).may_leave db → db ≡ (state g old).committed.trees)
+      → (IsOwn old.schema → Survives (state g old) (state g new) (IsAfter (Turns change) (state g old)))
+      → IsCleanStore g before → HasCleanDisk (state g new) → (db : Trees) → (state g new).may_leave db → IsLeft change (state g before.conn).now db
+  change_left settled survives on clean db leaves_it =
+      let mine : IsCleanStore g seen = subst (λ s. IsCleanStore g s) (sym is) on in
+      let was = kept.ready mine.0 mine.1 in
+      let left : IsLeft change (state g old).now db = elim ((survives (known mine.0)).crash clean db leaves_it) [
+        | inl earlier ↦ inl (settled db mine.1 earlier ∙ ap (λ (d : Database). d.trees) was.settled)
+        | inr made ↦ inr (
+          made.0,
+          made.1 was.holds (subst (λ s. IsCleanStore g s → Good (kept_world g s)) (sym is) good mine)
+              (subst (λ s. IsCleanStore g s → Good (changed (kept_world g s) change)) (sym is) leaves mine),
+          made.2,
+        )
+      ] in
+      subst (λ (s : Seen S). IsLeft change (state g s.conn).now db) is left
+
   module _
       {V E : Type 0}
       (r : Result V E)
@@ -83,6 +109,17 @@ module _
         → OnErr r (IsCleanStore g (record { conn = new; own = own }) → world_of (state g new).now.trees ≡ kept_world g seen)
     same_by (Ok v) same = tt
     same_by (Err e) same = λ on. ap (λ (d : Database). world_of d.trees) (same on.0 on.1).1
+
+    shown_by : (m n : Option (Rc (Vec Listing Global) Global)) → (IsCleanStore g seen → Remembers m (catalogue (kept_world g seen))) → ((w : World) → Remembers m (catalogue w) → Remembers n (catalogue w))
+        → ((w : World) → Remembers m (catalogue w) → Remembers n (catalogue (changed w change))) → (r : Result V E) → (IsTrue own → IsTrue (state g new).is_open → OnOk r (Commits (Turns change) (state g old) (state g new)))
+        → (IsTrue own → IsTrue (state g new).is_open → OnErr r (Stays (state g old) (state g new))) → IsCleanStore g (record { conn = new; own = own }) → Remembers n (catalogue (world_of (state g new).now.trees))
+    shown_by m n was at_err at_ok (Ok v) did same on = subst (λ w. Remembers n (catalogue w)) (sym (turned on.0 (did on.0 on.1)).world) (at_ok (kept_world g seen) (was (clean_by (Ok v) did same on)))
+    shown_by m n was at_err at_ok (Err e) did same on = subst (λ w. Remembers n (catalogue w)) (sym (same_by (Err e) same on)) (at_err (kept_world g seen) (was (clean_by (Err e) did same on)))
+
+    -- what is remembered of the catalogue is right before the change and after it
+    pub change_shown : (m n : Option (Rc (Vec Listing Global) Global)) → (IsCleanStore g seen → Remembers m (catalogue (kept_world g seen))) → ((w : World) → Remembers m (catalogue w) → Remembers n (catalogue w))
+        → ((w : World) → Remembers m (catalogue w) → Remembers n (catalogue (changed w change))) → IsCleanStore g (record { conn = new; own = own }) → Remembers n (catalogue (world_of (state g new).now.trees))
+    change_shown m n was at_err at_ok = shown_by m n was at_err at_ok r done stays
 
     pub change_keeps : IsKept g (record { conn = new; own = own })
     change_keeps = kept_by r done stays
@@ -136,6 +173,13 @@ module _
 
   pub read_same : IsCleanStore g (record { conn = new; own = own }) → world_of (state g new).now.trees ≡ kept_world g before
   read_same on = ap (λ (d : Database). world_of d.trees) (rest on.0 on.1).1 ∙ ap (λ s. kept_world g s) is
+
+  -- what is remembered of the catalogue stays right
+  pub read_shown : (m n : Option (Rc (Vec Listing Global) Global)) → (IsCleanStore g (record { conn = old; own = own }) → Remembers m (catalogue (world_of (state g old).now.trees))) → KeepsInMind m n (state g old) (state g new)
+      → IsCleanStore g (record { conn = new; own = own }) → Remembers n (catalogue (world_of (state g new).now.trees))
+  read_shown m n was mind on =
+      let same = rest on.0 on.1 in
+      subst (λ (d : Database). Remembers n (catalogue (world_of d.trees))) (sym same.1) (mind (kept.ready on.0 same.0).holds (law on.1) same.0 (was (on.0, same.0)))
 
   -- what is known of the tables before holds of the store, as its caller sees it
   pub read_world : (w : World) → (IsOwn old.schema → IsDatabase (state g old).now → HasCleanDisk (state g new) → w ≡ world_of (state g old).now.trees) → IsCleanStore g (record { conn = new; own = own }) → w ≡ kept_world g before

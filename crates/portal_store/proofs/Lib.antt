@@ -15,11 +15,13 @@ pub mod Keeps
 pub mod Listed
 pub mod Loaded
 pub mod OfficeRow
+pub mod OfficeSeen
 pub mod Parents
 pub mod Places
 pub mod Putting
 pub mod RankTurns
 pub mod Read
+pub mod Remembered
 pub mod RollRows
 pub mod RowsOnce
 pub mod Shapes

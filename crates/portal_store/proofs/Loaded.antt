@@ -32,7 +32,7 @@ phase_back Choosing = refl
 phase_back Ranking = refl
 phase_back Published = refl
 
-some_mapped : {X Y Z : Type 0} (f : Y → Option Z) (g : X → Y) (xs : List X) → filter_map f (map g xs) ≡ filter_map (λ x. f (g x)) xs
+pub some_mapped : {X Y Z : Type 0} (f : Y → Option Z) (g : X → Y) (xs : List X) → filter_map f (map g xs) ≡ filter_map (λ x. f (g x)) xs
 some_mapped f g [] = refl
 some_mapped f g (x ∷ xs) = ap (cons_option (f (g x))) (some_mapped f g xs)
 
@@ -76,7 +76,7 @@ module _ (db : Trees) where
   abbrev placed_pair : Student → Option (Key × Key)
   placed_pair s = option_map (λ p. (s.row.key, p)) s.placed
 
-  rows_are : (phase : Phase) (code : Key) → db portal_tree ≡ portal_row (pos 1) (pos (number_of phase)) code ∷ []
+  pub rows_are : (phase : Phase) (code : Key) → db portal_tree ≡ portal_row (pos 1) (pos (number_of phase)) code ∷ []
       → rows_from db phase code (lecturers_shown db) (projects_shown db) (students_shown db) ≡ rows_of (world_of db)
   unfolding world_of
   rows_are phase code office =

@@ -10,6 +10,7 @@ use Rattle.sqlite.specs.Effect.{Database}
 use Rattle.sqlite.proofs.Callers.{one_permutation}
 use Rattle.sqlite_trees.proofs.ListLemmas.{IsPermutation-filter, filter-map}
 use Rattle.portal_core.specs.declared.rows.LecturerRow.{LecturerRow}
+use Rattle.portal_core.specs.declared.rows.Listing.{Listing}
 use Rattle.portal_core.specs.declared.rows.ProjectRow.{ProjectRow}
 use Rattle.portal_core.specs.Words.{Key, is}
 use Rattle.portal_core.specs.World.{World, Lecturer, Student, is_published}
@@ -120,19 +121,21 @@ name_row : (o : Option Lecturer) → option_map (λ (r : LecturerRow). r.name) (
 name_row None = refl
 name_row (Some l) = refl
 
-pub all_offered : (ls : List Lecturer) (ps : List ProjectRow) → offered (map (λ (l : Lecturer). l.row) ls) ps ≡ listings ls ps
+all_offered : (ls : List Lecturer) (ps : List ProjectRow) → offered (map (λ (l : Lecturer). l.row) ls) ps ≡ listings ls ps
 all_offered ls ps =
     some_alike (λ p. option_map (listing_with p) (name_of (map (λ (l : Lecturer). l.row) ls) p.lecturer)) (λ p. option_map (listing_with p) (name_in ls p.lecturer)) ps (λ p.
     ap (option_map (listing_with p)) (ap (option_map (λ (r : LecturerRow). r.name)) (find_map (λ (l : Lecturer). l.row) (λ (l : Lecturer). is l.row.key p.lecturer) (λ (r : LecturerRow). is r.key p.lecturer) (λ l. refl) ls)
     ∙ name_row (find (λ (l : Lecturer). is l.row.key p.lecturer) ls)))
 
+pub catalogue_told : (w : World) (ls : List LecturerRow) (ps : List ProjectRow) → ls ≡ map (λ (l : Lecturer). l.row) w.lecturers → ps ≡ w.projects → offered ls ps ≡ catalogue w
+catalogue_told w ls ps by of = ap₂ offered by of ∙ all_offered w.lecturers w.projects
+
 -- what a student sees, of what was read
-pub student_told : (w : World) (s : Student) (phase : Phase) (me : Person) (result : Option Key) (ls : List LecturerRow) (ps : List ProjectRow) (choices : List Key)
-    → phase ≡ w.phase → me ≡ record { key = s.row.key; name = s.row.name } → result ≡ (if is_published w.phase then s.placed else None) → ls ≡ map (λ (l : Lecturer). l.row) w.lecturers → ps ≡ w.projects → choices ≡ s.choice
-    → ◌≡◌ {A = StudentSees} (record { phase = phase; me = me; catalogue = offered ls ps; choices = choices; result = result }) (student_sees w s)
-student_told w s phase me result ls ps choices at_phase at_me at_result by of listed =
-    let shown : offered ls ps ≡ catalogue w = ap₂ offered by of ∙ all_offered w.lecturers w.projects in
-    λ i. record { phase = at_phase i; me = at_me i; catalogue = shown i; choices = listed i; result = at_result i }
+pub student_told : (w : World) (s : Student) (phase : Phase) (me : Person) (result : Option Key) (shown : List Listing) (choices : List Key)
+    → phase ≡ w.phase → me ≡ record { key = s.row.key; name = s.row.name } → result ≡ (if is_published w.phase then s.placed else None) → shown ≡ catalogue w → choices ≡ s.choice
+    → ◌≡◌ {A = StudentSees} (record { phase = phase; me = me; catalogue = shown; choices = choices; result = result }) (student_sees w s)
+student_told w s phase me result shown choices at_phase at_me at_result all listed =
+    λ i. record { phase = at_phase i; me = at_me i; catalogue = all i; choices = listed i; result = at_result i }
 
 -- the office
 module _ (db : Trees) (phase : Phase) (code : Key) (office : db portal_tree ≡ portal_row (pos 1) (pos (number_of phase)) code ∷ []) where

@@ -1,7 +1,9 @@
 -- What a store keeps true between two calls, and what a change of the world is to the tables.
-use Rattle.std.specs.Prelude.{◌≡◌, pos, Bool, true, false, List, [], ◌∷◌, IsTrue, refl}
+use Rattle.std.specs.Prelude.{Vec, ◌≡◌, pos, Bool, true, false, List, [], ◌∷◌, Option, IfSome, IsTrue, refl}
 use Rattle.std.specs.Coded.{Coded, code_by, coded×, coded_bool}
 use Rattle.std.specs.List.{AllByRecursion}
+use Rattle.std.specs.declared.alloc.Global.{Global}
+use Rattle.std.specs.declared.rc.Rc.{Rc}
 use Rattle.sqlite.specs.Order.{Row}
 use Rattle.sqlite.specs.Tree.{Trees}
 use Rattle.sqlite.specs.Effect.{Database, IsDatabase}
@@ -9,10 +11,12 @@ use Rattle.sqlite.specs.State.{State}
 use Rattle.sqlite.specs.Store.{Ghosts}
 use Rattle.sqlite.specs.Held.{Held, held_code, state}
 use Rattle.portal_core.specs.declared.phase.Phase.{Phase}
+use Rattle.portal_core.specs.declared.rows.Listing.{Listing}
 use Rattle.portal_core.specs.Words.{Key}
 use Rattle.portal_core.specs.World.{World}
 use Rattle.portal_core.specs.Change.{Change, changed}
 use Rattle.portal_core.specs.Good.{Good}
+use Rattle.portal_core.specs.View.{catalogue}
 use Rattle.portal_tables.specs.Tables.{portal_tree, lecturer_tree, student_tree, choice_tree, ranking_tree, own_trees}
 use Rattle.portal_tables.specs.Own.{IsOwn}
 use Rattle.portal_tables.specs.Changes.{IsApart}
@@ -78,3 +82,12 @@ IsCleanStore g s = IsTrue s.own × IsTrue (state g s.conn).is_open
 
 abbrev pub kept_world : {S : Type 0} → Ghosts S → Seen S → World
 kept_world g s = world_of (state g s.conn).now.trees
+
+-- this catalogue is remembered, or none
+abbrev pub Remembers : Option (Rc (Vec Listing Global) Global) → List Listing → Type 0
+Remembers remembered shown = IfSome remembered (λ shared. shared.value.items ≡ shown)
+
+-- a store between two calls; the catalogue that it remembers, if it does, is that of its world
+pub record IsAtRest {S : Type 0} (g : Ghosts S) (s : Seen S) (remembered : Option (Rc (Vec Listing Global) Global)) : Type 0 where
+  pub kept : IsKept g s
+  pub shown : IsCleanStore g s → Remembers remembered (catalogue (kept_world g s))

@@ -1,5 +1,5 @@
 -- What is told of a caller and of the catalogue by rows that queries show.
-use Rattle.std.specs.Prelude.{Vec, ◌==◌, if◌then◌else◌, List, [], ◌∷◌, map, Option, Some, None, option_map}
+use Rattle.std.specs.Prelude.{Vec, ◌==◌, if◌then◌else◌, List, [], ◌∷◌, map, filter, Option, Some, None, option_map}
 use Rattle.std.specs.List.{find, filter_map}
 use Rattle.std.specs.declared.alloc.Global.{Global}
 use Rattle.sqlite.specs.Order.{Row, column, bytes}
@@ -9,14 +9,18 @@ use Rattle.portal_core.specs.declared.rows.LecturerRow.{LecturerRow}
 use Rattle.portal_core.specs.declared.rows.Listing.{Listing}
 use Rattle.portal_core.specs.declared.rows.ProjectRow.{ProjectRow}
 use Rattle.portal_core.specs.declared.rows.Person.{Person}
+use Rattle.portal_core.specs.declared.phase.Phase.{Phase}
+use Rattle.portal_core.specs.Sight.{OfficeSees}
 use Rattle.portal_core.specs.View.{listing_with, persons}
-use Rattle.portal_core.specs.Words.{Key, is}
+use Rattle.portal_core.specs.Words.{Key, is, is_empty}
 use Rattle.portal_core.specs.World.{World, Lecturer, Student, applicants_to, placed_at, is_from_ranking, is_published}
+use Rattle.portal_list.specs.Shown.{is_wanted}
 use Rattle.portal_tables.specs.Tables.{choice_tree, ranking_tree}
+use Rattle.portal_store.specs.declared.load.Lists.TheVariants.{Choices}
 use Rattle.portal_store.specs.declared.queries.applicants.Line.{Line}
 use Rattle.portal_store.specs.Lists.{chosen}
-use Rattle.portal_store.specs.Shown.{first, shown_lecturer, shown_student}
-use Rattle.portal_store.specs.World.{text_or_none}
+use Rattle.portal_store.specs.Shown.{first, shown_lecturer, shown_project, shown_student, shown_pair, entry}
+use Rattle.portal_store.specs.World.{world_of, text_or_none}
 
 -- one thing or none, as a list
 abbrev pub as_list : {X : Type 0} → Option X → List X
@@ -59,3 +63,26 @@ applicants_told w keys = map (λ k. (k, if is_from_ranking w.phase then persons 
 
 abbrev pub placed_told : World → List Key → List (Key × List Person)
 placed_told w keys = map (λ k. (k, if is_published w.phase then persons (placed_at w k) else [])) keys
+
+-- the owners of empty lists
+abbrev pub unlisted : List (Key × List Key) → List Key
+unlisted lists = map (λ (e : Key × List Key). e.0) (filter (λ e. is_empty e.1) lists)
+
+-- the key of the lecturer whose row is shown, where there is an applicant and no ranking
+abbrev pub waiting_key : World → List ProjectRow → Row → Option Key
+waiting_key w projects c = if number_in (column c 4) == 1 then None else (if is_wanted w.students projects (first c) then Some (first c) else None)
+
+-- what the office sees, of shown rolls, the catalogue and the lists in the tables
+abbrev pub office_from : Trees → Phase → Key → List Listing → List Row → List Row → List Row → OfficeSees
+office_from db phase code offers lecturers projects students =
+    record {
+      phase = phase;
+      office_code = code;
+      lecturers = map shown_lecturer lecturers;
+      projects = map shown_project projects;
+      students = map shown_student students;
+      catalogue = offers;
+      without_list = unlisted (filter_map (entry Choices db) students);
+      still_to_rank = if is_from_ranking phase then filter_map (waiting_key (world_of db) (map shown_project projects)) lecturers else [];
+      pairs = if is_published phase then filter_map shown_pair students else [];
+    }

@@ -121,7 +121,12 @@ impl<S: Alter> Store<S> {
                 connection: conn,
             });
         }
-        Ok(Store { conn, own, pattern })
+        Ok(Store {
+            conn,
+            own,
+            pattern,
+            catalogue: None,
+        })
     }
 }
 

@@ -8,6 +8,7 @@ ghost use Rattle.portal_store.specs.Asked.{Refutes};
 use crate::load::LoadFault;
 use crate::store::{CreateFault, OpenFault};
 use portal_core::KeepFault;
+use portal_list::RowsFault;
 use sqlite::{Error, ErrorCode};
 
 /// Want of memory, or a fault of the store.
@@ -33,6 +34,16 @@ pub(crate) fn keep_fault_of(fault: LoadFault) -> KeepFault {
     match fault {
         LoadFault::Memory => KeepFault::Memory,
         LoadFault::Damaged | LoadFault::Store => KeepFault::Store,
+    }
+}
+
+/// Rows of no sound world are damaged.
+pub(crate) fn load_fault_of(fault: RowsFault) -> LoadFault
+    ensures { result ≡ LoadFault.Damaged → fault ≡ RowsFault.NotGood }
+{
+    match fault {
+        RowsFault::NotGood => LoadFault::Damaged,
+        RowsFault::Memory => LoadFault::Memory,
     }
 }
 

@@ -1,6 +1,6 @@
 //! The missing rankings, put in one transaction.
 
-ghost use Rattle.std.specs.Prelude.{◌≡◌, ◌≤◌, false, length, List, map, IfOk, OnOk, OnErr, IsTrue};
+ghost use Rattle.std.specs.Prelude.{◌≡◌, ◌≤◌, ◌↔◌, false, length, List, map, IfOk, OnOk, OnErr, IsTrue};
 ghost use Rattle.std.specs.List.{AllByRecursion};
 ghost use Rattle.sqlite.specs.State.{HasCleanDisk, KeepsCommit, IsUnchanged, Survives};
 ghost use Rattle.sqlite.specs.Held.{state};
@@ -18,11 +18,11 @@ ghost use Rattle.portal_store.specs.World.{world_of};
 ghost use Rattle.portal_store.specs.Going.{GoesOn};
 ghost use Rattle.portal_store.specs.Putting.{TurnsAll};
 
-use crate::fault::fault_of;
+use crate::fault::{fault_of, keep_fault_of, load_fault_of};
 use crate::lists::put_ranking;
 use crate::load::{LoadFault, load};
 use portal_core::KeepFault;
-use portal_list::{ListKeeper, RowsFault, WorldRows};
+use portal_list::{WorldRows, fills_of_rows};
 use spa_rows::Key;
 use sqlite::{Alter, Connection, Error, Transaction};
 use std::alloc::Global;
@@ -64,27 +64,26 @@ fn turn_rankings<S: Alter>(
     Ok(())
 }
 
-/// The rankings that a fill of the keeper's world would put.
-fn missing_in(alloc: Global, keeper: &ListKeeper) -> Result<Vec<(Key, Vec<Key>)>, KeepFault>
-    ensures fills { IfOk result (λ v. map {B = words.Key × List words.Key} (λ f. (f.0, f.1.items)) v.items ≡ fills keeper.now) }
+/// Whether each of these rankings is short enough to be numbered.
+fn are_short(rankings: &[(Key, Vec<Key>)]) -> bool
+    ensures { IsTrue result ↔ AllByRecursion (λ f. length f.1.items ≤ 2000) rankings.now }
 {
-    let Ok(rankings) = keeper.fills(alloc) else {
-        return Err(KeepFault::Memory);
-    };
-    Ok(rankings)
+    rankings.iter().all(|ranking| ranking.1.len() <= 2000)
 }
 
-/// The rankings that a fill of the world of these rows would put.
-fn missing_of(alloc: Global, rows: WorldRows) -> Result<Vec<(Key, Vec<Key>)>, KeepFault>
+/// The rankings that a fill of the world of these rows would put. No list is judged.
+fn missing_of(alloc: Global, rows: WorldRows) -> Result<Vec<(Key, Vec<Key>)>, LoadFault>
     ensures fills { IfOk result (λ v. (w : World) → Sound w → rows ≡ rows_of w → map {B = words.Key × List words.Key} (λ f. (f.0, f.1.items)) v.items ≡ fills w) }
     ensures few { IfOk result (λ v. AllByRecursion (λ f. length f.1.items ≤ 2000) v.items) }
 {
-    let keeper = match ListKeeper::from_rows(alloc, rows) {
-        Ok(keeper) => keeper,
-        Err(RowsFault::Memory) => return Err(KeepFault::Memory),
-        Err(RowsFault::NotGood) => return Err(KeepFault::Store),
+    let rankings = match fills_of_rows(alloc, rows) {
+        Ok(rankings) => rankings,
+        Err(fault) => return Err(load_fault_of(fault)),
     };
-    missing_in(alloc, &keeper)
+    if !are_short(&rankings) {
+        return Err(LoadFault::Damaged);
+    }
+    Ok(rankings)
 }
 
 /// The rankings that a fill would put.
@@ -102,15 +101,16 @@ fn missing_rankings<S: Alter>(
 {
     let rows = match load(alloc, conn) {
         Ok(rows) => rows,
-        Err(LoadFault::Memory) => return Err(KeepFault::Memory),
-        Err(LoadFault::Damaged) => return Err(KeepFault::Store),
-        Err(LoadFault::Store) => return Err(KeepFault::Store),
+        Err(fault) => return Err(keep_fault_of(fault)),
     };
-    missing_of(alloc, rows)
+    match missing_of(alloc, rows) {
+        Ok(rankings) => Ok(rankings),
+        Err(fault) => Err(keep_fault_of(fault)),
+    }
 }
 
-/// Gives each lecturer still to rank the applicants, in the order of their keys. The store fault also where the tables
-/// stand for no sound world.
+/// Gives each lecturer still to rank the applicants, in the order of their keys. The store fault also where the rows
+/// that are read are damaged.
 pub(crate) fn fill_rankings<S: Alter>(
     alloc: Global,
     conn: &mut Connection<S>,

@@ -4,24 +4,22 @@ ghost use Rattle.std.specs.Prelude.{◌≡◌, IfOk, OnOk, OnErr, IsTrue};
 ghost use Rattle.sqlite.specs.State.{HasCleanDisk, Survives};
 ghost use Rattle.sqlite.specs.Tree.{Trees};
 ghost use Rattle.sqlite.specs.Held.{state};
-ghost use Rattle.portal_core.specs.World.{World};
 ghost use Rattle.portal_core.specs.Change.{changed};
-ghost use Rattle.portal_core.specs.Good.{Good, Sound};
+ghost use Rattle.portal_core.specs.Good.{Good};
 ghost use Rattle.portal_core.specs.Meaning.{meant};
 ghost use Rattle.portal_core.specs.View as seen;
+ghost use Rattle.portal_core.specs.Instance as meant_by;
 ghost use Rattle.portal_tables.specs.Own.{IsOwn};
 ghost use Rattle.portal_tables.specs.Steps.{Commits, IsAfter, LeavesOnly};
 ghost use Rattle.portal_store.specs.Kept.{IsCleanStore, kept_world, Turns};
 ghost use Rattle.portal_store.specs.Crash.{IsLeft};
 
-use crate::change::make;
-use crate::fault::keep_fault_of;
+use crate::change::{forget_changed, make};
+use crate::instance::instance_in;
 use crate::office::office_of;
-use crate::queries::view;
-use crate::sound::load_keeper;
+use crate::queries::view_with;
 use crate::store::Store;
 use portal_core::{Change, Code, KeepFault, Keeper, View};
-use portal_list::ListKeeper;
 use spa_model::Instance;
 use sqlite::Alter;
 use std::alloc::Global;
@@ -52,21 +50,18 @@ impl<S: Alter> Store<S> {
         ensures left { IsCleanStore S.Store self.old → HasCleanDisk (state S.Store self.new.conn) → (db : Trees) → (state S.Store self.new.conn).may_leave db → IsLeft (meant change.now) (state S.Store self.old.conn).now db }
     {
         self.check_own()?;
+        forget_changed(&mut self.catalogue, change);
         make(alloc, &mut self.conn, change)
     }
 
-    /// The world of the tables, in lists.
-    fn loaded(&mut self, alloc: Global) -> Result<ListKeeper, KeepFault>
+    /// The instance of the world of the tables, where that is good.
+    fn meant(&mut self, alloc: Global) -> Result<Instance, KeepFault>
         ensures clean { IsCleanStore S.Store self.new → IsCleanStore S.Store self.old }
-        ensures sound { IfOk result (λ keeper. Sound keeper) }
-        ensures world { IfOk result (λ (keeper : World). IsCleanStore S.Store self.new → keeper ≡ kept_world S.Store self.old) }
+        ensures instance { IfOk result (λ i. IsCleanStore S.Store self.new → Good (kept_world S.Store self.old) → i ≡ meant_by.instance (kept_world S.Store self.old)) }
         ensures same { IsCleanStore S.Store self.new → kept_world S.Store self.new ≡ kept_world S.Store self.old }
     {
         self.check_own()?;
-        match load_keeper(alloc, &mut self.conn) {
-            Ok(keeper) => Ok(keeper),
-            Err(fault) => Err(keep_fault_of(fault)),
-        }
+        instance_in(alloc, &mut self.conn)
     }
 
     /// What the caller with this code sees, by queries of what that caller may see.
@@ -76,7 +71,7 @@ impl<S: Alter> Store<S> {
         ensures same { IsCleanStore S.Store self.new → kept_world S.Store self.new ≡ kept_world S.Store self.old }
     {
         self.check_own()?;
-        view(alloc, &mut self.conn, code)
+        view_with(alloc, &mut self.conn, &mut self.catalogue, code)
     }
 
     /// The code of the office. `Store` comes for an error of the connection, and where there is no row of the office.
@@ -100,11 +95,7 @@ impl<S: Alter> Keeper for Store<S> {
     }
 
     fn instance(&mut self, alloc: Global) -> Result<Instance, KeepFault> {
-        let mut keeper = self.loaded(alloc)?;
-        if !keeper.can_publish() {
-            return Err(KeepFault::Store);
-        }
-        keeper.instance(alloc)
+        self.meant(alloc)
     }
 
     fn apply(&mut self, alloc: Global, change: &Change) -> Result<(), KeepFault> {

@@ -6,6 +6,7 @@ mod create;
 mod decode;
 mod fault;
 mod fill;
+mod instance;
 mod keeper;
 pub mod laws;
 mod lists;

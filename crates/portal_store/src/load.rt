@@ -155,7 +155,7 @@ fn entry_in<S: Alter>(
 }
 
 /// The lists of the owners whose rows are shown.
-fn entries_in<S: Alter>(
+pub(crate) fn entries_in<S: Alter>(
     alloc: Global,
     conn: &mut Connection<S>,
     lists: Lists,
@@ -178,10 +178,10 @@ fn entries_in<S: Alter>(
 
 /// The rolls, as queries show them by key.
 #[derive(Drop)]
-struct Rolls {
-    lecturers: Vec<Row>,
-    projects: Vec<Row>,
-    students: Vec<Row>,
+pub(crate) struct Rolls {
+    pub lecturers: Vec<Row>,
+    pub projects: Vec<Row>,
+    pub students: Vec<Row>,
 }
 
 /// The rows, if the keys that they begin with rise.
@@ -230,7 +230,7 @@ pub(crate) fn student_roll<S: Alter>(conn: &mut Connection<S>) -> Result<Vec<Row
 }
 
 /// The rolls by key.
-fn rolls_in<S: Alter>(conn: &mut Connection<S>) -> Result<Rolls, LoadFault>
+pub(crate) fn rolls_in<S: Alter>(conn: &mut Connection<S>) -> Result<Rolls, LoadFault>
     ensures lecturers { IsOwn conn.old.schema → HasCleanDisk (state S.Store conn.new) → IsTrue (state S.Store conn.old).is_open → IfOk result (λ r. r.lecturers.items ≡ lecturers_shown (state S.Store conn.old).now.trees) }
     ensures projects { IsOwn conn.old.schema → HasCleanDisk (state S.Store conn.new) → IsTrue (state S.Store conn.old).is_open → IfOk result (λ r. r.projects.items ≡ projects_shown (state S.Store conn.old).now.trees) }
     ensures students { IsOwn conn.old.schema → HasCleanDisk (state S.Store conn.new) → IsTrue (state S.Store conn.old).is_open → IfOk result (λ r. r.students.items ≡ students_shown (state S.Store conn.old).now.trees) }
@@ -250,15 +250,15 @@ fn rolls_in<S: Alter>(conn: &mut Connection<S>) -> Result<Rolls, LoadFault>
 
 /// What the rows of the rolls are decoded to.
 #[derive(Drop)]
-struct Parts {
-    lecturers: Vec<LecturerRow>,
-    projects: Vec<ProjectRow>,
-    students: Vec<StudentRow>,
-    pairs: Vec<(Key, Key)>,
+pub(crate) struct Parts {
+    pub lecturers: Vec<LecturerRow>,
+    pub projects: Vec<ProjectRow>,
+    pub students: Vec<StudentRow>,
+    pub pairs: Vec<(Key, Key)>,
 }
 
 /// The rows of the rolls, decoded.
-fn parts_of(alloc: Global, rolls: &Rolls) -> Result<Parts, LoadFault>
+pub(crate) fn parts_of(alloc: Global, rolls: &Rolls) -> Result<Parts, LoadFault>
     ensures lecturers { IfOk result (λ p. p.lecturers.items ≡ map shown_lecturer rolls.now.lecturers.items) }
     ensures projects { IfOk result (λ p. p.projects.items ≡ map shown_project rolls.now.projects.items) }
     ensures students { IfOk result (λ p. p.students.items ≡ map shown_student rolls.now.students.items) }

@@ -1,32 +1,38 @@
 //! What a caller sees, by queries of what that caller may see.
 
-ghost use Rattle.std.specs.Prelude.{◌≡◌, false, IfOk, OnOk, OnErr, IsTrue, None};
+ghost use Rattle.std.specs.Prelude.{◌≡◌, ◌∷◌, [], pos, false, IfOk, OnOk, OnErr, IsTrue, None};
 ghost use Rattle.sqlite.specs.State.{HasCleanDisk, IsUnchanged};
 ghost use Rattle.sqlite.specs.Held.{state};
 ghost use Rattle.portal_core.specs.Good.{Good};
 ghost use Rattle.portal_core.specs.View as seen;
 ghost use Rattle.portal_core.specs.Words.{is};
-ghost use Rattle.portal_core.specs.View.{sight_of, caller_among, student_with};
+ghost use Rattle.portal_core.specs.View.{sight_of, caller_among, student_with, OfficeCaller};
 ghost use Rattle.portal_tables.specs.Own.{IsOwn};
+ghost use Rattle.portal_tables.specs.Tables.{portal_tree};
+ghost use Rattle.portal_tables.specs.Rows.{portal_row};
 ghost use Rattle.portal_tables.specs.Steps.{Leaves};
-ghost use Rattle.portal_store.specs.World.{world_of};
-ghost use Rattle.portal_store.specs.Kept.{Holds};
-ghost use Rattle.portal_store.specs.Reading.{Reads};
+ghost use Rattle.portal_store.specs.World.{world_of, number_of};
+ghost use Rattle.portal_store.specs.Kept.{Holds, Remembers};
+ghost use Rattle.portal_store.specs.Reading.{Reads, KeepsInMind};
 
 mod applicants;
 mod caller;
 mod lecturer;
 mod offers;
+mod office;
 mod student;
 
+use crate::decode::Office;
 use crate::fault::keep_fault_of;
 use crate::load::{LoadFault, office_in};
-use crate::sound::load_keeper;
 use caller::{lecturer_in, student_in};
 use lecturer::lecturer_view;
-use portal_core::{KeepFault, Keeper, Phase, View};
+use offers::{catalogue_in, shared_catalogue};
+use office::office_view;
+use portal_core::{KeepFault, Listing, Phase, View};
 use sqlite::{Alter, Connection};
 use std::alloc::{AllocError, Global};
+use std::rc::Rc;
 use student::student_view;
 
 impl From<AllocError> for LoadFault {
@@ -39,77 +45,106 @@ impl From<AllocError> for LoadFault {
     }
 }
 
-/// What the caller sees of the world, loaded whole.
-fn loaded_sight<S: Alter>(
+/// What the office sees whose row this is.
+fn office_sight<S: Alter>(
     alloc: Global,
     conn: &mut Connection<S>,
-    code: &[u8],
+    office: Office,
 ) -> Result<View, LoadFault>
     requires idle { conn.old.in_transaction ≡ false }
     ensures idle { conn.new.in_transaction ≡ false }
-    ensures shows { Holds (state S.Store conn.old).now → HasCleanDisk (state S.Store conn.new) → Good (world_of (state S.Store conn.old).now.trees) → IfOk result (λ view. view ≡ seen.view (world_of (state S.Store conn.old).now.trees) code.now) }
+    ensures shows { Holds (state S.Store conn.old).now → HasCleanDisk (state S.Store conn.new) → IsTrue (state S.Store conn.old).is_open → (state S.Store conn.old).now.trees portal_tree ≡ portal_row (pos 1) (pos (number_of office.phase)) office.code ∷ [] → IfOk result (λ view. view ≡ sight_of (world_of (state S.Store conn.old).now.trees) OfficeCaller) }
     ensures reads { Reads result (state S.Store conn.old) (state S.Store conn.new) }
 {
-    let mut keeper = load_keeper(alloc, conn)?;
-    match keeper.view(alloc, code) {
-        Ok(view) => Ok(view),
-        Err(KeepFault::Memory) => Err(LoadFault::Memory),
-        Err(KeepFault::Store) => Err(LoadFault::Store),
-    }
+    let catalogue = catalogue_in(alloc, conn)?;
+    Ok(View::Office(office_view(alloc, conn, office, catalogue)?))
 }
 
 /// What the student with the code sees, if there is one.
 fn student_sight<S: Alter>(
     alloc: Global,
     conn: &mut Connection<S>,
+    remembered: &mut Option<Rc<Vec<Listing>>>,
     phase: Phase,
     code: &[u8],
 ) -> Result<View, LoadFault>
     requires idle { conn.old.in_transaction ≡ false }
     ensures idle { conn.new.in_transaction ≡ false }
-    ensures shows { Holds (state S.Store conn.old).now → HasCleanDisk (state S.Store conn.new) → IsTrue (state S.Store conn.old).is_open → phase ≡ (world_of (state S.Store conn.old).now.trees).phase → IfOk result (λ view. view ≡ sight_of (world_of (state S.Store conn.old).now.trees) (caller_among None (student_with (world_of (state S.Store conn.old).now.trees) code.now))) }
+    ensures shows { Holds (state S.Store conn.old).now → HasCleanDisk (state S.Store conn.new) → IsTrue (state S.Store conn.old).is_open → phase ≡ (world_of (state S.Store conn.old).now.trees).phase → Remembers remembered.old (seen.catalogue (world_of (state S.Store conn.old).now.trees)) → IfOk result (λ view. view ≡ sight_of (world_of (state S.Store conn.old).now.trees) (caller_among None (student_with (world_of (state S.Store conn.old).now.trees) code.now))) }
+    ensures mind { KeepsInMind remembered.old remembered.new (state S.Store conn.old) (state S.Store conn.new) }
     ensures reads { Reads result (state S.Store conn.old) (state S.Store conn.new) }
 {
-    match student_in(conn, code)? {
-        Some(row) => Ok(View::Student(student_view(alloc, conn, phase, &row)?)),
-        None => Ok(View::Nobody),
-    }
+    let Some(row) = student_in(conn, code)? else {
+        return Ok(View::Nobody);
+    };
+    let catalogue = shared_catalogue(alloc, conn, remembered)?;
+    Ok(View::Student(student_view(alloc, conn, phase, &row, catalogue)?))
 }
 
 /// What the caller sees who is not the office.
 fn person_sight<S: Alter>(
     alloc: Global,
     conn: &mut Connection<S>,
+    remembered: &mut Option<Rc<Vec<Listing>>>,
     phase: Phase,
     code: &[u8],
 ) -> Result<View, LoadFault>
     requires idle { conn.old.in_transaction ≡ false }
     ensures idle { conn.new.in_transaction ≡ false }
-    ensures shows { Holds (state S.Store conn.old).now → HasCleanDisk (state S.Store conn.new) → IsTrue (state S.Store conn.old).is_open → phase ≡ (world_of (state S.Store conn.old).now.trees).phase → is (world_of (state S.Store conn.old).now.trees).office code.now ≡ false → Good (world_of (state S.Store conn.old).now.trees) → IfOk result (λ view. view ≡ seen.view (world_of (state S.Store conn.old).now.trees) code.now) }
+    ensures shows { Holds (state S.Store conn.old).now → HasCleanDisk (state S.Store conn.new) → IsTrue (state S.Store conn.old).is_open → phase ≡ (world_of (state S.Store conn.old).now.trees).phase → is (world_of (state S.Store conn.old).now.trees).office code.now ≡ false → Good (world_of (state S.Store conn.old).now.trees) → Remembers remembered.old (seen.catalogue (world_of (state S.Store conn.old).now.trees)) → IfOk result (λ view. view ≡ seen.view (world_of (state S.Store conn.old).now.trees) code.now) }
+    ensures mind { KeepsInMind remembered.old remembered.new (state S.Store conn.old) (state S.Store conn.new) }
     ensures reads { Reads result (state S.Store conn.old) (state S.Store conn.new) }
 {
     let Some(row) = lecturer_in(conn, code)? else {
-        return student_sight(alloc, conn, phase, code);
+        return student_sight(alloc, conn, remembered, phase, code);
     };
-    Ok(View::Lecturer(lecturer_view(alloc, conn, phase, &row)?))
+    let catalogue = shared_catalogue(alloc, conn, remembered)?;
+    Ok(View::Lecturer(lecturer_view(alloc, conn, phase, &row, catalogue)?))
 }
 
 /// What the caller sees.
-fn sight<S: Alter>(alloc: Global, conn: &mut Connection<S>, code: &[u8]) -> Result<View, LoadFault>
+fn sight<S: Alter>(
+    alloc: Global,
+    conn: &mut Connection<S>,
+    remembered: &mut Option<Rc<Vec<Listing>>>,
+    code: &[u8],
+) -> Result<View, LoadFault>
     requires idle { conn.old.in_transaction ≡ false }
     ensures idle { conn.new.in_transaction ≡ false }
-    ensures shows { Holds (state S.Store conn.old).now → HasCleanDisk (state S.Store conn.new) → Good (world_of (state S.Store conn.old).now.trees) → IfOk result (λ view. view ≡ seen.view (world_of (state S.Store conn.old).now.trees) code.now) }
+    ensures shows { Holds (state S.Store conn.old).now → HasCleanDisk (state S.Store conn.new) → Good (world_of (state S.Store conn.old).now.trees) → Remembers remembered.old (seen.catalogue (world_of (state S.Store conn.old).now.trees)) → IfOk result (λ view. view ≡ seen.view (world_of (state S.Store conn.old).now.trees) code.now) }
+    ensures mind { KeepsInMind remembered.old remembered.new (state S.Store conn.old) (state S.Store conn.new) }
     ensures same { IsOwn conn.old.schema → HasCleanDisk (state S.Store conn.new) → OnOk result (IsUnchanged (state S.Store conn.old) (state S.Store conn.new)) }
     ensures err { IsOwn conn.old.schema → HasCleanDisk (state S.Store conn.new) → OnErr result (Leaves (state S.Store conn.old) (state S.Store conn.new)) }
 {
     let office = office_in(alloc, conn)?;
     if office.code.as_bytes() == code {
-        return loaded_sight(alloc, conn, code);
+        return office_sight(alloc, conn, office);
     }
-    person_sight(alloc, conn, office.phase, code)
+    person_sight(alloc, conn, remembered, office.phase, code)
 }
 
-/// What the caller with the code sees: a student or a lecturer by queries of what that role may see, the office by the whole world.
+/// What the caller with the code sees, with the catalogue that is remembered, or is from now on.
+pub(crate) fn view_with<S: Alter>(
+    alloc: Global,
+    conn: &mut Connection<S>,
+    remembered: &mut Option<Rc<Vec<Listing>>>,
+    code: &[u8],
+) -> Result<View, KeepFault>
+    requires idle { conn.old.in_transaction ≡ false }
+    ensures idle { conn.new.in_transaction ≡ false }
+    ensures shows { IsOwn conn.old.schema → HasCleanDisk (state S.Store conn.new) → IfOk result (λ view. Holds (state S.Store conn.old).now → Good (world_of (state S.Store conn.old).now.trees) → Remembers remembered.old (seen.catalogue (world_of (state S.Store conn.old).now.trees)) → view ≡ seen.view (world_of (state S.Store conn.old).now.trees) code.now) }
+    ensures mind { KeepsInMind remembered.old remembered.new (state S.Store conn.old) (state S.Store conn.new) }
+    ensures same { IsOwn conn.old.schema → HasCleanDisk (state S.Store conn.new) → OnOk result (IsUnchanged (state S.Store conn.old) (state S.Store conn.new)) }
+    ensures err { IsOwn conn.old.schema → HasCleanDisk (state S.Store conn.new) → OnErr result (Leaves (state S.Store conn.old) (state S.Store conn.new)) }
+{
+    match sight(alloc, conn, remembered, code) {
+        Ok(view) => Ok(view),
+        Err(fault) => Err(keep_fault_of(fault)),
+    }
+}
+
+/// What the caller with the code sees: a student or a lecturer by queries of what that role may see, the office by
+/// queries of the rolls and of who has a list, an applicant and a place.
 ///
 /// # Errors
 ///
@@ -125,8 +160,6 @@ pub fn view<S: Alter>(
     ensures same { IsOwn conn.old.schema → HasCleanDisk (state S.Store conn.new) → OnOk result (IsUnchanged (state S.Store conn.old) (state S.Store conn.new)) }
     ensures err { IsOwn conn.old.schema → HasCleanDisk (state S.Store conn.new) → OnErr result (Leaves (state S.Store conn.old) (state S.Store conn.new)) }
 {
-    match sight(alloc, conn, code) {
-        Ok(view) => Ok(view),
-        Err(fault) => Err(keep_fault_of(fault)),
-    }
+    let mut remembered = None;
+    view_with(alloc, conn, &mut remembered, code)
 }

@@ -10,20 +10,11 @@ ghost use Rattle.portal_tables.specs.Steps.{Leaves};
 ghost use Rattle.portal_store.specs.Kept.{Stands};
 ghost use Rattle.portal_store.specs.Found.{Finds};
 
+use crate::fault::load_fault_of;
 use crate::load::{LoadFault, load};
-use portal_list::{ListKeeper, RowsFault};
+use portal_list::ListKeeper;
 use sqlite::{Alter, Connection};
 use std::alloc::Global;
-
-/// Rows of no sound world are damaged.
-fn load_fault_of(fault: RowsFault) -> LoadFault
-    ensures { result ≡ LoadFault.Damaged → fault ≡ RowsFault.NotGood }
-{
-    match fault {
-        RowsFault::NotGood => LoadFault::Damaged,
-        RowsFault::Memory => LoadFault::Memory,
-    }
-}
 
 /// A keeper of the rows; it is sound, and may lack stability.
 pub(crate) fn load_keeper<S: Alter>(

@@ -2,9 +2,11 @@
 
 ghost use Rattle.std.specs.Prelude.{◌≡◌, false};
 
+use portal_core::Listing;
 use portal_tables::own::Pattern;
 use sqlite::{Alter, Connection};
 use std::marker::Model;
+use std::rc::Rc;
 
 /// The portal in a database.
 #[derive(Drop)]
@@ -14,10 +16,12 @@ pub struct Store<S: Alter> {
     pub(crate) own: bool,
     /// What the portal's own tables are.
     pub(crate) pattern: Pattern,
+    /// The catalogue, once it was asked for.
+    pub(crate) catalogue: Option<Rc<Vec<Listing>>>,
 }
 
 impl<S: Alter> Model for Store<S> {
-    ghost use Rattle.portal_store.specs.Kept.{Seen, seen_code, IsKept};
+    ghost use Rattle.portal_store.specs.Kept.{Seen, seen_code, IsAtRest};
 
     ghost Value = { Seen S };
 
@@ -25,7 +29,7 @@ impl<S: Alter> Model for Store<S> {
 
     ghost view = { λ s. record { conn = s.conn; own = s.own } };
 
-    ghost invariant = { λ s. IsKept S.Store (record { conn = s.conn; own = s.own }) };
+    ghost invariant = { λ s. IsAtRest S.Store (record { conn = s.conn; own = s.own }) s.catalogue };
 }
 
 /// Why there is no store, and the connection that was handed in.
@@ -70,6 +74,7 @@ impl<S: Alter> Store<S> {
             conn,
             own: _,
             pattern: _,
+            catalogue: _,
         } = self;
         conn
     }

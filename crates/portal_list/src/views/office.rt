@@ -58,11 +58,7 @@ fn is_listed(students: &[StudentEntry], project: &Key) -> bool
 }
 
 /// Whether some list holds a project of the lecturer.
-pub(crate) fn has_applicant(
-    students: &[StudentEntry],
-    projects: &[ProjectRow],
-    lecturer: &Key,
-) -> bool
+fn has_applicant(students: &[StudentEntry], projects: &[ProjectRow], lecturer: &Key) -> bool
     ensures { result ≡ is_wanted students.now projects.now lecturer.now }
 {
     projects

@@ -256,7 +256,7 @@ fn told_from_ranking<S: Alter>(
 }
 
 /// Whether the students' lists are closed.
-fn are_closed(phase: Phase) -> bool
+pub(super) fn are_closed(phase: Phase) -> bool
     ensures { result ≡ is_from_ranking phase }
 {
     match phase {

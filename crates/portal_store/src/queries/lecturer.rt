@@ -6,8 +6,8 @@ ghost use Rattle.sqlite.specs.State.{HasCleanDisk};
 ghost use Rattle.sqlite.specs.Held.{state};
 ghost use Rattle.sqlite_trees.specs.Objects.{number_in};
 ghost use Rattle.portal_core.specs.Words.{is};
-ghost use Rattle.portal_core.specs.World.{project_key};
-ghost use Rattle.portal_core.specs.View.{lecturer_sees};
+ghost use Rattle.portal_core.specs.Good.{Good};
+ghost use Rattle.portal_core.specs.View as seen;
 ghost use Rattle.portal_tables.specs.Own.{IsOwn};
 ghost use Rattle.portal_tables.specs.Tables.{ranking_tree};
 ghost use Rattle.portal_store.specs.Lists.{chosen};
@@ -15,28 +15,28 @@ ghost use Rattle.portal_store.specs.World.{world_of};
 ghost use Rattle.portal_store.specs.Kept.{Holds};
 ghost use Rattle.portal_store.specs.Reading.{Reads};
 ghost use Rattle.portal_store.specs.Shown.{first};
-ghost use Rattle.portal_store.specs.Queried.{offered, lecturer_from, with_persons};
+ghost use Rattle.portal_store.specs.Queried.{lecturer_from, with_persons};
 
 use super::applicants::{Told, told_in};
-use super::offers::{Offers, catalogue_of, offers_in};
 use super::student::person_at;
 use crate::decode::{capacity_at, key_at, number_at};
 use crate::load::{Lists, LoadFault, list_in};
-use portal_core::{LecturerView, Phase, ProjectRow};
+use portal_core::{LecturerView, Listing, Phase};
 use spa_rows::Key;
 use sqlite::{Alter, Connection, Row};
 use std::alloc::{AllocError, Global};
+use std::rc::Rc;
 
 /// The keys of the lecturer's projects.
 fn own_projects(
     alloc: Global,
-    projects: &[ProjectRow],
+    catalogue: &[Listing],
     lecturer: &Key,
 ) -> Result<Vec<Key>, AllocError>
-    ensures { IfOk result (λ v. v.items ≡ map project_key (filter (λ p. is p.lecturer lecturer.now) projects.now)) }
+    ensures { IfOk result (λ v. v.items ≡ map (λ p. p.key) (filter (λ p. is p.lecturer lecturer.now) catalogue.now)) }
 {
     let mut own = Vec::new(alloc);
-    for project in projects {
+    for project in catalogue {
         if project.lecturer == *lecturer {
             own.push(project.key.copy(alloc)?)?;
         }
@@ -45,11 +45,11 @@ fn own_projects(
 }
 
 /// The keys of the projects of the lecturer whose row this is.
-fn own_of(alloc: Global, projects: &[ProjectRow], row: &Row) -> Result<Vec<Key>, LoadFault>
-    ensures { IfOk result (λ v. v.items ≡ map project_key (filter (λ p. is p.lecturer (first row.now)) projects.now)) }
+fn own_of(alloc: Global, catalogue: &[Listing], row: &Row) -> Result<Vec<Key>, LoadFault>
+    ensures { IfOk result (λ v. v.items ≡ map (λ p. p.key) (filter (λ p. is p.lecturer (first row.now)) catalogue.now)) }
 {
     let lecturer = key_at(alloc, row, 0)?;
-    Ok(own_projects(alloc, projects, &lecturer)?)
+    Ok(own_projects(alloc, catalogue, &lecturer)?)
 }
 
 /// The list of the lecturer whose row this is, in the table of rankings.
@@ -88,17 +88,17 @@ fn put_together(
     alloc: Global,
     phase: Phase,
     row: &Row,
-    offers: &Offers,
+    catalogue: Rc<Vec<Listing>>,
     ranking: Option<Vec<Key>>,
     told: Told,
 ) -> Result<LecturerView, LoadFault>
-    ensures { IfOk result (λ v. v ≡ record { phase = phase; me = record { key = first row.now; name = bytes (column row.now 1) }; capacity = number_in (column row.now 3); catalogue = offered offers.now.lecturers.items offers.now.projects.items; applicants = map with_persons told.applicants.items; ranking = option_map (λ r. r.items) ranking; placed = map with_persons told.placed.items }) }
+    ensures { IfOk result (λ v. v ≡ record { phase = phase; me = record { key = first row.now; name = bytes (column row.now 1) }; capacity = number_in (column row.now 3); catalogue = catalogue.value.items; applicants = map with_persons told.applicants.items; ranking = option_map (λ r. r.items) ranking; placed = map with_persons told.placed.items }) }
 {
     Ok(LecturerView {
         phase,
         me: person_at(alloc, row)?,
         capacity: capacity_at(row, 3)?,
-        catalogue: catalogue_of(alloc, offers)?,
+        catalogue,
         applicants: told.applicants,
         ranking,
         placed: told.placed,
@@ -111,30 +111,30 @@ fn own_told<S: Alter>(
     conn: &mut Connection<S>,
     phase: Phase,
     row: &Row,
-    projects: &[ProjectRow],
+    catalogue: &[Listing],
 ) -> Result<Told, LoadFault>
-    ensures applicants { Holds (state S.Store conn.old).now → HasCleanDisk (state S.Store conn.new) → IsTrue (state S.Store conn.old).is_open → phase ≡ (world_of (state S.Store conn.old).now.trees).phase → projects.now ≡ (world_of (state S.Store conn.old).now.trees).projects → IfOk result (λ t. map with_persons t.applicants.items ≡ (lecturer_sees (world_of (state S.Store conn.old).now.trees) (lecturer_from (state S.Store conn.old).now.trees row.now)).applicants) }
-    ensures placed { Holds (state S.Store conn.old).now → HasCleanDisk (state S.Store conn.new) → IsTrue (state S.Store conn.old).is_open → phase ≡ (world_of (state S.Store conn.old).now.trees).phase → projects.now ≡ (world_of (state S.Store conn.old).now.trees).projects → IfOk result (λ t. map with_persons t.placed.items ≡ (lecturer_sees (world_of (state S.Store conn.old).now.trees) (lecturer_from (state S.Store conn.old).now.trees row.now)).placed) }
+    ensures applicants { Holds (state S.Store conn.old).now → HasCleanDisk (state S.Store conn.new) → IsTrue (state S.Store conn.old).is_open → phase ≡ (world_of (state S.Store conn.old).now.trees).phase → catalogue.now ≡ seen.catalogue (world_of (state S.Store conn.old).now.trees) → Good (world_of (state S.Store conn.old).now.trees) → IfOk result (λ t. map with_persons t.applicants.items ≡ (seen.lecturer_sees (world_of (state S.Store conn.old).now.trees) (lecturer_from (state S.Store conn.old).now.trees row.now)).applicants) }
+    ensures placed { Holds (state S.Store conn.old).now → HasCleanDisk (state S.Store conn.new) → IsTrue (state S.Store conn.old).is_open → phase ≡ (world_of (state S.Store conn.old).now.trees).phase → catalogue.now ≡ seen.catalogue (world_of (state S.Store conn.old).now.trees) → Good (world_of (state S.Store conn.old).now.trees) → IfOk result (λ t. map with_persons t.placed.items ≡ (seen.lecturer_sees (world_of (state S.Store conn.old).now.trees) (lecturer_from (state S.Store conn.old).now.trees row.now)).placed) }
     ensures reads { Reads result (state S.Store conn.old) (state S.Store conn.new) }
     ensures mode { conn.old.in_transaction ≡ false → conn.new.in_transaction ≡ false }
 {
-    let own = own_of(alloc, projects, row)?;
+    let own = own_of(alloc, catalogue, row)?;
     told_in(alloc, conn, phase, &own)
 }
 
-/// What the lecturer sees whose row this is.
+/// What the lecturer sees whose row this is, with the catalogue.
 pub(super) fn lecturer_view<S: Alter>(
     alloc: Global,
     conn: &mut Connection<S>,
     phase: Phase,
     row: &Row,
+    catalogue: Rc<Vec<Listing>>,
 ) -> Result<LecturerView, LoadFault>
-    ensures shows { Holds (state S.Store conn.old).now → HasCleanDisk (state S.Store conn.new) → IsTrue (state S.Store conn.old).is_open → phase ≡ (world_of (state S.Store conn.old).now.trees).phase → IfOk result (λ v. v ≡ lecturer_sees (world_of (state S.Store conn.old).now.trees) (lecturer_from (state S.Store conn.old).now.trees row.now)) }
+    ensures shows { Holds (state S.Store conn.old).now → HasCleanDisk (state S.Store conn.new) → IsTrue (state S.Store conn.old).is_open → phase ≡ (world_of (state S.Store conn.old).now.trees).phase → catalogue.value.items ≡ seen.catalogue (world_of (state S.Store conn.old).now.trees) → Good (world_of (state S.Store conn.old).now.trees) → IfOk result (λ v. v ≡ seen.lecturer_sees (world_of (state S.Store conn.old).now.trees) (lecturer_from (state S.Store conn.old).now.trees row.now)) }
     ensures reads { Reads result (state S.Store conn.old) (state S.Store conn.new) }
     ensures mode { conn.old.in_transaction ≡ false → conn.new.in_transaction ≡ false }
 {
-    let offers = offers_in(alloc, conn)?;
     let ranking = ranking_in(alloc, conn, row)?;
-    let told = own_told(alloc, conn, phase, row, &offers.projects)?;
-    put_together(alloc, phase, row, &offers, ranking, told)
+    let told = own_told(alloc, conn, phase, row, &catalogue)?;
+    put_together(alloc, phase, row, catalogue, ranking, told)
 }

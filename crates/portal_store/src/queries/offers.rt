@@ -1,13 +1,13 @@
-//! The projects, and the catalogue of them.
+//! The catalogue of the projects, shared by all who are shown it.
 
 ghost use Rattle.std.specs.Prelude.{◌≡◌, false, IfOk, IsTrue, option_map, map};
 ghost use Rattle.sqlite.specs.State.{HasCleanDisk};
 ghost use Rattle.sqlite.specs.Held.{state};
 ghost use Rattle.portal_core.specs.World.{Lecturer};
-ghost use Rattle.portal_core.specs.View.{listing_with};
+ghost use Rattle.portal_core.specs.View.{catalogue, listing_with};
 ghost use Rattle.portal_store.specs.World.{world_of};
-ghost use Rattle.portal_store.specs.Kept.{Holds};
-ghost use Rattle.portal_store.specs.Reading.{Reads};
+ghost use Rattle.portal_store.specs.Kept.{Holds, Remembers};
+ghost use Rattle.portal_store.specs.Reading.{Reads, KeepsInMind};
 ghost use Rattle.portal_store.specs.Shown.{shown_lecturer, shown_project};
 ghost use Rattle.portal_store.specs.Queried.{name_of, offered};
 
@@ -21,9 +21,9 @@ use std::rc::Rc;
 
 /// What is offered, and by whom.
 #[derive(Drop)]
-pub(super) struct Offers {
-    pub lecturers: Vec<LecturerRow>,
-    pub projects: Vec<ProjectRow>,
+struct Offers {
+    lecturers: Vec<LecturerRow>,
+    projects: Vec<ProjectRow>,
 }
 
 /// The rows decoded.
@@ -38,10 +38,7 @@ fn offers_from(alloc: Global, lecturers: &[Row], projects: &[Row]) -> Result<Off
 }
 
 /// The projects by key, and the lecturers.
-pub(super) fn offers_in<S: Alter>(
-    alloc: Global,
-    conn: &mut Connection<S>,
-) -> Result<Offers, LoadFault>
+fn offers_in<S: Alter>(alloc: Global, conn: &mut Connection<S>) -> Result<Offers, LoadFault>
     ensures lecturers { Holds (state S.Store conn.old).now → HasCleanDisk (state S.Store conn.new) → IsTrue (state S.Store conn.old).is_open → IfOk result (λ o. o.lecturers.items ≡ map (λ (l : Lecturer). l.row) (world_of (state S.Store conn.old).now.trees).lecturers) }
     ensures projects { Holds (state S.Store conn.old).now → HasCleanDisk (state S.Store conn.new) → IsTrue (state S.Store conn.old).is_open → IfOk result (λ o. o.projects.items ≡ (world_of (state S.Store conn.old).now.trees).projects) }
     ensures reads { Reads result (state S.Store conn.old) (state S.Store conn.new) }
@@ -106,10 +103,42 @@ fn listings_of(
     Ok(found)
 }
 
-/// The catalogue.
-pub(super) fn catalogue_of(alloc: Global, offers: &Offers) -> Result<Rc<Vec<Listing>>, AllocError>
+/// The catalogue of what is offered.
+fn catalogue_of(alloc: Global, offers: &Offers) -> Result<Rc<Vec<Listing>>, AllocError>
     ensures { IfOk result (λ shared. shared.value.items ≡ offered offers.now.lecturers.items offers.now.projects.items) }
 {
     let listings = listings_of(alloc, &offers.lecturers, &offers.projects)?;
     Ok(Rc::new(alloc, listings)?)
+}
+
+/// The catalogue of the tables.
+pub(super) fn catalogue_in<S: Alter>(
+    alloc: Global,
+    conn: &mut Connection<S>,
+) -> Result<Rc<Vec<Listing>>, LoadFault>
+    ensures shows { Holds (state S.Store conn.old).now → HasCleanDisk (state S.Store conn.new) → IsTrue (state S.Store conn.old).is_open → IfOk result (λ shared. shared.value.items ≡ catalogue (world_of (state S.Store conn.old).now.trees)) }
+    ensures reads { Reads result (state S.Store conn.old) (state S.Store conn.new) }
+    ensures mode { conn.old.in_transaction ≡ false → conn.new.in_transaction ≡ false }
+{
+    let offers = offers_in(alloc, conn)?;
+    Ok(catalogue_of(alloc, &offers)?)
+}
+
+/// The catalogue, read of the tables and remembered where it was not.
+pub(super) fn shared_catalogue<S: Alter>(
+    alloc: Global,
+    conn: &mut Connection<S>,
+    remembered: &mut Option<Rc<Vec<Listing>>>,
+) -> Result<Rc<Vec<Listing>>, LoadFault>
+    ensures shows { Holds (state S.Store conn.old).now → HasCleanDisk (state S.Store conn.new) → IsTrue (state S.Store conn.old).is_open → Remembers remembered.old (catalogue (world_of (state S.Store conn.old).now.trees)) → IfOk result (λ shared. shared.value.items ≡ catalogue (world_of (state S.Store conn.old).now.trees)) }
+    ensures mind { KeepsInMind remembered.old remembered.new (state S.Store conn.old) (state S.Store conn.new) }
+    ensures reads { Reads result (state S.Store conn.old) (state S.Store conn.new) }
+    ensures mode { conn.old.in_transaction ≡ false → conn.new.in_transaction ≡ false }
+{
+    if let Some(shared) = remembered {
+        return Ok(shared.clone()?);
+    }
+    let shared = catalogue_in(alloc, conn)?;
+    *remembered = Some(shared.clone()?);
+    Ok(shared)
 }

@@ -5,7 +5,7 @@ ghost use Rattle.sqlite.specs.Order.{column, bytes};
 ghost use Rattle.sqlite.specs.State.{HasCleanDisk};
 ghost use Rattle.sqlite.specs.Held.{state};
 ghost use Rattle.portal_core.specs.World.{is_published};
-ghost use Rattle.portal_core.specs.View.{student_sees};
+ghost use Rattle.portal_core.specs.View as seen;
 ghost use Rattle.portal_tables.specs.Own.{IsOwn};
 ghost use Rattle.portal_tables.specs.Tables.{choice_tree};
 ghost use Rattle.portal_store.specs.Lists.{chosen};
@@ -13,15 +13,15 @@ ghost use Rattle.portal_store.specs.World.{world_of, text_or_none};
 ghost use Rattle.portal_store.specs.Kept.{Holds};
 ghost use Rattle.portal_store.specs.Reading.{Reads};
 ghost use Rattle.portal_store.specs.Shown.{first};
-ghost use Rattle.portal_store.specs.Queried.{offered, student_from};
+ghost use Rattle.portal_store.specs.Queried.{student_from};
 
-use super::offers::{Offers, catalogue_of, offers_in};
 use crate::decode::{assigned_at, key_at, name_at};
 use crate::load::{Lists, LoadFault, list_in};
-use portal_core::{Person, Phase, StudentView};
+use portal_core::{Listing, Person, Phase, StudentView};
 use spa_rows::Key;
 use sqlite::{Alter, Connection, Row};
 use std::alloc::Global;
+use std::rc::Rc;
 
 /// The person whose row of a roll this is.
 pub(super) fn person_at(alloc: Global, row: &Row) -> Result<Person, LoadFault>
@@ -62,32 +62,32 @@ fn put_together(
     alloc: Global,
     phase: Phase,
     row: &Row,
-    offers: &Offers,
+    catalogue: Rc<Vec<Listing>>,
     choices: Vec<Key>,
 ) -> Result<StudentView, LoadFault>
-    ensures { IfOk result (λ v. v ≡ record { phase = phase; me = record { key = first row.now; name = bytes (column row.now 1) }; catalogue = offered offers.now.lecturers.items offers.now.projects.items; choices = choices.items; result = if is_published phase then text_or_none (column row.now 3) else None }) }
+    ensures { IfOk result (λ v. v ≡ record { phase = phase; me = record { key = first row.now; name = bytes (column row.now 1) }; catalogue = catalogue.value.items; choices = choices.items; result = if is_published phase then text_or_none (column row.now 3) else None }) }
 {
     Ok(StudentView {
         phase,
         me: person_at(alloc, row)?,
-        catalogue: catalogue_of(alloc, offers)?,
+        catalogue,
         choices,
         result: result_at(alloc, phase, row)?,
     })
 }
 
-/// What the student sees whose row this is.
+/// What the student sees whose row this is, with the catalogue.
 pub(super) fn student_view<S: Alter>(
     alloc: Global,
     conn: &mut Connection<S>,
     phase: Phase,
     row: &Row,
+    catalogue: Rc<Vec<Listing>>,
 ) -> Result<StudentView, LoadFault>
-    ensures shows { Holds (state S.Store conn.old).now → HasCleanDisk (state S.Store conn.new) → IsTrue (state S.Store conn.old).is_open → phase ≡ (world_of (state S.Store conn.old).now.trees).phase → IfOk result (λ v. v ≡ student_sees (world_of (state S.Store conn.old).now.trees) (student_from (state S.Store conn.old).now.trees row.now)) }
+    ensures shows { Holds (state S.Store conn.old).now → HasCleanDisk (state S.Store conn.new) → IsTrue (state S.Store conn.old).is_open → phase ≡ (world_of (state S.Store conn.old).now.trees).phase → catalogue.value.items ≡ seen.catalogue (world_of (state S.Store conn.old).now.trees) → IfOk result (λ v. v ≡ seen.student_sees (world_of (state S.Store conn.old).now.trees) (student_from (state S.Store conn.old).now.trees row.now)) }
     ensures reads { Reads result (state S.Store conn.old) (state S.Store conn.new) }
     ensures mode { conn.old.in_transaction ≡ false → conn.new.in_transaction ≡ false }
 {
-    let offers = offers_in(alloc, conn)?;
     let choices = choices_in(alloc, conn, row)?;
-    put_together(alloc, phase, row, &offers, choices)
+    put_together(alloc, phase, row, catalogue, choices)
 }

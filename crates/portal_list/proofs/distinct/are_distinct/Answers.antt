@@ -4,7 +4,7 @@ use Rattle.std.proofs.lemmas.List.{get_or_default}
 use Rattle.std.proofs.lemmas.Bool.{cases_lt, false≢true}
 use Rattle.spa_rows.specs.Lines.{Text}
 use Rattle.spa_rows.specs.Faults.{IsEarlierKey}
-use Rattle.spa_rows.proofs.Seen.{seen_more, seen_before}
+use Rattle.spa_rows.proofs.Seen.{tree_more, tree_before}
 use Rattle.portal_list.proofs.Apart.{distinct_so, not_earlier}
 use Rattle.portal_list.proofs.distinct.are_distinct.Goals as goal
 
@@ -15,7 +15,7 @@ returns-then-not-branch c =
     let blank : Bor Text = record { ref_ptr = (0, 0); now = [] } in
     let x : Bor Text = get_or texts n blank in
     let at : get_or texts n x ≡ x = get_or_default texts n x blank c.loop-text-test.true in
-    let earlier = seen_before texts (λ t. t.now) c.loop-text.seen x c.in_ok-insert.field-0 n x c.in_ok-insert.ensures.added refl c.loop-text.invariant.seen in
+    let earlier = tree_before texts (λ t. t.now) c.loop-text.seen x c.in_ok-insert.field-0 n x c.in_ok-insert.ensures.added refl c.loop-text.invariant.seen in
     (λ e. absurd (false≢true e), λ once. absurd (not_earlier (λ t. t.now) texts once n x c.loop-text-test.true at (earlier.0 (ap not c.if-not-branch.true))))
 
 pub loop-text-preserved : goal.loop-text-preserved
@@ -25,9 +25,9 @@ loop-text-preserved c =
     let blank : Bor Text = record { ref_ptr = (0, 0); now = [] } in
     let x : Bor Text = get_or texts n blank in
     let at : get_or texts n x ≡ x = get_or_default texts n x blank c.loop-text-test.true in
-    let earlier = seen_before texts (λ t. t.now) c.loop-text.seen x c.in_ok-insert.field-0 n x c.in_ok-insert.ensures.added refl c.loop-text.invariant.seen in
+    let earlier = tree_before texts (λ t. t.now) c.loop-text.seen x c.in_ok-insert.field-0 n x c.in_ok-insert.ensures.added refl c.loop-text.invariant.seen in
     record {
-      seen = seen_more texts (λ t. t.now) c.loop-text.seen c.insert.new.self x n x c.in_ok-insert.ensures.updates refl c.loop-text-test.true at c.loop-text.invariant.seen;
+      seen = tree_more texts (λ t. t.now) c.loop-text.seen c.insert.new.self x n x c.in_ok-insert.ensures.updates refl c.loop-text-test.true at c.loop-text.invariant.seen;
       distinct = λ j text below is repeated. elim (cases_lt j n) [
         | inl before ↦ c.loop-text.invariant.distinct j text before is repeated
         | inr here ↦

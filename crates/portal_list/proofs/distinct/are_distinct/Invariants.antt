@@ -1,12 +1,12 @@
 use Rattle.std.proofs.Common.{◌≡◌, ℕ, ◌<◌, get_or, Bor}
 use Rattle.spa_rows.specs.Lines.{Text}
 use Rattle.spa_rows.specs.Faults.{IsEarlierKey}
-use Rattle.spa_rows.proofs.Seen.{IsSeen}
+use Rattle.spa_rows.proofs.Seen.{IsInTree}
 use Rattle.portal_list.proofs.distinct.are_distinct.Given as goal
 
 -- the texts so far are in the set, and none of them repeats
 abbrev pub invariant-loop-text : goal.invariant-loop-text
 invariant-loop-text l = record {
-  seen : IsSeen l.texts (λ text. text.now) l.seen l.text-index;
+  seen : IsInTree l.texts (λ text. text.now) l.seen l.text-index;
   distinct : (j : ℕ) (text : Bor Text) → j < l.text-index → get_or l.texts j text ≡ text → IsEarlierKey l.texts (λ t. t.now) j text.now → ⊥;
 }

@@ -1,18 +1,23 @@
-use Rattle.std.proofs.Common.{◌≡◌, false, IfOk, IsTrue, rules, subst}
+use Rattle.std.proofs.Common.{◌≡◌, true, false, IfOk, IsTrue, [], ◌∷◌, pos, rules, sym, ap, ◌∙◌, subst}
+use Rattle.std.specs.Prelude.{if◌then◌else◌}
 use Rattle.sqlite.specs.Effect.{Database}
 use Rattle.sqlite.specs.Held.{state}
 use Rattle.sqlite.specs.State.{HasCleanDisk, IsUnchanged}
 use Rattle.portal_core.specs.Good.{Good}
-use Rattle.portal_core.specs.View.{view}
+use Rattle.portal_core.specs.View.{catalogue, view, sight_of, caller_among, lecturer_with, student_with, OfficeCaller}
 use Rattle.portal_core.specs.Words.{is}
-use Rattle.portal_store.specs.Kept.{Holds}
-use Rattle.portal_store.specs.World.{world_of}
+use Rattle.portal_tables.specs.Tables.{portal_tree}
+use Rattle.portal_tables.specs.Rows.{portal_row}
+use Rattle.portal_tables.proofs.Queries.{if_ok}
+use Rattle.portal_store.specs.Kept.{Holds, Remembers}
+use Rattle.portal_store.specs.World.{world_of, number_of}
 use Rattle.portal_store.proofs.InTurn.{clean_before}
 use Rattle.portal_store.proofs.Queried.{phase_told, code_told}
+use Rattle.portal_store.proofs.Remembered.{at_start}
 use Rattle.portal_store.proofs.queries.sight.Goals as goal
 
 pub returns-clause-shows : goal.returns-clause-shows
-returns-clause-shows g c holds clean good =
+returns-clause-shows g c holds clean good right =
     let a = state g.S.Store c.args.conn.now in
     let b = state g.S.Store c.office_in.new.conn in
     let d = state g.S.Store c.person_sight.new.conn in
@@ -20,7 +25,31 @@ returns-clause-shows g c holds clean good =
     let m : IsUnchanged a b = c.in_ok-office.ensures.same holds.own before in
     let code = c.args.code.now in
     let phase = c.in_ok-office.office.phase in
-    let there = subst (λ (x : Database). Holds x → HasCleanDisk d → IsTrue b.is_open → phase ≡ (world_of x.trees).phase → is (world_of x.trees).office code ≡ false → Good (world_of x.trees) → IfOk c.person_sight.result (λ v. v ≡ view (world_of x.trees) code)) m.0.now_is c.person_sight.ensures.shows in
+    let there = subst (λ (x : Database). Holds x → HasCleanDisk d → IsTrue b.is_open → phase ≡ (world_of x.trees).phase → is (world_of x.trees).office code ≡ false → Good (world_of x.trees) → Remembers c.args.remembered.now (catalogue (world_of x.trees)) → IfOk c.person_sight.result (λ v. v ≡ view (world_of x.trees) code)) m.0.now_is c.person_sight.ensures.shows in
     let row = c.in_ok-office.ensures.row holds.own holds.sound before in
     let other : is c.in_ok-office.office.code code ≡ false = search rules in
-    there holds clean m.0.is_open (phase_told a.now.trees phase _ row) (subst (λ k. is k code ≡ false) (code_told a.now.trees phase _ row) other) good
+    there holds clean m.0.is_open (phase_told a.now.trees phase _ row) (subst (λ k. is k code ≡ false) (code_told a.now.trees phase _ row) other) good right
+
+pub returns-clause-mind : goal.returns-clause-mind
+returns-clause-mind g c holds clean on =
+    let a = state g.S.Store c.args.conn.now in
+    let b = state g.S.Store c.office_in.new.conn in
+    let d = state g.S.Store c.person_sight.new.conn in
+    let m = c.in_ok-office.ensures.same holds.own (clean_before b d _ c.person_sight.ensures.reads.crash clean) in
+    at_start a b d m (λ x. Remembers c.args.remembered.now (catalogue (world_of x.trees)) → Remembers c.person_sight.new.remembered (catalogue (world_of x.trees))) c.person_sight.ensures.mind holds clean
+
+pub returns-then-eq-clause-shows : goal.returns-then-eq-clause-shows
+returns-then-eq-clause-shows g c holds clean good right =
+    let a = state g.S.Store c.args.conn.now in
+    let b = state g.S.Store c.office_in.new.conn in
+    let d = state g.S.Store c.office_sight.new.conn in
+    let before = clean_before b d _ c.office_sight.ensures.reads.crash clean in
+    let m : IsUnchanged a b = c.in_ok-office.ensures.same holds.own before in
+    let code = c.args.code.now in
+    let office = c.in_ok-office.office in
+    let row = c.in_ok-office.ensures.row holds.own holds.sound before in
+    let there = subst (λ (x : Database). Holds x → HasCleanDisk d → x.trees portal_tree ≡ portal_row (pos 1) (pos (number_of office.phase)) office.code ∷ [] → IfOk c.office_sight.result (λ v. v ≡ sight_of (world_of x.trees) OfficeCaller)) m.0.now_is
+    (λ holds clean. c.office_sight.ensures.shows holds clean m.0.is_open) in
+    let own : is office.code code ≡ true = search rules in
+    let mine : is (world_of a.now.trees).office code ≡ true = subst (λ k. is k code ≡ true) (code_told a.now.trees office.phase _ row) own in
+    if_ok _ _ c.office_sight.result (λ v is. is ∙ sym (ap (λ b. sight_of (world_of a.now.trees) (if b then OfficeCaller else caller_among (lecturer_with (world_of a.now.trees) code) (student_with (world_of a.now.trees) code))) mine)) (there holds clean row)

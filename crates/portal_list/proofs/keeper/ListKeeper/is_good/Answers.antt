@@ -14,6 +14,6 @@ returns c =
       lecturers_there = sym (c.deref.ensures.value ∙ ap (λ (v : World). v.lecturers) c.self.view_is);
       projects_there = sym (c.deref-2.ensures.value ∙ ap (λ (v : World). v.projects) c.self.view_is);
       students_there = sym students;
-    }) in
+    }) c.requires in
     let published : is_published w.phase ≡ true = ap (λ (v : World). is_published v.phase) (sym c.self.view_is) ∙ sym c.is_published.ensures ∙ search rules in
     good_if_stable w i c.deref-4.result.now c.in_ok-places.places.items c.are_stable.result c.requires published same again c.in_ok-places.ensures c.are_stable.ensures

@@ -3,7 +3,7 @@ use Rattle.sqlite.specs.State.{HasCleanDisk}
 use Rattle.sqlite.specs.Held.{Held, state}
 use Rattle.portal_core.specs.Meaning.{meant}
 use Rattle.portal_tables.proofs.Runs.{clean_if_open}
-use Rattle.portal_store.proofs.Keeps.{change_keeps, change_clean, change_made, change_same}
+use Rattle.portal_store.proofs.Keeps.{change_keeps, change_shown, change_left, change_clean, change_made, change_same}
 use Rattle.portal_store.proofs.store.Store.change.Given.{Over}
 use Rattle.portal_store.proofs.store.Store.change.Goals as goal
 
@@ -11,21 +11,29 @@ law : (g : Over) (h : Held g.row.S.Denot) → IsTrue (state g.S.Store h).is_open
 law g h = clean_if_open (state g.S.Store h).is_clean (state g.S.Store h).is_open (g.met.S.Store.shut_if_dirty h.store)
 
 pub invariant_of-self : goal.invariant_of-self
-invariant_of-self g c =
-    change_keeps g.S.Store (meant c.args.change.now) c.self.inside.conn c.make.new.conn c.self.inside.own c.args.self.now c.self.view_is c.self.invariant c.make.ensures.idle c.in_ok-check_own.ensures (law g c.make.new.conn) c.requires.good c.requires.leaves_good
-    c.make.result c.make.ensures.ok c.make.ensures.err
+invariant_of-self g c = record {
+  kept = change_keeps g.S.Store (meant c.args.change.now) c.self.inside.conn c.make.new.conn c.self.inside.own c.args.self.now c.self.view_is c.self.invariant.kept c.make.ensures.idle c.in_ok-check_own.ensures (law g c.make.new.conn) c.requires.good c.requires.leaves_good
+      c.make.result c.make.ensures.ok c.make.ensures.err;
+  shown = change_shown g.S.Store (meant c.args.change.now) c.self.inside.conn c.make.new.conn c.self.inside.own c.args.self.now c.self.view_is c.self.invariant.kept c.make.ensures.idle c.in_ok-check_own.ensures (law g c.make.new.conn) c.requires.good c.requires.leaves_good
+      c.make.result c.make.ensures.ok c.make.ensures.err c.self.inside.catalogue c.forget_changed.new.remembered c.self.invariant.shown c.forget_changed.ensures.before c.forget_changed.ensures.after;
+}
 
 pub returns-clause-clean : goal.returns-clause-clean
 returns-clause-clean g c =
-    change_clean g.S.Store (meant c.args.change.now) c.self.inside.conn c.make.new.conn c.self.inside.own c.args.self.now c.self.view_is c.self.invariant c.make.ensures.idle c.in_ok-check_own.ensures (law g c.make.new.conn) c.requires.good c.requires.leaves_good
+    change_clean g.S.Store (meant c.args.change.now) c.self.inside.conn c.make.new.conn c.self.inside.own c.args.self.now c.self.view_is c.self.invariant.kept c.make.ensures.idle c.in_ok-check_own.ensures (law g c.make.new.conn) c.requires.good c.requires.leaves_good
     c.make.result c.make.ensures.ok c.make.ensures.err
 
 pub returns-clause-made : goal.returns-clause-made
 returns-clause-made g c =
-    change_made g.S.Store (meant c.args.change.now) c.self.inside.conn c.make.new.conn c.self.inside.own c.args.self.now c.self.view_is c.self.invariant c.make.ensures.idle c.in_ok-check_own.ensures (law g c.make.new.conn) c.requires.good c.requires.leaves_good
+    change_made g.S.Store (meant c.args.change.now) c.self.inside.conn c.make.new.conn c.self.inside.own c.args.self.now c.self.view_is c.self.invariant.kept c.make.ensures.idle c.in_ok-check_own.ensures (law g c.make.new.conn) c.requires.good c.requires.leaves_good
     c.make.result c.make.ensures.ok c.make.ensures.err
 
 pub returns-clause-same : goal.returns-clause-same
 returns-clause-same g c =
-    change_same g.S.Store (meant c.args.change.now) c.self.inside.conn c.make.new.conn c.self.inside.own c.args.self.now c.self.view_is c.self.invariant c.make.ensures.idle c.in_ok-check_own.ensures (law g c.make.new.conn) c.requires.good c.requires.leaves_good
+    change_same g.S.Store (meant c.args.change.now) c.self.inside.conn c.make.new.conn c.self.inside.own c.args.self.now c.self.view_is c.self.invariant.kept c.make.ensures.idle c.in_ok-check_own.ensures (law g c.make.new.conn) c.requires.good c.requires.leaves_good
     c.make.result c.make.ensures.ok c.make.ensures.err
+
+pub returns-clause-left : goal.returns-clause-left
+returns-clause-left g c =
+    change_left g.S.Store (meant c.args.change.now) c.self.inside.conn c.make.new.conn c.self.inside.own c.args.self.now c.self.view_is c.self.invariant.kept c.make.ensures.idle c.in_ok-check_own.ensures (law g c.make.new.conn) c.requires.good c.requires.leaves_good
+    (g.met.S.Store.settled c.self.inside.conn.store) c.make.ensures.crash

@@ -13,7 +13,10 @@ law g h = clean_if_open (state g.S.Store h).is_clean (state g.S.Store h).is_open
 pub invariant_of-result : goal.invariant_of-result
 invariant_of-result g c =
     let new = c.create_portal.new.conn in
-    first_kept g.S.Store c.as_bytes.result.now c.is_empty-own.result c.args.conn new c.create_portal.ensures.idle (λ own. sym c.schema.ensures.value ∙ c.is_empty-own.ensures.0 own) (λ on. c.in_default.ensures.ok (law g new on))
+    record {
+      kept = first_kept g.S.Store c.as_bytes.result.now c.is_empty-own.result c.args.conn new c.create_portal.ensures.idle (λ own. sym c.schema.ensures.value ∙ c.is_empty-own.ensures.0 own) (λ on. c.in_default.ensures.ok (law g new on));
+      shown = λ on. tt;
+    }
 
 pub returns-clause-world : goal.returns-clause-world
 returns-clause-world g c on =

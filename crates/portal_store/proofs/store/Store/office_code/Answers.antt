@@ -4,7 +4,7 @@ use Rattle.sqlite.specs.Held.{Held, state}
 use Rattle.portal_tables.proofs.Runs.{clean_if_open}
 use Rattle.portal_tables.proofs.Queries.{if_ok}
 use Rattle.portal_store.specs.Kept.{kept_world}
-use Rattle.portal_store.proofs.Keeps.{read_keeps, read_clean, read_same, read_office}
+use Rattle.portal_store.proofs.Keeps.{read_keeps, read_shown, read_clean, read_same, read_office}
 use Rattle.portal_store.proofs.store.Store.office_code.Given.{Over}
 use Rattle.portal_store.proofs.store.Store.office_code.Goals as goal
 
@@ -12,22 +12,25 @@ law : (g : Over) (h : Held g.row.S.Denot) → IsTrue (state g.S.Store h).is_open
 law g h = clean_if_open (state g.S.Store h).is_clean (state g.S.Store h).is_open (g.met.S.Store.shut_if_dirty h.store)
 
 pub invariant_of-self : goal.invariant_of-self
-invariant_of-self g c =
-    read_keeps g.S.Store c.self.inside.conn c.office_of.new.conn c.self.inside.own c.args.self.now c.self.view_is c.self.invariant c.office_of.ensures.idle c.in_ok-check_own.ensures (law g c.office_of.new.conn)
-    c.office_of.result c.office_of.ensures.same c.office_of.ensures.err
+invariant_of-self g c = record {
+  kept = read_keeps g.S.Store c.self.inside.conn c.office_of.new.conn c.self.inside.own c.args.self.now c.self.view_is c.self.invariant.kept c.office_of.ensures.idle c.in_ok-check_own.ensures (law g c.office_of.new.conn)
+      c.office_of.result c.office_of.ensures.same c.office_of.ensures.err;
+  shown = read_shown g.S.Store c.self.inside.conn c.office_of.new.conn c.self.inside.own c.args.self.now c.self.view_is c.self.invariant.kept c.office_of.ensures.idle c.in_ok-check_own.ensures (law g c.office_of.new.conn)
+      c.office_of.result c.office_of.ensures.same c.office_of.ensures.err c.self.inside.catalogue c.self.inside.catalogue c.self.invariant.shown (λ _ _ _ told. told);
+}
 
 pub returns-clause-clean : goal.returns-clause-clean
 returns-clause-clean g c =
-    read_clean g.S.Store c.self.inside.conn c.office_of.new.conn c.self.inside.own c.args.self.now c.self.view_is c.self.invariant c.office_of.ensures.idle c.in_ok-check_own.ensures (law g c.office_of.new.conn)
+    read_clean g.S.Store c.self.inside.conn c.office_of.new.conn c.self.inside.own c.args.self.now c.self.view_is c.self.invariant.kept c.office_of.ensures.idle c.in_ok-check_own.ensures (law g c.office_of.new.conn)
     c.office_of.result c.office_of.ensures.same c.office_of.ensures.err
 
 pub returns-clause-same : goal.returns-clause-same
 returns-clause-same g c =
-    read_same g.S.Store c.self.inside.conn c.office_of.new.conn c.self.inside.own c.args.self.now c.self.view_is c.self.invariant c.office_of.ensures.idle c.in_ok-check_own.ensures (law g c.office_of.new.conn)
+    read_same g.S.Store c.self.inside.conn c.office_of.new.conn c.self.inside.own c.args.self.now c.self.view_is c.self.invariant.kept c.office_of.ensures.idle c.in_ok-check_own.ensures (law g c.office_of.new.conn)
     c.office_of.result c.office_of.ensures.same c.office_of.ensures.err
 
 pub returns-clause-code : goal.returns-clause-code
 returns-clause-code g c on =
     if_ok _ _ c.office_of.result (λ code is. is ∙ ap (λ s. (kept_world g.S.Store s).office) c.self.view_is)
-    (read_office g.S.Store c.self.inside.conn c.office_of.new.conn c.self.inside.own c.args.self.now c.self.view_is c.self.invariant c.office_of.ensures.idle c.in_ok-check_own.ensures (law g c.office_of.new.conn)
+    (read_office g.S.Store c.self.inside.conn c.office_of.new.conn c.self.inside.own c.args.self.now c.self.view_is c.self.invariant.kept c.office_of.ensures.idle c.in_ok-check_own.ensures (law g c.office_of.new.conn)
     c.office_of.result c.office_of.ensures.same c.office_of.ensures.err _ c.office_of.ensures.code on)

@@ -15,8 +15,11 @@ law g h = clean_if_open (state g.S.Store h).is_clean (state g.S.Store h).is_open
 pub invariant_of-result : goal.invariant_of-result
 invariant_of-result g c =
     let new = c.examine.new.conn in
-    opened_kept g.S.Store c.fits-own.result c.args.conn new c.examine.ensures.idle c.fits-own.ensures.0 (c.is_autocommit-idle.ensures.settled (c.is_autocommit-idle.ensures.value ∙ ap not c.requires.idle)) c.schema-live.ensures.live
-    (λ mine on. ((c.in_default.ensures.asks mine).same (c.fits-own.ensures.0 mine) (law g new on), c.in_default.ensures.admits mine (c.fits-own.ensures.0 mine) c.schema-live.ensures.live (law g new on)))
+    record {
+      kept = opened_kept g.S.Store c.fits-own.result c.args.conn new c.examine.ensures.idle c.fits-own.ensures.0 (c.is_autocommit-idle.ensures.settled (c.is_autocommit-idle.ensures.value ∙ ap not c.requires.idle)) c.schema-live.ensures.live
+          (λ mine on. ((c.in_default.ensures.asks mine).same (c.fits-own.ensures.0 mine) (law g new on), c.in_default.ensures.admits mine (c.fits-own.ensures.0 mine) c.schema-live.ensures.live (law g new on)));
+      shown = λ on. tt;
+    }
 
 pub returns-clause-good : goal.returns-clause-good
 returns-clause-good g c on =

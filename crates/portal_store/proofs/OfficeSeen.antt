@@ -1,0 +1,135 @@
+-- What the office sees, of what queries show.
+use Rattle.std.proofs.Common.{◌≡◌, inl, inr, pos, Bool, true, false, ◌&&◌, ◌||◌, cond, Option, Some, None, List, [], ◌∷◌, map, filter, refl, sym, ap, subst, ◌∙◌}
+use Rattle.std.specs.Prelude.{if◌then◌else◌, ◌==◌, not, is_none}
+use Rattle.std.specs.List.{AllByRecursion, list_any, filter_map, cons_option}
+use Rattle.std.proofs.Math.Bool.{or-true}
+use Rattle.std.proofs.lemmas.Bool.{cases_Bool}
+use Rattle.std.proofs.lemmas.List.Sorted.{list_any-IsPermutation}
+use Rattle.sqlite.specs.Order.{Row, column}
+use Rattle.sqlite.specs.Tree.{Trees}
+use Rattle.sqlite.specs.Effect.{Database}
+use Rattle.sqlite_trees.proofs.ListLemmas.{filter-map}
+use Rattle.sqlite_trees.specs.Objects.{number_in}
+use Rattle.portal_core.specs.declared.phase.Phase.{Phase}
+use Rattle.portal_core.specs.declared.rows.Listing.{Listing}
+use Rattle.portal_core.specs.declared.rows.ProjectRow.{ProjectRow}
+use Rattle.portal_core.specs.Words.{Key, is, has, is_empty}
+use Rattle.portal_core.specs.World.{World, Lecturer, Student, student_key, is_still_to_rank, is_from_ranking, is_published}
+use Rattle.portal_core.specs.View.{catalogue, office_sees}
+use Rattle.portal_core.proofs.AllLaws.{all_weaker, any_map, is_sym}
+use Rattle.portal_core.proofs.Givers.{is_mapped}
+use Rattle.portal_list.specs.Rows.{Rows, rows_of, choices_in}
+use Rattle.portal_list.specs.Shown.{is_wanted, is_waiting}
+use Rattle.portal_list.proofs.Waiting.{waiting_lecturers}
+use Rattle.portal_tables.specs.Tables.{portal_tree, lecturer_tree, student_tree, choice_tree, ranking_tree}
+use Rattle.portal_tables.specs.Rows.{portal_row}
+use Rattle.portal_tables.specs.Changes.{ListsBy, columns, has_text}
+use Rattle.portal_tables.proofs.Lists.{map-map}
+use Rattle.portal_store.specs.declared.load.Lists.TheVariants.{Choices}
+use Rattle.portal_store.specs.Kept.{Holds}
+use Rattle.portal_store.specs.World.{world_of, number_of, row_key, is_ranked, lecturer_of, student_of}
+use Rattle.portal_store.specs.Lists.{chosen, named_by}
+use Rattle.portal_store.specs.Shown.{first, by_key, shown_lecturer, shown_project, shown_student, shown_pair, entry, rows_from, lecturers_shown, projects_shown, students_shown}
+use Rattle.portal_store.specs.Queried.{unlisted, waiting_key, office_from}
+use Rattle.portal_store.proofs.Applying.{any_alike, choosers}
+use Rattle.portal_store.proofs.Fine.{all_filtered}
+use Rattle.portal_store.proofs.Listed.{permuted, all_mapped}
+use Rattle.portal_store.proofs.Loaded.{lecturer_columns, some_mapped, lecturers_are, students_are, rows_are}
+use Rattle.portal_store.proofs.Parents.{choice_parents}
+use Rattle.portal_store.proofs.Sorted.{permutes, all_permuted}
+
+-- somebody names the project
+
+some_more : {X : Type 0} (f g : X → Bool) (xs : List X) → ((x : X) → f x ≡ true → g x ≡ true) → list_any f xs ≡ true → list_any g xs ≡ true
+some_more f g [] more h = absurd (cc)
+some_more f g (x ∷ xs) more h = elim (cases_Bool (f x)) [
+  | inl passes ↦ ap (λ b. b || list_any g xs) (more x passes)
+  | inr fails ↦ ap (λ b. g x || b) (some_more f g xs more (sym (ap (λ b. b || list_any f xs) fails) ∙ h)) ∙ or-true (g x)
+]
+
+none_at_all : {X : Type 0} (xs : List X) → list_any (λ (x : X). false) xs ≡ false
+none_at_all [] = refl
+none_at_all (x ∷ xs) = none_at_all xs
+
+-- of students whose keys these are there is one, where there is a key
+anyone : (ks : List Key) (ss : List Student) → AllByRecursion (λ k. has (map student_key ss) k ≡ true) ks → list_any (λ s. has ks s.row.key) ss ≡ not (is_empty ks)
+anyone [] ss all = none_at_all ss
+anyone (k ∷ ks) ss all =
+    some_more (λ (s : Student). is k s.row.key) (λ s. is s.row.key k || has ks s.row.key) ss (λ s e. ap (λ b. b || has ks s.row.key) (is_sym s.row.key k ∙ e)) (sym (is_mapped student_key ss k) ∙ all.0)
+
+empty_mapped : {X Y : Type 0} (f : X → Y) (xs : List X) → is_empty (map f xs) ≡ is_empty xs
+empty_mapped f [] = refl
+empty_mapped f (x ∷ xs) = refl
+
+-- who has a row is in the world
+on_roll : (db : Trees) (k : Key) → has (map student_key (world_of db).students) k ≡ has (map row_key (db student_tree)) k
+unfolding world_of
+on_roll db k =
+    let roll = db student_tree in
+    ap (λ ss. has (map student_key ss) k) (students_are db)
+    ∙ ap (λ ks. has ks k) (map-map student_key (student_of (db choice_tree)) (by_key roll))
+    ∙ is_mapped row_key (by_key roll) k
+    ∙ sym (list_any-IsPermutation (λ r. is k (row_key r)) roll (by_key roll) (permutes row_key roll))
+    ∙ sym (is_mapped row_key roll k)
+
+pub some_chooser : (db : Database) → Holds db → (p : Key) (shown : List Row) → ListsBy (1 ∷ []) (has_text 3 p) (columns (1 ∷ [])) (db.trees choice_tree) shown
+    → not (is_empty shown) ≡ list_any (λ (s : Student). has s.choice p) (world_of db.trees).students
+some_chooser db holds p shown lists =
+    let w = world_of db.trees in
+    let table = db.trees choice_tree in
+    let On : Key → Type 0 = λ k. has (map student_key w.students) k ≡ true in
+    let rows : AllByRecursion (λ r. On (row_key r)) table = all_weaker _ (λ r. On (row_key r)) (λ r known. on_roll db.trees (row_key r) ∙ known.0) table (choice_parents db holds.own holds.sound holds.apart.1.1.1.1.0) in
+    let mapped : AllByRecursion (λ c. On (first c)) (map (columns (1 ∷ [])) (filter (has_text 3 p) table)) = all_mapped (λ c. On (first c)) (columns (1 ∷ [])) (filter (has_text 3 p) table) (all_filtered (λ r. On (row_key r)) (has_text 3 p) table rows) in
+    let keys : AllByRecursion On (map first shown) = all_mapped On first shown (all_permuted (λ c. On (first c)) _ shown (permuted _ _ _ table shown lists) mapped) in
+    ap not (sym (empty_mapped first shown)) ∙ sym (anyone (map first shown) w.students keys) ∙ any_alike _ _ w.students (choosers db holds p shown lists)
+
+-- the parts of what is seen
+
+-- those that pass, by their keys
+passing : {X Y Z : Type 0} (p : Y → Bool) (key : Y → Z) (of : X → Y) (f : X → Option Z) → ((x : X) → f x ≡ cond (p (of x)) (Some (key (of x))) None) → (xs : List X) → filter_map f xs ≡ map key (filter p (map of xs))
+passing p key of f same [] = refl
+passing {X} {Y} {Z} p key of f same (x ∷ xs) =
+    ap (λ o. cons_option o (filter_map f xs)) (same x)
+    ∙ ap (cons_option (cond (p (of x)) (Some (key (of x))) None)) (passing p key of f same xs)
+    ∙ elim (p (of x)) as (λ b. cons_option (cond {A = Option Z} b (Some (key (of x))) None) (map key (filter p (map of xs))) ≡ map key (cond b (of x ∷ filter p (map of xs)) (filter p (map of xs)))) [ true ↦ refl | false ↦ refl ]
+
+keys_without : (ss : List Student) → unlisted (choices_in ss) ≡ map (λ (s : Student). s.row.key) (filter (λ s. is_empty s.choice) ss)
+keys_without ss =
+    ap (map (λ (e : Key × List Key). e.0)) (filter-map (λ (e : Key × List Key). is_empty e.1) (λ (s : Student). (s.row.key, s.choice)) ss)
+    ∙ map-map (λ (e : Key × List Key). e.0) (λ (s : Student). (s.row.key, s.choice)) (filter (λ s. is_empty s.choice) ss)
+
+ranking_there : (b wanted : Bool) (k : Key) (list : List Key) → cond b None (cond wanted (Some k) None) ≡ cond (is_none (cond b (Some list) None) && wanted) (Some k) None
+ranking_there true wanted k list = refl
+ranking_there false wanted k list = refl
+
+waiting_told : (db : Trees) → filter_map (waiting_key (world_of db) (world_of db).projects) (lecturers_shown db) ≡ map (λ (l : Lecturer). l.row.key) (filter (is_still_to_rank (world_of db)) (world_of db).lecturers)
+unfolding world_of
+waiting_told db =
+    let w = world_of db in
+    let rows = by_key (db lecturer_tree) in
+    some_mapped (waiting_key w w.projects) lecturer_columns rows
+    ∙ passing (is_waiting w.students w.projects) (λ (l : Lecturer). l.row.key) (lecturer_of (db ranking_tree)) (λ r. waiting_key w w.projects (lecturer_columns r))
+    (λ r. ranking_there (is_ranked r) (is_wanted w.students w.projects (row_key r)) (row_key r) (chosen (db ranking_tree) (row_key r))) rows
+    ∙ ap (λ ls. map (λ (l : Lecturer). l.row.key) (filter (is_waiting w.students w.projects) ls)) (sym (lecturers_are db))
+    ∙ waiting_lecturers w
+
+pub office_told : (db : Trees) (phase : Phase) (code : Key) (offers : List Listing) → db portal_tree ≡ portal_row (pos 1) (pos (number_of phase)) code ∷ [] → offers ≡ catalogue (world_of db)
+    → office_from db phase code offers (lecturers_shown db) (projects_shown db) (students_shown db) ≡ office_sees (world_of db)
+office_told db phase code offers office listed =
+    let w = world_of db in
+    let same : rows_from db phase code (lecturers_shown db) (projects_shown db) (students_shown db) ≡ rows_of w = rows_are db phase code office in
+    let without = ap (λ (r : Rows). unlisted r.choices) same ∙ keys_without w.students in
+    let still : (if is_from_ranking phase then filter_map (waiting_key w (map shown_project (projects_shown db))) (lecturers_shown db) else []) ≡ (if is_from_ranking w.phase then map (λ (l : Lecturer). l.row.key) (filter (is_still_to_rank w) w.lecturers) else [])
+    = ap (λ (r : Rows). if is_from_ranking r.phase then filter_map (waiting_key w r.projects) (lecturers_shown db) else []) same
+    ∙ ap (λ (ks : List Key). if is_from_ranking w.phase then ks else []) (waiting_told db) in
+    λ i. record {
+      phase = (same i).phase;
+      office_code = (same i).office;
+      lecturers = (same i).lecturers;
+      projects = (same i).projects;
+      students = (same i).students;
+      catalogue = listed i;
+      without_list = without i;
+      still_to_rank = still i;
+      pairs = if is_published (same i).phase then (same i).pairs else [];
+    }
