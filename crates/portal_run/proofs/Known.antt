@@ -4,10 +4,10 @@ use Rattle.std.specs.Prelude.{IfSome}
 use Rattle.std.specs.Io.KnownBytes.{Appends}
 use Rattle.std.proofs.lemmas.Bool.{cases_lt, lt-ltb}
 use Rattle.std.proofs.lemmas.List.{length-take, take_all}
-use Rattle.portal_run.specs.Told.{Text, Told}
-use Rattle.portal_run.specs.Answer.{IfLonger, IsAnswer}
+use Rattle.portal_answer.specs.Told.{Text, Told}
+use Rattle.portal_answer.specs.Answer.{IfLonger, IsAnswer}
 use Rattle.portal_run.specs.Run.{Answers}
-use Rattle.portal_run.specs.declared.answer.Task.{Task}
+use Rattle.portal_answer.specs.declared.answer.Task.{Task}
 
 -- of a longer file nothing is read
 longer : (task : Task) (a b : Bool) (xs ys : Text) (t : Told) → a ≡ true → b ≡ true → IfLonger task a xs t → IfLonger task b ys t

@@ -6,7 +6,7 @@ use Rattle.std.proofs.KnownBytes.{Consumes-nil, Consumes-trans}
 use Rattle.std.proofs.lemmas.Bool.{cases_lt}
 use Rattle.std.proofs.lemmas.List.{take_all, take-append-le, append-nil}
 use Rattle.portal_desk.specs.Devices.{TakesAtMost as TakesFew}
-use Rattle.portal_run.specs.Told.{Text}
+use Rattle.portal_answer.specs.Told.{Text}
 use Rattle.portal_run.specs.Taken.{TakesAtMost, Adds}
 
 -- nothing was taken

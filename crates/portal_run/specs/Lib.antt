@@ -1,7 +1,2 @@
-pub mod Told
-pub mod Refused
-pub mod Blocking
-pub mod Solution
-pub mod Answer
 pub mod Taken
 pub mod Run

@@ -1,9 +1,9 @@
 -- What one run of the program does, over an input and an output that are known.
 use Rattle.std.specs.Prelude.{◌≡◌, ℕ, Option, IfSome}
 use Rattle.std.specs.Io.KnownBytes.{Appends}
-use Rattle.portal_run.specs.Told.{Text, Told}
-use Rattle.portal_run.specs.Answer.{IsAnswer}
-use Rattle.portal_run.specs.declared.answer.Task.{Task}
+use Rattle.portal_answer.specs.Told.{Text, Told}
+use Rattle.portal_answer.specs.Answer.{IsAnswer}
+use Rattle.portal_answer.specs.declared.answer.Task.{Task}
 use Rattle.portal_words.specs.declared.command.Command.{Command}
 use Rattle.portal_words.specs.declared.command.Command.TheVariants as command
 

@@ -1,7 +1,7 @@
 -- What is taken from a reader whose bytes are known.
 use Rattle.std.specs.Prelude.{◌≡◌, ◌<◌, ◌≤◌, ℕ, Option, length, ◌++◌}
 use Rattle.std.specs.Io.KnownBytes.{Consumes, IsAtEnd}
-use Rattle.portal_run.specs.Told.{Text}
+use Rattle.portal_answer.specs.Told.{Text}
 
 -- some bytes were taken, at most so many
 abbrev pub TakesAtMost : ℕ → Option Text → Option Text → Type 0

@@ -5,11 +5,11 @@ ghost use Rattle.portal_run.specs.Run.{Answers, IsOfFile};
 ghost use Rattle.portal_desk.specs.Devices.{TakesAtMost as TakesFew};
 ghost use Rattle.portal_run.specs.Taken.{TakesAtMost};
 
-use crate::answer::{Task, answer_to};
 use crate::input::{InputFault, bytes_of};
 use crate::making::init;
 use crate::saying::{say, say_memory, say_read};
 use crate::year::{pipe_database, report_database, serve_database};
+use portal_answer::{Task, answer_to};
 use portal_words::{Asked, Command, command_of};
 use std::alloc::Global;
 use std::convert::AsStr;

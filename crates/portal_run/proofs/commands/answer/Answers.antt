@@ -1,9 +1,9 @@
 use Rattle.std.proofs.Common.{◌≢◌, subst}
 use Rattle.std.specs.Io.KnownBytes.{Appends}
-use Rattle.portal_run.specs.Told.{Told}
-use Rattle.portal_run.specs.Answer.{IsAnswer}
+use Rattle.portal_answer.specs.Told.{Told}
+use Rattle.portal_answer.specs.Answer.{IsAnswer}
 use Rattle.portal_run.proofs.Known.{IsSaid, said, said_bound}
-use Rattle.portal_run.proofs.Statuses.{answer_status}
+use Rattle.portal_answer.proofs.Statuses.{answer_status}
 use Rattle.portal_run.proofs.commands.answer.Goals as goal
 
 pub returns-in-Ok-answer_to : goal.returns-in-Ok-answer_to

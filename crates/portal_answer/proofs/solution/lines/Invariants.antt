@@ -1,7 +1,7 @@
 use Rattle.std.proofs.Common.{◌≡◌, ◌+◌, take, is_some, is_none}
 use Rattle.std.specs.List.{flat_map, zip, count_by}
-use Rattle.portal_run.specs.Solution.{assign_line}
-use Rattle.portal_run.proofs.solution.lines.Given as goal
+use Rattle.portal_answer.specs.Solution.{assign_line}
+use Rattle.portal_answer.proofs.solution.lines.Given as goal
 
 -- the lines of the students so far, and their counts
 pub record SoFar (l : goal.Live-loop-student) : Type 0 where

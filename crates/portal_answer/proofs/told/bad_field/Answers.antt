@@ -1,8 +1,8 @@
 use Rattle.std.proofs.Common.{◌≡◌, ◌∙◌, ◌++◌, ap, rules, codes, append_assoc}
 use Rattle.std.specs.Fmt.{decimal}
 use Rattle.std.specs.String.{string_bytes}
-use Rattle.portal_run.specs.Told.{refusal}
-use Rattle.portal_run.proofs.told.bad_field.Goals as goal
+use Rattle.portal_answer.specs.Told.{refusal}
+use Rattle.portal_answer.proofs.told.bad_field.Goals as goal
 
 pub returns : goal.returns
 returns c =

@@ -1,8 +1,8 @@
 //! What the program tells, and its refusals.
 
 ghost use Rattle.std.specs.Prelude.{◌≡◌, IfOk, IsErr};
-ghost use Rattle.portal_run.specs.Told.{refused_plain, refused_row};
-ghost use Rattle.portal_run.specs.Refused as spec;
+ghost use Rattle.portal_answer.specs.Told.{refused_plain, refused_row};
+ghost use Rattle.portal_answer.specs.Refused as spec;
 
 use portal_rolls::RollFault;
 use spa_model::{BadInstance, BadMatching, InstanceFault, MatchingFault};
@@ -11,13 +11,13 @@ use std::marker::Model;
 
 /// A text, and the exit status that goes with it.
 #[derive(Drop)]
-pub(crate) struct Told {
-    pub(crate) text: Vec<u8>,
-    pub(crate) status: u8,
+pub struct Told {
+    pub text: Vec<u8>,
+    pub status: u8,
 }
 
 impl Model for Told {
-    ghost use Rattle.portal_run.specs.Told as spec;
+    ghost use Rattle.portal_answer.specs.Told as spec;
 
     ghost Value = { spec.Told };
 

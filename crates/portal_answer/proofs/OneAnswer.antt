@@ -1,23 +1,30 @@
--- Of an instance and pairs one text alone is told.
-use Rattle.std.proofs.Common.{◌≡◌, ◌∙◌, ◌⊎◌, inl, inr, ℕ, zero, suc, ◌<◌, cond, eqb, List, [], ◌∷◌, length, get_or, Option, Some, None, refl, sym, subst, ap, arith}
+-- To the bytes of a file one text alone is told.
+use Rattle.std.proofs.Common.{◌≡◌, ◌∙◌, ◌⊎◌, inl, inr, ℕ, zero, suc, ◌<◌, Bool, true, false, cond, eqb, Result, Ok, Err, List, [], ◌∷◌, length, get_or, Option, Some, None, refl, sym, subst, ap, arith}
 use Rattle.std.specs.Prelude.{AllPairs, Contains}
 use Rattle.std.proofs.lemmas.Bool.{cases_lt}
 use Rattle.std.proofs.lemmas.List.{ext_get_or}
-use Rattle.spa_rows.specs.Lines.{Pair}
+use Rattle.std.specs.Prelude.{nat_lt}
+use Rattle.spa_rows.specs.Lines.{Pair, Rows}
+use Rattle.spa_rows.specs.Faults.{HasNoneBefore, IsFirstFault, number_of}
+use Rattle.spa_rows.specs.declared.faults.InstanceFault.{InstanceFault}
+use Rattle.spa_rows.specs.declared.faults.InstanceFault.TheVariants as row
+use Rattle.portal_rolls.specs.Lines.{File, rows}
+use Rattle.portal_rolls.specs.declared.fault.RollFault.{RollFault}
 use Rattle.spa_model.specs.Spa.{Spa, Blocks, project_of}
 use Rattle.spa_model.specs.Pairs.{HasPairs, IsFirstPairFault, number_of_pair_fault, student_in, project_in}
 use Rattle.spa_model.specs.declared.matching.MatchingFault.{MatchingFault}
 use Rattle.spa_model.specs.declared.matching.MatchingFault.TheVariants.{NoSuchStudent, NoSuchProject, NotAcceptable, StudentTwice, ProjectOver, LecturerOver, Memory}
 use Rattle.spa_model.proofs.OneOnly.{best_is_one}
+use Rattle.spa_model.proofs.OneInstance.{instance_is_one}
 use Rattle.spa_check.specs.Listed.{AreAllBlocks, IsEarlier}
 use Rattle.spa_check.specs.declared.block.Block.{Block}
-use Rattle.portal_run.specs.Told.{Told}
-use Rattle.portal_run.specs.Refused.{refused_matching}
-use Rattle.portal_run.specs.Blocking.{blocking}
-use Rattle.portal_run.specs.Solution.{assignment}
-use Rattle.portal_run.specs.Answer.{Tells, OfPairs}
-use Rattle.portal_run.specs.declared.answer.Task.{Task}
-use Rattle.portal_run.specs.declared.answer.Task.TheVariants.{Check, Solve}
+use Rattle.portal_answer.specs.Told.{Text, Told}
+use Rattle.portal_answer.specs.Refused.{refused_instance, refused_matching}
+use Rattle.portal_answer.specs.Blocking.{blocking}
+use Rattle.portal_answer.specs.Solution.{assignment}
+use Rattle.portal_answer.specs.Answer.{Tells, OfPairs, OfFile, OfRead, IfLonger, IsAnswer, rows_of, limit}
+use Rattle.portal_answer.specs.declared.answer.Task.{Task}
+use Rattle.portal_answer.specs.declared.answer.Task.TheVariants.{Check, Solve}
 
 -- ---- blocking pairs: two lists that rise and have the same members are one
 
@@ -139,7 +146,7 @@ tells_one Check i m n t u e a b =
     a.2 ∙ ap (blocking i) (blocks_one i n a.0 b.0 moved b.1) ∙ sym b.2
 tells_one Solve i m n t u e a b = a.2 ∙ ap (assignment i) (best_is_one i a.0 b.0 a.1 b.1) ∙ sym b.2
 
-pub told_is_one : (task : Task) (i : Spa) (pairs : List Pair) (t u : Told) → OfPairs task i pairs t → OfPairs task i pairs u → t ≡ u
+told_is_one : (task : Task) (i : Spa) (pairs : List Pair) (t u : Told) → OfPairs task i pairs t → OfPairs task i pairs u → t ≡ u
 told_is_one task i pairs t u a b = elim a [
   | inl bad ↦ elim b [
     | inl worse ↦ bad.3 ∙ refusal_one i pairs bad.0 worse.0 bad.1 worse.1 bad.2 worse.2 ∙ sym worse.3
@@ -150,3 +157,74 @@ told_is_one task i pairs t u a b = elim a [
     | inr other ↦ tells_one task i good.0 other.0 t u (matching_one i pairs good.0 other.0 good.2 other.2) good.4 other.4
   ]
 ]
+
+-- ---- the first fault of rows is one
+
+abbrev row_fault_of : ℕ → InstanceFault
+row_fault_of n =
+    cond (eqb n 1) row.TooMany (cond (eqb n 2) row.BadKey (cond (eqb n 3) row.KeyTwice (cond (eqb n 4) row.BadCapacity (cond (eqb n 5) row.NoSuchLecturer
+    (cond (eqb n 6) row.NoSuchProject (cond (eqb n 7) row.RepeatInList (cond (eqb n 8) row.ListTooLong (cond (eqb n 9) row.NotApplicant (cond (eqb n 10) row.ApplicantMissing row.Memory)))))))))
+
+row_fault_of-number : (f : InstanceFault) → row_fault_of (number_of f) ≡ f
+row_fault_of-number row.TooMany = refl
+row_fault_of-number row.BadKey = refl
+row_fault_of-number row.KeyTwice = refl
+row_fault_of-number row.BadCapacity = refl
+row_fault_of-number row.NoSuchLecturer = refl
+row_fault_of-number row.NoSuchProject = refl
+row_fault_of-number row.RepeatInList = refl
+row_fault_of-number row.ListTooLong = refl
+row_fault_of-number row.NotApplicant = refl
+row_fault_of-number row.ApplicantMissing = refl
+row_fault_of-number row.Memory = refl
+
+row_fault_one : (rows : Rows) (f g : InstanceFault) (r q : ℕ) → IsFirstFault rows f r → IsFirstFault rows g q → f ≡ g
+row_fault_one rows f g r q a b = elim (cases_lt (number_of f) (number_of g)) [
+  | inl less ↦ absurd (b.none_before f less r a.here)
+  | inr not ↦ elim (cases_lt (number_of g) (number_of f)) [
+    | inl less ↦ absurd (a.none_before g less q b.here)
+    | inr same ↦
+        let number : number_of f ≡ number_of g = omega arith in
+        sym (row_fault_of-number f) ∙ ap row_fault_of number ∙ row_fault_of-number g
+  ]
+]
+
+row_refusal_one : (rows : Rows) (f g : InstanceFault) (r q : ℕ) → IsFirstFault rows f r → IsFirstFault rows g q → refused_instance f r ≡ refused_instance g q
+row_refusal_one rows f g r q a b =
+    let one : f ≡ g = row_fault_one rows f g r q a b in
+    let moved : IsFirstFault rows g r = subst (λ (x : InstanceFault). IsFirstFault rows x r) one a in
+    let at : r ≡ q = omega (arith, moved.least q b.here, b.least r moved.here) in
+    λ j. refused_instance (one j) (at j)
+
+-- a fault that is told has a lesser number than want of memory, which no rows have
+told_first : (rows : Rows) (f : InstanceFault) (r : ℕ) → IsFirstFault rows f r → HasNoneBefore rows row.Memory → ⊥
+told_first rows row.Memory r a none = a.here
+told_first rows f r a none = none f (omega arith) r a.here
+
+-- ---- what is told of a file
+
+file_is_one : (task : Task) (f : File) (t u : Told) → OfFile task f t → OfFile task f u → t ≡ u
+file_is_one task f t u a b = elim a [
+  | inl bad ↦ elim b [
+    | inl worse ↦ bad.3 ∙ row_refusal_one (rows_of f) bad.0 worse.0 bad.1 worse.1 bad.2 worse.2 ∙ sym worse.3
+    | inr good ↦ absurd (told_first (rows_of f) bad.0 bad.1 bad.2 good.1)
+  ]
+  | inr good ↦ elim b [
+    | inl bad ↦ absurd (told_first (rows_of f) bad.0 bad.1 bad.2 good.1)
+    | inr other ↦
+        let same : good.0 ≡ other.0 = instance_is_one (rows_of f) good.1 good.0 other.0 good.3 good.2 other.3 other.2 in
+        let moved : OfPairs task other.0 f.pairs t = subst (λ (i : Spa). OfPairs task i f.pairs t) same good.4 in
+        told_is_one task other.0 f.pairs t u moved other.4
+  ]
+]
+
+read_is_one : (task : Task) (read : Result File RollFault) (t u : Told) → OfRead task read t → OfRead task read u → t ≡ u
+read_is_one task (Err fault) t u a b = a ∙ sym b
+read_is_one task (Ok f) t u a b = file_is_one task f t u a b
+
+longer_is_one : (task : Task) (longer : Bool) (bytes : Text) (t u : Told) → IfLonger task longer bytes t → IfLonger task longer bytes u → t ≡ u
+longer_is_one task true bytes t u a b = a ∙ sym b
+longer_is_one task false bytes t u a b = read_is_one task (rows bytes) t u a b
+
+pub answer_is_one : (task : Task) (bytes : Text) (t u : Told) → IsAnswer task bytes t → IsAnswer task bytes u → t ≡ u
+answer_is_one task bytes t u a b = longer_is_one task (nat_lt limit (length bytes)) bytes t u a b

@@ -7,7 +7,7 @@ use Rattle.spa_model.specs.declared.matching.MatchingFault.{MatchingFault}
 use Rattle.spa_model.specs.declared.matching.MatchingFault.TheVariants as matching
 use Rattle.portal_rolls.specs.declared.fault.RollFault.{RollFault}
 use Rattle.portal_rolls.specs.declared.fault.RollFault.TheVariants as file
-use Rattle.portal_run.specs.Told.{Text, Told, refusal, refused_plain, refused_row}
+use Rattle.portal_answer.specs.Told.{Text, Told, refusal, refused_plain, refused_row}
 
 -- a file that could not be read
 abbrev pub refused_file : RollFault → Told

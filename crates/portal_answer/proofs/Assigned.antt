@@ -6,8 +6,8 @@ use Rattle.std.proofs.lemmas.List.Sums.{count_by_more_yes, count_by_more_no}
 use Rattle.std.proofs.lemmas.Grind.{flat_map-append}
 use Rattle.std.proofs.lemmas.Slice.Zip.{get_or-zip, length-zip}
 use Rattle.spa_model.specs.Spa.{Spa}
-use Rattle.portal_run.specs.Told.{Text}
-use Rattle.portal_run.specs.Solution.{assign_line}
+use Rattle.portal_answer.specs.Told.{Text}
+use Rattle.portal_answer.specs.Solution.{assign_line}
 
 abbrev pub line : Spa → Text × Option ℕ → Text
 line i e = assign_line i e.0 e.1

@@ -2,7 +2,7 @@
 
 ghost use Rattle.std.specs.Prelude.{IfOk};
 ghost use Rattle.spa_model.specs.Spa.{IsMatching};
-ghost use Rattle.portal_run.specs.Answer.{IsAnswer, OfPairs, Tells};
+ghost use Rattle.portal_answer.specs.Answer.{IsAnswer, OfPairs, Tells};
 
 use crate::blocking::checked;
 use crate::solution::solved;
@@ -13,7 +13,7 @@ use std::alloc::{AllocError, Global};
 
 /// What is asked of a file.
 #[derive(Clone, Copy, Debug, PartialEq, Eq)]
-pub(crate) enum Task {
+pub enum Task {
     /// The pairs that block its matching.
     Check,
     /// The students' best stable matching of its instance.
@@ -21,7 +21,7 @@ pub(crate) enum Task {
 }
 
 /// The most bytes of a file.
-pub(crate) const LIMIT: usize = 4_194_304;
+pub const LIMIT: usize = 4_194_304;
 
 /// What is told of an instance and a matching.
 fn of_matching(
@@ -55,7 +55,7 @@ fn of_pairs(
 }
 
 /// What is told of the bytes of a file; `Err` where memory ran out.
-pub(crate) fn answer_to(alloc: Global, task: Task, bytes: &[u8]) -> Result<Told, AllocError>
+pub fn answer_to(alloc: Global, task: Task, bytes: &[u8]) -> Result<Told, AllocError>
     ensures { IfOk result (λ t. IsAnswer task bytes.now t) }
 {
     if bytes.len() > LIMIT {

@@ -3,7 +3,7 @@ use Rattle.std.specs.Prelude.{◌≡◌, ℕ, List, [], Option, Some, None, slic
 use Rattle.std.specs.Fmt.{decimal}
 use Rattle.std.specs.List.{flat_map, zip}
 use Rattle.spa_model.specs.Spa.{Spa, IsBest}
-use Rattle.portal_run.specs.Told.{Text, Told}
+use Rattle.portal_answer.specs.Told.{Text, Told}
 
 -- a student's key and project
 abbrev pub assign_line : Spa → Text → Option ℕ → Text

@@ -1,7 +1,7 @@
 use Rattle.std.proofs.Common.{◌≡◌, take}
 use Rattle.std.specs.List.{flat_map}
-use Rattle.portal_run.specs.Blocking.{block_line}
-use Rattle.portal_run.proofs.blocking.lines.Given as goal
+use Rattle.portal_answer.specs.Blocking.{block_line}
+use Rattle.portal_answer.proofs.blocking.lines.Given as goal
 
 abbrev pub invariant-loop-block : goal.invariant-loop-block
 invariant-loop-block l = l.text.items ≡ flat_map (block_line l.instance) (take l.block-index l.blocks)

@@ -1,12 +1,12 @@
 use Rattle.std.proofs.Common.{◌≡◌, ◌∙◌, ◌<◌, ◌++◌, ap, sym, arith, rules, length, List, Option, is_some, is_none, ℕ, refl, codes, append_assoc}
 use Rattle.std.specs.Fmt.{decimal}
 use Rattle.std.specs.List.{count_by, flat_map, zip}
-use Rattle.portal_run.specs.Told.{Text, Told}
+use Rattle.portal_answer.specs.Told.{Text, Told}
 use Rattle.std.specs.String.{string_bytes}
 use Rattle.spa_model.specs.Spa.{IsLawful}
-use Rattle.portal_run.proofs.Assigned.{line, line_more, one_assigned, one_unassigned, whole}
-use Rattle.portal_run.proofs.solution.lines.Goals as goal
-use Rattle.portal_run.proofs.solution.lines.Goals.{in-Some, in-None}
+use Rattle.portal_answer.proofs.Assigned.{line, line_more, one_assigned, one_unassigned, whole}
+use Rattle.portal_answer.proofs.solution.lines.Goals as goal
+use Rattle.portal_answer.proofs.solution.lines.Goals.{in-Some, in-None}
 
 abbrev told : Text → Told
 told text = record { text = text; status = 0 }

@@ -6,7 +6,7 @@ use Rattle.spa_model.specs.Spa.{Spa}
 use Rattle.spa_model.specs.Shown.{text_of}
 use Rattle.spa_check.specs.Listed.{AreAllBlocks}
 use Rattle.spa_check.specs.declared.block.Block.{Block}
-use Rattle.portal_run.specs.Told.{Text, Told}
+use Rattle.portal_answer.specs.Told.{Text, Told}
 
 abbrev pub block_line : Spa → Block → Text
 block_line i b = codes "block " ++ slice_index_or i.student_keys b.student [] ++ codes " " ++ slice_index_or i.project_keys b.project [] ++ codes " " ++ text_of b.letter ++ codes "\n"

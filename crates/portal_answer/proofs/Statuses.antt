@@ -7,11 +7,11 @@ use Rattle.portal_rolls.specs.declared.fault.RollFault.{RollFault}
 use Rattle.portal_rolls.specs.declared.fault.RollFault.TheVariants as file
 use Rattle.spa_model.specs.Spa.{Spa}
 use Rattle.spa_rows.specs.Lines.{Pair}
-use Rattle.portal_run.specs.Told.{Text, Told}
-use Rattle.portal_run.specs.Refused.{refused_file, refused_instance}
-use Rattle.portal_run.specs.Answer.{Tells, OfPairs, OfRead, IfLonger, IsAnswer}
-use Rattle.portal_run.specs.declared.answer.Task.{Task}
-use Rattle.portal_run.specs.declared.answer.Task.TheVariants.{Check, Solve}
+use Rattle.portal_answer.specs.Told.{Text, Told}
+use Rattle.portal_answer.specs.Refused.{refused_file, refused_instance}
+use Rattle.portal_answer.specs.Answer.{Tells, OfPairs, OfRead, IfLonger, IsAnswer}
+use Rattle.portal_answer.specs.declared.answer.Task.{Task}
+use Rattle.portal_answer.specs.declared.answer.Task.TheVariants.{Check, Solve}
 
 -- a told text of a known status
 of_status : (t u : Told) (n : ℕ) → t ≡ u → u.status ≡ n → n ≤ 2 → t.status ≤ 2

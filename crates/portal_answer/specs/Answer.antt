@@ -11,12 +11,12 @@ use Rattle.spa_model.specs.Assigned.{AreSound}
 use Rattle.spa_model.specs.declared.matching.MatchingFault.{MatchingFault}
 use Rattle.portal_rolls.specs.Lines.{File, rows}
 use Rattle.portal_rolls.specs.declared.fault.RollFault.{RollFault}
-use Rattle.portal_run.specs.Told.{Text, Told, refused_plain}
-use Rattle.portal_run.specs.Refused.{refused_file, refused_instance, refused_matching}
-use Rattle.portal_run.specs.Blocking.{TellsBlocks}
-use Rattle.portal_run.specs.Solution.{TellsBest}
-use Rattle.portal_run.specs.declared.answer.Task.{Task}
-use Rattle.portal_run.specs.declared.answer.Task.TheVariants.{Check, Solve}
+use Rattle.portal_answer.specs.Told.{Text, Told, refused_plain}
+use Rattle.portal_answer.specs.Refused.{refused_file, refused_instance, refused_matching}
+use Rattle.portal_answer.specs.Blocking.{TellsBlocks}
+use Rattle.portal_answer.specs.Solution.{TellsBest}
+use Rattle.portal_answer.specs.declared.answer.Task.{Task}
+use Rattle.portal_answer.specs.declared.answer.Task.TheVariants.{Check, Solve}
 
 -- what is told of an instance and a matching: its blocking pairs, or the best matching whatever the one in the file
 abbrev pub Tells : Task → Spa → List (Option ℕ) → Told → Type 0

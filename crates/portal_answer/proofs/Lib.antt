@@ -1,0 +1,3 @@
+pub mod Assigned
+pub mod OneAnswer
+pub mod Statuses

@@ -1,0 +1,5 @@
+pub mod Told
+pub mod Refused
+pub mod Blocking
+pub mod Solution
+pub mod Answer
