@@ -3,19 +3,23 @@
 
 use portal_run::{run, say};
 use std::env::Env;
+use std::io::ErrorKind;
 use std::process::ExitCode;
 use std::{env, io};
 
-// The words of the command line, or `None` where memory ran out.
-fn words_of(rt: &(impl Env + AllocGlobal)) -> Option<Vec<String>> {
-    env::args(rt).ok()?.collect(rt.alloc()).ok()
+// The words of the command line: `InvalidData` where one is no UTF-8.
+fn words_of(rt: &(impl Env + AllocGlobal)) -> io::Result<Vec<String>> {
+    Ok(env::args(rt)?.collect(rt.alloc())?)
 }
 
 fn main(rt: HostRuntime) -> ExitCode {
     let mut writer = io::writer(&rt);
     let status = match words_of(&rt) {
-        Some(words) => run(&rt, words.as_slice(), &mut rt.reader(), &mut writer),
-        None => say(&mut writer, b"fault memory\n", 3),
+        Ok(words) => run(&rt, words.as_slice(), &mut rt.reader(), &mut writer),
+        Err(error) => match error.kind() {
+            ErrorKind::InvalidData => say(&mut writer, b"error: a word is no UTF-8 text\n", 2),
+            _ => say(&mut writer, b"fault memory\n", 3),
+        },
     };
     ExitCode::from(status)
 }

@@ -8,24 +8,59 @@ use clap::builder::ValueParser;
 use clap::{Arg, Command};
 use std::alloc::{AllocError, Global};
 
-// A command with one optional file.
-fn of_file<'a>(alloc: Global, name: &'a str, about: &'a str) -> Result<Command<'a>, AllocError>
+const CHECK_PRINTS: &str =
+    "Prints a line `block STUDENT PROJECT LETTER` for each pair, and then `blocking N`.
+Exit status: 0 no pair blocks, 1 some do, 2 the file is refused, 3 a device or memory failed.";
+
+const SOLVE_PRINTS: &str =
+    "Prints a line `assign STUDENT PROJECT` or `none STUDENT` for each student, and then `assigned N unassigned M`.
+Exit status: 0 solved, 2 the file is refused, 3 a device or memory failed.";
+
+const INIT_PRINTS: &str = "Prints `made`. The code has 8 to 40 ASCII letters, digits and `-`.
+Exit status: 0 made, 2 the code or the database is refused, 3 a device or memory failed.";
+
+const SERVE_PRINTS: &str = "Prints `listening 127.0.0.1:N`, and at the end `served N faults M`.
+Exit status: 0 after so many connections, 2 the database is refused, 3 a device or memory failed.";
+
+const PIPE_PRINTS: &str = "Prints the replies.
+Exit status: 0 the connection ended, 2 the database is refused, 3 a device or memory failed.";
+
+const REPORT_PRINTS: &str =
+    "Prints the texts of /report and, once it is published, of the allocation.
+Exit status: 0 printed, 2 the database is refused, 3 a device or memory failed.";
+
+// A command with one optional file; `prints` says what it prints, and with which exit status.
+fn of_file<'a>(
+    alloc: Global,
+    name: &'a str,
+    about: &'a str,
+    prints: &'a str,
+) -> Result<Command<'a>, AllocError>
     ensures { IfOk result (λ c. Reads c (file_app name.entry.now)) }
 {
-    Command::new(alloc, name).about(about).arg(Arg::new(alloc, "FILE").help(
-        "The instance file; standard input without it",
-    ))
+    Command::new(alloc, name)
+        .about(about)
+        .after_help(prints)
+        .arg(Arg::new(alloc, "FILE").help("The instance file; standard input without it"))
 }
 
-// A command on one database.
-fn of_database<'a>(alloc: Global, name: &'a str, about: &'a str) -> Result<Command<'a>, AllocError>
+// A command on one database; `prints` says what it prints, and with which exit status.
+fn of_database<'a>(
+    alloc: Global,
+    name: &'a str,
+    about: &'a str,
+    prints: &'a str,
+) -> Result<Command<'a>, AllocError>
     ensures { IfOk result (λ c. Reads c (database_app name.entry.now)) }
 {
-    Command::new(alloc, name).about(about).arg(
-        Arg::new(alloc, "DB")
-            .required(true)
-            .help("The database file"),
-    )
+    Command::new(alloc, name)
+        .about(about)
+        .after_help(prints)
+        .arg(
+            Arg::new(alloc, "DB")
+                .required(true)
+                .help("The database file"),
+        )
 }
 
 // The port to listen on.
@@ -58,9 +93,14 @@ fn connections<'a>(alloc: Global) -> Arg<'a>
 fn serve<'a>(alloc: Global) -> Result<Command<'a>, AllocError>
     ensures { IfOk result (λ c. Reads c serve_app) }
 {
-    of_database(alloc, "serve", "Serve the portal on a port of 127.0.0.1")?
-        .arg(port(alloc))?
-        .arg(connections(alloc))
+    of_database(
+        alloc,
+        "serve",
+        "Serve the portal on a port of 127.0.0.1",
+        SERVE_PRINTS,
+    )?
+    .arg(port(alloc))?
+    .arg(connections(alloc))
 }
 
 // The commands on instance files.
@@ -71,11 +111,13 @@ fn with_files<'a>(alloc: Global) -> Result<Command<'a>, AllocError>
         alloc,
         "check",
         "Print the pairs that block the matching of an instance file",
+        CHECK_PRINTS,
     )?;
     let solve = of_file(
         alloc,
         "solve",
         "Print the students' best stable matching of an instance file",
+        SOLVE_PRINTS,
     )?;
     Command::new(alloc, "portal")
         .about("Student-project allocation with lecturer preferences over students")
@@ -92,16 +134,19 @@ pub(crate) fn portal<'a>(alloc: Global) -> Result<Command<'a>, AllocError>
         alloc,
         "init",
         "Make a database; the first line of the input is the office's code",
+        INIT_PRINTS,
     )?;
     let pipe = of_database(
         alloc,
         "pipe",
         "Answer the requests of the input, as one connection, on the output",
+        PIPE_PRINTS,
     )?;
     let report = of_database(
         alloc,
         "report",
         "Print where the year stands, and the allocation once it is published",
+        REPORT_PRINTS,
     )?;
     with_files(alloc)?
         .subcommand(init)?
