@@ -1,0 +1,110 @@
+"""What the scripts share that ask the built program: the program itself, requests, replies, the small world of the documents, and
+the rows of a file."""
+import os
+import shutil
+import socket
+import sqlite3
+import subprocess
+
+TOP = os.path.dirname(os.path.dirname(os.path.dirname(os.path.abspath(__file__))))
+OUT = os.path.join(TOP, "bench", "out")
+OFFICE = b"office-code-0"
+PHASES = ("setup", "choosing", "ranking", "published")
+
+
+def built():
+    """The path of the built program, which `./portal` builds first where it has to; or the one that PORTAL_PROGRAM names."""
+    given = os.environ.get("PORTAL_PROGRAM")
+    if given:
+        return given
+    subprocess.run([os.path.join(TOP, "portal"), "--help"], stdout=subprocess.DEVNULL, check=True)
+    return os.path.join(TOP, "crates", "portal", "out", "portal")
+
+
+def request(method, path, code, body=b""):
+    """The bytes of a request."""
+    return b"%s %s HTTP/1.1\r\nHost: h\r\nPortal-Code: %s\r\nContent-Length: %d\r\n\r\n%s" % (method, path, code, len(body), body)
+
+
+LECTURERS = b"id,name,code,capacity\nL1,Lee,lee-code-01,2\nL2,Moe,moe-code-02,1\n"
+PROJECTS = b"id,lecturer,title,capacity\nP1,L1,Tides,1\nP2,L1,Kites,1\nP3,L2,Bells,1\n"
+STUDENTS = b'id,name,code\nS1,Ann,ann-code-1\nS2,"Roe, Bea",bea-code-2\nS3,Cyr,cyr-code-3\n'
+
+# the requests of a small year, up to each phase and in it
+YEAR = {
+    "setup": [
+        request(b"POST", b"/rolls/lecturers", OFFICE, LECTURERS),
+        request(b"POST", b"/rolls/projects", OFFICE, PROJECTS),
+        request(b"POST", b"/rolls/students", OFFICE, STUDENTS),
+    ],
+    "choosing": [
+        request(b"POST", b"/phase", OFFICE, b'{"phase":"choosing"}'),
+        request(b"PUT", b"/choices", b"ann-code-1", b'{"projects":["P1","P2"]}'),
+        request(b"PUT", b"/choices", b"bea-code-2", b'{"projects":["P1","P3"]}'),
+    ],
+    "ranking": [
+        request(b"POST", b"/phase", OFFICE, b'{"phase":"ranking"}'),
+        request(b"PUT", b"/ranking", b"lee-code-01", b'{"students":["S2","S1"]}'),
+        request(b"PUT", b"/ranking", b"moe-code-02", b'{"students":["S2"]}'),
+    ],
+    "published": [request(b"POST", b"/phase", OFFICE, b'{"phase":"published"}')],
+}
+
+
+def year_until(phase):
+    """The requests of the small year as far as this phase, with what is done in it."""
+    return [one for name in PHASES[:PHASES.index(phase) + 1] for one in YEAR[name]]
+
+
+def made(program, path, requests=()):
+    """Makes a file, in which these requests are answered, each by a 200."""
+    subprocess.run([program, "init", path], input=OFFICE, stdout=subprocess.PIPE, check=True)
+    done = subprocess.run([program, "pipe", path], input=b"".join(requests), stdout=subprocess.PIPE, check=True)
+    assert [status for status, _ in replies(done.stdout)] == [200] * len(requests), done.stdout
+
+
+def replies(data):
+    """The replies that these bytes are, each with its status and its body; an error where the last one is not whole."""
+    found = []
+    while data:
+        head, cut, rest = data.partition(b"\r\n\r\n")
+        lines = head.split(b"\r\n")
+        length = [int(line.split(b":")[1]) for line in lines if line.startswith(b"content-length:")]
+        if not cut or not length or len(rest) < length[0]:
+            raise ValueError(data)
+        found.append((int(lines[0].split()[1]), rest[:length[0]]))
+        data = rest[length[0]:]
+    return found
+
+
+def rows(path):
+    """All rows of the six tables of a file, read from a copy by python's sqlite3, which looks at its integrity too."""
+    copy = path + ".copy"
+    for end in ("", "-wal", "-journal", "-shm"):
+        if os.path.exists(copy + end):
+            os.remove(copy + end)
+        if os.path.exists(path + end):
+            shutil.copy(path + end, copy + end)
+    connection = sqlite3.connect(copy)
+    try:
+        assert connection.execute("PRAGMA integrity_check").fetchall() == [("ok",)]
+        assert connection.execute("PRAGMA foreign_key_check").fetchall() == []
+        there = [name for name, in connection.execute("SELECT name FROM sqlite_schema WHERE type = 'table'")]
+        return {name: sorted(connection.execute(f"SELECT * FROM {name}").fetchall(), key=repr) for name in there}
+    finally:
+        connection.close()
+
+
+def free_port():
+    with socket.socket() as free:
+        free.bind(("127.0.0.1", 0))
+        return free.getsockname()[1]
+
+
+def serving(program, path, connections=100000):
+    """A process that serves a file, and its port."""
+    port = free_port()
+    server = subprocess.Popen([program, "serve", path, "--port", str(port), "--connections", str(connections)], stdout=subprocess.PIPE)
+    line = server.stdout.readline()
+    assert line == b"listening 127.0.0.1:%d\n" % port, line
+    return server, port

@@ -1,0 +1,326 @@
+"""A year of the portal, written plainly from docs/RULES.md and docs/FORMATS.md: what each call does to the world, what is
+answered, the bytes of a reply, and the rows of the tables that the world stands in."""
+import json
+
+from asking import PHASES
+from streams import call_of, frame
+
+PHRASES = {200: "OK", 400: "Bad Request", 403: "Forbidden", 404: "Not Found", 405: "Method Not Allowed", 409: "Conflict",
+           413: "Content Too Large", 422: "Unprocessable Content", 501: "Not Implemented", 503: "Service Unavailable"}
+MOST = {"lecturers": 300, "projects": 1000, "students": 2000}
+
+
+class Refused(Exception):
+    """A call that is refused: the status, and what the body has beside the word."""
+
+    def __init__(self, status, word, **more):
+        super().__init__(word)
+        self.status, self.body = status, {"error": word, **more}
+
+
+def best(projects, lecturers, choices, rankings):
+    """The students' best matching. A project has its lecturer and its places, a lecturer the places."""
+    place = {key: {student: at for at, student in enumerate(listed)} for key, listed in rankings.items()}
+    left = {student: list(listed) for student, listed in choices.items()}
+    at, own = {key: [] for key in projects}, {}
+    for key, (lecturer, _) in projects.items():
+        own.setdefault(lecturer, []).append(key)
+    found, free = {}, list(left)
+    while free:
+        student = free.pop()
+        if not left[student]:
+            continue
+        project = found[student] = left[student].pop(0)
+        lecturer, room = projects[project]
+        at[project].append(student)
+        crowd = at[project]
+        if len(crowd) <= room:
+            crowd, room = [one for key in own[lecturer] for one in at[key]], lecturers[lecturer]
+        if len(crowd) > room:
+            worst = max(crowd, key=lambda one: place[lecturer][one])
+            at[found.pop(worst)].remove(worst)
+            free.append(worst)
+    return found
+
+
+class Year:
+    """The world, in plain dictionaries by key."""
+
+    def __init__(self, office):
+        self.office, self.phase = office, 0
+        self.lecturers, self.projects, self.students = {}, {}, {}
+        self.choices, self.rankings, self.result = {}, {}, {}
+
+    # who is who
+
+    def caller(self, code):
+        """The role and the key of a code."""
+        if code == self.office:
+            return "office", ""
+        for role, people in (("lecturer", self.lecturers), ("student", self.students)):
+            for key, row in people.items():
+                if row[1] == code:
+                    return role, key
+        raise Refused(403, "no_caller")
+
+    def offers(self, lecturer):
+        return sorted(key for key, row in self.projects.items() if row[0] == lecturer)
+
+    def choosers(self, project):
+        return sorted(key for key, listed in self.choices.items() if project in listed)
+
+    def applicants(self, lecturer):
+        return sorted({student for project in self.offers(lecturer) for student in self.choosers(project)})
+
+    def still_to_rank(self):
+        return [key for key in sorted(self.lecturers) if key not in self.rankings and self.applicants(key)]
+
+    def people(self, students):
+        return [{"key": key, "name": self.students[key][0]} for key in sorted(students)]
+
+    # the calls
+
+    def answer(self, code, call, given):
+        """What a call of a code with what it was given is answered: a body for JSON, or a text."""
+        role, key = self.caller(code)
+        allowed, phases, act = self.calls()[call]
+        if role not in allowed:
+            raise Refused(403, "not_yours")
+        if self.phase not in phases:
+            raise Refused(409, "wrong_phase")
+        return act(role, key, given)
+
+    def calls(self):
+        every, early = (0, 1, 2, 3), (0, 1)
+        return {
+            "Me": (("office", "lecturer", "student"), every, self.me),
+            "Catalogue": (("office", "lecturer", "student"), every, self.catalogue),
+            "ShowChoices": (("student",), every, lambda role, key, given: {"projects": self.choices.get(key, [])}),
+            "SetChoices": (("student",), (1,), self.set_choices),
+            "Applicants": (("lecturer",), (2, 3), self.show_applicants),
+            "ShowRanking": (("lecturer",), (2, 3), lambda role, key, given: {"students": self.rankings.get(key)}),
+            "SetRanking": (("lecturer",), (2,), self.set_ranking),
+            "Result": (("student", "lecturer"), (3,), self.show_result),
+            "AddLecturers": (("office",), early, lambda role, key, given: self.add("lecturers", given)),
+            "AddProjects": (("office",), early, lambda role, key, given: self.add("projects", given)),
+            "AddStudents": (("office",), early, lambda role, key, given: self.add("students", given)),
+            "Move": (("office",), every, self.move),
+            "FillRankings": (("office",), (2,), self.fill),
+            "Status": (("office",), every, self.status),
+            "Allocation": (("office",), (3,), self.allocation),
+            "AllocationCsv": (("office",), (3,), self.allocation_csv),
+            "Report": (("office",), (3,), self.report),
+        }
+
+    def me(self, role, key, given):
+        told = {"phase": PHASES[self.phase], "role": role}
+        if role == "lecturer":
+            told |= {"key": key, "name": self.lecturers[key][0], "capacity": self.lecturers[key][2]}
+        if role == "student":
+            told |= {"key": key, "name": self.students[key][0]}
+        return told
+
+    def catalogue(self, role, key, given):
+        return {"projects": [{"id": id, "title": title, "lecturer": lecturer, "lecturer_name": self.lecturers[lecturer][0], "capacity": capacity}
+                             for id, (lecturer, title, capacity) in sorted(self.projects.items())]}
+
+    def set_choices(self, role, key, given):
+        for at, project in enumerate(given, 1):
+            fault = "too_long" if at == 21 else "unknown_project" if project not in self.projects else "repeated" if project in given[:at - 1] else None
+            if fault:
+                raise Refused(422, "bad_list", at=at, fault=fault)
+        self.choices[key] = list(given)
+        return {"projects": list(given)}
+
+    def show_applicants(self, role, key, given):
+        return {"projects": [{"id": id, "applicants": self.people(self.choosers(id))} for id in self.offers(key)]}
+
+    def set_ranking(self, role, key, given):
+        there = self.applicants(key)
+        for at, student in enumerate(given, 1):
+            fault = "not_an_applicant" if student not in there else "repeated" if student in given[:at - 1] else None
+            if fault:
+                raise Refused(422, "bad_list", at=at, fault=fault)
+        if len(given) < len(there):
+            raise Refused(422, "bad_list", at=0, fault="missing")
+        self.rankings[key] = list(given)
+        return {"students": list(given)}
+
+    def show_result(self, role, key, given):
+        if role == "student":
+            return {"project": self.result.get(key)}
+        return {"projects": [{"id": id, "students": self.people([one for one in self.result if self.result[one] == id])} for id in self.offers(key)]}
+
+    def add(self, kind, given):
+        """Takes a roll, whole or not at all."""
+        there = dict(getattr(self, kind))
+        codes = {self.office, *(row[1] for people in (self.lecturers, self.students) for row in people.values())}
+        same = 0
+        for number, (key, *row) in enumerate(given, 1):
+            row = tuple(row)
+            if key in there and there[key] == row:
+                same += 1
+                continue
+            if key in there or kind != "projects" and row[1] in codes:
+                raise Refused(409, "roll_conflict", row=number)
+            if kind == "projects" and row[0] not in self.lecturers:
+                raise Refused(422, "bad_row", row=number)
+            if len(there) == MOST[kind]:
+                raise Refused(422, "roll_full")
+            there[key] = row
+            codes.add(row[1])
+        setattr(self, kind, there)
+        return {"added": len(given) - same, "same": same}
+
+    def move(self, role, key, given):
+        to = PHASES.index(given)
+        if to not in (self.phase, self.phase + 1):
+            raise Refused(409, "wrong_phase")
+        if to == 3 and self.phase == 2:
+            if self.still_to_rank():
+                raise Refused(409, "still_to_rank", lecturers=self.still_to_rank())
+            offered = {id: (lecturer, capacity) for id, (lecturer, title, capacity) in self.projects.items()}
+            self.result = best(offered, {id: row[2] for id, row in self.lecturers.items()}, self.choices, self.rankings)
+        self.phase = to
+        return {"phase": given}
+
+    def fill(self, role, key, given):
+        filled = self.still_to_rank()
+        self.rankings |= {lecturer: self.applicants(lecturer) for lecturer in filled}
+        return {"filled": filled}
+
+    def status(self, role, key, given):
+        told = {"phase": PHASES[self.phase], "lecturers": len(self.lecturers), "projects": len(self.projects), "students": len(self.students),
+                "still_to_rank": self.still_to_rank() if self.phase == 2 else [],
+                "without_list": [one for one in sorted(self.students) if not self.choices.get(one)]}
+        if self.phase == 3:
+            told |= {"assigned": len(self.result), "unassigned": [one for one in sorted(self.students) if one not in self.result]}
+        return told
+
+    def allocation(self, role, key, given):
+        return {"pairs": [{"student": student, "project": project} for student, project in sorted(self.result.items())]}
+
+    def allocation_csv(self, role, key, given):
+        out = "student,name,project,title,lecturer\n"
+        for student, (name, _) in sorted(self.students.items()):
+            project = self.result.get(student)
+            placed = [project, self.projects[project][1], self.projects[project][0]] if project else ["", "", ""]
+            out += ",".join(quoted(field) for field in [student, name, *placed]) + "\n"
+        return "text/csv; charset=utf-8", out
+
+    def report(self, role="", key="", given=None):
+        out = ""
+        for student in sorted(self.students):
+            project = self.result.get(student)
+            out += f"{student:<16}  " + (f"{project:<16}  {self.projects[project][0]}\n" if project else "(none)\n")
+        out += "\n"
+        for project, (_, _, capacity) in sorted(self.projects.items()):
+            out += f"{project:<16}{list(self.result.values()).count(project):>4} of {capacity:>4}\n"
+        return "text/plain; charset=utf-8", out + f"\nassigned {len(self.result)} of {len(self.students)}\n"
+
+    def told(self):
+        """What the command `report` prints."""
+        status = self.status("", "", None)
+        numbers = [("lecturers", status["lecturers"]), ("projects", status["projects"]), ("students", status["students"]),
+                   ("without list", len(status["without_list"])), ("still to rank", len(status["still_to_rank"]))]
+        if self.phase == 3:
+            numbers.append(("assigned", status["assigned"]))
+        out = f"{'phase':<16}{status['phase']}\n" + "".join(f"{label:<16}{number:>6}\n" for label, number in numbers)
+        return out + ("\n" + self.report()[1] if self.phase == 3 else "")
+
+    def rows(self):
+        """The rows of the six tables, as `asking.rows` gives them."""
+        found = {
+            "portal": [(1, 1, self.phase, self.office)],
+            "lecturer": [(key, *row, int(key in self.rankings)) for key, row in self.lecturers.items()],
+            "project": [(key, *row) for key, row in self.projects.items()],
+            "student": [(key, *row, self.result.get(key)) for key, row in self.students.items()],
+            "choice": [(key, at, one) for key, listed in self.choices.items() for at, one in enumerate(listed, 1)],
+            "ranking": [(key, at, one) for key, listed in self.rankings.items() for at, one in enumerate(listed, 1)],
+        }
+        return {name: sorted(those, key=repr) for name, those in found.items()}
+
+    # requests and replies
+
+    def reply(self, asked, close=False):
+        """The bytes that a request is answered with; it is a dictionary as `streams.frame` gives it."""
+        head_only, said = asked["method"] == b"HEAD", call_of(asked)
+        if said.startswith("!"):
+            return refusal_bytes(said, head_only, close)
+        code, call, given = read_call(said)
+        try:
+            return reply_bytes(200, self.answer(code, call, given), head_only, close)
+        except Refused as refused:
+            return reply_bytes(refused.status, refused.body, head_only, close)
+
+    def talk(self, data):
+        """The requests of a connection are played in turn: the status and the bytes of each reply."""
+        count = 0
+        while True:
+            found = frame(data, True)
+            if found[0] == "End":
+                return
+            if found[0] == "Bad":
+                (status, word), head_only = found[1:]
+                yield status, reply_bytes(status, {"error": word}, head_only, True)
+                return
+            asked, used = found[1:]
+            count += 1
+            close = asked["close"] or count == 256
+            told = self.reply(asked, close)
+            yield int(told.split()[1]), told
+            if close:
+                return
+            data = data[used:]
+
+    def replies(self, data):
+        """The bytes that a connection is answered with, and the statuses."""
+        told = list(self.talk(data))
+        return b"".join(reply for _, reply in told), [status for status, _ in told]
+
+
+def quoted(field):
+    return '"' + field.replace('"', '""') + '"' if any(byte in field for byte in ',"\r\n') else field
+
+
+def text_of(digits):
+    return bytes.fromhex(digits).decode("utf-8")
+
+
+def read_call(said):
+    """The code, the call and what it was given, of the words of `streams.call_of`."""
+    code, _, words = said.partition(" ")
+    call, *given = words.split(",")
+    if call.startswith("Move "):
+        call, given = call.split()
+    elif call.startswith("Add"):
+        given = [read_row(row) for row in given]
+    else:
+        given = [text_of(digits) for digits in given]
+    return text_of_code(code), call, given
+
+
+def text_of_code(digits):
+    return bytes.fromhex(digits).decode("latin-1")
+
+
+def read_row(row):
+    fields, _, capacity = row.partition(" ")
+    return [text_of(digits) for digits in fields.split("/")] + ([int(capacity)] if capacity else [])
+
+
+def refusal_bytes(said, head_only, close):
+    """The reply to a refusal of `streams.call_of`: `! STATUS WORD [ALLOW] ROW`."""
+    words, _, rest = said[2:].partition(" [")
+    status, word = words.split()
+    allow, _, row = rest.partition("]")
+    body = {"error": word} | ({"row": int(row)} if row else {})
+    return reply_bytes(int(status), body, head_only, close, allow)
+
+
+def reply_bytes(status, body, head_only, close, allow=""):
+    kind, text = body if isinstance(body, tuple) else ("application/json", json.dumps(body, sort_keys=True, separators=(",", ":"), ensure_ascii=False))
+    data = text.encode("utf-8")
+    head = f"HTTP/1.1 {status} {PHRASES[status]}\r\ncontent-type: {kind}\r\ncontent-length: {len(data)}\r\n"
+    head += (f"allow: {allow}\r\n" if status == 405 else "") + ("connection: close\r\n" if close else "") + "\r\n"
+    return head.encode() + (b"" if head_only else data)
