@@ -1,5 +1,6 @@
 """The portal's routes as a plain program, by Flask or by http.server, over sqlite3 with its default durability and the same six tables.
-It looks at callers, roles and phases, and at little else. Usage: flask_portal.py DB PORT flask, or http for http.server; makes the file."""
+It looks at callers, roles and phases, and at little else. Usage: flask_portal.py DB PORT flask, gunicorn for Flask under gunicorn, or http
+for http.server; makes the file."""
 import csv
 import io
 import json
@@ -207,7 +208,7 @@ def answer(path, method, route, code, body):
         db.close()
 
 
-def serve_flask(path, port):
+def flask_app(path):
     import logging
 
     import flask
@@ -219,7 +220,24 @@ def serve_flask(path, port):
         request = flask.request
         status, text = answer(path, request.method, "/" + route, request.headers.get("Portal-Code", ""), request.get_data())
         return flask.Response(text, status, mimetype="application/json")
-    app.run(port=port)
+    return app
+
+
+def serve_flask(path, port):
+    flask_app(path).run(port=port)
+
+
+def serve_gunicorn(path, port):
+    from gunicorn.app.base import BaseApplication
+
+    class Served(BaseApplication):
+        def load_config(self):
+            for name, value in (("bind", f"127.0.0.1:{port}"), ("worker_class", "gthread"), ("threads", 2), ("keepalive", 60)):
+                self.cfg.set(name, value)
+
+        def load(self):
+            return flask_app(path)
+    Served().run()
 
 
 def serve_plain(path, port):
@@ -252,7 +270,7 @@ def main():
     db.execute("INSERT INTO portal VALUES (1, 1, 0, ?)", (OFFICE.decode(),))
     db.commit()
     db.close()
-    (serve_flask if sys.argv[3] == "flask" else serve_plain)(path, port)
+    {"flask": serve_flask, "gunicorn": serve_gunicorn, "http": serve_plain}[sys.argv[3]](path, port)
 
 
 main()
