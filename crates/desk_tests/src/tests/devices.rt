@@ -44,13 +44,13 @@ impl<'b> Feeder<'b> {
         }
     }
 
-    /// Fails after the bytes.
-    pub(crate) fn failing(bytes: &'b [u8]) -> Feeder<'b> {
+    /// Gives so many bytes at a time, and fails after them.
+    pub(crate) fn failing(bytes: &'b [u8], step: usize) -> Feeder<'b> {
         Feeder {
             rest: bytes,
-            step: 4_096,
-            later: 4_096,
-            last: 4_096,
+            step,
+            later: step,
+            last: step,
             fails: true,
             failures: 0,
         }
@@ -84,18 +84,21 @@ impl<'b> Source for Feeder<'b> {
     }
 }
 
-/// Takes so many bytes, and then fails.
+/// Takes bytes in pieces, so many in all, and then fails.
 #[derive(Drop)]
 pub(crate) struct Basin {
     held: Vec<u8>,
+    step: usize,
     room: usize,
     failures: u64,
 }
 
 impl Basin {
-    pub(crate) fn new(alloc: Global, room: usize) -> Basin {
+    /// Takes so many bytes at a time, and so many in all.
+    pub(crate) fn new(alloc: Global, step: usize, room: usize) -> Basin {
         Basin {
             held: Vec::new(alloc),
+            step,
             room,
             failures: 0,
         }
@@ -112,7 +115,7 @@ impl Sink for Basin {
     ghost failed = { λ basin. basin.failures };
 
     fn write(&mut self, buf: &[u8]) -> Result<usize, Failed> {
-        let n = buf.len().min(self.room);
+        let n = buf.len().min(self.step.max(1)).min(self.room);
         if n == 0 && !buf.is_empty() {
             self.failures = self.failures.saturating_add(1);
             return Err(Failed);

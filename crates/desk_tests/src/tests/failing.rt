@@ -1,6 +1,6 @@
 //! A store that fails.
 
-use crate::tests::portal::fresh_keeper;
+use crate::tests::portal::{NO_CALLER, fresh_keeper};
 use portal_core::{Change, KeepFault, Keeper, View};
 use portal_desk::{Cause, Counted, Desk};
 use portal_list::ListKeeper;
@@ -42,9 +42,6 @@ impl Keeper for Failing {
 
 const TWO: &str = "GET /me HTTP/1.1\r\nHost: h\r\n\r\nGET /me HTTP/1.1\r\nHost: h\r\n\r\n";
 
-const FIRST: &str =
-    "HTTP/1.1 403 Forbidden\r\ncontent-type: application/json\r\ncontent-length: 21\r\n\r\n{\"error\":\"no_caller\"}";
-
 const LOST: &str =
     "HTTP/1.1 503 Service Unavailable\r\ncontent-type: application/json\r\ncontent-length: 23\r\nconnection: close\r\n\r\n{\"error\":\"unavailable\"}";
 
@@ -71,7 +68,7 @@ fn the_desk_has_failed_from_then_on(rt: HostRuntime) {
         left: 1,
     });
     let mut both = Vec::new(rt.alloc());
-    both.extend_from_slice(FIRST.as_bytes())
+    both.extend_from_slice(NO_CALLER.as_bytes())
         .expect(&rt, "memory");
     both.extend_from_slice(LOST.as_bytes())
         .expect(&rt, "memory");

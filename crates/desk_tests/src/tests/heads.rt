@@ -1,6 +1,8 @@
 //! Heads at their limits.
 
 use super::frames::is;
+use crate::tests::portal::{BAD_HEAD, NO_CALLER, fresh, gives};
+use portal_desk::Ending;
 use std::process::Abort;
 
 /// A head of the start line, a Host line and so many lines more.
@@ -43,4 +45,22 @@ fn at_most_16384_bytes(rt: HostRuntime) {
     is(&rt, more.as_str(), false, "400 bad_head false");
     let open = with_value(&rt, 16354, "");
     is(&rt, open.as_str(), false, "400 bad_head false");
+}
+
+/// A desk serves a head that is at its limit, and refuses one that is beyond it.
+fn serves(rt: &(impl Abort + AllocGlobal), most: &str, more: &str) {
+    let mut desk = fresh(rt);
+    gives(rt, &mut desk, most, Ending::End, 1, NO_CALLER);
+    let refused = Ending::Refused("bad_head");
+    gives(rt, &mut desk, more, refused, 0, BAD_HEAD);
+}
+
+#[test]
+fn heads_are_served_up_to_their_limits(rt: HostRuntime) {
+    let lines = with_lines(&rt, 31);
+    let more_lines = with_lines(&rt, 32);
+    serves(&rt, lines.as_str(), more_lines.as_str());
+    let bytes = with_value(&rt, 16350, "\r\n\r\n");
+    let more_bytes = with_value(&rt, 16354, "");
+    serves(&rt, bytes.as_str(), more_bytes.as_str());
 }

@@ -9,15 +9,17 @@ use std::process::Abort;
 
 pub(crate) const OFFICE: &str = "office-code-0";
 
-pub(crate) const LEE: &str = "lee-code-01";
-
-pub(crate) const MOE: &str = "moe-code-02";
-
 pub(crate) const ANN: &str = "ann-code-1";
 
 pub(crate) const BEA: &str = "bea-code-2";
 
-pub(crate) const CYR: &str = "cyr-code-3";
+/// The reply to a caller whom nobody knows.
+pub(crate) const NO_CALLER: &str =
+    "HTTP/1.1 403 Forbidden\r\ncontent-type: application/json\r\ncontent-length: 21\r\n\r\n{\"error\":\"no_caller\"}";
+
+/// The reply to bytes that are no head.
+pub(crate) const BAD_HEAD: &str =
+    "HTTP/1.1 400 Bad Request\r\ncontent-type: application/json\r\ncontent-length: 20\r\nconnection: close\r\n\r\n{\"error\":\"bad_head\"}";
 
 /// The empty world in setup.
 pub(crate) fn fresh_keeper(rt: &(impl Abort + AllocGlobal)) -> ListKeeper
@@ -203,27 +205,5 @@ pub(crate) fn choosing(rt: &(impl Abort + AllocGlobal)) -> Desk<ListKeeper> {
         BEA,
         r#"{"projects":["P1","P3"]}"#,
     );
-    desk
-}
-
-/// The worked world in ranking.
-pub(crate) fn ranking(rt: &(impl Abort + AllocGlobal)) -> Desk<ListKeeper> {
-    let mut desk = choosing(rt);
-    moves(rt, &mut desk, r#"{"phase":"ranking"}"#);
-    desk
-}
-
-/// The worked world in published.
-pub(crate) fn published(rt: &(impl Abort + AllocGlobal)) -> Desk<ListKeeper> {
-    let mut desk = ranking(rt);
-    takes(
-        rt,
-        &mut desk,
-        "/ranking",
-        LEE,
-        r#"{"students":["S2","S1"]}"#,
-    );
-    takes(rt, &mut desk, "/ranking", MOE, r#"{"students":["S2"]}"#);
-    moves(rt, &mut desk, r#"{"phase":"published"}"#);
     desk
 }

@@ -1,14 +1,12 @@
-//! One short request, over and over, and devices that fail.
+//! One short request, over and over, on devices that end or fail after each number of bytes.
 
-use crate::tests::devices::{Basin, Feeder};
-use crate::tests::portal::{fresh, written};
-use portal_desk::{Cause, Counted, Ending, Sink};
+use crate::tests::devices::{Basin, Feeder, served_by};
+use crate::tests::portal::{BAD_HEAD, NO_CALLER, fresh, written};
+use portal_desk::{Cause, Counted, Desk, Ending, Sink, Source};
+use portal_list::ListKeeper;
 use std::process::Abort;
 
 const SHORT: &str = "GET /me HTTP/1.1\r\nHost: h\r\n\r\n";
-
-const ONE_REPLY: &str =
-    "HTTP/1.1 403 Forbidden\r\ncontent-type: application/json\r\ncontent-length: 21\r\n\r\n{\"error\":\"no_caller\"}";
 
 const LAST_REPLY: &str =
     "HTTP/1.1 403 Forbidden\r\ncontent-type: application/json\r\ncontent-length: 21\r\nconnection: close\r\n\r\n{\"error\":\"no_caller\"}";
@@ -24,71 +22,184 @@ fn repeated(rt: &(impl Abort + AllocGlobal), text: &str, times: u32) -> Vec<u8> 
     bytes
 }
 
+/// One request more than a connection has.
+fn requests(rt: &(impl Abort + AllocGlobal)) -> Vec<u8> {
+    let bytes = repeated(rt, SHORT, 257);
+    assert_eq!(rt; bytes.len(), 7_453);
+    bytes
+}
+
+/// The replies to all that a connection has, the last of which closes it.
+fn replies(rt: &(impl Abort + AllocGlobal)) -> Vec<u8> {
+    let mut text = repeated(rt, NO_CALLER, 255);
+    text.extend_from_slice(LAST_REPLY.as_bytes())
+        .expect(rt, "memory");
+    assert_eq!(rt; text.len(), 25_363);
+    text
+}
+
 #[test]
 fn no_more_than_256_requests(rt: HostRuntime) {
     let mut desk = fresh(&rt);
-    let bytes = repeated(&rt, SHORT, 257);
-    assert_eq!(rt; bytes.len(), 7_453);
+    let bytes = requests(&rt);
     let output = written(&rt, &mut desk, bytes.as_slice(), Ending::Limit, 256);
-    assert_eq!(rt; output.len(), 25_363);
-    let mut wanted = repeated(&rt, ONE_REPLY, 255);
-    wanted
-        .extend_from_slice(LAST_REPLY.as_bytes())
-        .expect(&rt, "memory");
+    let wanted = replies(&rt);
     assert_eq!(rt; output.as_slice(), wanted.as_slice());
 }
 
-/// A reader that fails after so many bytes.
-fn reads(rt: &(impl Abort + AllocGlobal), bytes: &[u8], many: usize) {
-    let mut desk = fresh(rt);
-    let mut source = Feeder::failing(&bytes[..bytes.len().min(many)]);
+/// A reader fails after so many of the bytes: so many requests stand whole before them.
+fn fails_reading(
+    rt: &(impl Abort + AllocGlobal),
+    desk: &mut Desk<ListKeeper>,
+    bytes: &[u8],
+    wanted: &[u8],
+    many: usize,
+) {
+    let mut source = Feeder::failing(&bytes[..many.min(bytes.len())], 4_096);
     let mut sink = Counted::new(Vec::new(rt.alloc()));
     match desk.serve(rt.alloc(), &mut source, &mut sink) {
         Ok(served) => {
             assert!(rt; many >= 7_424, "at {many}");
             assert_eq!(rt; served.ending, Ending::Limit);
+            assert_eq!(rt; served.requests, 256);
+            assert_eq!(rt; Source::failures(&source), 0);
+            assert_eq!(rt; sink.into_inner().as_slice(), wanted);
         }
         Err(fault) => {
             assert!(rt; many < 7_424, "at {many}");
             assert_eq!(rt; fault.cause, Cause::Read);
             assert_eq!(rt; fault.requests as usize, many / 29);
-            let output = sink.into_inner();
-            let wanted = repeated(rt, ONE_REPLY, fault.requests);
-            assert_eq!(rt; output.as_slice(), wanted.as_slice());
+            assert_eq!(rt; Source::failures(&source), 1);
+            let whole = many / 29 * 99;
+            assert_eq!(rt;
+                sink.into_inner().as_slice(),
+                &wanted[..whole.min(wanted.len())]
+            );
         }
     }
 }
 
-#[test]
-fn readers_that_fail(rt: HostRuntime) {
-    let bytes = repeated(&rt, SHORT, 257);
-    for many in [0, 1, 28, 29, 30, 58, 1_000, 4_096, 7_423, 7_424, 7_453] {
-        reads(&rt, bytes.as_slice(), many);
+/// Readers fail after each number of bytes from one to before another.
+fn fail_reading(rt: &(impl Abort + AllocGlobal), from: usize, to: usize) {
+    let mut desk = fresh(rt);
+    let bytes = requests(rt);
+    let wanted = replies(rt);
+    for many in from..to {
+        fails_reading(rt, &mut desk, bytes.as_slice(), wanted.as_slice(), many);
     }
 }
 
-/// A writer that fails after so many bytes.
-fn writes(rt: &(impl Abort + AllocGlobal), bytes: &[u8], many: usize) {
+#[test]
+fn readers_fail_before_5_000(rt: HostRuntime) {
+    fail_reading(&rt, 0, 5_000);
+}
+
+#[test]
+fn readers_fail_up_to_7_453(rt: HostRuntime) {
+    fail_reading(&rt, 5_000, 7_454);
+}
+
+/// The output is the first bytes of the replies, and then this.
+fn is_written(rt: &impl Abort, output: &[u8], wanted: &[u8], many: usize, closing: &str) {
+    assert!(rt; many <= output.len());
+    assert!(rt; many <= wanted.len());
+    assert_eq!(rt; &output[..many], &wanted[..many]);
+    assert_eq!(rt; &output[many..], closing.as_bytes());
+}
+
+/// The input ends after so many of the bytes: a part of a request is refused.
+fn ends_reading(
+    rt: &(impl Abort + AllocGlobal),
+    desk: &mut Desk<ListKeeper>,
+    bytes: &[u8],
+    wanted: &[u8],
+    many: usize,
+) {
+    let mut source = Feeder::new(&bytes[..many.min(bytes.len())], 4_096);
+    if many >= 7_424 {
+        let output = served_by(rt, desk, &mut source, Ending::Limit, 256);
+        assert_eq!(rt; output.as_slice(), wanted);
+        return;
+    }
+    let whole = many / 29;
+    if many % 29 == 0 {
+        let output = served_by(rt, desk, &mut source, Ending::End, whole as u32);
+        is_written(rt, output.as_slice(), wanted, whole * 99, "");
+        return;
+    }
+    let ending = Ending::Refused("bad_head");
+    let output = served_by(rt, desk, &mut source, ending, whole as u32);
+    is_written(rt, output.as_slice(), wanted, whole * 99, BAD_HEAD);
+}
+
+/// The input ends after each number of bytes from one to before another.
+fn end_reading(rt: &(impl Abort + AllocGlobal), from: usize, to: usize) {
     let mut desk = fresh(rt);
+    let bytes = requests(rt);
+    let wanted = replies(rt);
+    for many in from..to {
+        ends_reading(rt, &mut desk, bytes.as_slice(), wanted.as_slice(), many);
+    }
+}
+
+#[test]
+fn readers_end_before_5_000(rt: HostRuntime) {
+    end_reading(&rt, 0, 5_000);
+}
+
+#[test]
+fn readers_end_up_to_7_453(rt: HostRuntime) {
+    end_reading(&rt, 5_000, 7_454);
+}
+
+/// A writer fails after so many bytes: the request whose reply they end in has acted, and no other.
+fn fails_writing(
+    rt: &(impl Abort + AllocGlobal),
+    desk: &mut Desk<ListKeeper>,
+    bytes: &[u8],
+    wanted: &[u8],
+    many: usize,
+) {
     let mut source = Feeder::new(bytes, 4_096);
-    let mut sink = Basin::new(rt.alloc(), many);
+    let mut sink = Basin::new(rt.alloc(), usize::MAX, many);
     match desk.serve(rt.alloc(), &mut source, &mut sink) {
         Ok(_) => assert!(rt; false, "at {many}"),
         Err(fault) => {
             assert_eq!(rt; fault.cause, Cause::Write);
-            assert_eq!(rt; fault.requests as usize, many / 99 + 1);
-            let wanted = repeated(rt, ONE_REPLY, fault.requests);
-            assert_eq!(rt; sink.held(), &wanted.as_slice()[..wanted.len().min(many)]);
+            assert_eq!(rt; fault.requests as usize, (many / 99).min(255) + 1);
+            assert_eq!(rt; sink.held(), &wanted[..many.min(wanted.len())]);
             assert_eq!(rt; sink.held().len(), many);
             assert_eq!(rt; Sink::failures(&sink), 1);
         }
     }
 }
 
-#[test]
-fn writers_that_fail(rt: HostRuntime) {
-    let bytes = repeated(&rt, SHORT, 257);
-    for many in [0, 1, 98, 99, 100, 10_000, 25_244] {
-        writes(&rt, bytes.as_slice(), many);
+/// Writers fail after each number of bytes from one to before another.
+fn fail_writing(rt: &(impl Abort + AllocGlobal), from: usize, to: usize) {
+    let mut desk = fresh(rt);
+    let bytes = requests(rt);
+    let wanted = replies(rt);
+    for many in from..to {
+        fails_writing(rt, &mut desk, bytes.as_slice(), wanted.as_slice(), many);
     }
+}
+
+#[test]
+fn writers_fail_before_12_500(rt: HostRuntime) {
+    fail_writing(&rt, 0, 12_500);
+}
+
+#[test]
+fn writers_fail_before_18_000(rt: HostRuntime) {
+    fail_writing(&rt, 12_500, 18_000);
+}
+
+#[test]
+fn writers_fail_before_22_000(rt: HostRuntime) {
+    fail_writing(&rt, 18_000, 22_000);
+}
+
+#[test]
+fn writers_fail_up_to_25_362(rt: HostRuntime) {
+    fail_writing(&rt, 22_000, 25_363);
 }

@@ -1,0 +1,140 @@
+//! The longest body, on devices that fail.
+
+use crate::tests::devices::{Basin, Feeder};
+use crate::tests::portal::{ANN, choosing, gets, takes, written};
+use portal_desk::{Cause, Counted, Desk, Ending, Sink, Source};
+use portal_list::ListKeeper;
+use std::process::Abort;
+
+const HEAD: &str =
+    "PUT /choices HTTP/1.1\r\nHost: h\r\nportal-code: ann-code-1\r\nContent-Length: 1048576\r\n\r\n";
+
+const EMPTY: &str = r#"{"projects":[]}"#;
+
+const OLD: &str = r#"{"projects":["P1","P2"]}"#;
+
+const REPLY: &str =
+    "HTTP/1.1 200 OK\r\ncontent-type: application/json\r\ncontent-length: 15\r\n\r\n{\"projects\":[]}";
+
+/// A request with an empty list and blanks up to the longest body.
+fn longest(rt: &(impl Abort + AllocGlobal)) -> Vec<u8> {
+    let mut bytes = Vec::new(rt.alloc());
+    bytes
+        .extend_from_slice(HEAD.as_bytes())
+        .expect(rt, "memory");
+    bytes
+        .extend_from_slice(EMPTY.as_bytes())
+        .expect(rt, "memory");
+    bytes
+        .resize(HEAD.len() + 1_048_576, b' ')
+        .expect(rt, "memory");
+    bytes
+}
+
+#[test]
+fn is_taken(rt: HostRuntime) {
+    let mut desk = choosing(&rt);
+    let bytes = longest(&rt);
+    let output = written(&rt, &mut desk, bytes.as_slice(), Ending::End, 1);
+    assert_eq!(rt; output.as_slice(), REPLY.as_bytes());
+    gets(&rt, &mut desk, "/choices", ANN, "200 OK", EMPTY);
+}
+
+/// A reader fails before the last byte: nothing has acted.
+fn fails_reading(
+    rt: &(impl Abort + AllocGlobal),
+    desk: &mut Desk<ListKeeper>,
+    bytes: &[u8],
+    step: usize,
+    many: usize,
+) {
+    let mut source = Feeder::failing(&bytes[..many.min(bytes.len())], step);
+    let mut sink = Counted::new(Vec::new(rt.alloc()));
+    match desk.serve(rt.alloc(), &mut source, &mut sink) {
+        Ok(_) => assert!(rt; false, "at {many}"),
+        Err(fault) => {
+            assert_eq!(rt; fault.cause, Cause::Read);
+            assert_eq!(rt; fault.requests, 0);
+            assert_eq!(rt; Source::failures(&source), 1);
+        }
+    }
+    assert!(rt; sink.into_inner().is_empty());
+    gets(rt, desk, "/choices", ANN, "200 OK", OLD);
+}
+
+#[test]
+fn readers_fail_at_each_piece(rt: HostRuntime) {
+    let mut desk = choosing(&rt);
+    let bytes = longest(&rt);
+    for calls in 0..257usize {
+        fails_reading(&rt, &mut desk, bytes.as_slice(), 4_096, calls * 4_096);
+    }
+}
+
+#[test]
+fn readers_fail_at_each_byte_of_the_head(rt: HostRuntime) {
+    let mut desk = choosing(&rt);
+    let bytes = longest(&rt);
+    for many in 0..200usize {
+        fails_reading(&rt, &mut desk, bytes.as_slice(), 1, many);
+    }
+}
+
+/// A reader fails behind the last byte: the request has acted, and its reply is whole.
+#[test]
+fn a_reader_fails_behind_it(rt: HostRuntime) {
+    let mut desk = choosing(&rt);
+    let bytes = longest(&rt);
+    let mut source = Feeder::failing(bytes.as_slice(), 4_096);
+    let mut sink = Counted::new(Vec::new(rt.alloc()));
+    match desk.serve(rt.alloc(), &mut source, &mut sink) {
+        Ok(_) => assert!(rt; false, "served"),
+        Err(fault) => {
+            assert_eq!(rt; fault.cause, Cause::Read);
+            assert_eq!(rt; fault.requests, 1);
+        }
+    }
+    assert_eq!(rt; sink.into_inner().as_slice(), REPLY.as_bytes());
+    gets(&rt, &mut desk, "/choices", ANN, "200 OK", EMPTY);
+}
+
+/// A writer fails after so many bytes: the request has acted.
+fn fails_writing(
+    rt: &(impl Abort + AllocGlobal),
+    desk: &mut Desk<ListKeeper>,
+    bytes: &[u8],
+    step: usize,
+    many: usize,
+) {
+    takes(rt, desk, "/choices", ANN, OLD);
+    let mut source = Feeder::new(bytes, 4_096);
+    let mut sink = Basin::new(rt.alloc(), step, many);
+    match desk.serve(rt.alloc(), &mut source, &mut sink) {
+        Ok(_) => assert!(rt; false, "at {many}"),
+        Err(fault) => {
+            assert_eq!(rt; fault.cause, Cause::Write);
+            assert_eq!(rt; fault.requests, 1);
+            assert_eq!(rt; Sink::failures(&sink), 1);
+        }
+    }
+    assert_eq!(rt; sink.held(), &REPLY.as_bytes()[..many.min(REPLY.len())]);
+    gets(rt, desk, "/choices", ANN, "200 OK", EMPTY);
+}
+
+#[test]
+fn writers_fail_at_each_byte(rt: HostRuntime) {
+    let mut desk = choosing(&rt);
+    let bytes = longest(&rt);
+    for many in 0..REPLY.len() {
+        fails_writing(&rt, &mut desk, bytes.as_slice(), 1, many);
+    }
+}
+
+#[test]
+fn writers_fail_at_each_part(rt: HostRuntime) {
+    let mut desk = choosing(&rt);
+    let bytes = longest(&rt);
+    for many in 0..REPLY.len() {
+        fails_writing(&rt, &mut desk, bytes.as_slice(), usize::MAX, many);
+    }
+}
