@@ -1,15 +1,9 @@
-//! The worked decisions, as status and body, over the keeper in lists; and rolls, instance files, codes and names.
+//! A department at every limit over the keeper in lists; and rolls, rows, instance files, texts, codes and names.
 
-mod decisions;
-mod fill;
-mod imports;
 mod instances;
 mod limits;
-mod lists;
 mod portal;
-mod publishing;
 mod readers;
 mod rows;
-mod sheets;
 mod texts;
 mod words;

@@ -3,6 +3,10 @@
 mod damages;
 mod halls;
 mod keeping;
+mod long;
+mod runs;
 mod steps;
+mod stops;
 mod streams;
+mod trial;
 mod years;

@@ -1,6 +1,10 @@
 //! Databases that were changed by others, and are opened again.
 
-use crate::tests::steps::{LISTS, MemDesk, PUBLICATION, ROLLS, Step, TO_RANKING, fresh, play};
+use crate::tests::steps::{
+    ANN, LISTS, MemDesk, PUBLICATION, ROLLS, Step, TO_RANKING, fresh, play_parts,
+};
+use portal_core::{Phase, View};
+use portal_store::queries::view;
 use portal_store::{NotOpened, OpenFault, Store};
 use sqlite::{Connection, MemStore};
 use std::process::Abort;
@@ -115,9 +119,7 @@ const DAMAGES: &[Damage] = &[
 fn is_answered(rt: &(impl Abort + AllocGlobal), damage: &Damage) {
     let (parts, statement, fault) = *damage;
     let mut desk = fresh(rt);
-    for part in parts {
-        play(rt, &mut desk, part);
-    }
+    play_parts(rt, &mut desk, parts);
     let conn = changed(rt, desk, statement);
     let found = opened(rt, conn);
     assert_eq!(rt; found, fault);
@@ -134,9 +136,7 @@ fn each_damage_is_told(rt: HostRuntime) {
 #[test]
 fn an_unstable_result_is_damage(rt: HostRuntime) {
     let mut desk = fresh(&rt);
-    for part in IN_PUBLISHED {
-        play(&rt, &mut desk, part);
-    }
+    play_parts(&rt, &mut desk, IN_PUBLISHED);
     let mut conn = changed(
         &rt,
         desk,
@@ -146,4 +146,29 @@ fn an_unstable_result_is_damage(rt: HostRuntime) {
     update.expect(&rt, "a statement");
     let found = opened(&rt, conn);
     assert_eq!(rt; found, Some(OpenFault::Damaged));
+}
+
+/// A student's view is made of that student's rows, and is the same where another student's row is of no good world.
+#[test]
+fn a_view_reads_no_other_row(rt: HostRuntime) {
+    let mut desk = fresh(&rt);
+    play_parts(&rt, &mut desk, IN_CHOOSING);
+    let mut conn = changed(
+        &rt,
+        desk,
+        "UPDATE student SET assigned = 'P3' WHERE key = 'S2'",
+    );
+    assert!(rt; conn.is_autocommit());
+    match view(rt.alloc(), &mut conn, ANN.as_bytes()).expect(&rt, "a view") {
+        View::Student(student) => {
+            assert_eq!(rt; student.phase, Phase::Choosing);
+            assert_eq!(rt; student.me.key.as_bytes(), b"S1".as_slice());
+            assert_eq!(rt; student.catalogue.len(), 3);
+            assert_eq!(rt; student.choices.len(), 2);
+            assert_eq!(rt; student.choices[0].as_bytes(), b"P1".as_slice());
+            assert_eq!(rt; student.choices[1].as_bytes(), b"P2".as_slice());
+            assert!(rt; student.result.is_none());
+        }
+        _ => assert!(rt; false, "no student"),
+    }
 }

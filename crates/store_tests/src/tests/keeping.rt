@@ -1,9 +1,8 @@
 //! A database that is closed and opened again, and one that is there already.
 
 use crate::tests::steps::{
-    ANN, LISTS, MemDesk, OFFICE, PUBLICATION, ROLLS, Step, TO_RANKING, fresh, play,
+    ANN, LISTS, MemDesk, OFFICE, PUBLICATION, ROLLS, Step, TO_RANKING, fresh, office_code, play,
 };
-use portal_core::Code;
 use portal_desk::Desk;
 use portal_store::{CreateFault, NotOpened, Store};
 use sqlite::Connection;
@@ -35,10 +34,6 @@ fn a_year_over_connections_of_their_own(rt: HostRuntime) {
     play(&rt, &mut desk, RESULT);
 }
 
-fn office(rt: &(impl Abort + AllocGlobal)) -> Code {
-    Code::parse(rt.alloc(), OFFICE.as_bytes()).expect(rt, "a code")
-}
-
 /// Why no store is made over a database that has this table.
 fn refused(rt: &(impl Abort + AllocGlobal), statement: &str) -> Option<CreateFault> {
     let mut conn = Connection::open_in_memory(rt.alloc()).expect(rt, "a connection");
@@ -46,7 +41,7 @@ fn refused(rt: &(impl Abort + AllocGlobal), statement: &str) -> Option<CreateFau
     if !conn.is_autocommit() {
         rt.abort();
     }
-    match Store::create(rt.alloc(), conn, office(rt)) {
+    match Store::create(rt.alloc(), conn, office_code(rt)) {
         Ok(store) => {
             let _conn = store.into_connection();
             None
@@ -70,7 +65,7 @@ fn a_table_of_the_name_is_there(rt: HostRuntime) {
 
 #[test]
 fn the_office_has_its_code(rt: HostRuntime) {
-    let mut store = Store::create_memory(rt.alloc(), office(&rt)).expect(&rt, "a store");
+    let mut store = Store::create_memory(rt.alloc(), office_code(&rt)).expect(&rt, "a store");
     let code = store.office_code(rt.alloc()).expect(&rt, "a code");
     assert_eq!(rt; code.as_bytes(), OFFICE.as_bytes());
     let _conn = store.into_connection();

@@ -1,7 +1,8 @@
-//! A desk over a database in memory, and requests to it.
+//! A desk over a database in memory or over lists, and requests to it.
 
-use portal_core::Code;
+use portal_core::{Code, Keeper};
 use portal_desk::{Counted, Desk};
+use portal_list::ListKeeper;
 use portal_store::Store;
 use sqlite::MemStore;
 use std::process::Abort;
@@ -31,28 +32,36 @@ pub(crate) const BEA: &str = "bea-code-2";
 
 pub(crate) const CYR: &str = "cyr-code-3";
 
-/// A desk over the empty world in setup.
-pub(crate) fn fresh(rt: &(impl Abort + AllocGlobal)) -> MemDesk {
-    let office = Code::parse(rt.alloc(), OFFICE.as_bytes()).expect(rt, "a code");
-    Desk::new(Store::create_memory(rt.alloc(), office).expect(rt, "a store"))
+/// The office's code.
+pub(crate) fn office_code(rt: &(impl Abort + AllocGlobal)) -> Code {
+    Code::parse(rt.alloc(), OFFICE.as_bytes()).expect(rt, "a code")
 }
 
-/// What is written for one connection's bytes.
-pub(crate) fn written(
+/// A desk over the empty world in setup, in a database.
+pub(crate) fn fresh(rt: &(impl Abort + AllocGlobal)) -> MemDesk {
+    Desk::new(Store::create_memory(rt.alloc(), office_code(rt)).expect(rt, "a store"))
+}
+
+/// A desk over the empty world in setup, in lists.
+pub(crate) fn fresh_lists(rt: &(impl Abort + AllocGlobal)) -> Desk<ListKeeper> {
+    Desk::new(ListKeeper::new(rt.alloc(), office_code(rt)))
+}
+
+/// What is written for one connection's bytes, however it ends.
+pub(crate) fn written<K: Keeper>(
     rt: &(impl Abort + AllocGlobal),
-    desk: &mut MemDesk,
+    desk: &mut Desk<K>,
     bytes: &[u8],
 ) -> Vec<u8> {
     let mut source = Counted::new(bytes);
     let mut sink = Counted::new(Vec::new(rt.alloc()));
-    let served = desk.serve(rt.alloc(), &mut source, &mut sink);
-    served.expect(rt, "served");
+    let _served = desk.serve(rt.alloc(), &mut source, &mut sink);
     sink.into_inner()
 }
 
-/// The bytes of a request.
-fn request(rt: &(impl Abort + AllocGlobal), step: &Step) -> String {
-    let (method, path, code, body, _, _) = *step;
+/// The bytes of a request: method, path, code and body.
+pub(crate) fn request(rt: &(impl Abort + AllocGlobal), ask: (&str, &str, &str, &str)) -> String {
+    let (method, path, code, body) = ask;
     let length = body.len();
     let text = format!(in rt.alloc();
         "{} {} HTTP/1.1\r\nHost: h\r\nPortal-Code: {}\r\nContent-Length: {}\r\n\r\n{}",
@@ -61,9 +70,8 @@ fn request(rt: &(impl Abort + AllocGlobal), step: &Step) -> String {
     text.expect(rt, "memory")
 }
 
-/// The bytes of its reply.
-fn reply(rt: &(impl Abort + AllocGlobal), step: &Step) -> String {
-    let (_, _, _, _, status, answer) = *step;
+/// The bytes of a reply with a JSON body.
+pub(crate) fn reply(rt: &(impl Abort + AllocGlobal), status: &str, answer: &str) -> String {
     let length = answer.len();
     let text = format!(in rt.alloc();
         "HTTP/1.1 {}\r\ncontent-type: application/json\r\ncontent-length: {}\r\n\r\n{}",
@@ -72,14 +80,45 @@ fn reply(rt: &(impl Abort + AllocGlobal), step: &Step) -> String {
     text.expect(rt, "memory")
 }
 
-/// Each request, on a connection of its own, gets its reply.
-pub(crate) fn play(rt: &(impl Abort + AllocGlobal), desk: &mut MemDesk, steps: &[Step]) {
+/// A request, on a connection of its own, gets this reply.
+pub(crate) fn asks<K: Keeper>(
+    rt: &(impl Abort + AllocGlobal),
+    desk: &mut Desk<K>,
+    ask: (&str, &str, &str, &str),
+    status: &str,
+    answer: &str,
+) {
+    let bytes = request(rt, ask);
+    let wanted = reply(rt, status, answer);
+    let text = written(rt, desk, bytes.as_bytes());
+    assert_eq!(rt; text.as_slice(), wanted.as_bytes());
+}
+
+/// Each step's request gets its reply.
+pub(crate) fn play<K: Keeper>(rt: &(impl Abort + AllocGlobal), desk: &mut Desk<K>, steps: &[Step]) {
     for step in steps {
-        let bytes = request(rt, step);
-        let wanted = reply(rt, step);
-        let text = written(rt, desk, bytes.as_bytes());
-        assert_eq!(rt; text.as_slice(), wanted.as_bytes());
+        let (method, path, code, body, status, answer) = *step;
+        asks(rt, desk, (method, path, code, body), status, answer);
     }
+}
+
+/// Each part of a year, one after the other.
+pub(crate) fn play_parts<K: Keeper>(
+    rt: &(impl Abort + AllocGlobal),
+    desk: &mut Desk<K>,
+    parts: &[&[Step]],
+) {
+    for part in parts {
+        play(rt, desk, part);
+    }
+}
+
+/// A year is played over a database in memory, and over lists.
+pub(crate) fn play_both(rt: &(impl Abort + AllocGlobal), year: &[&[Step]]) {
+    let mut desk = fresh(rt);
+    play_parts(rt, &mut desk, year);
+    let mut lists = fresh_lists(rt);
+    play_parts(rt, &mut lists, year);
 }
 
 /// The rolls of the worked world.

@@ -1,13 +1,13 @@
-//! Streams of requests to a desk over a database in memory.
+//! Streams of requests to a desk, over a database in memory and over lists.
 
-use crate::tests::steps::{LISTS, MemDesk, PUBLICATION, ROLLS, TO_RANKING, fresh, play, written};
+use crate::tests::steps::{
+    LISTS, PUBLICATION, ROLLS, Step, TO_RANKING, fresh, fresh_lists, play_parts, written,
+};
+use portal_core::Keeper;
+use portal_desk::{Counted, Desk};
+use std::io;
+use std::io::Read;
 use std::process::Abort;
-
-/// A stream gets this output.
-fn gives(rt: &(impl Abort + AllocGlobal), desk: &mut MemDesk, bytes: &str, output: &str) {
-    let text = written(rt, desk, bytes.as_bytes());
-    assert_eq!(rt; text.as_slice(), output.as_bytes());
-}
 
 const FOUR: &str =
     "GET /me HTTP/1.1\r\nHost: h\r\nPortal-Code: office-code-0\r\n\r\nGET /me HTTP/1.1\r\nHost: h\r\nPortal-Code: ann-code-1\r\n\r\nGET /me HTTP/1.1\r\nHost: h\r\nPortal-Code: lee-code-01\r\n\r\nGET /me HTTP/1.1\r\nHost: h\r\n\r\n";
@@ -15,24 +15,11 @@ const FOUR: &str =
 const FOUR_REPLIES: &str =
     "HTTP/1.1 200 OK\r\ncontent-type: application/json\r\ncontent-length: 33\r\n\r\n{\"phase\":\"setup\",\"role\":\"office\"}HTTP/1.1 200 OK\r\ncontent-type: application/json\r\ncontent-length: 58\r\n\r\n{\"key\":\"S1\",\"name\":\"Ann\",\"phase\":\"setup\",\"role\":\"student\"}HTTP/1.1 200 OK\r\ncontent-type: application/json\r\ncontent-length: 72\r\n\r\n{\"capacity\":2,\"key\":\"L1\",\"name\":\"Lee\",\"phase\":\"setup\",\"role\":\"lecturer\"}HTTP/1.1 403 Forbidden\r\ncontent-type: application/json\r\ncontent-length: 21\r\n\r\n{\"error\":\"no_caller\"}";
 
-#[test]
-fn four_callers_on_one_connection(rt: HostRuntime) {
-    let mut desk = fresh(&rt);
-    play(&rt, &mut desk, ROLLS);
-    gives(&rt, &mut desk, FOUR, FOUR_REPLIES);
-}
-
 const HEAD: &str =
-    "HEAD /catalogue HTTP/1.1\r\nHost: h\r\nPortal-Code: office-code-0\r\n\r\nDELETE /catalogue HTTP/1.1\r\nHost: h\r\nPortal-Code: office-code-0\r\n\r\nGET /nowhere HTTP/1.1\r\nHost: h\r\n\r\n";
+    "GET /nowhere HTTP/1.1\r\nHost: h\r\n\r\nHEAD /catalogue HTTP/1.1\r\nHost: h\r\nPortal-Code: office-code-0\r\n\r\nDELETE /catalogue HTTP/1.1\r\nHost: h\r\nPortal-Code: office-code-0\r\n\r\n";
 
 const HEAD_REPLIES: &str =
-    "HTTP/1.1 200 OK\r\ncontent-type: application/json\r\ncontent-length: 15\r\n\r\nHTTP/1.1 405 Method Not Allowed\r\ncontent-type: application/json\r\ncontent-length: 22\r\nallow: GET, HEAD\r\n\r\n{\"error\":\"bad_method\"}HTTP/1.1 404 Not Found\r\ncontent-type: application/json\r\ncontent-length: 20\r\n\r\n{\"error\":\"no_route\"}";
-
-#[test]
-fn other_methods_and_paths(rt: HostRuntime) {
-    let mut desk = fresh(&rt);
-    gives(&rt, &mut desk, HEAD, HEAD_REPLIES);
-}
+    "HTTP/1.1 404 Not Found\r\ncontent-type: application/json\r\ncontent-length: 20\r\n\r\n{\"error\":\"no_route\"}HTTP/1.1 200 OK\r\ncontent-type: application/json\r\ncontent-length: 15\r\n\r\nHTTP/1.1 405 Method Not Allowed\r\ncontent-type: application/json\r\ncontent-length: 22\r\nallow: GET, HEAD\r\n\r\n{\"error\":\"bad_method\"}";
 
 const SHEETS: &str =
     "GET /allocation.csv HTTP/1.1\r\nHost: h\r\nPortal-Code: office-code-0\r\n\r\nGET /report HTTP/1.1\r\nHost: h\r\nPortal-Code: office-code-0\r\n\r\n";
@@ -40,12 +27,109 @@ const SHEETS: &str =
 const SHEET_REPLIES: &str =
     "HTTP/1.1 200 OK\r\ncontent-type: text/csv; charset=utf-8\r\ncontent-length: 91\r\n\r\nstudent,name,project,title,lecturer\nS1,Ann,P2,Kites,L1\nS2,\"Roe, Bea\",P1,Tides,L1\nS3,Cyr,,,\nHTTP/1.1 200 OK\r\ncontent-type: text/plain; charset=utf-8\r\ncontent-length: 208\r\n\r\nS1                P2                L1\nS2                P1                L1\nS3                (none)\n\nP1                 1 of    1\nP2                 1 of    1\nP3                 0 of    1\n\nassigned 2 of 3\n";
 
+/// What is played, what a connection then brings, and what is written.
+type Served = (&'static [&'static [Step]], &'static str, &'static str);
+
+const SERVED: &[Served] = &[
+    (&[ROLLS], FOUR, FOUR_REPLIES),
+    (&[], HEAD, HEAD_REPLIES),
+    (
+        &[ROLLS, LISTS, TO_RANKING, PUBLICATION],
+        SHEETS,
+        SHEET_REPLIES,
+    ),
+    (
+        &[],
+        "GET /me HTTP/1.1\r\nHost: h\r\n",
+        "HTTP/1.1 400 Bad Request\r\ncontent-type: application/json\r\ncontent-length: 20\r\nconnection: close\r\n\r\n{\"error\":\"bad_head\"}",
+    ),
+    (
+        &[],
+        "PUT /choices HTTP/1.1\r\nHost: h\r\nContent-Length: 1048577\r\n\r\n",
+        "HTTP/1.1 413 Content Too Large\r\ncontent-type: application/json\r\ncontent-length: 21\r\nconnection: close\r\n\r\n{\"error\":\"too_large\"}",
+    ),
+    (
+        &[],
+        "PUT /choices HTTP/1.1\r\nHost: h\r\nContent-Length: 10\r\n\r\nfour",
+        "HTTP/1.1 400 Bad Request\r\ncontent-type: application/json\r\ncontent-length: 22\r\nconnection: close\r\n\r\n{\"error\":\"bad_length\"}",
+    ),
+    (
+        &[],
+        "GET /me HTTP/1.1\r\nHost: h\r\nHost: h\r\n\r\n",
+        "HTTP/1.1 400 Bad Request\r\ncontent-type: application/json\r\ncontent-length: 20\r\nconnection: close\r\n\r\n{\"error\":\"bad_host\"}",
+    ),
+    (
+        &[],
+        "PUT /choices HTTP/1.1\r\nHost: h\r\nTransfer-Encoding: chunked\r\n\r\n",
+        "HTTP/1.1 501 Not Implemented\r\ncontent-type: application/json\r\ncontent-length: 22\r\nconnection: close\r\n\r\n{\"error\":\"coded_body\"}",
+    ),
+];
+
+/// Gives one byte at a time.
+#[derive(Drop)]
+struct Drip<'b> {
+    rest: &'b [u8],
+}
+
+impl<'b> Read for Drip<'b> {
+    fn read(&mut self, buf: &mut [u8]) -> io::Result<usize> {
+        let room = buf.len().min(1);
+        self.rest.read(&mut buf[..room])
+    }
+}
+
+/// What is written for bytes that come one at a time.
+fn dripped<K: Keeper>(
+    rt: &(impl Abort + AllocGlobal),
+    desk: &mut Desk<K>,
+    bytes: &[u8],
+) -> Vec<u8> {
+    let mut source = Counted::new(Drip { rest: bytes });
+    let mut sink = Counted::new(Vec::new(rt.alloc()));
+    let _served = desk.serve(rt.alloc(), &mut source, &mut sink);
+    sink.into_inner()
+}
+
+/// A stream gets its output, in one piece and byte by byte.
+fn gives<K: Keeper>(rt: &(impl Abort + AllocGlobal), desk: &mut Desk<K>, served: &Served) {
+    let (parts, bytes, output) = *served;
+    play_parts(rt, desk, parts);
+    let text = written(rt, desk, bytes.as_bytes());
+    assert_eq!(rt; text.as_slice(), output.as_bytes());
+    let text = dripped(rt, desk, bytes.as_bytes());
+    assert_eq!(rt; text.as_slice(), output.as_bytes());
+}
+
 #[test]
-fn the_sheets_of_the_office(rt: HostRuntime) {
+fn streams_are_served(rt: HostRuntime) {
+    for served in SERVED {
+        let mut desk = fresh(&rt);
+        gives(&rt, &mut desk, served);
+        let mut lists = fresh_lists(&rt);
+        gives(&rt, &mut lists, served);
+    }
+}
+
+/// A list of no project and so many blanks is taken.
+fn takes_the_longest<K: Keeper>(rt: &(impl Abort + AllocGlobal), desk: &mut Desk<K>) {
+    play_parts(rt, desk, &[ROLLS, LISTS]);
+    let mut bytes = Vec::new(rt.alloc());
+    let head =
+        b"PUT /choices HTTP/1.1\r\nHost: h\r\nPortal-Code: ann-code-1\r\nContent-Length: 1048576\r\n\r\n{\"projects\":[]}";
+    bytes.extend_from_slice(head).expect(rt, "memory");
+    bytes
+        .resize(bytes.len() + 1_048_561, b' ')
+        .expect(rt, "memory");
+    let text = written(rt, desk, &bytes);
+    let wanted =
+        "HTTP/1.1 200 OK\r\ncontent-type: application/json\r\ncontent-length: 15\r\n\r\n{\"projects\":[]}";
+    assert_eq!(rt; text.as_slice(), wanted.as_bytes());
+}
+
+#[test]
+fn the_longest_body_is_taken(rt: HostRuntime) {
     let mut desk = fresh(&rt);
-    play(&rt, &mut desk, ROLLS);
-    play(&rt, &mut desk, LISTS);
-    play(&rt, &mut desk, TO_RANKING);
-    play(&rt, &mut desk, PUBLICATION);
-    gives(&rt, &mut desk, SHEETS, SHEET_REPLIES);
+    takes_the_longest(&rt, &mut desk);
+    let mut lists = fresh_lists(&rt);
+    takes_the_longest(&rt, &mut lists);
 }

@@ -1,0 +1,459 @@
+//! Databases whose disk stops at a write, or fails once at a write or a read, and that are opened again.
+
+use crate::tests::steps::{ANN, BEA, CYR, LEE, MOE, OFFICE, office_code, request, written};
+use crate::tests::trial::{Fault, Plan, Trial};
+use portal_desk::Desk;
+use portal_store::{NotOpened, OpenFault, Store};
+use sqlite::{Connection, FileStore, Files, Options};
+use sqlite_disk::{Crash, Disk, Memory};
+use std::process::Abort;
+
+/// A connection to two files that fail as a plan says.
+type TrialConnection<'a> = Connection<FileStore<Trial<'a, Memory>>>;
+
+/// What the two files of a database hold.
+#[derive(Drop)]
+struct Image {
+    log: Vec<u8>,
+    db: Vec<u8>,
+}
+
+/// A file in memory that holds these bytes, safely.
+fn memory(rt: &(impl Abort + AllocGlobal), bytes: &[u8]) -> Memory {
+    let mut file = Memory::new(rt.alloc());
+    file.write_at(0, bytes).expect(rt, "a write");
+    file.sync().expect(rt, "a sync");
+    file
+}
+
+/// Little memory for pages, so that a change writes before its end and reads again, and a short log, so that it is copied into
+/// the database in between.
+const TIGHT: Options = Options {
+    cache_pages: 4,
+    spill_pages: 4,
+    checkpoint_frames: 12,
+    seed: 7,
+};
+
+/// A connection to files that hold this.
+fn connected<'a>(
+    rt: &(impl Abort + AllocGlobal),
+    image: &Image,
+    plan: &'a Plan,
+    options: Options,
+) -> TrialConnection<'a> {
+    let log = Trial::new(memory(rt, &image.log), plan);
+    let db = Trial::new(memory(rt, &image.db), plan);
+    assert!(rt; log.may_be_used());
+    assert!(rt; db.may_be_used());
+    match Connection::open_files(rt.alloc(), Files { log, db }, options) {
+        Ok(conn) => conn,
+        Err(_) => panic!(rt; "a connection"),
+    }
+}
+
+/// What the files hold: all that was written, and what of it is safe.
+fn left_of(rt: &(impl Abort + AllocGlobal), conn: TrialConnection<'_>) -> (Image, Image) {
+    let files = match conn.close_files() {
+        Ok(files) => files,
+        Err((_, store)) => store.close(),
+    };
+    let (log, safe_log) = contents(rt, files.log.into_inner());
+    let (db, safe_db) = contents(rt, files.db.into_inner());
+    (
+        Image { log, db },
+        Image {
+            log: safe_log,
+            db: safe_db,
+        },
+    )
+}
+
+/// All that was written to a file, and what of it is safe.
+fn contents(rt: &(impl Abort + AllocGlobal), mut file: Memory) -> (Vec<u8>, Vec<u8>) {
+    let written = Vec::from_slice(rt.alloc(), file.bytes()).expect(rt, "memory");
+    file.crash();
+    let safe = Vec::from_slice(rt.alloc(), file.bytes()).expect(rt, "memory");
+    (written, safe)
+}
+
+/// A byte that a crash may leave, of one that was written and a safe one.
+fn left_byte(way: usize, at: usize, written: u8, safe: u8) -> u8 {
+    let is_new = match way {
+        5 => true,
+        1 => false,
+        2 => at / 512 % 2 == 0,
+        3 => at / 512 % 2 == 1,
+        _ => at % 2 == 0,
+    };
+    if way == 6 && written != safe {
+        return b'Z';
+    }
+    if is_new { written } else { safe }
+}
+
+/// What a crash may leave of a file, in one of six ways: what is safe (1), sectors by turns (2 and 3), bytes by turns (4), a part
+/// of the growth (5), or rubbish where bytes were written (6).
+fn left_file(rt: &(impl Abort + AllocGlobal), way: usize, written: &[u8], safe: &[u8]) -> Vec<u8> {
+    let length = match way {
+        1 | 3 => safe.len(),
+        5 => safe.len() / 2 + written.len() / 2,
+        _ => written.len(),
+    };
+    let mut file = Vec::new(rt.alloc());
+    for at in 0..length {
+        let new = written.get(at).copied().unwrap_or(0);
+        let old = safe.get(at).copied().unwrap_or(0);
+        file.push(left_byte(way, at, new, old)).expect(rt, "memory");
+    }
+    file
+}
+
+fn left_image(rt: &(impl Abort + AllocGlobal), way: usize, written: &Image, safe: &Image) -> Image {
+    Image {
+        log: left_file(rt, way, &written.log, &safe.log),
+        db: left_file(rt, way, &written.db, &safe.db),
+    }
+}
+
+/// What is asked to see a world: it tells the rolls, the phase, each list, each ranking and the result.
+const SEEN: &[(&str, &str)] = &[
+    ("/status", OFFICE),
+    ("/catalogue", OFFICE),
+    ("/report", OFFICE),
+    ("/ranking", LEE),
+    ("/applicants", LEE),
+    ("/ranking", MOE),
+    ("/choices", ANN),
+    ("/choices", BEA),
+    ("/me", CYR),
+];
+
+/// The requests that show a world, one after the other.
+fn seeing(rt: &(impl Abort + AllocGlobal)) -> String {
+    let mut text = String::new(rt.alloc());
+    for (path, code) in SEEN {
+        let ask = request(rt, ("GET", path, code, ""));
+        text.push_str(&ask).expect(rt, "memory");
+    }
+    text
+}
+
+/// What the portal in these files shows; nothing where there is none.
+fn shown(rt: &(impl Abort + AllocGlobal), image: &Image) -> Option<Vec<u8>> {
+    let plan = Plan::new(Fault::Stop);
+    let conn = connected(rt, image, &plan, Options::new(7));
+    assert!(rt; conn.is_autocommit());
+    match Store::open(rt.alloc(), conn) {
+        Ok(store) => {
+            let mut desk = Desk::new(store);
+            let text = written(rt, &mut desk, seeing(rt).as_bytes());
+            let _left = left_of(rt, desk.into_keeper().into_connection());
+            Some(text)
+        }
+        Err(NotOpened { fault, connection }) => {
+            let _left = left_of(rt, connection);
+            assert_eq!(rt; fault, OpenFault::NotPortal);
+            None
+        }
+    }
+}
+
+/// The portal is made in the files, or refused by their fault.
+fn makes<'a>(
+    rt: &(impl Abort + AllocGlobal),
+    conn: TrialConnection<'a>,
+) -> (bool, TrialConnection<'a>) {
+    assert!(rt; conn.is_autocommit());
+    match Store::create(rt.alloc(), conn, office_code(rt)) {
+        Ok(store) => (true, store.into_connection()),
+        Err(
+            NotOpened {
+                fault: _,
+                connection,
+            },
+        ) => (false, connection),
+    }
+}
+
+/// The portal in the files, which is there.
+fn desk_over<'a>(
+    rt: &(impl Abort + AllocGlobal),
+    conn: TrialConnection<'a>,
+) -> Desk<Store<FileStore<Trial<'a, Memory>>>> {
+    assert!(rt; conn.is_autocommit());
+    match Store::open(rt.alloc(), conn) {
+        Ok(store) => Desk::new(store),
+        Err(
+            NotOpened {
+                fault: _,
+                connection: _,
+            },
+        ) => panic!(rt; "a portal"),
+    }
+}
+
+/// A change of what the files hold: how it is asked for, where it is not the making of the portal, and what is shown before and
+/// after it.
+#[derive(Drop)]
+struct Case {
+    before: Image,
+    ask: Option<String>,
+    shown_before: Option<Vec<u8>>,
+    shown_after: Option<Vec<u8>>,
+}
+
+/// The change is tried, and the fault comes after so many calls: whether the change was answered as done, and what is left.
+fn tried<'a>(
+    rt: &(impl Abort + AllocGlobal),
+    before: &Image,
+    ask: &Option<String>,
+    plan: &'a Plan,
+    calls: u64,
+) -> (bool, TrialConnection<'a>) {
+    let conn = connected(rt, before, plan, TIGHT);
+    match ask {
+        None => {
+            plan.arm(calls);
+            makes(rt, conn)
+        }
+        Some(ask) => {
+            let mut desk = desk_over(rt, conn);
+            plan.arm(calls);
+            let reply = written(rt, &mut desk, ask.as_bytes());
+            let is_done = reply.starts_with(b"HTTP/1.1 200");
+            assert!(rt; is_done || reply.starts_with(b"HTTP/1.1 503"));
+            (is_done, desk.into_keeper().into_connection())
+        }
+    }
+}
+
+/// What the files may hold after the change is done without a fault, with all of it in the log.
+fn done(rt: &(impl Abort + AllocGlobal), before: &Image, ask: &Option<String>) -> Image {
+    let plan = Plan::new(Fault::Stop);
+    let (is_done, conn) = tried(rt, before, ask, &plan, u64::MAX);
+    assert!(rt; is_done);
+    plan.arm(0);
+    left_of(rt, conn).0
+}
+
+/// The portal in the files is the one before or the one after, and after a change that is done the one after.
+fn is_one_of_two(rt: &(impl Abort + AllocGlobal), case: &Case, image: &Image, is_done: bool) {
+    let found = shown(rt, image);
+    let is_after = found == case.shown_after;
+    assert!(rt; is_after || (!is_done && found == case.shown_before));
+}
+
+/// Whether the fault came, after so many calls; the files are opened again as they are, and in one of the ways that a crash
+/// may leave them.
+fn survives(rt: &(impl Abort + AllocGlobal), case: &Case, fault: Fault, calls: u64) -> bool {
+    let plan = Plan::new(fault);
+    let (is_done, conn) = tried(rt, &case.before, &case.ask, &plan, calls);
+    let came = plan.came();
+    if !came {
+        plan.arm(if fault == Fault::Stop { 0 } else { u64::MAX });
+    }
+    let (written, safe) = left_of(rt, conn);
+    is_one_of_two(rt, case, &written, is_done);
+    if written.log != safe.log || written.db != safe.db {
+        let way = 1 + (calls % 6) as usize;
+        let image = left_image(rt, way, &written, &safe);
+        is_one_of_two(rt, case, &image, is_done);
+    }
+    came
+}
+
+/// How often the fault came, at each call in turn.
+fn faults_of(rt: &(impl Abort + AllocGlobal), case: &Case, fault: Fault) -> u64 {
+    for calls in 0..10_000 {
+        if !survives(rt, case, fault, calls) {
+            return calls;
+        }
+    }
+    10_000
+}
+
+/// A change that is asked for, or the making of the portal.
+type Ask = Option<(&'static str, &'static str, &'static str, &'static str)>;
+
+/// The portal is made, and the three rolls come.
+const SETUP: &[Ask] = &[
+    None,
+    Some((
+        "POST",
+        "/rolls/lecturers",
+        OFFICE,
+        "id,name,code,capacity\nL1,Lee,lee-code-01,2\nL2,Moe,moe-code-02,1\n",
+    )),
+    Some((
+        "POST",
+        "/rolls/projects",
+        OFFICE,
+        "id,lecturer,title,capacity\nP1,L1,Tides,1\nP2,L1,Kites,1\nP3,L2,Bells,1\n",
+    )),
+    Some((
+        "POST",
+        "/rolls/students",
+        OFFICE,
+        "id,name,code\nS1,Ann,ann-code-1\nS2,Bea,bea-code-2\nS3,Cyr,cyr-code-3\n",
+    )),
+];
+
+/// A phase, two lists, and one that is replaced.
+const CHOOSING: &[Ask] = &[
+    Some(("POST", "/phase", OFFICE, r#"{"phase":"choosing"}"#)),
+    Some(("PUT", "/choices", ANN, r#"{"projects":["P1","P2"]}"#)),
+    Some(("PUT", "/choices", BEA, r#"{"projects":["P1","P3"]}"#)),
+    Some(("PUT", "/choices", ANN, r#"{"projects":["P2","P1"]}"#)),
+];
+
+/// A phase, a ranking and one that is replaced, what is missing filled, and the publication.
+const RANKING: &[Ask] = &[
+    Some(("POST", "/phase", OFFICE, r#"{"phase":"ranking"}"#)),
+    Some(("PUT", "/ranking", LEE, r#"{"students":["S1","S2"]}"#)),
+    Some(("PUT", "/ranking", LEE, r#"{"students":["S2","S1"]}"#)),
+    Some(("POST", "/ranking/fill", OFFICE, "{}")),
+    Some(("POST", "/phase", OFFICE, r#"{"phase":"published"}"#)),
+];
+
+/// The bytes that ask for it.
+fn asked(rt: &(impl Abort + AllocGlobal), ask: &Ask) -> Option<String> {
+    match *ask {
+        Some(ask) => Some(request(rt, ask)),
+        None => None,
+    }
+}
+
+/// Files of an empty database.
+fn blank(rt: &(impl Abort + AllocGlobal)) -> Image {
+    let empty = Image {
+        log: Vec::new(rt.alloc()),
+        db: Vec::new(rt.alloc()),
+    };
+    let plan = Plan::new(Fault::Stop);
+    left_of(rt, connected(rt, &empty, &plan, TIGHT)).0
+}
+
+/// The files after these changes.
+fn after(rt: &(impl Abort + AllocGlobal), before: Image, asks: &[Ask]) -> Image {
+    let mut image = before;
+    for ask in asks {
+        image = done(rt, &image, &asked(rt, ask));
+    }
+    image
+}
+
+/// A change of files that show this, and the files after it.
+fn case_of(
+    rt: &(impl Abort + AllocGlobal),
+    before: Image,
+    shown_before: Option<Vec<u8>>,
+    ask: &Ask,
+) -> (Case, Image) {
+    let ask = asked(rt, ask);
+    let after = done(rt, &before, &ask);
+    let shown_after = shown(rt, &after);
+    assert!(rt; shown_after != shown_before);
+    let case = Case {
+        before,
+        ask,
+        shown_before,
+        shown_after,
+    };
+    (case, after)
+}
+
+/// Each of these changes meets the fault at each of its calls; how often in all.
+fn meets(rt: &(impl Abort + AllocGlobal), fault: Fault, before: Image, asks: &[Ask]) -> u64 {
+    let mut shown_before = shown(rt, &before);
+    let mut image = before;
+    let mut count = 0u64;
+    for ask in asks {
+        let (case, after) = case_of(rt, image, shown_before, ask);
+        count = count.saturating_add(faults_of(rt, &case, fault));
+        shown_before = case.shown_after;
+        image = after;
+    }
+    count
+}
+
+/// So often at least the fault comes in setup.
+fn comes_in_setup(rt: &(impl Abort + AllocGlobal), fault: Fault, least: u64) {
+    let count = meets(rt, fault, blank(rt), SETUP);
+    assert!(rt; count >= least, "{count} times");
+}
+
+/// So often at least the fault comes in choosing.
+fn comes_in_choosing(rt: &(impl Abort + AllocGlobal), fault: Fault, least: u64) {
+    let before = after(rt, blank(rt), SETUP);
+    let count = meets(rt, fault, before, CHOOSING);
+    assert!(rt; count >= least, "{count} times");
+}
+
+/// So often at least the fault comes in ranking.
+fn comes_in_ranking(rt: &(impl Abort + AllocGlobal), fault: Fault, least: u64) {
+    let setup = after(rt, blank(rt), SETUP);
+    let before = after(rt, setup, CHOOSING);
+    let count = meets(rt, fault, before, RANKING);
+    assert!(rt; count >= least, "{count} times");
+}
+
+#[test]
+fn the_disk_stops_in_setup(rt: HostRuntime) {
+    comes_in_setup(&rt, Fault::Stop, 60);
+}
+
+#[test]
+fn a_write_is_refused_in_setup(rt: HostRuntime) {
+    comes_in_setup(&rt, Fault::Refusal, 60);
+}
+
+#[test]
+fn a_write_is_in_doubt_in_setup(rt: HostRuntime) {
+    comes_in_setup(&rt, Fault::Doubt, 60);
+}
+
+#[test]
+fn a_read_fails_in_setup(rt: HostRuntime) {
+    comes_in_setup(&rt, Fault::Read, 40);
+}
+
+#[test]
+fn the_disk_stops_in_choosing(rt: HostRuntime) {
+    comes_in_choosing(&rt, Fault::Stop, 50);
+}
+
+#[test]
+fn a_write_is_refused_in_choosing(rt: HostRuntime) {
+    comes_in_choosing(&rt, Fault::Refusal, 50);
+}
+
+#[test]
+fn a_write_is_in_doubt_in_choosing(rt: HostRuntime) {
+    comes_in_choosing(&rt, Fault::Doubt, 50);
+}
+
+#[test]
+fn a_read_fails_in_choosing(rt: HostRuntime) {
+    comes_in_choosing(&rt, Fault::Read, 60);
+}
+
+#[test]
+fn the_disk_stops_in_ranking(rt: HostRuntime) {
+    comes_in_ranking(&rt, Fault::Stop, 50);
+}
+
+#[test]
+fn a_write_is_refused_in_ranking(rt: HostRuntime) {
+    comes_in_ranking(&rt, Fault::Refusal, 50);
+}
+
+#[test]
+fn a_write_is_in_doubt_in_ranking(rt: HostRuntime) {
+    comes_in_ranking(&rt, Fault::Doubt, 50);
+}
+
+#[test]
+fn a_read_fails_in_ranking(rt: HostRuntime) {
+    comes_in_ranking(&rt, Fault::Read, 100);
+}
