@@ -3,7 +3,7 @@ use Rattle.std.proofs.Common.{◌≡◌, ℕ, ◌+◌, ◌<◌, pos, false, ◌|
 use Rattle.std.proofs.lemmas.List.{map-append, take_more, append_assoc}
 use Rattle.std.specs.List.{AllByRecursion, IsDistinct}
 use Rattle.std.specs.List.Sorted.{IsPermutation}
-use Rattle.std.proofs.lemmas.List.Sorted.{IsPermutation-refl, IsPermutation-trans, IsPermutation-sym, IsPermutation-cons, IsPermutation-middle, IsPermutation-append_right, IsPermutation-map}
+use Rattle.std.proofs.lemmas.List.Sorted.{IsPermutation-trans, IsPermutation-sym, IsPermutation-cons, IsPermutation-middle, IsPermutation-append_right, IsPermutation-map}
 use Rattle.std.specs.Prelude.{slice_index_or}
 use Rattle.sqlite.specs.declared.types.Value.TheVariants.{Null, Int}
 use Rattle.sqlite.specs.Order.{Row, column, bytes}
@@ -14,7 +14,7 @@ use Rattle.portal_core.specs.declared.rows.LecturerRow.{LecturerRow}
 use Rattle.portal_core.specs.declared.rows.ProjectRow.{ProjectRow}
 use Rattle.portal_core.specs.declared.rows.StudentRow.{StudentRow}
 use Rattle.portal_core.specs.Words.{Key, is, has, Rise, put_all}
-use Rattle.portal_core.specs.World.{Lecturer, lecturer_key, project_key, student_key}
+use Rattle.portal_core.specs.World.{lecturer_key, project_key, student_key}
 use Rattle.portal_core.specs.Change.{changed, Lecturers, Projects, Students, new_lecturer, new_student}
 use Rattle.portal_core.specs.Good.{Good}
 use Rattle.portal_tables.specs.Tables.{portal_tree, lecturer_tree, project_tree, student_tree, choice_tree, ranking_tree}
@@ -28,7 +28,7 @@ use Rattle.portal_store.specs.Lists.{of_key, IsWhole, list_of}
 use Rattle.portal_store.specs.World.{world_of, phase_of, row_key, is_ranked, lecturer_of, project_row, student_of}
 use Rattle.portal_store.proofs.Sorted.{permutes, permutes_more, more_put, rise_distinct, all_permuted, distinct_permuted, map_twice, map_alike}
 use Rattle.portal_store.proofs.Parents.{none_of, choice_parents, ranking_parents}
-use Rattle.portal_store.proofs.Holding.{whole_same, keeps_same, keeps_then}
+use Rattle.portal_store.proofs.Holding.{whole_same, keeps_then}
 use Rattle.portal_core.proofs.Keys.{all_unmap}
 use Rattle.portal_core.proofs.AllLaws.{all_map, all_append}
 
@@ -49,9 +49,6 @@ pub record Added (tree : ℕ) (cells : List Row) (old new : Database) : Type 0 w
 
 abbrev pub AddsAll : ℕ → List Row → Database → Database → Type 0
 AddsAll tree cells old new = IsOwn old.schema → Added tree cells old new
-
-pub added_none : (tree : ℕ) (db : Database) → AddsAll tree [] db db
-added_none tree db own = record { schema_is = refl; rows = IsPermutation-refl _; apart = λ h. h; others = keeps_same tree db; sound = λ h. h }
 
 put_permutes : (tree : ℕ) (cells : Row) (old new : Database) → Puts tree cells old new → IsPermutation (unnumbered cells ∷ map bare (old.trees tree)) (map bare (new.trees tree))
 put_permutes tree cells old new put =
@@ -161,9 +158,6 @@ map_on P f g [] all h = refl
 map_on P f g (x ∷ xs) all h = ap₂ (λ a b. a ∷ b) (h x all.0) (map_on P f g xs all.1 h)
 
 module _ (rows : List LecturerRow) (old new : Database) (was : Holds old) (better : Good (changed (world_of old.trees) (Lecturers rows))) (a : Added lecturer_tree (map lecturer_new rows) old new) where
-  read_lecturer : Row → Lecturer
-  read_lecturer = lecturer_of (old.trees ranking_tree)
-
   lecturers_up : Rise (map lecturer_key (put_all lecturer_key (map new_lecturer rows) (put_all lecturer_key (map (lecturer_of (old.trees ranking_tree)) (old.trees lecturer_tree)) [])))
   unfolding world_of
   lecturers_up = better.sound.lecturers_rise

@@ -16,7 +16,7 @@ use Rattle.portal_tables.specs.Tables.{portal_tree}
 use Rattle.portal_tables.specs.Own.{IsOwn}
 use Rattle.portal_tables.specs.Changes.{ListsBy, every, columns}
 use Rattle.portal_tables.specs.Rows.{portal_row}
-use Rattle.portal_tables.specs.Steps.{Stays, Leaves}
+use Rattle.portal_tables.specs.Steps.{Leaves}
 use Rattle.portal_tables.proofs.Queries.{on_ok}
 use Rattle.portal_core.specs.Words.{Key}
 use Rattle.portal_store.specs.World.{number_of, world_of}
@@ -128,7 +128,3 @@ opened_kept g own old new idle is_own settled live found = record {
       let before : Holds (state g old).now = record { own = is_own mine; sound = (live same.was_open).0; apart = good.apart; office = good.stands.office; whole = good.stands.whole } in
       record { settled = same.committed_is ∙ sym (settled same.was_open) ∙ sym same.now_is; holds = subst Holds (sym same.now_is) before };
 }
-
-pub leaves_stay : (old new : State) → (IsTrue old.is_open → old.now ≡ old.committed) → Leaves old new → IsTrue new.is_open → Stays old new
-leaves_stay old new settled (inl same) on = (same.0.was_open, same.0.now_is, same.0.committed_is)
-leaves_stay old new settled (inr undone) on = (undone.was_open on, (undone.undone on).0 ∙ sym (settled (undone.was_open on)), (undone.undone on).1)

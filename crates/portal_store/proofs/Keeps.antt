@@ -4,7 +4,7 @@ use Rattle.std.specs.Prelude.{Vec}
 use Rattle.std.specs.declared.alloc.Global.{Global}
 use Rattle.std.specs.declared.rc.Rc.{Rc}
 use Rattle.portal_core.specs.declared.rows.Listing.{Listing}
-use Rattle.sqlite.specs.Effect.{Database, IsDatabase}
+use Rattle.sqlite.specs.Effect.{Database}
 use Rattle.sqlite.specs.State.{HasCleanDisk, IsUnchanged, Survives}
 use Rattle.sqlite.specs.Tree.{Trees}
 use Rattle.sqlite.specs.Store.{Ghosts}
@@ -180,10 +180,6 @@ module _
   read_shown m n was mind on =
       let same = rest on.0 on.1 in
       subst (λ (d : Database). Remembers n (catalogue (world_of d.trees))) (sym same.1) (mind (kept.ready on.0 same.0).holds (law on.1) same.0 (was (on.0, same.0)))
-
-  -- what is known of the tables before holds of the store, as its caller sees it
-  pub read_world : (w : World) → (IsOwn old.schema → IsDatabase (state g old).now → HasCleanDisk (state g new) → w ≡ world_of (state g old).now.trees) → IsCleanStore g (record { conn = new; own = own }) → w ≡ kept_world g before
-  read_world w found on = found (own_known on.0) (kept.ready on.0 (rest on.0 on.1).0).holds.sound (law on.1) ∙ ap (λ s. kept_world g s) is
 
   -- what is known where a call may rely on what is kept
   pub read_holds : (P : Type 0) → (IsOwn old.schema → HasCleanDisk (state g new) → Holds (state g old).now → P) → IsCleanStore g (record { conn = new; own = own }) → P

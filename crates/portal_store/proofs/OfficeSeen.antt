@@ -1,22 +1,20 @@
 -- What the office sees, of what queries show.
-use Rattle.std.proofs.Common.{◌≡◌, inl, inr, pos, Bool, true, false, ◌&&◌, ◌||◌, cond, Option, Some, None, List, [], ◌∷◌, map, filter, refl, sym, ap, subst, ◌∙◌}
-use Rattle.std.specs.Prelude.{if◌then◌else◌, ◌==◌, not, is_none}
+use Rattle.std.proofs.Common.{◌≡◌, inl, inr, pos, Bool, true, false, ◌&&◌, ◌||◌, cond, Option, Some, None, List, [], ◌∷◌, map, filter, refl, sym, ap, ◌∙◌}
+use Rattle.std.specs.Prelude.{if◌then◌else◌, not, is_none}
 use Rattle.std.specs.List.{AllByRecursion, list_any, filter_map, cons_option}
 use Rattle.std.proofs.Math.Bool.{or-true}
 use Rattle.std.proofs.lemmas.Bool.{cases_Bool}
 use Rattle.std.proofs.lemmas.List.Sorted.{list_any-IsPermutation}
-use Rattle.sqlite.specs.Order.{Row, column}
+use Rattle.sqlite.specs.Order.{Row}
 use Rattle.sqlite.specs.Tree.{Trees}
 use Rattle.sqlite.specs.Effect.{Database}
 use Rattle.sqlite_trees.proofs.ListLemmas.{filter-map}
-use Rattle.sqlite_trees.specs.Objects.{number_in}
 use Rattle.portal_core.specs.declared.phase.Phase.{Phase}
 use Rattle.portal_core.specs.declared.rows.Listing.{Listing}
-use Rattle.portal_core.specs.declared.rows.ProjectRow.{ProjectRow}
 use Rattle.portal_core.specs.Words.{Key, is, has, is_empty}
-use Rattle.portal_core.specs.World.{World, Lecturer, Student, student_key, is_still_to_rank, is_from_ranking, is_published}
+use Rattle.portal_core.specs.World.{Lecturer, Student, student_key, is_still_to_rank, is_from_ranking, is_published}
 use Rattle.portal_core.specs.View.{catalogue, office_sees}
-use Rattle.portal_core.proofs.AllLaws.{all_weaker, any_map, is_sym}
+use Rattle.portal_core.proofs.AllLaws.{all_weaker, is_sym}
 use Rattle.portal_core.proofs.Givers.{is_mapped}
 use Rattle.portal_list.specs.Rows.{Rows, rows_of, choices_in}
 use Rattle.portal_list.specs.Shown.{is_wanted, is_waiting}
@@ -25,11 +23,10 @@ use Rattle.portal_tables.specs.Tables.{portal_tree, lecturer_tree, student_tree,
 use Rattle.portal_tables.specs.Rows.{portal_row}
 use Rattle.portal_tables.specs.Changes.{ListsBy, columns, has_text}
 use Rattle.portal_tables.proofs.Lists.{map-map}
-use Rattle.portal_store.specs.declared.load.Lists.TheVariants.{Choices}
 use Rattle.portal_store.specs.Kept.{Holds}
 use Rattle.portal_store.specs.World.{world_of, number_of, row_key, is_ranked, lecturer_of, student_of}
-use Rattle.portal_store.specs.Lists.{chosen, named_by}
-use Rattle.portal_store.specs.Shown.{first, by_key, shown_lecturer, shown_project, shown_student, shown_pair, entry, rows_from, lecturers_shown, projects_shown, students_shown}
+use Rattle.portal_store.specs.Lists.{chosen}
+use Rattle.portal_store.specs.Shown.{first, by_key, shown_project, rows_from, lecturers_shown, projects_shown, students_shown}
 use Rattle.portal_store.specs.Queried.{unlisted, waiting_key, office_from}
 use Rattle.portal_store.proofs.Applying.{any_alike, choosers}
 use Rattle.portal_store.proofs.Fine.{all_filtered}

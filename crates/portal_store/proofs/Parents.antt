@@ -21,7 +21,7 @@ use Rattle.portal_tables.specs.Tables.{lecturer_tree, project_tree, student_tree
 use Rattle.portal_tables.specs.Own.{IsOwn}
 use Rattle.portal_tables.specs.Changes.{IsApart, has_text}
 use Rattle.sqlite_tied.specs.Compute.{everything}
-use Rattle.portal_tables.specs.Rows.{choice_cells, ranking_cells, project_cells}
+use Rattle.portal_tables.specs.Rows.{choice_cells, ranking_cells}
 use Rattle.portal_tables.proofs.Weak.{portal_with, with_checks, IsWith, own_is}
 use Rattle.portal_store.specs.World.{row_key}
 use Rattle.portal_store.specs.Lists.{of_key, named_by}
@@ -72,12 +72,6 @@ unfolding everything
 ranking_found checks terms db r n l p s is h =
     let parts = and_parts (Found (db 1) l) (Found (db 6) s && true) (subst (λ x. passes ForeignKey (portal_with checks terms) db (with_checks checks terms (ranking 12)) x ≡ true) is h) in
     (parts.0, (and_parts (Found (db 6) s) true parts.1).0)
-
-project_found : (checks terms : _) (db : Trees) (r : Row) (n : _) (k l t : Key) (c : _) → r ≡ Int n ∷ project_cells k l t c
-    → passes ForeignKey (portal_with checks terms) db (with_checks checks terms (project 4)) r ≡ true → Found (db 1) l ≡ true
-unfolding everything
-project_found checks terms db r n k l t c is h =
-    (and_parts (Found (db 1) l) true (subst (λ x. passes ForeignKey (portal_with checks terms) db (with_checks checks terms (project 4)) x ≡ true) is h)).0
 
 or_right : (b : Bool) → (b || true) ≡ true
 or_right true = refl

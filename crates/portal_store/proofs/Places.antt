@@ -4,7 +4,7 @@ use Rattle.std.proofs.lemmas.Bool.{cases_Bool}
 use Rattle.std.proofs.lemmas.List.{map-append, take_more}
 use Rattle.std.specs.List.{AllByRecursion, IsDistinct}
 use Rattle.std.specs.List.Sorted.{IsPermutation}
-use Rattle.std.proofs.lemmas.List.Sorted.{IsPermutation-refl, IsPermutation-trans, IsPermutation-sym, IsPermutation-middle, IsPermutation-map, IsPermutation-filter_both, list_any-IsPermutation}
+use Rattle.std.proofs.lemmas.List.Sorted.{IsPermutation-trans, IsPermutation-sym, IsPermutation-middle, IsPermutation-map, IsPermutation-filter_both, list_any-IsPermutation}
 use Rattle.std.specs.Prelude.{slice_index_or}
 use Rattle.sqlite.specs.declared.types.Value.TheVariants.{Int, Text as Words}
 use Rattle.sqlite.specs.Order.{Row, column, bytes}
@@ -34,7 +34,7 @@ use Rattle.portal_store.specs.World.{world_of, phase_of, row_key, is_ranked, lec
 use Rattle.portal_store.specs.Placing.{ShowsRoll, PlacesRow, PlacesShown, TurnsShown}
 use Rattle.portal_store.proofs.Sorted.{all_permuted, distinct_if_rise, put_same, put_all_map, map_twice, map_alike, map_alike_on, at, all_has}
 use Rattle.portal_store.proofs.Shapes.{IsStudentRow, student_rows_formed, has_text_of}
-use Rattle.portal_store.proofs.Holding.{phase_turned, keeps_same, keeps_then}
+use Rattle.portal_store.proofs.Holding.{phase_turned, keeps_then}
 use Rattle.portal_store.proofs.Ending.{goes_then, goes_more}
 
 -- the places of the students with these keys
@@ -138,15 +138,6 @@ keys_kept pairs keys old new a =
     sym (map_twice student_key (λ r. place_among pairs keys (f r)) (old.trees student_tree)) ∙ map_alike _ _ (old.trees student_tree) (λ r. among_key pairs keys (f r)) in
     subst₂ IsPermutation before (sym (map_twice student_key f (new.trees student_tree))) (IsPermutation-map student_key _ _ a.rows)
 
-pub among_none : (pairs : List (Key × Key)) (db : Database) → Holds db → Among pairs [] db db
-among_none pairs db was = record {
-  schema_is = refl;
-  sound = was.sound;
-  apart = was.apart.1.1.1.0;
-  others = keeps_same student_tree db;
-  rows = IsPermutation-refl (map (student_of (db.trees choice_tree)) (db.trees student_tree));
-}
-
 among_more : (pairs : List (Key × Key)) (keys : List Key) (k : Key) (old mid new : Database) → Holds old → IsDistinct is (map row_key (old.trees student_tree)) → has (map row_key (old.trees student_tree)) k ≡ true
     → Among pairs keys old mid → Assigns k (place_in pairs k) mid new → Among pairs (keys ++ k ∷ []) old new
 among_more pairs keys k old mid new was distinct known a assigns =
@@ -196,9 +187,6 @@ IsOf roll x = (column x 0 ≡ Words (shown_key x)) × (has (map row_key roll) (s
 -- the places of the students of whom these rows are shown
 abbrev pub PlacesAmong : List (Key × Key) → List Row → Database → Database → Type 0
 PlacesAmong pairs shown old new = Holds old → Good (world_of old.trees) → AllByRecursion (IsOf (old.trees student_tree)) shown → Among pairs (map shown_key shown) old new
-
-pub places_none : (pairs : List (Key × Key)) (db : Database) → PlacesAmong pairs [] db db
-places_none pairs db was good all = among_none pairs db was
 
 first_of : {X : Type 0} (P : X → Type 0) (xs : List X) (x : X) → AllByRecursion P (xs ++ x ∷ []) → AllByRecursion P xs × P x
 first_of P [] x h = (tt, h.0)

@@ -18,10 +18,10 @@ use Rattle.sqlite_schema.specs.Rules.{Keeps, are_typed, are_present, is_of}
 use Rattle.sqlite_sql.specs.Ops.{is_null}
 use Rattle.sqlite.specs.Kind.TheVariants.{Integer, Text}
 use Rattle.portal_core.specs.Words.{Key, is}
-use Rattle.portal_tables.specs.Tables.{column_of, lecturer_tree, project_tree, student_tree, choice_tree, ranking_tree, lecturer, project, student, choice, ranking}
+use Rattle.portal_tables.specs.Tables.{column_of, lecturer_tree, student_tree, choice_tree, ranking_tree, lecturer, project, student, choice, ranking}
 use Rattle.portal_tables.specs.Own.{IsOwn}
 use Rattle.portal_tables.specs.Changes.{IsApart, has_text}
-use Rattle.portal_tables.specs.Rows.{lecturer_cells, project_cells, choice_cells, ranking_cells}
+use Rattle.portal_tables.specs.Rows.{lecturer_cells, choice_cells, ranking_cells}
 use Rattle.portal_tables.proofs.Weak.{portal_with, IsWith, own_is}
 
 -- a test of a text
@@ -65,14 +65,6 @@ pub record IsLecturerRow (r : Row) : Type 0 where
   pub capacity : ℤ
   pub ranked : ℤ
   pub is : r ≡ Int number ∷ lecturer_cells key name code capacity ranked
-
-pub record IsProjectRow (r : Row) : Type 0 where
-  pub number : ℤ
-  pub key : List ℕ
-  pub lecturer : List ℕ
-  pub title : List ℕ
-  pub capacity : ℤ
-  pub is : r ≡ Int number ∷ project_cells key lecturer title capacity
 
 -- the last column may be missing
 pub record IsStudentRow (r : Row) : Type 0 where
@@ -137,18 +129,6 @@ lecturer_form n cells typed present =
     number_first (λ x. IsLecturerRow (Int n ∷ Words key ∷ Words name ∷ Words code ∷ Int capacity ∷ x)) (codes "ranked") 4 [] rest3 typed3 d5 (λ ranked rest4 typed4.
     record { number = n; key = key; name = name; code = code; capacity = capacity; ranked = ranked; is = ap (λ x. Int n ∷ Words key ∷ Words name ∷ Words code ∷ Int capacity ∷ Int ranked ∷ x) (none_more 5 rest4 typed4) })) c5) b4 b5) a3 a4 a5) p2.0 p3.0 p4.0 p5.0
 
-project_form : (n : ℤ) (cells : Row) → are_typed None 0 (project 4).columns cells ≡ true → are_present None 0 (project 4).columns (Int n ∷ cells) ≡ true → IsProjectRow (Int n ∷ cells)
-project_form n cells typed present =
-    let p1 = and_parts _ _ present in
-    let p2 = and_parts _ _ p1.1 in
-    let p3 = and_parts _ _ p2.1 in
-    let p4 = and_parts _ _ p3.1 in
-    text_first (λ x. Present 2 (Int n ∷ x) → Present 3 (Int n ∷ x) → Present 4 (Int n ∷ x) → IsProjectRow (Int n ∷ x)) (codes "key") 0 (column_of (codes "lecturer") Text true ∷ column_of (codes "title") Text true ∷ column_of (codes "capacity") Integer true ∷ []) cells typed p1.0 (λ key rest0 typed0 a2 a3 a4.
-    text_first (λ x. Present 3 (Int n ∷ Words key ∷ x) → Present 4 (Int n ∷ Words key ∷ x) → IsProjectRow (Int n ∷ Words key ∷ x)) (codes "lecturer") 1 (column_of (codes "title") Text true ∷ column_of (codes "capacity") Integer true ∷ []) rest0 typed0 a2 (λ owner rest1 typed1 b3 b4.
-    text_first (λ x. Present 4 (Int n ∷ Words key ∷ Words owner ∷ x) → IsProjectRow (Int n ∷ Words key ∷ Words owner ∷ x)) (codes "title") 2 (column_of (codes "capacity") Integer true ∷ []) rest1 typed1 b3 (λ title rest2 typed2 c4.
-    number_first (λ x. IsProjectRow (Int n ∷ Words key ∷ Words owner ∷ Words title ∷ x)) (codes "capacity") 3 [] rest2 typed2 c4 (λ capacity rest3 typed3.
-    record { number = n; key = key; lecturer = owner; title = title; capacity = capacity; is = ap (λ x. Int n ∷ Words key ∷ Words owner ∷ Words title ∷ Int capacity ∷ x) (none_more 4 rest3 typed3) })) b4) a3 a4) p2.0 p3.0 p4.0
-
 -- what may stand where the last column of a student is
 last_cell : (name : List ℕ) (at : ℕ) (cells : Row) → are_typed None at (column_of name Text false ∷ []) cells ≡ true → ((cells ≡ []) ⊎ ((v : Value) × (cells ≡ v ∷ []))) × IsNullOrText (column cells 0)
 last_cell name at [] t = (inl refl, inl refl)
@@ -206,11 +186,6 @@ module _ (db : Database) (own : IsOwn db.schema) (sound : IsDatabase db) where
   lecturer_rows_formed apart =
       let w = own_is db.schema own in
       formed IsLecturerRow (are_typed None 0 (lecturer 1).columns) (are_present None 0 (lecturer 1).columns) lecturer_form (db.trees lecturer_tree) apart (kept Datatype w).1.0 (kept NotNull w).1.0
-
-  pub project_rows_formed : IsApart (db.trees project_tree) → AllByRecursion IsProjectRow (db.trees project_tree)
-  project_rows_formed apart =
-      let w = own_is db.schema own in
-      formed IsProjectRow (are_typed None 0 (project 4).columns) (are_present None 0 (project 4).columns) project_form (db.trees project_tree) apart (kept Datatype w).1.1.0 (kept NotNull w).1.1.0
 
   pub student_rows_formed : IsApart (db.trees student_tree) → AllByRecursion IsStudentRow (db.trees student_tree)
   student_rows_formed apart =
