@@ -17,7 +17,7 @@ use Rattle.spa_rows.specs.Lines.{Text}
 use Rattle.portal_rolls.specs.declared.line.Line.{Line}
 use Rattle.portal_rolls.specs.declared.line.Line.TheVariants as variant
 use Rattle.portal_rolls.specs.Lines.{File, file_of}
-use Rattle.portal_rolls.specs.Fields.{cut_at_blanks, with_front, four, three, list_of, capacity_of, digits_value}
+use Rattle.portal_rolls.specs.Fields.{cut_at_blanks, with_front, list_of, capacity_of, digits_value}
 use Rattle.portal_rolls.specs.Records.{Record}
 
 -- these bytes before the first piece
@@ -46,9 +46,9 @@ before_other piece b text e = rw e (go (cut_at_blanks text))
     go [] = refl
     go (p ∷ ps) = ap (λ (t : Text). t ∷ ps) (sym (append_assoc piece (b ∷ []) p))
 
--- the four fields of a record that has four
+-- the four fields of a record of four
 pub four_is : (r : Record) (a b c d : Text) → length r ≡ 4 → Some a ≡ field_at r 0 → Some b ≡ field_at r 1 → Some c ≡ field_at r 2 → Some d ≡ field_at r 3
-    → Some (record { first = a; second = b; third = c; fourth = d }) ≡ four r
+    → r ≡ a ∷ b ∷ c ∷ d ∷ []
 unfolding field_at
 four_is [] a b c d len p q s t = absurd (omega arith)
 four_is (x ∷ []) a b c d len p q s t = absurd (omega arith)
@@ -57,9 +57,9 @@ four_is (x ∷ y ∷ z ∷ []) a b c d len p q s t = absurd (omega arith)
 four_is (x ∷ y ∷ z ∷ w ∷ []) a b c d len p q s t = cc
 four_is (x ∷ y ∷ z ∷ w ∷ v ∷ r) a b c d len p q s t = absurd (omega arith)
 
--- the three fields of a record that has three
+-- the three fields of a record of three
 pub three_is : (r : Record) (a b c : Text) → length r ≡ 3 → Some a ≡ field_at r 0 → Some b ≡ field_at r 1 → Some c ≡ field_at r 2
-    → Some (record { first = a; second = b; third = c }) ≡ three r
+    → r ≡ a ∷ b ∷ c ∷ []
 unfolding field_at
 three_is [] a b c len p q s = absurd (omega arith)
 three_is (x ∷ []) a b c len p q s = absurd (omega arith)

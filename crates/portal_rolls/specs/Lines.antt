@@ -1,9 +1,9 @@
 -- What the records of an instance file say.
-use Rattle.std.specs.Prelude.{◌==◌, ℕ, List, [], ◌∷◌, length, Option, Some, None, Result, Ok, if◌then◌else◌, codes}
+use Rattle.std.specs.Prelude.{◌==◌, ℕ, List, [], ◌∷◌, length, Option, Some, None, Result, Ok, Err, if◌then◌else◌, codes}
 use Rattle.std.specs.List.{filter_map}
 use Rattle.portal_rolls.specs.Records.{Record, records_of}
-use Rattle.portal_rolls.specs.Fields.{FourFields, four, capacity_of, list_of}
-use Rattle.portal_rolls.specs.Reading.{Format, some_or, unless, lines_of, ◌>>=◌}
+use Rattle.portal_rolls.specs.Fields.{is_number, digits_value, list_of}
+use Rattle.portal_rolls.specs.Reading.{Format, unless, lines_of}
 use Rattle.spa_rows.specs.Lines.{Text, Lecturer, Project, Student, Pair}
 use Rattle.portal_rolls.specs.declared.fault.RollFault.{RollFault}
 use Rattle.portal_rolls.specs.declared.fault.RollFault.TheVariants as fault
@@ -18,19 +18,21 @@ mark_of (b ∷ []) = if b == 76 then Some mark.Lecturer else if b == 80 then Som
     else if b == 83 then Some mark.Student else if b == 77 then Some mark.Pair else None
 mark_of _ = None
 
--- the line of a record whose first field is this mark
-abbrev pub line_at : Mark → ℕ → FourFields → Result Line RollFault
-line_at mark.Lecturer row f = some_or (capacity_of f.third) (fault.BadField row 3) >>= λ n.
-    Ok (variant.Lecturer (record { row = row; key = f.second; capacity = n; list = list_of f.fourth }))
-line_at mark.Project row f = some_or (capacity_of f.third) (fault.BadField row 3) >>= λ n.
-    Ok (variant.Project (record { row = row; key = f.second; capacity = n; lecturer = f.fourth }))
-line_at mark.Student row f = unless (length f.third == 0) (fault.BadField row 3)
-    (Ok (variant.Student (record { row = row; key = f.second; list = list_of f.fourth })))
-line_at mark.Pair row f = unless (length f.fourth == 0) (fault.BadField row 4)
-    (Ok (variant.Pair (record { row = row; student = f.second; project = f.third })))
+-- the line of a record of this kind: its fields after the first
+abbrev pub line_at : Option Mark → ℕ → Text → Text → Text → Result Line RollFault
+line_at None row key value list = Err (fault.BadField row 1)
+line_at (Some mark.Lecturer) row key value list =
+    unless (is_number value) (fault.BadField row 3) (Ok (variant.Lecturer (record { row = row; key = key; capacity = digits_value value; list = list_of list })))
+line_at (Some mark.Project) row key value list =
+    unless (is_number value) (fault.BadField row 3) (Ok (variant.Project (record { row = row; key = key; capacity = digits_value value; lecturer = list })))
+line_at (Some mark.Student) row key value list =
+    unless (length value == 0) (fault.BadField row 3) (Ok (variant.Student (record { row = row; key = key; list = list_of list })))
+line_at (Some mark.Pair) row key value list =
+    unless (length list == 0) (fault.BadField row 4) (Ok (variant.Pair (record { row = row; student = key; project = value })))
 
 abbrev pub says : ℕ → Record → Result Line RollFault
-says row r = some_or (four r) (fault.FieldCount row) >>= λ f. some_or (mark_of f.first) (fault.BadField row 1) >>= λ m. line_at m row f
+says row (kind ∷ key ∷ value ∷ list ∷ []) = line_at (mark_of kind) row key value list
+says row _ = Err (fault.FieldCount row)
 
 abbrev pub instance_file : Format Line
 instance_file = record {
@@ -72,6 +74,11 @@ file_of lines = record {
   pairs = filter_map as_pair lines;
 }
 
+-- what the lines say, or the fault in their place
+abbrev pub as_file : Result (List Line) RollFault → Result File RollFault
+as_file (Ok lines) = Ok (file_of lines)
+as_file (Err e) = Err e
+
 -- what an instance file says, or its first fault
 abbrev pub rows : Text → Result File RollFault
-rows text = lines_of instance_file (records_of text) >>= λ lines. Ok (file_of lines)
+rows text = as_file (lines_of instance_file (records_of text))

@@ -1,20 +1,13 @@
--- How a file of any kind is read: its header, then record by record up to the first fault.
-use Rattle.std.specs.Prelude.{◌+◌, ◌==◌, ◌&&◌, ℕ, Bool, true, false, List, [], ◌∷◌, length, Option, Some, None, Result, Ok, Err, nat_lt, if◌then◌else◌}
-use Rattle.std.specs.List.{list_all}
+-- What a file of any kind says: its header, and what each record under it says.
+use Rattle.std.specs.Prelude.{◌==◌, ◌&&◌, ℕ, Bool, true, false, List, [], ◌∷◌, length, map, Result, Ok, Err, nat_le, if◌then◌else◌}
+use Rattle.std.specs.List.{enumerate_from, filter_map, list_all}
+use Rattle.std.specs.Result.{result_err, result_ok}
 use Rattle.std.specs.Str.{bytes_eq, is_utf8}
 use Rattle.portal_rolls.specs.Records.{Record}
 use Rattle.portal_rolls.specs.declared.fault.RollFault.{RollFault}
 use Rattle.portal_rolls.specs.declared.fault.RollFault.TheVariants as fault
 
-infixl 10 ◌>>=◌
-abbrev pub ◌>>=◌ : {A B : Type 0} → Result A RollFault → (A → Result B RollFault) → Result B RollFault
-(Ok x) >>= f = f x
-(Err e) >>= f = Err e
-
-abbrev pub some_or : {A : Type 0} → Option A → RollFault → Result A RollFault
-some_or (Some x) e = Ok x
-some_or None e = Err e
-
+-- what was read where a test passes, and this fault where it does not
 abbrev pub unless : {A : Type 0} → Bool → RollFault → Result A RollFault → Result A RollFault
 unless good e read = if good then read else Err e
 
@@ -31,18 +24,29 @@ same_record [] [] = true
 same_record (a ∷ r) (b ∷ s) = bytes_eq a b && same_record r s
 same_record _ _ = false
 
--- what a record says: its count of fields stands first, then that each is text
+-- what the record under a number says: its count of fields stands first, then that each is text
 abbrev pub line_of : {X : Type 0} → Format X → ℕ → Record → Result X RollFault
 line_of format row r =
     unless (length r == length format.header) (fault.FieldCount row) (unless (list_all is_utf8 r) (fault.NotText row) (format.says row r))
 
--- what the records say from this number on
-unfoldable pub lines_from : {X : Type 0} → Format X → ℕ → List Record → Result (List X) RollFault
-lines_from format row [] = Ok []
-lines_from format row (r ∷ rows) = if nat_lt format.limit row then Err fault.TooMany
-    else (line_of format row r >>= λ line. lines_from format (row + 1) rows >>= λ lines. Ok (line ∷ lines))
+-- the same, where a record past the limit is one too many
+abbrev pub reading : {X : Type 0} → Format X → ℕ × Record → Result X RollFault
+reading format (row, r) = unless (nat_le row format.limit) fault.TooMany (line_of format row r)
+
+-- what each record says, numbered from 1
+abbrev pub readings : {X : Type 0} → Format X → List Record → List (Result X RollFault)
+readings format rows = map (reading format) (enumerate_from 1 rows)
+
+-- the first fault, and where there is none, these lines
+abbrev pub first_or : {X : Type 0} → List RollFault → List X → Result (List X) RollFault
+first_or [] lines = Ok lines
+first_or (first ∷ later) lines = Err first
+
+-- all lines, or the first fault among them
+abbrev pub all_or_first : {X : Type 0} → List (Result X RollFault) → Result (List X) RollFault
+all_or_first read = first_or (filter_map result_err read) (filter_map result_ok read)
 
 -- what a file says, from its header on
 abbrev pub lines_of : {X : Type 0} → Format X → List Record → Result (List X) RollFault
 lines_of format [] = Err fault.NoHeader
-lines_of format (r ∷ rows) = unless (same_record format.header r) fault.BadHeader (lines_from format 1 rows)
+lines_of format (header ∷ rows) = unless (same_record format.header header) fault.BadHeader (all_or_first (readings format rows))

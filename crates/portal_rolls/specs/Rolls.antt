@@ -1,5 +1,5 @@
 -- What the records of the three rolls say.
-use Rattle.std.specs.Prelude.{ℕ, List, [], ◌∷◌, Result, Ok, codes}
+use Rattle.std.specs.Prelude.{ℕ, List, [], ◌∷◌, Result, Err, codes}
 use Rattle.spa_rows.specs.Form.{is_key}
 use Rattle.spa_rows.specs.Lines.{Text}
 use Rattle.portal_core.specs.Form.{is_code, is_name}
@@ -7,25 +7,26 @@ use Rattle.portal_core.specs.declared.rows.LecturerRow.{LecturerRow}
 use Rattle.portal_core.specs.declared.rows.ProjectRow.{ProjectRow}
 use Rattle.portal_core.specs.declared.rows.StudentRow.{StudentRow}
 use Rattle.portal_rolls.specs.Records.{Record, records_of}
-use Rattle.portal_rolls.specs.Fields.{four, three, formed, limited}
-use Rattle.portal_rolls.specs.Reading.{Format, some_or, lines_of, ◌>>=◌}
+use Rattle.portal_rolls.specs.Fields.{is_capacity, digits_value, by_columns}
+use Rattle.portal_rolls.specs.Reading.{Format, lines_of}
 use Rattle.portal_rolls.specs.declared.fault.RollFault.{RollFault}
 use Rattle.portal_rolls.specs.declared.fault.RollFault.TheVariants as fault
 
 abbrev pub lecturer : ℕ → Record → Result LecturerRow RollFault
-lecturer row r = some_or (four r) (fault.FieldCount row) >>= λ f.
-    formed is_key row 1 f.first >>= λ key. formed is_name row 2 f.second >>= λ name. formed is_code row 3 f.third >>= λ code.
-    limited row 4 f.fourth >>= λ capacity. Ok (record { key = key; name = name; code = code; capacity = capacity })
+lecturer row (key ∷ name ∷ code ∷ capacity ∷ []) =
+    by_columns row (is_key key ∷ is_name name ∷ is_code code ∷ is_capacity capacity ∷ [])
+    (record { key = key; name = name; code = code; capacity = digits_value capacity })
+lecturer row _ = Err (fault.FieldCount row)
 
 abbrev pub project : ℕ → Record → Result ProjectRow RollFault
-project row r = some_or (four r) (fault.FieldCount row) >>= λ f.
-    formed is_key row 1 f.first >>= λ key. formed is_key row 2 f.second >>= λ lecturer. formed is_name row 3 f.third >>= λ title.
-    limited row 4 f.fourth >>= λ capacity. Ok (record { key = key; lecturer = lecturer; title = title; capacity = capacity })
+project row (key ∷ lecturer ∷ title ∷ capacity ∷ []) =
+    by_columns row (is_key key ∷ is_key lecturer ∷ is_name title ∷ is_capacity capacity ∷ [])
+    (record { key = key; lecturer = lecturer; title = title; capacity = digits_value capacity })
+project row _ = Err (fault.FieldCount row)
 
 abbrev pub student : ℕ → Record → Result StudentRow RollFault
-student row r = some_or (three r) (fault.FieldCount row) >>= λ f.
-    formed is_key row 1 f.first >>= λ key. formed is_name row 2 f.second >>= λ name. formed is_code row 3 f.third >>= λ code.
-    Ok (record { key = key; name = name; code = code })
+student row (key ∷ name ∷ code ∷ []) = by_columns row (is_key key ∷ is_name name ∷ is_code code ∷ []) (record { key = key; name = name; code = code })
+student row _ = Err (fault.FieldCount row)
 
 abbrev pub lecturer_roll : Format LecturerRow
 lecturer_roll = record {

@@ -1,9 +1,9 @@
 -- The lines of the code without where they lie in memory.
-use Rattle.std.specs.Prelude.{ℕ, List, map, Vec}
+use Rattle.std.specs.Prelude.{ℕ, List, [], ◌∷◌, map, Vec}
 use Rattle.std.specs.Global.{Global}
 use Rattle.spa_rows.specs.Lines.{Text, Rows, Pair}
 use Rattle.portal_rolls.specs.Lines as spec
-use Rattle.portal_rolls.specs.Fields as field
+use Rattle.portal_rolls.specs.Records.{Record}
 use Rattle.portal_rolls.specs.declared.line.File.{File}
 use Rattle.portal_rolls.specs.declared.fields.FourFields.{FourFields}
 use Rattle.portal_rolls.specs.declared.fields.ThreeFields.{ThreeFields}
@@ -24,8 +24,10 @@ file f = record { lecturers = f.lecturers.items; projects = f.projects.items; st
 abbrev pub parts : Rows × Vec Pair Global → spec.File
 parts p = record { lecturers = p.0.lecturers; projects = p.0.projects; students = p.0.students; pairs = p.1.items }
 
-abbrev pub four : FourFields → field.FourFields
-four f = record { first = f.first.now; second = f.second.now; third = f.third.now; fourth = f.fourth.now }
+-- the fields as a record again
 
-abbrev pub three : ThreeFields → field.ThreeFields
-three f = record { first = f.first.now; second = f.second.now; third = f.third.now }
+abbrev pub four : FourFields → Record
+four f = f.first.now ∷ f.second.now ∷ f.third.now ∷ f.fourth.now ∷ []
+
+abbrev pub three : ThreeFields → Record
+three f = f.first.now ∷ f.second.now ∷ f.third.now ∷ []

@@ -1,10 +1,10 @@
 //! The fields of a record, and what each of them says.
 
-ghost use Rattle.std.specs.Prelude.{◌≡◌, IfOk, List, ℕ, map, option_map};
+ghost use Rattle.std.specs.Prelude.{◌≡◌, ◌<◌, IfOk, length, map};
 ghost use Rattle.std.specs.Char.{is_ascii_digit};
 ghost use Rattle.std.specs.List.{list_all};
 ghost use Rattle.std.specs.Str.{is_utf8};
-ghost use Rattle.csv.specs.Records.{fields_of};
+ghost use Rattle.csv.specs.Records.{field_at, fields_of};
 ghost use Rattle.spa_rows.specs.Form.{is_key};
 ghost use Rattle.portal_core.specs.Form.{is_code, is_name};
 ghost use Rattle.portal_rolls.specs.Fields as spec;
@@ -36,33 +36,40 @@ pub(crate) struct ThreeFields<'a> {
     pub third: &'a [u8],
 }
 
-/// The fields of a record that has four.
-pub(crate) fn four(row: &ByteRecord) -> Option<FourFields<'_>>
-    ensures { option_map view.four result ≡ spec.four (fields_of row.now) }
+/// The field at a place of a record that has one there.
+fn field(row: &ByteRecord, at: usize) -> &[u8]
+    requires { at < length (fields_of row.now) }
+    ensures { Some result.now ≡ field_at (fields_of row.now) at }
 {
-    if row.len() != 4 {
-        return None;
-    }
-    Some(FourFields {
-        first: row.get(0)?,
-        second: row.get(1)?,
-        third: row.get(2)?,
-        fourth: row.get(3)?,
-    })
+    let Some(field) = row.get(at) else {
+        unreachable!()
+    };
+    field
 }
 
-/// The fields of a record that has three.
-pub(crate) fn three(row: &ByteRecord) -> Option<ThreeFields<'_>>
-    ensures { option_map view.three result ≡ spec.three (fields_of row.now) }
+/// The fields of a record of four.
+pub(crate) fn four(row: &ByteRecord) -> FourFields<'_>
+    requires { length (fields_of row.now) ≡ 4 }
+    ensures { fields_of row.now ≡ view.four result }
 {
-    if row.len() != 3 {
-        return None;
+    FourFields {
+        first: field(row, 0),
+        second: field(row, 1),
+        third: field(row, 2),
+        fourth: field(row, 3),
     }
-    Some(ThreeFields {
-        first: row.get(0)?,
-        second: row.get(1)?,
-        third: row.get(2)?,
-    })
+}
+
+/// The fields of a record of three.
+pub(crate) fn three(row: &ByteRecord) -> ThreeFields<'_>
+    requires { length (fields_of row.now) ≡ 3 }
+    ensures { fields_of row.now ≡ view.three result }
+{
+    ThreeFields {
+        first: field(row, 0),
+        second: field(row, 1),
+        third: field(row, 2),
+    }
 }
 
 /// Whether the fields of a record are these names.
@@ -73,10 +80,7 @@ pub(crate) fn has_names(row: &ByteRecord, names: &[&str]) -> bool
         return false;
     }
     for (i, name) in names.iter().enumerate() {
-        let Some(field) = row.get(i) else {
-            return false;
-        };
-        if name.as_bytes() != field {
+        if name.as_bytes() != field(row, i) {
             return false;
         }
     }
@@ -95,10 +99,7 @@ pub(crate) fn is_all_text(row: &ByteRecord) -> bool
     ensures { result ≡ list_all is_utf8 (fields_of row.now) }
 {
     for i in 0..row.len() {
-        let Some(field) = row.get(i) else {
-            return false;
-        };
-        if !is_text(field) {
+        if !is_text(field(row, i)) {
             return false;
         }
     }

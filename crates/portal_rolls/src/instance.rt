@@ -43,7 +43,7 @@ fn line_at(
     number: u32,
     fields: FourFields<'_>,
 ) -> Result<Line, RollFault>
-    ensures { Gives view.same result (spec.line_at mark number (view.four fields.entry)) }
+    ensures { Gives view.same result (spec.line_at (Some mark) number fields.entry.second.now fields.entry.third.now fields.entry.fourth.now) }
 {
     let key = Vec::from_slice(alloc, fields.second)?;
     match mark {
@@ -113,9 +113,7 @@ impl Kind for InstanceFile {
     }
 
     fn says(alloc: Global, number: u32, row: &ByteRecord) -> Result<Line, RollFault> {
-        let Some(fields) = four(row) else {
-            return Err(RollFault::FieldCount(number));
-        };
+        let fields = four(row);
         let Some(mark) = mark_of(fields.first) else {
             return Err(RollFault::BadField(number, 1));
         };

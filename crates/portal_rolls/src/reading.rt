@@ -1,6 +1,6 @@
 //! Reading a file of any kind: its header, then record by record up to the first fault.
 
-ghost use Rattle.std.specs.Prelude.{◌≡◌, ◌<◌, List, map};
+ghost use Rattle.std.specs.Prelude.{◌≡◌, ◌<◌, List, length, map};
 ghost use Rattle.csv.specs.Records.{fields_of};
 ghost use Rattle.portal_rolls.specs.Gives.{Gives};
 ghost use Rattle.portal_rolls.specs.Reading.{Format, same_record, line_of as line_in, lines_of};
@@ -32,6 +32,7 @@ pub(crate) trait Kind {
 
     /// What a record of as many fields as the header says, where each field is text.
     fn says(alloc: Global, number: u32, row: &ByteRecord) -> Result<Self::Line, RollFault>
+        requires { length (fields_of row.now) ≡ length format.header }
         ensures { Gives view.same result (format.says number (fields_of row.now)) };
 }
 

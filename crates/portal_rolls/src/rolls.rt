@@ -32,9 +32,7 @@ impl Kind for LecturerRoll {
     }
 
     fn says(alloc: Global, number: u32, row: &ByteRecord) -> Result<LecturerRow, RollFault> {
-        let Some(fields) = four(row) else {
-            return Err(RollFault::FieldCount(number));
-        };
+        let fields = four(row);
         let key = key_at(alloc, number, 1, fields.first)?;
         let name = name_at(alloc, number, 2, fields.second)?;
         let code = code_at(alloc, number, 3, fields.third)?;
@@ -65,9 +63,7 @@ impl Kind for ProjectRoll {
     }
 
     fn says(alloc: Global, number: u32, row: &ByteRecord) -> Result<ProjectRow, RollFault> {
-        let Some(fields) = four(row) else {
-            return Err(RollFault::FieldCount(number));
-        };
+        let fields = four(row);
         let key = key_at(alloc, number, 1, fields.first)?;
         let lecturer = key_at(alloc, number, 2, fields.second)?;
         let title = name_at(alloc, number, 3, fields.third)?;
@@ -98,9 +94,7 @@ impl Kind for StudentRoll {
     }
 
     fn says(alloc: Global, number: u32, row: &ByteRecord) -> Result<StudentRow, RollFault> {
-        let Some(fields) = three(row) else {
-            return Err(RollFault::FieldCount(number));
-        };
+        let fields = three(row);
         let key = key_at(alloc, number, 1, fields.first)?;
         let name = name_at(alloc, number, 2, fields.second)?;
         let code = code_at(alloc, number, 3, fields.third)?;
