@@ -1,19 +1,11 @@
 -- Groups of students, one student after the other.
-use Rattle.std.proofs.Common.{◌≡◌, ◌↔◌, ◌⊎◌, inl, inr, ℕ, ◌+◌, ◌<◌, max, false, List, length, take, set, get_or, replicate, Option, Some, None, refl, sym, ◌∙◌, ap, arith}
+use Rattle.std.proofs.Common.{◌≡◌, ◌↔◌, ◌⊎◌, inl, inr, ℕ, ◌+◌, ◌<◌, max, false, List, length, take, set, get_or, Option, Some, None, refl, sym, ◌∙◌, ap, arith}
 use Rattle.std.proofs.lemmas.Bool.{cases_lt, cases_eq, eq-eqb, ne_eqb}
-use Rattle.std.proofs.lemmas.List.{length-set, get_or-set_same, get_or-set_other, get_or_past, length-replicate, get_or-replicate, take_all}
+use Rattle.std.proofs.lemmas.List.{length-set, get_or-set_same, get_or-set_other}
 use Rattle.std.proofs.lemmas.List.Sums.{count_by_more_yes, count_by_more_no}
-use Rattle.spa_model.specs.Spa.{Spa, IsWith, IsOn, IsBefore, IsLawful, IsMatching, SomeWorseAt, SomeWorseWith, place, ranking_of, lecturer_of, project_of, is_project, is_lecturer, at_project, at_lecturer}
+use Rattle.spa_model.specs.Spa.{Spa, IsWith, IsOn, IsBefore, IsLawful, IsMatching, SomeWorseWith, place, ranking_of, lecturer_of, project_of, is_project, is_lecturer, at_project, at_lecturer}
 use Rattle.spa_check.specs.declared.groups.Group.{Group}
-use Rattle.spa_check.specs.Groups.{IsGroup, AreProjectGroups, AreLecturerGroups}
-
--- nobody
-pub group_none : (list : List ℕ) (IsIn : ℕ → Type 0) (g : Group) → ((t : ℕ) → IsIn t → ⊥) → g.count ≡ 0 → g.depth ≡ 0 → IsGroup list IsIn 0 g
-group_none list IsIn g nobody count depth = record {
-  count = count;
-  none_deeper = λ t h. absurd (nobody t h);
-  reached = λ deep. absurd (omega arith);
-}
+use Rattle.spa_check.specs.Groups.{IsGroup}
 
 -- the same students
 pub group_same : (list : List ℕ) (IsIn IsNow : ℕ → Type 0) (n k : ℕ) (g : Group) → ((t : ℕ) → IsIn t → IsNow t) → ((t : ℕ) → IsNow t → IsIn t) → k ≡ n → IsGroup list IsIn n g → IsGroup list IsNow k g
@@ -47,20 +39,11 @@ worse_from_depth list IsIn n s depth g group listed is deeper =
 pub depth_from_worse : (list : List ℕ) (IsIn : ℕ → Type 0) (n s depth t : ℕ) (g : Group) → IsGroup list IsIn n g → depth ≡ place list s + 1 → IsIn t → IsBefore list s t → depth < g.depth
 depth_from_worse list IsIn n s depth t g group is there before = omega (arith, group.none_deeper t there, before.0)
 
--- who is at a project stands on its lecturer's list
-pub listed_at : (i : Spa) (m : List (Option ℕ)) (p : ℕ) → IsLawful i → IsMatching i m → (t : ℕ) → project_of m t ≡ Some p → IsOn (ranking_of i (lecturer_of i p)) t
-listed_at i m p lawful fits t e = lawful.ranked t p (fits.acceptable t p e)
-
+-- who is with a lecturer stands on the lecturer's list
 pub listed_with : (i : Spa) (m : List (Option ℕ)) (l : ℕ) → IsLawful i → IsMatching i m → (t : ℕ) → IsWith i m l t → IsOn (ranking_of i l) t
 listed_with i m l lawful fits t (q, e, same) = rw same at (lawful.ranked t q (fits.acceptable t q e))
 
--- some student at p stands after s, by depth
-pub worse_at : (i : Spa) (m : List (Option ℕ)) (p s depth : ℕ) (g : Group) → IsLawful i → IsMatching i m → IsGroup (ranking_of i (lecturer_of i p)) (λ t. project_of m t ≡ Some p) (at_project m p) g → depth ≡ place (ranking_of i (lecturer_of i p)) s + 1 → (depth < g.depth) ↔ SomeWorseAt i m p s
-worse_at i m p s depth g lawful fits group is = (
-  λ deeper. worse_from_depth (ranking_of i (lecturer_of i p)) (λ t. project_of m t ≡ Some p) (at_project m p) s depth g group (listed_at i m p lawful fits) is deeper,
-  λ (t, there, before). depth_from_worse (ranking_of i (lecturer_of i p)) (λ t. project_of m t ≡ Some p) (at_project m p) s depth t g group is there before,
-)
-
+-- some student with l stands after s, by depth
 pub worse_with : (i : Spa) (m : List (Option ℕ)) (l s depth : ℕ) (g : Group) → IsLawful i → IsMatching i m → IsGroup (ranking_of i l) (IsWith i m l) (at_lecturer i m l) g → depth ≡ place (ranking_of i l) s + 1 → (depth < g.depth) ↔ SomeWorseWith i m l s
 worse_with i m l s depth g lawful fits group is = (
   λ deeper. worse_from_depth (ranking_of i l) (IsWith i m l) (at_lecturer i m l) s depth g group (listed_with i m l lawful fits) is deeper,
@@ -82,30 +65,7 @@ pub record AreLecturerGroupsBefore (i : Spa) (m : List (Option ℕ)) (n : ℕ) (
   pub size : length groups ≡ length i.rankings
   pub each : (l : ℕ) (d : Group) → l < length groups → IsGroup (ranking_of i l) (IsWithBefore i m n l) (at_lecturer i (take n m) l) (get_or groups l d)
 
-none : Group
-none = record { count = 0; depth = 0 }
-
 module _ (i : Spa) (m : List (Option ℕ)) where
-  pub project_groups_none : (empty : Group) (groups : List Group) → empty.count ≡ 0 → empty.depth ≡ 0 → groups ≡ replicate (length i.lecturers) empty → AreProjectGroupsBefore i m 0 groups
-  project_groups_none empty groups count depth is =
-      let size : length groups ≡ length i.lecturers = ap length is ∙ length-replicate (length i.lecturers) empty in
-      record {
-        size = size;
-        each = λ p d h.
-            let at : get_or groups p d ≡ empty = ap (λ gs. get_or gs p d) is ∙ get_or-replicate (length i.lecturers) p empty d (omega arith) in
-            rw at (group_none (ranking_of i (lecturer_of i p)) (IsAtBefore m 0 p) empty (λ t there. omega (arith, there.0)) count depth);
-      }
-
-  pub lecturer_groups_none : (empty : Group) (groups : List Group) → empty.count ≡ 0 → empty.depth ≡ 0 → groups ≡ replicate (length i.rankings) empty → AreLecturerGroupsBefore i m 0 groups
-  lecturer_groups_none empty groups count depth is =
-      let size : length groups ≡ length i.rankings = ap length is ∙ length-replicate (length i.rankings) empty in
-      record {
-        size = size;
-        each = λ l d h.
-            let at : get_or groups l d ≡ empty = ap (λ gs. get_or gs l d) is ∙ get_or-replicate (length i.rankings) l empty d (omega arith) in
-            rw at (group_none (ranking_of i l) (IsWithBefore i m 0 l) empty (λ t there. omega (arith, there.0)) count depth);
-      }
-
   before_or_here : (n t : ℕ) → t < n + 1 → (t < n) ⊎ (t ≡ n)
   before_or_here n t h = elim (cases_lt t n) [ inl k ↦ inl k | inr k ↦ inr (omega arith) ]
 
@@ -183,20 +143,3 @@ module _ (i : Spa) (m : List (Option ℕ)) where
     where
       some_same : {x y : ℕ} → Some x ≡ Some y → x ≡ y
       some_same e = cc
-
-  in_range_of : (t p : ℕ) → project_of m t ≡ Some p → t < length m
-  in_range_of t p e = elim (cases_lt t (length m)) [ inl h ↦ h | inr h ↦ let nothing : project_of m t ≡ None = get_or_past m t None h in absurd (cc) ]
-
-  pub project_groups_all : (n : ℕ) (groups : List Group) → n ≡ length m → AreProjectGroupsBefore i m n groups → AreProjectGroups i m groups
-  project_groups_all n groups done so_far = record {
-    size = so_far.size;
-    each = λ p d h. group_same (ranking_of i (lecturer_of i p)) (IsAtBefore m n p) (λ t. project_of m t ≡ Some p) (at_project (take n m) p) (at_project m p) (get_or groups p d)
-        (λ t there. there.1) (λ t e. (let below = in_range_of t p e in omega arith, e)) (ap (λ ms. at_project ms p) (sym (take_all n m (omega arith)))) (so_far.each p d h);
-  }
-
-  pub lecturer_groups_all : (n : ℕ) (groups : List Group) → n ≡ length m → AreLecturerGroupsBefore i m n groups → AreLecturerGroups i m groups
-  lecturer_groups_all n groups done so_far = record {
-    size = so_far.size;
-    each = λ l d h. group_same (ranking_of i l) (IsWithBefore i m n l) (IsWith i m l) (at_lecturer i (take n m) l) (at_lecturer i m l) (get_or groups l d)
-        (λ t there. there.1) (λ t (q, e, f). (let below = in_range_of t q e in omega arith, (q, e, f))) (ap (λ ms. at_lecturer i ms l) (sym (take_all n m (omega arith)))) (so_far.each l d h);
-  }

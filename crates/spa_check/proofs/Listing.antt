@@ -1,14 +1,13 @@
 -- The list of blocking pairs, pair by pair.
-use Rattle.std.proofs.Common.{◌≡◌, ℕ, ◌+◌, ◌<◌, ◌≤◌, ◌⊎◌, inl, inr, List, [], ◌∷◌, ◌++◌, length, Option, Some, None, refl, arith, MatchOption, is_some, false}
-use Rattle.std.proofs.lemmas.List.Elements.{All-nil, All-push, All-weaker, Contains-append_left, Contains-push}
+use Rattle.std.proofs.Common.{◌≡◌, ℕ, ◌+◌, ◌<◌, ◌≤◌, ◌⊎◌, inl, inr, List, [], ◌∷◌, ◌++◌, Option, Some, None, refl, arith, MatchOption, is_some, false}
+use Rattle.std.proofs.lemmas.List.Elements.{All-push, All-weaker, Contains-append_left, Contains-push}
 use Rattle.std.proofs.lemmas.List.Quantifiers.{all_pairs_push}
-use Rattle.std.proofs.lemmas.List.{get_or_past}
 use Rattle.std.proofs.lemmas.Bool.{cases_lt}
 use Rattle.spa_model.specs.declared.letter.Letter.{Letter}
 use Rattle.spa_model.specs.declared.letter.Letter.TheVariants.{A, B, C}
-use Rattle.spa_model.specs.Spa.{Spa, Blocks, Wants, IsWith, SomeWorseAt, SomeWorseWith, IsAcceptable, choices_of, lecturer_of, capacity_of, limit_of, at_project, at_lecturer}
+use Rattle.spa_model.specs.Spa.{Spa, Blocks, Wants}
 use Rattle.spa_check.specs.declared.block.Block.{Block}
-use Rattle.spa_check.specs.Listed.{IsEarlier, IsPassed, AreBlocksBefore, AreAllBlocks}
+use Rattle.spa_check.specs.Listed.{IsEarlier, IsPassed, AreBlocksBefore}
 
 -- one case at most
 pub one_letter : (i : Spa) (m : List (Option ℕ)) (s p : ℕ) (x y : Letter) → Blocks i m s p x → Blocks i m s p y → x ≡ y
@@ -27,27 +26,6 @@ pub blocks_wants : (i : Spa) (m : List (Option ℕ)) (s p : ℕ) (x : Letter) �
 blocks_wants i m s p A b = b.0
 blocks_wants i m s p B b = b.0
 blocks_wants i m s p C b = b.0
-
--- room at the project, and a full lecturer who does not change: no case
-pub none_with_room : (i : Spa) (m : List (Option ℕ)) (s p : ℕ) → at_project m p < capacity_of i p → limit_of i (lecturer_of i p) ≤ at_lecturer i m (lecturer_of i p) → (IsWith i m (lecturer_of i p) s → ⊥) → (SomeWorseWith i m (lecturer_of i p) s → ⊥) → (x : Letter) → Blocks i m s p x → ⊥
-none_with_room i m s p room full own worse A b = omega (arith, b.2)
-none_with_room i m s p room full own worse B b = elim b.3 [ inl here ↦ own here | inr later ↦ worse later ]
-none_with_room i m s p room full own worse C b = omega (arith, b.1)
-
--- a full project without a worse student: no case
-pub none_at_full : (i : Spa) (m : List (Option ℕ)) (s p : ℕ) → capacity_of i p ≤ at_project m p → (SomeWorseAt i m p s → ⊥) → (x : Letter) → Blocks i m s p x → ⊥
-none_at_full i m s p full worse A b = omega (arith, b.1)
-none_at_full i m s p full worse B b = omega (arith, b.1)
-none_at_full i m s p full worse C b = worse b.2
-
--- nothing yet
-pub blocks_none : (i : Spa) (m : List (Option ℕ)) → AreBlocksBefore i m 0 0 []
-blocks_none i m = record {
-  sound = All-nil (λ b. Blocks i m b.student b.project b.letter);
-  complete = λ t q x before _. absurd (elim before [ inl h ↦ omega arith | inr h ↦ omega arith ]);
-  sorted = λ a b d h k. absurd (omega arith);
-  passed = All-nil (λ b. IsPassed 0 0 b.student b.project);
-}
 
 further : (s n p t q : ℕ) → n ≤ p → IsPassed s n t q → IsPassed s p t q
 further s n p t q h (inl k) = inl k
@@ -107,21 +85,6 @@ blocks_row i m blocks s n below listed = record {
   row : (t q : ℕ) (x : Letter) → IsPassed (s + 1) 0 t q → Blocks i m t q x → IsPassed s n t q
   row t q x (inl h) b = elim (cases_lt t s) [ inl k ↦ inl k | inr k ↦ let same : t ≡ s = omega arith in inr (same, below q (rw same at (blocks_wants i m t q x b))) ]
   row t q x (inr h) b = absurd (omega arith)
-
--- who finds something acceptable is there
-pub student_there : (i : Spa) (t q : ℕ) → IsAcceptable i t q → t < length i.choices
-student_there i t q on = elim (cases_lt t (length i.choices)) [
-  | inl h ↦ h
-  | inr h ↦ let none : choices_of i t ≡ [] = get_or_past i.choices t [] h in absurd (omega (arith, rw none at on))
-]
-
--- all students are done
-pub blocks_all : (i : Spa) (m : List (Option ℕ)) (blocks : List Block) → AreBlocksBefore i m (length i.choices) 0 blocks → AreAllBlocks i m blocks
-blocks_all i m blocks listed = record {
-  sound = listed.sound;
-  complete = λ t q x b. listed.complete t q x (inl (student_there i t q (blocks_wants i m t q x b).0)) b;
-  sorted = listed.sorted;
-}
 
 -- no case, by what a search for one answers
 pub none_blocks : (i : Spa) (m : List (Option ℕ)) (s p : ℕ) (o : Option Letter) → MatchOption o ((x : Letter) → Blocks i m s p x → ⊥) (λ x. Blocks i m s p x) → is_some o ≡ false → (x : Letter) → Blocks i m s p x → ⊥

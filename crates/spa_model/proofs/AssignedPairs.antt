@@ -1,30 +1,16 @@
 -- Pairs that are put together, one after the other.
-use Rattle.std.proofs.Common.{◌≡◌, ◌≢◌, inl, inr, ℕ, zero, suc, ◌+◌, ◌<◌, ◌≤◌, eqb, List, [], ◌∷◌, ◌++◌, map, replicate, length, take, set, get_or, Option, Some, None, refl, sym, ◌∙◌, ap, arith, All, Any}
+use Rattle.std.proofs.Common.{◌≡◌, ◌≢◌, inl, inr, ℕ, zero, suc, ◌+◌, ◌<◌, ◌≤◌, eqb, List, [], ◌∷◌, ◌++◌, map, length, take, set, get_or, Option, Some, None, refl, sym, ◌∙◌, ap, arith, All, Any}
 use Rattle.std.specs.List.{count_by}
 use Rattle.std.proofs.lemmas.Bool.{cases_lt, cases_eq, cases_Bool, eqb-true}
-use Rattle.std.proofs.lemmas.List.{get_or_default, get_or-take, length-map, length-take-le, length-replicate, get_or-replicate, get_or_past, length-set, get_or-set_same, get_or-set_other, take_more, take_all}
+use Rattle.std.proofs.lemmas.List.{get_or_default, get_or-take, length-map, length-take-le, length-set, get_or-set_same, get_or-set_other, take_more, take_all}
 use Rattle.std.proofs.lemmas.List.Sums.{count_by_more_no, sum_by_push}
 use Rattle.spa_rows.specs.Lines.{Pair}
 use Rattle.spa_model.specs.declared.matching.MatchingFault.TheVariants.{NoSuchStudent, NotAcceptable, StudentTwice, ProjectOver, LecturerOver}
 use Rattle.spa_model.specs.Spa.{Spa, IsLawful, IsDistinct, IsMatching, IsAcceptable, place, choices_of, lecturer_of, capacity_of, limit_of, project_of, is_project, is_lecturer, at_project, at_lecturer}
 use Rattle.spa_model.specs.Pairs.{student_in, project_in, lecturer_in, HasPairs}
 use Rattle.spa_model.specs.Assigned.{AreSound, AreAssigned}
-use Rattle.spa_model.proofs.Counts.{count_by-set, count_by-none, one_if}
+use Rattle.spa_model.proofs.Counts.{count_by-set, one_if}
 use Rattle.spa_model.proofs.PairFaults.{number_at, good_pair, student_there, same_student, count_by-map}
-
--- nobody yet
-pub assigned_none : (n : ℕ) → AreAssigned n [] [] (replicate n None)
-assigned_none n = record {
-  count = length-replicate n None;
-  each = λ j h. absurd (omega arith);
-  no_other = λ s p e. absurd (nobody n s p e);
-  counted = λ test out. count_by-none test (replicate n None) (λ s. ap test (none_at n s) ∙ out);
-} where
-  none_at : (n s : ℕ) → get_or (replicate {A = Option ℕ} n None) s None ≡ None
-  none_at n s = elim (cases_lt s n) [ inl h ↦ get_or-replicate n s None None h | inr h ↦ get_or_past (replicate n None) s None (let size : length (replicate {A = Option ℕ} n None) ≡ n = length-replicate n None in omega arith) ]
-
-  nobody : (n s p : ℕ) → project_of (replicate n None) s ≡ Some p → ⊥
-  nobody n s p e = let none = none_at n s in cc
 
 -- one more
 pub assigned_more : (n : ℕ) (students projects : List ℕ) (m : List (Option ℕ)) (j s p : ℕ) → IsDistinct students → j < length students → length students ≡ length projects → get_or students j 0 ≡ s → get_or projects j 0 ≡ p → s < n

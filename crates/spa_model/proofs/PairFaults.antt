@@ -1,8 +1,8 @@
 -- The faults of pairs, among the first rows.
-use Rattle.std.proofs.Common.{◌≡◌, ◌↔◌, inl, inr, ℕ, ◌+◌, ◌<◌, ◌≤◌, Bool, true, false, cond, eqb, List, [], ◌∷◌, ◌++◌, map, replicate, length, take, set, get_or, Option, Some, refl, sym, ◌∙◌, ap, arith, Contains, Any}
+use Rattle.std.proofs.Common.{◌≡◌, ◌↔◌, inl, inr, ℕ, ◌+◌, ◌<◌, ◌≤◌, Bool, true, false, cond, eqb, List, [], ◌∷◌, ◌++◌, map, length, take, set, get_or, Option, Some, refl, sym, ◌∙◌, ap, arith, Contains, Any}
 use Rattle.std.specs.List.{count_by}
 use Rattle.std.proofs.lemmas.Bool.{cases_lt, cases_eq, eq-eqb, ne_eqb}
-use Rattle.std.proofs.lemmas.List.{get_or-map, get_or_default, get_or-take, length-map, length-take-le, length-replicate, get_or-replicate, length-set, get_or-set_same, get_or-set_other, take_more, take-map}
+use Rattle.std.proofs.lemmas.List.{get_or-map, get_or_default, get_or-take, length-map, length-take-le, length-set, get_or-set_same, get_or-set_other, take_more, take-map}
 use Rattle.std.proofs.lemmas.List.Elements.{Contains-push, Contains-append_left, Contains-push_cases}
 use Rattle.std.proofs.lemmas.List.Sums.{count_by_more_yes, count_by_more_no, sum_by-cons}
 use Rattle.spa_rows.specs.Lines.{Pair}
@@ -103,11 +103,6 @@ stood_before i lines numbers n x lawful is h known (k, below, at) =
 abbrev pub AreMarks : List Bool → List ℕ → ℕ → Type 0
 AreMarks seen numbers n = (s : ℕ) → s < length seen → (get_or seen s false ≡ true) ↔ Contains (take n numbers) s
 
-pub marks_none : (n : ℕ) (numbers : List ℕ) → AreMarks (replicate n false) numbers 0
-marks_none n numbers s h =
-    let size : length (replicate n false) ≡ n = length-replicate n false in
-    (λ e. let f : get_or (replicate n false) s false ≡ false = get_or-replicate n s false false (omega arith) in absurd (cc), λ (k, below, at). absurd (omega arith))
-
 pub marks_more : (seen : List Bool) (numbers : List ℕ) (n t : ℕ) → n < length numbers → get_or numbers n 0 ≡ t → t < length seen → AreMarks seen numbers n → AreMarks (set seen t true) numbers (n + 1)
 marks_more seen numbers n t h e below marks s k =
     let more : take (n + 1) numbers ≡ take n numbers ++ t ∷ [] = take_more numbers n 0 h ∙ ap (λ x. take n numbers ++ x ∷ []) e in
@@ -127,9 +122,6 @@ marks_more seen numbers n t h e below marks s k =
 -- the counts of each number among the first n
 abbrev pub AreCounts : List ℕ → List ℕ → ℕ → Type 0
 AreCounts counts numbers n = (q : ℕ) → q < length counts → get_or counts q 0 ≡ count_by (λ k. eqb k q) (take n numbers)
-
-pub counts_none : (n : ℕ) (numbers : List ℕ) → AreCounts (replicate n 0) numbers 0
-counts_none n numbers q h = let size : length (replicate {A = ℕ} n 0) ≡ n = length-replicate {A = ℕ} n 0 in get_or-replicate n q 0 0 (omega arith)
 
 pub counts_more : (counts numbers : List ℕ) (n t : ℕ) → n < length numbers → get_or numbers n 0 ≡ t → t < length counts → AreCounts counts numbers n → AreCounts (set counts t (get_or counts t 0 + 1)) numbers (n + 1)
 counts_more counts numbers n t h e below are q k =

@@ -1,16 +1,15 @@
 -- Lemmas on the table of places.
-use Rattle.std.proofs.Common.{◌≡◌, ◌≢◌, inl, inr, ℕ, ◌+◌, ◌<◌, ◌≤◌, true, false, eqb, ltb, List, [], length, length-set, get_or, set, Option, Some, None, All, refl, sym, ◌∙◌, ap, subst, arith}
+use Rattle.std.proofs.Common.{◌≡◌, ◌≢◌, inl, inr, ℕ, ◌+◌, ◌<◌, ◌≤◌, true, eqb, List, [], length, length-set, get_or, set, Option, Some, None, All, sym, ◌∙◌, ap, subst, arith}
 use Rattle.std.specs.List.{AllPairs, Any}
 use Rattle.std.proofs.lemmas.Bool.{cases_lt, cases_eq, eqb-true}
-use Rattle.std.proofs.lemmas.Bool.Decides.{nat_tests, Decides-eqb}
+use Rattle.std.proofs.lemmas.Bool.Decides.{Decides-eqb}
 use Rattle.std.proofs.lemmas.List.{get_or-set_same, get_or-set_other, get_or_default, get_or-take, length-take}
 use Rattle.std.proofs.lemmas.List.Folds.{Any-from_list_any}
 use Rattle.std.proofs.lemmas.Map.Steps.{length-le_from_distinct_below}
 use Rattle.std.proofs.lemmas.Map.Made.{IsDistinct-from_AllPairs}
 use Rattle.spa_rows.specs.Lines.{Text}
 use Rattle.spa_rows.specs.Faults.{Repeats}
-use Rattle.spa_model.specs.Spa.{place, rank_in}
-use Rattle.spa_model.specs.Inside.{AreRanks}
+use Rattle.spa_model.specs.Spa.{place}
 use Rattle.spa_model.specs.Built.{HasKey}
 use Rattle.spa_model.specs.Numbers.{AreNumbers}
 use Rattle.spa_model.proofs.Places.{place-injective, place-get_or}
@@ -21,9 +20,6 @@ pub record AreRanksBelow (n : ℕ) (list : List ℕ) (i : ℕ) (ranks : List (Op
   pub count : length ranks ≡ n
   pub before : (s : ℕ) → s < n → place list s < i → get_or ranks s None ≡ Some (place list s)
   pub after : (s : ℕ) → s < n → i ≤ place list s → get_or ranks s None ≡ None
-
-pub no_ranks : (n : ℕ) (list : List ℕ) (ranks : List (Option ℕ)) → length ranks ≡ n → ((s : ℕ) → s < n → get_or ranks s None ≡ None) → AreRanksBelow n list 0 ranks
-no_ranks n list ranks long none = record { count = long; before = λ s h l. absurd (omega arith); after = λ s h l. none s h }
 
 pub one_rank : (n : ℕ) (list : List ℕ) (i s : ℕ) (ranks : List (Option ℕ)) → AllPairs (λ a b. a ≢ b) list → i < length list → s ≡ get_or list i s → s < n → AreRanksBelow n list i ranks → AreRanksBelow n list (i + 1) (set ranks s (Some i))
 one_rank n list i s ranks apart h at l so =
@@ -48,21 +44,6 @@ one_rank n list i s ranks apart h at l so =
           let here : place list s ≡ i = subst (λ t. place list t ≡ i) (sym at) (place-get_or list i s apart h) in
           absurd (other (place-injective list t s (omega arith) (omega arith)))
     ]
-
-pub all_ranks : (n : ℕ) (list : List ℕ) (ranks : List (Option ℕ)) → AreRanksBelow n list (length list) ranks → AreRanks n list ranks
-all_ranks n list ranks so = record {
-  count = so.count;
-  each = λ s h. elim (cases_lt (place list s) (length list)) [
-    | inl on ↦ so.before s h on ∙ sym (some s on)
-    | inr off ↦ so.after s h off ∙ sym (none s off)
-  ];
-}
-  where
-    some : (s : ℕ) → place list s < length list → rank_in list s ≡ Some (place list s)
-    some s on = let test : ltb (place list s) (length list) ≡ true = grind (arith, nat_tests) in rw test refl
-
-    none : (s : ℕ) → length list ≤ place list s → rank_in list s ≡ None
-    none s off = let test : ltb (place list s) (length list) ≡ false = grind (arith, nat_tests) in rw test refl
 
 -- numbers below n, none twice, are at most n
 pub at_most : (list : List ℕ) (n : ℕ) → AllPairs (λ a b. a ≢ b) list → All (λ s. s < n) list → length list ≤ n

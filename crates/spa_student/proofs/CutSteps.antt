@@ -121,45 +121,11 @@ module _ (i : Spa) (q after : Progress) (marks : AreMarks i q) (s p : ℕ) (next
   after_cases : (x u : ℕ) → project_of after.projects.items x ≡ Some u → ((x ≡ s) × (u ≡ p)) ⊎ (project_of q.projects.items x ≡ Some u)
   after_cases x u e = put_cases i q.projects.items s p next_in_range next.free x u (rw puts.projects at e)
 
-  pub placed_marks : AreMarks i after
-  placed_marks = record {
-    assigned = record {
-      students = ap length puts.projects ∙ length-set q.projects.items s (Some p) ∙ marks.assigned.students;
-      acceptable = λ x u e. elim (after_cases x u e) [ inl new ↦ rw (new.0, new.1) next.acceptable | inr old ↦ marks.assigned.acceptable x u old ];
-    };
-    cursor_rows = ap length puts.cursors ∙ marks.cursor_rows;
-    project_rows = ap length cuts.project_cuts ∙ marks.project_rows;
-    lecturer_rows = ap length cuts.lecturer_cuts ∙ marks.lecturer_rows;
-    cursors = λ x. rw puts.cursors (marks.cursors x);
-    project_cuts = λ u. rw cuts.project_cuts (marks.project_cuts u);
-    lecturer_cuts = λ l. rw cuts.lecturer_cuts (marks.lecturer_cuts l);
-    passed = λ x u h. same_cut i q after cuts x u (marks.passed x u (rw puts.cursors at h));
-    at_cursor = λ x u e. rw puts.cursors (elim (after_cases x u e) [ inl new ↦ rw (new.0, new.1) next.at_cursor | inr old ↦ marks.at_cursor x u old ]);
-  }
-
   pub placed_uncut : Holds i q.projects.items (IsCut i q) → IsUncut i after
   placed_uncut holds x u e past = elim (after_cases x u e) [
     | inl new ↦ next.uncut (rw (new.0, new.1) at (was_cut i q after cuts x u past))
     | inr old ↦ held_uncut i q.projects.items q holds x u old (was_cut i q after cuts x u past)
   ]
-
-  pub placed_counts : AreCounts i q → p < length i.lecturers → lecturer_of i p < length i.rankings
-      → after.project_counts.items ≡ set q.project_counts.items p (get_or q.project_counts.items p 0 + 1)
-      → after.lecturer_counts.items ≡ set q.lecturer_counts.items (lecturer_of i p) (get_or q.lecturer_counts.items (lecturer_of i p) 0 + 1) → AreCounts i after
-  placed_counts counts p_in l_in more more_l = record {
-    project_rows = ap length more ∙ length-set q.project_counts.items p (get_or q.project_counts.items p 0 + 1) ∙ counts.project_rows;
-    lecturer_rows = ap length more_l ∙ length-set q.lecturer_counts.items (lecturer_of i p) (get_or q.lecturer_counts.items (lecturer_of i p) 0 + 1) ∙ counts.lecturer_rows;
-    at_projects = λ u. rw (more, puts.projects) (elim (cases_eq p u) [
-      | inl same ↦ subst (λ k. get_or (set q.project_counts.items p (get_or q.project_counts.items p 0 + 1)) k 0 ≡ at_project (set q.projects.items s (Some p)) k) same
-          (omega (arith, get_or-set_same q.project_counts.items p (get_or q.project_counts.items p 0 + 1) 0 (omega (arith, counts.project_rows)), counts.at_projects p, put_at_project i q.projects.items s p next_in_range next.free p, one_here p))
-      | inr other ↦ omega (arith, get_or-set_other q.project_counts.items p u (get_or q.project_counts.items p 0 + 1) 0 (λ e. other (sym e)), counts.at_projects u, put_at_project i q.projects.items s p next_in_range next.free u, none_there p u other)
-    ]);
-    at_lecturers = λ l. rw (more_l, puts.projects) (elim (cases_eq (lecturer_of i p) l) [
-      | inl same ↦ subst (λ k. get_or (set q.lecturer_counts.items (lecturer_of i p) (get_or q.lecturer_counts.items (lecturer_of i p) 0 + 1)) k 0 ≡ at_lecturer i (set q.projects.items s (Some p)) k) same
-          (omega (arith, get_or-set_same q.lecturer_counts.items (lecturer_of i p) (get_or q.lecturer_counts.items (lecturer_of i p) 0 + 1) 0 (omega (arith, counts.lecturer_rows)), counts.at_lecturers (lecturer_of i p), put_at_lecturer i q.projects.items s p next_in_range next.free (lecturer_of i p), one_here (lecturer_of i p)))
-      | inr other ↦ omega (arith, get_or-set_other q.lecturer_counts.items (lecturer_of i p) l (get_or q.lecturer_counts.items (lecturer_of i p) 0 + 1) 0 (λ e. other (sym e)), counts.at_lecturers l, put_at_lecturer i q.projects.items s p next_in_range next.free l, none_there (lecturer_of i p) l other)
-    ]);
-  }
 
 -- A STUDENT who has a project
 module _ (i : Spa) (q : Progress) (marks : AreMarks i q) (w u : ℕ) (has : project_of q.projects.items w ≡ Some u) where

@@ -1,4 +1,3 @@
 pub mod Machine
 pub mod Start
 pub mod CutSteps
-pub mod Best
