@@ -61,6 +61,6 @@ fn heads_are_served_up_to_their_limits(rt: HostRuntime) {
     let more_lines = with_lines(&rt, 32);
     serves(&rt, lines.as_str(), more_lines.as_str());
     let bytes = with_value(&rt, 16350, "\r\n\r\n");
-    let more_bytes = with_value(&rt, 16354, "");
+    let more_bytes = with_value(&rt, 16354, "\r\n\r\n");
     serves(&rt, bytes.as_str(), more_bytes.as_str());
 }

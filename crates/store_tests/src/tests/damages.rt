@@ -3,7 +3,7 @@
 use crate::tests::steps::{
     ANN, LISTS, MemDesk, PUBLICATION, ROLLS, Step, TO_RANKING, fresh, play_parts,
 };
-use portal_core::{Phase, View};
+use portal_core::{Phase, StudentView, View};
 use portal_store::queries::view;
 use portal_store::{NotOpened, OpenFault, Store};
 use sqlite::{Connection, MemStore};
@@ -148,6 +148,17 @@ fn an_unstable_result_is_damage(rt: HostRuntime) {
     assert_eq!(rt; found, Some(OpenFault::Damaged));
 }
 
+/// The view is that of the first student in choosing, with a list of two.
+fn is_of_ann(rt: &impl Abort, student: &StudentView) {
+    assert_eq!(rt; student.phase, Phase::Choosing);
+    assert_eq!(rt; student.me.key.as_bytes(), b"S1".as_slice());
+    assert_eq!(rt; student.catalogue.len(), 3);
+    assert!(rt; student.choices.len() == 2);
+    assert_eq!(rt; student.choices[0].as_bytes(), b"P1".as_slice());
+    assert_eq!(rt; student.choices[1].as_bytes(), b"P2".as_slice());
+    assert!(rt; student.result.is_none());
+}
+
 /// A student's view is made of that student's rows, and is the same where another student's row is of no good world.
 #[test]
 fn a_view_reads_no_other_row(rt: HostRuntime) {
@@ -160,15 +171,7 @@ fn a_view_reads_no_other_row(rt: HostRuntime) {
     );
     assert!(rt; conn.is_autocommit());
     match view(rt.alloc(), &mut conn, ANN.as_bytes()).expect(&rt, "a view") {
-        View::Student(student) => {
-            assert_eq!(rt; student.phase, Phase::Choosing);
-            assert_eq!(rt; student.me.key.as_bytes(), b"S1".as_slice());
-            assert_eq!(rt; student.catalogue.len(), 3);
-            assert_eq!(rt; student.choices.len(), 2);
-            assert_eq!(rt; student.choices[0].as_bytes(), b"P1".as_slice());
-            assert_eq!(rt; student.choices[1].as_bytes(), b"P2".as_slice());
-            assert!(rt; student.result.is_none());
-        }
+        View::Student(student) => is_of_ann(&rt, &student),
         _ => assert!(rt; false, "no student"),
     }
 }

@@ -244,8 +244,21 @@ fn is_one_of_two(rt: &(impl Abort + AllocGlobal), case: &Case, image: &Image, is
     assert!(rt; is_after || (!is_done && found == case.shown_before));
 }
 
-/// Whether the fault came, after so many calls; the files are opened again as they are, and in one of the ways that a crash
-/// may leave them.
+/// The files are opened again in each of the ways that a crash may leave them.
+fn survives_crashes(
+    rt: &(impl Abort + AllocGlobal),
+    case: &Case,
+    written: &Image,
+    safe: &Image,
+    is_done: bool,
+) {
+    for way in 1..7 {
+        let image = left_image(rt, way, written, safe);
+        is_one_of_two(rt, case, &image, is_done);
+    }
+}
+
+/// Whether the fault came, after so many calls; the files are opened again as they are, and as a crash may leave them.
 fn survives(rt: &(impl Abort + AllocGlobal), case: &Case, fault: Fault, calls: u64) -> bool {
     let plan = Plan::new(fault);
     let (is_done, conn) = tried(rt, &case.before, &case.ask, &plan, calls);
@@ -256,9 +269,7 @@ fn survives(rt: &(impl Abort + AllocGlobal), case: &Case, fault: Fault, calls: u
     let (written, safe) = left_of(rt, conn);
     is_one_of_two(rt, case, &written, is_done);
     if written.log != safe.log || written.db != safe.db {
-        let way = 1 + (calls % 6) as usize;
-        let image = left_image(rt, way, &written, &safe);
-        is_one_of_two(rt, case, &image, is_done);
+        survives_crashes(rt, case, &written, &safe, is_done);
     }
     came
 }
