@@ -1,5 +1,5 @@
 -- Replies do not tell the order within students' lists before the result is open.
-use Rattle.std.proofs.Common.{◌≡◌, ◌≢◌, Bool, true, false, List, [], ◌∷◌, refl, sym, ◌∙◌, ap, subst, inl, inr}
+use Rattle.std.proofs.Common.{◌≡◌, Bool, true, false, List, [], ◌∷◌, refl, sym, ◌∙◌, ap, subst, inl, inr}
 use Rattle.std.specs.Prelude.{◌⊎◌, Option, Some, None, not, if◌then◌else◌}
 use Rattle.std.specs.List.{AllZip}
 use Rattle.serde_json.specs.Data.{Data}
@@ -19,9 +19,10 @@ use Rattle.portal_core.specs.Bodies.{projects_body, students_body}
 use Rattle.portal_core.specs.Faults.{ListFault, choice_fault, ranking_fault}
 use Rattle.portal_core.specs.Rolls.{Taken, Faulty, Took, take_rows, lecturer_roll, project_roll, student_roll}
 use Rattle.portal_core.specs.Answer.{Answer, Said, Act, Nothing, Apply, Publish, Render, renders, fills, only, unless, applies, answered, refuses, added, moves, decision, answer, to_student}
-use Rattle.portal_core.specs.Run.{Leaves, Step, Wish, Calls, Refused, Request, unavailable, Answers, Serves, Run, AllAnswered}
+use Rattle.portal_core.specs.Run.{Leaves, Step, Wish, Calls, Refused, Request, Answers, Run, AllAnswered}
 use Rattle.portal_core.specs.Places.{Reordered, SameButPlaces, SameWish, equal, sets, SameRequest, has_places, opens_result, Unless, AlikeUntilPublished}
 use Rattle.portal_core.proofs.Acts.{only_quiet}
+use Rattle.portal_core.proofs.Hearing.{really}
 use Rattle.portal_core.proofs.Reorder.{accepted_reordered, reordered_back}
 use Rattle.portal_core.proofs.Similar.{SameSight, same_view, both_choose, both_changed}
 
@@ -168,11 +169,6 @@ one_goes v w v' w' q r s code _ _ (equal (Refused refusal)) a b l m =
 one_goes v w v' w' q r s code _ _ (sets {ks} {ls} o) a b l m =
     let n : Step w q.code (Ask.SetChoices ls) b w' = subst (λ c. Step w c (Ask.SetChoices ls) b w') (sym code) m in
     (tt, goes_on v w v' w' q.code (Ask.SetChoices ks) (Ask.SetChoices ls) a b s l n (same_sets _ _ (same_view v w s q.code) ks ls o))
-
--- 503 aside
-really : (w w' : World) (r : Request) (a : Answer) → Serves w r a w' → a ≢ unavailable → Answers w r r.wish a w'
-really w w' r a (inl s) ok = s
-really w w' r a (inr s) ok = absurd (ok s.0)
 
 -- whole runs
 pub places_unseen : (v w : World) (asked others : List Request) (told said : List Answer) (after later : List World)

@@ -1,12 +1,12 @@
 -- A step of a good world has one reply and one end, since there is one best matching.
-use Rattle.std.proofs.Common.{◌≡◌, ℕ, zero, suc, ◌+◌, ◌<◌, inl, inr, true, false, cond, List, [], ◌∷◌, map, length, get_or, refl, sym, ◌∙◌, ap, subst, arith, Contains}
+use Rattle.std.proofs.Common.{◌≡◌, ℕ, zero, suc, ◌+◌, ◌<◌, true, false, cond, List, [], ◌∷◌, map, length, get_or, refl, sym, ◌∙◌, ap, subst, arith, Contains}
 use Rattle.std.specs.Prelude.{◌==◌, ◌||◌, Option, Some, None, option_map}
 use Rattle.std.specs.List.{AllByRecursion}
 use Rattle.std.proofs.lemmas.Bool.Decides.{nat_tests}
-use Rattle.std.proofs.lemmas.List.{ext_get_or}
-use Rattle.spa_model.specs.Spa.{Spa, project_of, IsBest, IsAsGood, IsOn, place}
+use Rattle.spa_model.specs.Spa.{IsBest, IsOn, place}
 use Rattle.spa_model.specs.Pairs.{number_in}
 use Rattle.spa_model.proofs.Numbers.{number_is, number_known}
+use Rattle.spa_model.proofs.OneOnly.{best_is_one}
 use Rattle.portal_core.specs.Words.{Key, is, has}
 use Rattle.portal_core.specs.World as rows
 use Rattle.portal_core.specs.World.{World}
@@ -18,18 +18,6 @@ use Rattle.portal_core.specs.Answer.{Answer, Act, Nothing, Apply, Publish, Rende
 use Rattle.portal_core.specs.Good.{Good, IsChoice}
 use Rattle.portal_core.specs.Run.{Leaves, Step}
 use Rattle.portal_core.proofs.Keys.{is_same}
-
--- two best matchings are one
-best_once : (i : Spa) (m n : List (Option ℕ)) → IsBest i m → IsBest i n → m ≡ n
-best_once i m n a b = ext_get_or None m n (a.stable.matching.students ∙ sym b.stable.matching.students) (λ s h. each s (project_of m s) (project_of n s) (a.best n b.stable s) (b.best m a.stable s))
-  where
-    each : (s : ℕ) (x y : Option ℕ) → IsAsGood i s x y → IsAsGood i s y x → x ≡ y
-    each s None None f g = refl
-    each s None (Some q) f g = absurd f
-    each s (Some p) None f g = absurd g
-    each s (Some p) (Some q) (inl same) g = ap Some same
-    each s (Some p) (Some q) (inr f) (inl same) = ap Some (sym same)
-    each s (Some p) (Some q) (inr f) (inr g) = absurd (omega (arith, f.0, g.0))
 
 has_contains : (ks : List Key) (c : Key) → has ks c ≡ true → Contains ks c
 has_contains [] c h = cc
@@ -78,7 +66,7 @@ module _ (keys : List Key) where
 published_once : (w : World) (p q : List (Key × Key)) → Good w → IsBest (instance w) (matching_of (changed w (Places p))) → IsBest (instance w) (matching_of (changed w (Places q))) → changed w (Places p) ≡ changed w (Places q)
 published_once w p q g a b =
     ap (λ ss. record (changed w (Places p)) { students = ss })
-    (same_places (project_keys w) p q w.students (best_once (instance w) _ _ a b)
+    (same_places (project_keys w) p q w.students (best_is_one (instance w) _ _ a b)
     (λ s n e. on_roll (project_keys w) w.students g.sound.choices s n (a.stable.matching.acceptable s n e)))
 
 one_end : (w v u : World) (a : Act) → Good w → Leaves w a v → Leaves w a u → v ≡ u

@@ -20,15 +20,10 @@ use Rattle.spa_model.specs.Spa.{IsBest}
 use Rattle.portal_core.specs.Instance.{instance, matching_of}
 use Rattle.portal_core.specs.Run.{Leaves, Step, HasForm}
 use Rattle.portal_core.proofs.Acts.{only_quiet}
+use Rattle.portal_core.proofs.Unseen.{choosing_open}
 use Rattle.portal_core.proofs.Kept.{not_published, to_choosing, to_ranking, to_published, all_ranked, choosing, ranking}
 use Rattle.portal_core.proofs.Fills.{filling}
 use Rattle.portal_core.proofs.Enrol.{open_phase, lecturers_added, projects_added, students_added}
-
-choosing_open : (phase : Phase) → is_choosing phase ≡ true → is_published phase ≡ false
-choosing_open Setup e = refl
-choosing_open Choosing e = refl
-choosing_open Ranking e = refl
-choosing_open Published e = cc
 
 ranking_open : (phase : Phase) → is_ranking phase ≡ true → is_published phase ≡ false
 ranking_open Setup e = refl
@@ -66,7 +61,7 @@ module _ (w v : World) (g : Good w) where
 
   chosen : (s : rows.Student) (body : Data) (list : List Key) (b : Bool) → is_choosing w.phase ≡ b → (fault : Option ListFault) → choice_fault (catalogue w) 1 [] list ≡ fault
       → Leaves w (only b (unless fault (applies body (Choices s.row.key list)))).act v → Good v
-  chosen s body list true at None none left = becomes _ (not_published (changed w (Choices s.row.key list)) (choosing w s.row.key list g.sound at none) (choosing_open w.phase at)) left
+  chosen s body list true at None none left = becomes _ (not_published (changed w (Choices s.row.key list)) (choosing w s.row.key list g.sound at none) (choosing_open w.phase at).1) left
   chosen s body list true at (Some f) none left = same left
   chosen s body list false at fault none left = same left
 

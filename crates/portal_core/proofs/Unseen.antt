@@ -75,7 +75,7 @@ gated w l closed out =
       placed = map (λ p. (p.key, cond out (persons (placed_at w p.key)) [])) (projects_of w l.row.key);
     }
 
-choosing_open : (phase : Phase) → is_choosing phase ≡ true → (is_from_ranking phase ≡ false) × (is_published phase ≡ false)
+pub choosing_open : (phase : Phase) → is_choosing phase ≡ true → (is_from_ranking phase ≡ false) × (is_published phase ≡ false)
 choosing_open Setup e = cc
 choosing_open Choosing e = (refl, refl)
 choosing_open Ranking e = cc
