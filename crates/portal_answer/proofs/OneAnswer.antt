@@ -13,7 +13,7 @@ use Rattle.portal_rolls.specs.declared.fault.RollFault.{RollFault}
 use Rattle.spa_model.specs.Spa.{Spa, Blocks, project_of}
 use Rattle.spa_model.specs.Pairs.{HasPairs, IsFirstPairFault, number_of_pair_fault, student_in, project_in}
 use Rattle.spa_model.specs.declared.matching.MatchingFault.{MatchingFault}
-use Rattle.spa_model.specs.declared.matching.MatchingFault.TheVariants.{NoSuchStudent, NoSuchProject, NotAcceptable, StudentTwice, ProjectOver, LecturerOver, Memory}
+use Rattle.spa_model.proofs.FirstFault.{fault_of, fault_of-number}
 use Rattle.spa_model.proofs.OneOnly.{best_is_one}
 use Rattle.spa_model.proofs.OneInstance.{instance_is_one}
 use Rattle.spa_check.specs.Listed.{AreAllBlocks, IsEarlier}
@@ -107,18 +107,6 @@ matching_one i pairs m n a b = ext_get_or None m n (a.students ∙ sym b.student
     each s None (Some q) e f = sym e ∙ has_too i pairs n m b a s q f
 
 -- ---- the first fault of pairs is one
-
-abbrev fault_of : ℕ → MatchingFault
-fault_of n = cond (eqb n 1) NoSuchStudent (cond (eqb n 2) NoSuchProject (cond (eqb n 3) NotAcceptable (cond (eqb n 4) StudentTwice (cond (eqb n 5) ProjectOver (cond (eqb n 6) LecturerOver Memory)))))
-
-fault_of-number : (f : MatchingFault) → fault_of (number_of_pair_fault f) ≡ f
-fault_of-number NoSuchStudent = refl
-fault_of-number NoSuchProject = refl
-fault_of-number NotAcceptable = refl
-fault_of-number StudentTwice = refl
-fault_of-number ProjectOver = refl
-fault_of-number LecturerOver = refl
-fault_of-number Memory = refl
 
 fault_one : (i : Spa) (pairs : List Pair) (f g : MatchingFault) (r q : ℕ) → IsFirstPairFault i pairs f r → IsFirstPairFault i pairs g q → f ≡ g
 fault_one i pairs f g r q a b = elim (cases_lt (number_of_pair_fault f) (number_of_pair_fault g)) [

@@ -1,14 +1,12 @@
 -- Laws of what holds of each element, and of tests.
-use Rattle.std.proofs.Common.{◌≡◌, suc, Bool, true, false, cond, List, [], ◌∷◌, ◌++◌, length, refl, sym, ◌∙◌, ap, subst}
-use Rattle.std.specs.Prelude.{map, filter, Option, Some, None, Result, Ok, Err, IfOk, ◌||◌}
+use Rattle.std.proofs.Common.{◌≡◌, ℕ, zero, suc, ◌<◌, Bool, true, false, cond, List, [], ◌∷◌, ◌++◌, length, get_or, refl, sym, ◌∙◌, ap, subst, arith}
+use Rattle.std.specs.Prelude.{map, filter, Option, Some, None, ◌&&◌, ◌||◌}
 use Rattle.std.specs.List.{list_any, filter_map, cons_option, AllByRecursion}
-use Rattle.portal_core.specs.Words.{Key, is, has, is_empty}
+use Rattle.std.proofs.Math.Bool.{or-true}
+use Rattle.std.proofs.lemmas.Bool.{or_parts}
+pub use Rattle.std.proofs.lemmas.List.Folds.{list_any-append as any_append}
+use Rattle.portal_core.specs.Words.{Key, is, has, is_empty, AreDistinct}
 use Rattle.portal_core.proofs.Keys.{is_same, is_own}
-
--- more of what an Ok holds
-pub if_ok : {X E : Type 0} (P Q : X → Type 0) → ((x : X) → P x → Q x) → (r : Result X E) → IfOk r P → IfOk r Q
-if_ok P Q k (Ok x) h = k x h
-if_ok P Q k (Err e) h = tt
 
 pub all_map : {X Y : Type 0} (P : Y → Type 0) (f : X → Y) (xs : List X) → AllByRecursion (λ x. P (f x)) xs → AllByRecursion P (map f xs)
 all_map P f [] all = tt
@@ -26,14 +24,16 @@ pub all_append : {X : Type 0} (P : X → Type 0) (xs ys : List X) → AllByRecur
 all_append P [] ys p q = q
 all_append P (x ∷ xs) ys p q = (p.0, all_append P xs ys p.1 q)
 
+-- what holds of each holds at a place
+pub all_at : {X : Type 0} (P : X → Type 0) (xs : List X) (k : ℕ) (d : X) → AllByRecursion P xs → k < length xs → P (get_or xs k d)
+all_at P [] k d all h = absurd (omega arith)
+all_at P (x ∷ xs) zero d all h = all.0
+all_at P (x ∷ xs) (suc k) d all h = all_at P xs k d all.1 (omega arith)
+
 -- a change that keeps the keys
 pub map_same : {X Y : Type 0} (key : X → Y) (f : X → X) → ((x : X) → key (f x) ≡ key x) → (xs : List X) → map key (map f xs) ≡ map key xs
 map_same key f same [] = refl
 map_same key f same (x ∷ xs) = λ i. same x i ∷ map_same key f same xs i
-
-pub length_same : {X Y : Type 0} (f : X → Y) (xs : List X) → length (map f xs) ≡ length xs
-length_same f [] = refl
-length_same f (x ∷ xs) = ap (λ n. suc n) (length_same f xs)
 
 -- the test of keys is symmetric
 pub is_sym : (a b : Key) → is a b ≡ is b a
@@ -45,27 +45,38 @@ is_sym a b = go (is a b) (is b a) refl refl
     go true false e f = sym (subst (λ x. is x a ≡ true) (is_same a b e) (is_own a)) ∙ f
     go false true e f = sym e ∙ subst (λ x. is x b ≡ true) (is_same b a f) (is_own b)
 
-pub or_parts : (s t : Bool) → (s || t) ≡ false → (s ≡ false) × (t ≡ false)
-or_parts true t h = cc
-or_parts false t h = (refl, h)
-
-pub any_append : {X : Type 0} (p : X → Bool) (xs ys : List X) → list_any p (xs ++ ys) ≡ (list_any p xs || list_any p ys)
-any_append p [] ys = refl
-any_append p (x ∷ xs) ys = ap (λ b. p x || b) (any_append p xs ys) ∙ or_assoc (p x) (list_any p xs) (list_any p ys)
-  where
-    or_assoc : (a b c : Bool) → (a || (b || c)) ≡ ((a || b) || c)
-    or_assoc true b c = refl
-    or_assoc false b c = refl
+-- the first two of three tests in turn
+pub or_swap : (a b c : Bool) → (a || (b || c)) ≡ (b || (a || c))
+or_swap true true c = refl
+or_swap true false c = refl
+or_swap false true c = refl
+or_swap false false c = refl
 
 -- none of the list is the key
 pub none_is : (k : Key) (ks : List Key) → AllByRecursion (λ l. is l k ≡ false) ks → has ks k ≡ false
 none_is k [] all = refl
 none_is k (l ∷ ks) all = ap (λ b. b || has ks k) (is_sym k l ∙ all.0) ∙ none_is k ks all.1
 
+pub none_of : (ks : List Key) (k : Key) → has ks k ≡ false → AllByRecursion (λ l. is k l ≡ false) ks
+none_of [] k h = tt
+none_of (l ∷ ks) k h = let parts : (is k l ≡ false) × (has ks k ≡ false) = or_parts (is k l) (has ks k) h in (parts.0, none_of ks k parts.1)
+
+-- where the keys differ, the others are not the first
+pub not_first : (k : Key) (ks : List Key) → AreDistinct (k ∷ ks) → AllByRecursion (λ l. is l k ≡ false) ks
+not_first k ks d = all_weaker _ _ (λ l h. is_sym l k ∙ h) ks (none_of ks k d.0)
+
+-- a list of no keys has none of these
+pub none_yet : (ks : List Key) → AllByRecursion (λ k. has [] k ≡ false) ks
+none_yet [] = tt
+none_yet (k ∷ ks) = (refl, none_yet ks)
+
 pub split_append : (xs : List Key) (k l : Key) → has (xs ++ k ∷ []) l ≡ false → (has xs l ≡ false) × (is l k ≡ false)
 split_append xs k l h =
     let parts : (has xs l ≡ false) × ((is l k || false) ≡ false) = or_parts (has xs l) (is l k || false) (sym (any_append (is l) xs (k ∷ [])) ∙ h) in
     (parts.0, (or_parts (is l k) false parts.1).0)
+
+pub none_after : (xs : List Key) (k l : Key) → has xs l ≡ false → is l k ≡ false → has (xs ++ k ∷ []) l ≡ false
+none_after xs k l h e = any_append (is l) xs (k ∷ []) ∙ ap (λ b. b || (is l k || false)) h ∙ ap (λ b. b || false) e
 
 -- a test of a part of a row, or of the parts
 pub any_map : {X Y : Type 0} (p : Y → Bool) (f : X → Y) (xs : List X) → list_any p (map f xs) ≡ list_any (λ x. p (f x)) xs
@@ -75,6 +86,30 @@ any_map p f (x ∷ xs) = ap (λ b. p (f x) || b) (any_map p f xs)
 pub any_alike : {X : Type 0} (p q : X → Bool) → ((x : X) → p x ≡ q x) → (xs : List X) → list_any p xs ≡ list_any q xs
 any_alike p q alike [] = refl
 any_alike p q alike (x ∷ xs) = λ i. alike x i || any_alike p q alike xs i
+
+-- a test of what passed another
+pub filtered_any : {X : Type 0} (q t : X → Bool) (xs : List X) → list_any q (filter t xs) ≡ list_any (λ x. t x && q x) xs
+filtered_any q t [] = refl
+filtered_any {X} q t (x ∷ xs) =
+    elim (t x) as (λ b. list_any q (cond b (x ∷ filter t xs) (filter t xs)) ≡ ((b && q x) || list_any (λ y. t y && q y) xs)) [
+      | true ↦ ap (λ b. q x || b) (filtered_any q t xs)
+      | false ↦ filtered_any q t xs
+    ]
+
+-- either of two tests
+pub any_or : {X : Type 0} (f g : X → Bool) (xs : List X) → list_any (λ x. f x || g x) xs ≡ (list_any f xs || list_any g xs)
+any_or f g [] = refl
+any_or f g (x ∷ xs) = ap (λ b. (f x || g x) || b) (any_or f g xs) ∙ swap (f x) (g x) (list_any f xs) (list_any g xs)
+  where
+    swap : (a b c d : Bool) → ((a || b) || (c || d)) ≡ ((a || c) || (b || d))
+    swap true b c d = refl
+    swap false true true d = refl
+    swap false true false d = refl
+    swap false false c d = refl
+
+pub any_nowhere : {X : Type 0} (xs : List X) → list_any (λ (x : X). false) xs ≡ false
+any_nowhere [] = refl
+any_nowhere (x ∷ xs) = any_nowhere xs
 
 pub none_passes : {X Y : Type 0} (f : X → Y) (p : X → Bool) (xs : List X) → is_empty (map f (filter p xs)) ≡ true → AllByRecursion (λ x. p x ≡ false) xs
 none_passes f p [] e = tt
@@ -89,14 +124,10 @@ pub any_shown : {X Y : Type 0} (p : Y → Bool) (q : X → Bool) (f : X → Opti
 any_shown p q f k [] h = cc
 any_shown {X} {Y} p q f k (x ∷ xs) h = step (f x) refl (any_shown p q f k xs) h
   where
-    or_right : (b : Bool) → (b || true) ≡ true
-    or_right true = refl
-    or_right false = refl
-
     step : (o : Option Y) → f x ≡ o → (list_any p (filter_map f xs) ≡ true → list_any q xs ≡ true) → list_any p (cons_option o (filter_map f xs)) ≡ true → (q x || list_any q xs) ≡ true
-    step None e rest g = ap (λ b. q x || b) (rest g) ∙ or_right (q x)
+    step None e rest g = ap (λ b. q x || b) (rest g) ∙ or-true (q x)
     step (Some y) e rest g = at (p y) refl g
       where
         at : (b : Bool) → p y ≡ b → (b || list_any p (filter_map f xs)) ≡ true → (q x || list_any q xs) ≡ true
         at true t g = ap (λ b. b || list_any q xs) (k x y e t)
-        at false t g = ap (λ b. q x || b) (rest g) ∙ or_right (q x)
+        at false t g = ap (λ b. q x || b) (rest g) ∙ or-true (q x)

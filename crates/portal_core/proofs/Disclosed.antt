@@ -30,7 +30,7 @@ unless_any : (b : Bool) (P : Type 0) → P → Unless b P
 unless_any true P p = tt
 unless_any false P p = p
 
-unless_map : (b : Bool) (P Q : Type 0) → (P → Q) → Unless b P → Unless b Q
+pub unless_map : (b : Bool) (P Q : Type 0) → (P → Q) → Unless b P → Unless b Q
 unless_map true P Q f p = tt
 unless_map false P Q f p = f p
 

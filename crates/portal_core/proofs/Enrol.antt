@@ -1,7 +1,11 @@
 -- One new row keeps the rows sound, and so does a whole roll.
-use Rattle.std.proofs.Common.{◌≡◌, ℕ, suc, ◌+◌, ◌≤◌, Bool, true, false, List, [], ◌∷◌, ◌++◌, length, refl, sym, ◌∙◌, ap, subst, arith, append-nil}
-use Rattle.std.specs.Prelude.{map, not, ◌||◌, None}
+use Rattle.std.proofs.Common.{◌≡◌, ℕ, suc, ◌+◌, ◌≤◌, true, false, List, [], ◌∷◌, ◌++◌, length, refl, sym, ◌∙◌, ap, subst, arith, append-nil}
+use Rattle.std.specs.Prelude.{map, ◌||◌, None}
 use Rattle.std.specs.List.{AllByRecursion}
+use Rattle.std.proofs.Math.Bool.{or-true, or_comm}
+use Rattle.std.proofs.lemmas.Bool.{or_parts, not-false}
+use Rattle.std.proofs.lemmas.List.{map-id}
+use Rattle.std.proofs.lemmas.Simd.{map-map}
 use Rattle.portal_core.specs.Words.{Key, is, has, AreDistinct, put}
 use Rattle.portal_core.specs.World as rows
 use Rattle.portal_core.specs.World.{World, lecturer_key, project_key, student_key, applicants_of, is_from_ranking, is_published}
@@ -16,7 +20,7 @@ use Rattle.portal_core.specs.View.{office_sees}
 use Rattle.portal_core.specs.Rolls.{Took, take_rows, lecturer_roll, project_roll, student_roll}
 use Rattle.portal_core.specs.Good.{Sound, IsLecturer, IsProject, IsStudent, IsChoice, IsRanking, codes_of}
 use Rattle.portal_core.proofs.Kept.{none_ranked}
-use Rattle.portal_core.proofs.AllLaws.{any_append, all_weaker, is_sym, or_parts}
+use Rattle.portal_core.proofs.AllLaws.{any_append, all_weaker, is_sym}
 use Rattle.portal_core.proofs.Puts.{all_put, length_put, rise_put, distinct_put, has_put}
 use Rattle.portal_core.proofs.Adds.{Alike, has_alike, taken}
 
@@ -27,27 +31,9 @@ open_phase Choosing e = refl
 open_phase Ranking e = cc
 open_phase Published e = cc
 
-map_twice : {X Y Z : Type 0} (f : X → Y) (g : Y → Z) (xs : List X) → map g (map f xs) ≡ map (λ x. g (f x)) xs
-map_twice f g [] = refl
-map_twice f g (x ∷ xs) = ap (λ l. g (f x) ∷ l) (map_twice f g xs)
-
-map_itself : {X : Type 0} (xs : List X) → map (λ x. x) xs ≡ xs
-map_itself [] = refl
-map_itself (x ∷ xs) = ap (λ l. x ∷ l) (map_itself xs)
-
-or_true : (b : Bool) → (b || true) ≡ true
-or_true true = refl
-or_true false = refl
-
-or_turned : (s t : Bool) → (s || t) ≡ (t || s)
-or_turned true true = refl
-or_turned true false = refl
-or_turned false true = refl
-or_turned false false = refl
-
 -- codes that differ do so in any order
 has_swap : (xs ys : List Key) (k : Key) → has (xs ++ ys) k ≡ has (ys ++ xs) k
-has_swap xs ys k = any_append (is k) xs ys ∙ or_turned (has xs k) (has ys k) ∙ sym (any_append (is k) ys xs)
+has_swap xs ys k = any_append (is k) xs ys ∙ or_comm (has xs k) (has ys k) ∙ sym (any_append (is k) ys xs)
 
 distinct_between : (ys zs : List Key) (x : Key) → AreDistinct (ys ++ zs) → has (ys ++ zs) x ≡ false → AreDistinct (ys ++ x ∷ zs)
 distinct_between [] zs x d new = (new, d)
@@ -62,13 +48,9 @@ distinct_swap : (xs ys : List Key) → AreDistinct (xs ++ ys) → AreDistinct (y
 distinct_swap [] ys d = rw append-nil d
 distinct_swap (x ∷ xs) ys d = distinct_between ys xs x (distinct_swap xs ys d.1) (sym (has_swap xs ys x) ∙ d.0)
 
-not_false : (b : Bool) → not b ≡ false → b ≡ true
-not_false true h = refl
-not_false false h = cc
-
 -- what a list of keys has, it has with one more
 still_has : {X : Type 0} (key : X → Key) (x : X) (ys : List X) (k : Key) → has (map key ys) k ≡ true → has (map key (put key x ys)) k ≡ true
-still_has key x ys k h = has_put key x key ys k ∙ ap (λ b. is k (key x) || b) h ∙ or_true (is k (key x))
+still_has key x ys k h = has_put key x key ys k ∙ ap (λ b. is k (key x) || b) h ∙ or-true (is k (key x))
 
 module _ (w : World) (early : is_from_ranking w.phase ≡ false) where
   put_student : (ss : List rows.Student) (r : StudentRow) → Sound (record w { students = ss }) → IsStudent r → has (map student_key ss) r.key ≡ false
@@ -76,8 +58,8 @@ module _ (w : World) (early : is_from_ranking w.phase ≡ false) where
   put_student ss r g form key free room =
       let long : length (put student_key (new_student r) ss) ≡ suc (length ss) = length_put student_key (new_student r) ss in
       let code : has (codes_of (record w { students = ss })) r.code ≡ false
-      = subst (λ ls. has (w.office ∷ ls ++ map (λ (s : rows.Student). s.row.code) ss) r.code ≡ false) (map_twice (λ (l : rows.Lecturer). l.row) (λ l. l.code) w.lecturers)
-      (subst (λ cs. has (w.office ∷ map (λ (l : LecturerRow). l.code) (map (λ (l : rows.Lecturer). l.row) w.lecturers) ++ cs) r.code ≡ false) (map_twice (λ (s : rows.Student). s.row) (λ s. s.code) ss) free) in
+      = subst (λ ls. has (w.office ∷ ls ++ map (λ (s : rows.Student). s.row.code) ss) r.code ≡ false) (map-map (λ (r : LecturerRow). r.code) (λ (l : rows.Lecturer). l.row) w.lecturers)
+      (subst (λ cs. has (w.office ∷ map (λ (l : LecturerRow). l.code) (map (λ (l : rows.Lecturer). l.row) w.lecturers) ++ cs) r.code ≡ false) (map-map (λ (r : StudentRow). r.code) (λ (s : rows.Student). s.row) ss) free) in
       record {
         lecturers_rise = g.lecturers_rise;
         projects_rise = g.projects_rise;
@@ -105,8 +87,8 @@ module _ (w : World) (early : is_from_ranking w.phase ≡ false) where
       let long : length (put lecturer_key (new_lecturer r) ls) ≡ suc (length ls) = length_put lecturer_key (new_lecturer r) ls in
       let ss : List Key = map (λ (s : rows.Student). s.row.code) w.students in
       let code : has (w.office ∷ ss ++ map (λ (l : rows.Lecturer). l.row.code) ls) r.code ≡ false
-      = subst (λ cs. has (w.office ∷ cs ++ map (λ (l : rows.Lecturer). l.row.code) ls) r.code ≡ false) (map_twice (λ (s : rows.Student). s.row) (λ s. s.code) w.students)
-      (subst (λ cs. has (w.office ∷ map (λ (s : StudentRow). s.code) (map (λ (s : rows.Student). s.row) w.students) ++ cs) r.code ≡ false) (map_twice (λ (l : rows.Lecturer). l.row) (λ l. l.code) ls) free) in
+      = subst (λ cs. has (w.office ∷ cs ++ map (λ (l : rows.Lecturer). l.row.code) ls) r.code ≡ false) (map-map (λ (r : StudentRow). r.code) (λ (s : rows.Student). s.row) w.students)
+      (subst (λ cs. has (w.office ∷ map (λ (s : StudentRow). s.code) (map (λ (s : rows.Student). s.row) w.students) ++ cs) r.code ≡ false) (map-map (λ (r : LecturerRow). r.code) (λ (l : rows.Lecturer). l.row) ls) free) in
       let turned : AreDistinct (w.office ∷ ss ++ map (λ (l : rows.Lecturer). l.row.code) ls)
       = (has_swap ss (map (λ (l : rows.Lecturer). l.row.code) ls) w.office ∙ g.codes.0, distinct_swap (map (λ (l : rows.Lecturer). l.row.code) ls) ss g.codes.1) in
       let more : AreDistinct (w.office ∷ ss ++ map (λ (l : rows.Lecturer). l.row.code) (put lecturer_key (new_lecturer r) ls))
@@ -139,7 +121,7 @@ module _ (w : World) (early : is_from_ranking w.phase ≡ false) where
   put_project ps r g form key free room =
       let long : length (put project_key r ps) ≡ suc (length ps) = length_put project_key r ps in
       let known : has (lecturer_keys w) r.lecturer ≡ true
-      = subst (λ ks. has ks r.lecturer ≡ true) (map_twice (λ (l : rows.Lecturer). l.row) (λ l. l.key) w.lecturers) (not_false _ free) in
+      = subst (λ ks. has ks r.lecturer ≡ true) (map-map (λ (r : LecturerRow). r.key) (λ (l : rows.Lecturer). l.row) w.lecturers) (not-false _ free) in
       record {
         lecturers_rise = g.lecturers_rise;
         projects_rise = rise_put project_key r ps g.projects_rise key;
@@ -178,7 +160,7 @@ module _ (w : World) (early : is_from_ranking w.phase ≡ false) where
 
   pub projects_added : (rs new : List ProjectRow) (same : ℕ) → Sound w → AllByRecursion IsProject rs → take_rows (project_roll (office_sees w)) 1 (office_sees w).projects rs ≡ Took new same → Sound (changed w (Projects new))
   projects_added rs new same g forms e =
-      subst (λ ps. Sound (changed w (Projects ps))) (map_itself new)
+      subst (λ ps. Sound (changed w (Projects ps))) (map-id new)
       (taken (project_roll (office_sees w)) (λ p. p) (λ p. p) (λ r. refl) IsProject (λ ps. Sound (record w { projects = ps }))
       (λ xs ys r al. refl)
-      put_project rs 1 (office_sees w).projects w.projects new same g (subst (λ ps. Alike w.projects ps) (sym (map_itself w.projects)) (itself w.projects)) forms e)
+      put_project rs 1 (office_sees w).projects w.projects new same g (subst (λ ps. Alike w.projects ps) (sym (map-id w.projects)) (itself w.projects)) forms e)

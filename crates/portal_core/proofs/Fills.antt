@@ -1,10 +1,12 @@
 -- What the office's fill leaves of each caller, and that it keeps the rows sound.
 use Rattle.std.proofs.Common.{◌≡◌, Bool, true, false, cond, List, [], ◌∷◌, ◌++◌, length, refl, sym, ◌∙◌, ap, subst, arith}
-use Rattle.std.specs.Prelude.{map, filter, Option, Some, None, option_map, IfSome, not, ◌||◌, ◌&&◌}
+use Rattle.std.specs.Prelude.{map, filter, Option, Some, None, option_map, IfSome, not, ◌||◌}
 use Rattle.std.specs.List.{find, filter_map, AllByRecursion}
+use Rattle.std.proofs.Math.Bool.{or-true, and-false}
+use Rattle.std.proofs.lemmas.List.{length-map}
 use Rattle.portal_core.specs.Words.{Key, is, has, is_before, is_empty, Rise, AreDistinct}
 use Rattle.portal_core.specs.World as rows
-use Rattle.portal_core.specs.World.{World, lecturer_key, student_key, applicants_of, is_still_to_rank, is_setup, is_ranking, is_published, is_from_ranking}
+use Rattle.portal_core.specs.World.{World, lecturer_key, student_key, applicants_of, is_still_to_rank, is_ranking, is_published, is_from_ranking}
 use Rattle.portal_core.specs.Change.{Fill, changed, with_fill}
 use Rattle.portal_core.specs.declared.phase.Phase.{Phase}
 use Rattle.portal_core.specs.declared.phase.Phase.TheVariants.{Setup, Choosing, Ranking, Published}
@@ -12,7 +14,7 @@ use Rattle.portal_core.specs.declared.view.View.TheVariants.{Office}
 use Rattle.portal_core.specs.View.{Caller, OfficeCaller, LecturerCaller, caller_among, lecturer_with, student_with, caller, sight_of, view, name_in, listing_with, catalogue, office_sees}
 use Rattle.portal_core.specs.Good.{Sound, IsRanking, IsLecturer}
 use Rattle.portal_core.proofs.Keys.{is_same, is_own, find_map, not_before_itself}
-use Rattle.portal_core.proofs.AllLaws.{all_map, all_weaker, map_same, length_same}
+use Rattle.portal_core.proofs.AllLaws.{all_map, all_weaker, map_same}
 
 -- the rows stay, and so do whom a code names and what the catalogue shows
 
@@ -61,12 +63,8 @@ module _ (w : World) where
   pub now_ranked : (l : rows.Lecturer) → is_still_to_rank (changed w Fill) (with_fill w l) ≡ false
   now_ranked l = go (is_still_to_rank w l) refl
     where
-      never : (b : Bool) → (b && false) ≡ false
-      never true = refl
-      never false = refl
-
       go : (b : Bool) → is_still_to_rank w l ≡ b → is_still_to_rank (changed w Fill) (cond b (given l) l) ≡ false
-      go true e = never (not (is_empty (applicants_of w l.row.key)))
+      go true e = and-false (not (is_empty (applicants_of w l.row.key)))
       go false e = e
 
   none_left : (ls : List rows.Lecturer) → filter (is_still_to_rank (changed w Fill)) (map (with_fill w) ls) ≡ []
@@ -89,15 +87,12 @@ module _ (w : World) where
 
 -- the applicants by key are a ranking
 
-or_right : (b : Bool) → (b || true) ≡ true
-or_right true = refl
-or_right false = refl
-
 all_there : (ks ls : List Key) → ((k : Key) → has ks k ≡ true → has ls k ≡ true) → AllByRecursion (λ k. has ls k ≡ true) ks
 all_there [] ls k = tt
-all_there (x ∷ ks) ls k = (k x (ap (λ b. b || has ks x) (is_own x)), all_there ks ls (λ l h. k l (ap (λ b. is l x || b) h ∙ or_right (is l x))))
+all_there (x ∷ ks) ls k = (k x (ap (λ b. b || has ks x) (is_own x)), all_there ks ls (λ l h. k l (ap (λ b. is l x || b) h ∙ or-true (is l x))))
 
-before_other : (k l : Key) → is_before k l ≡ true → is k l ≡ false
+-- a key that stands before another is another
+pub before_other : (k l : Key) → is_before k l ≡ true → is k l ≡ false
 before_other k l h =
     (elim (is k l) as (λ b. is k l ≡ b → b ≡ false) [
       | true ↦ λ e. absurd (not_before_itself k (subst (λ x. is_before k x ≡ true) (sym (is_same k l e)) h))
@@ -149,7 +144,7 @@ pub filling : (w : World) → Sound w → is_ranking w.phase ≡ true → Sound 
 filling w g e =
     let keys : map lecturer_key (map (with_fill w) w.lecturers) ≡ map lecturer_key w.lecturers = map_same lecturer_key (with_fill w) (λ l. ap (λ r. r.key) (fill_row w l)) w.lecturers in
     let codes : map (λ (l : rows.Lecturer). l.row.code) (map (with_fill w) w.lecturers) ≡ map (λ l. l.row.code) w.lecturers = map_same _ (with_fill w) (λ l. ap (λ r. r.code) (fill_row w l)) w.lecturers in
-    let long : length (map (with_fill w) w.lecturers) ≡ length w.lecturers = length_same (with_fill w) w.lecturers in
+    let long : length (map (with_fill w) w.lecturers) ≡ length w.lecturers = length-map w.lecturers (with_fill w) in
     let now : (is_from_ranking w.phase ≡ true) × (is_published w.phase ≡ false) = only_ranking w.phase e in
     record {
       lecturers_rise = subst Rise (sym keys) g.lecturers_rise;

@@ -3,6 +3,7 @@ use Rattle.std.proofs.Common.{◌≡◌, ℕ, ◌+◌, ◌≤◌, Bool, true, fa
 use Rattle.std.specs.Prelude.{map, filter, Option, Some, None, option_map, IfSome, not, ◌||◌, ◌&&◌, ◌==◌, if◌then◌else◌, is_none, unwrap_or}
 use Rattle.std.specs.List.{list_any, AllByRecursion}
 use Rattle.std.proofs.lemmas.Bool.Decides.{nat_tests}
+use Rattle.std.proofs.lemmas.List.{length-map}
 use Rattle.spa_model.specs.Spa.{IsBest, IsStable}
 use Rattle.spa_model.specs.Pairs.{number_in}
 use Rattle.portal_core.specs.Words.{Key, is, has, is_empty, Rise, AreDistinct}
@@ -20,7 +21,7 @@ use Rattle.portal_core.specs.Faults.{ListFault, choice_fault, ranking_fault, in_
 use Rattle.portal_core.specs.Good.{Good, Sound, IsChoice, IsRanking, IsStudent, IsLecturer}
 use Rattle.portal_core.proofs.Keys.{is_same}
 use Rattle.portal_core.proofs.Acts.{choice_row, ranking_row}
-use Rattle.portal_core.proofs.AllLaws.{all_map, all_weaker, map_same, length_same, is_sym, none_is, split_append, any_map, any_shown, any_alike, none_passes}
+use Rattle.portal_core.proofs.AllLaws.{all_map, all_weaker, map_same, is_sym, none_is, split_append, any_map, any_shown, any_alike, any_or, any_nowhere, filtered_any, none_passes}
 
 -- before the result is published nothing has to be stable
 pub not_published : (w : World) → Sound w → is_published w.phase ≡ false → Good w
@@ -111,7 +112,7 @@ module _ (w : World) (pairs : List (Key × Key)) where
   pub placed_sound : Sound w → is_setup w.phase ≡ false → AllByRecursion (λ l. is_still_to_rank w l ≡ false) w.lecturers → Sound (changed w (Places pairs))
   placed_sound g late ranked =
       let codes : map (λ (s : rows.Student). s.row.code) (map (with_place pairs) w.students) ≡ map (λ s. s.row.code) w.students = map_same _ (with_place pairs) (λ s. refl) w.students in
-      let long : length (map (with_place pairs) w.students) ≡ length w.students = length_same (with_place pairs) w.students in
+      let long : length (map (with_place pairs) w.students) ≡ length w.students = length-map w.students (with_place pairs) in
       record {
         lecturers_rise = g.lecturers_rise;
         projects_rise = g.projects_rise;
@@ -220,7 +221,7 @@ pub choosing : (w : World) (k : Key) (list : List Key) → Sound w → is_choosi
 choosing w k list g e none =
     let keys : map student_key (map (with_choice k list) w.students) ≡ map student_key w.students = map_same student_key (with_choice k list) (λ s. ap (λ r. r.key) (choice_row k list s)) w.students in
     let codes : map (λ (s : rows.Student). s.row.code) (map (with_choice k list) w.students) ≡ map (λ s. s.row.code) w.students = map_same _ (with_choice k list) (λ s. ap (λ r. r.code) (choice_row k list s)) w.students in
-    let long : length (map (with_choice k list) w.students) ≡ length w.students = length_same (with_choice k list) w.students in
+    let long : length (map (with_choice k list) w.students) ≡ length w.students = length-map w.students (with_choice k list) in
     let shut : (is_setup w.phase ≡ false) × (is_from_ranking w.phase ≡ false) × (is_published w.phase ≡ false) = only_choosing w.phase e in
     record {
       lecturers_rise = g.lecturers_rise;
@@ -251,24 +252,6 @@ choosing w k list g e none =
 
 -- a lecturer's ranking
 
-filtered_any : {X : Type 0} (q t : X → Bool) (xs : List X) → list_any q (filter t xs) ≡ list_any (λ x. t x && q x) xs
-filtered_any q t [] = refl
-filtered_any {X} q t (x ∷ xs) =
-    elim (t x) as (λ b. list_any q (cond b (x ∷ filter t xs) (filter t xs)) ≡ ((b && q x) || list_any (λ y. t y && q y) xs)) [
-      | true ↦ ap (λ b. q x || b) (filtered_any q t xs)
-      | false ↦ filtered_any q t xs
-    ]
-
-any_or : {X : Type 0} (f g : X → Bool) (xs : List X) → list_any (λ x. f x || g x) xs ≡ (list_any f xs || list_any g xs)
-any_or f g [] = refl
-any_or f g (x ∷ xs) = ap (λ b. (f x || g x) || b) (any_or f g xs) ∙ swap' (f x) (g x) (list_any f xs) (list_any g xs)
-  where
-    swap' : (a b c d : Bool) → ((a || b) || (c || d)) ≡ ((a || c) || (b || d))
-    swap' true b c d = refl
-    swap' false true true d = refl
-    swap' false true false d = refl
-    swap' false false c d = refl
-
 any_and : {X : Type 0} (f : X → Bool) (b : Bool) (xs : List X) → list_any (λ x. f x && b) xs ≡ (list_any f xs && b)
 any_and f b [] = refl
 any_and f b (x ∷ xs) = ap (λ c. (f x && b) || c) (any_and f b xs) ∙ spread (f x) b (list_any f xs)
@@ -278,10 +261,6 @@ any_and f b (x ∷ xs) = ap (λ c. (f x && b) || c) (any_and f b xs) ∙ spread 
     spread true false true = refl
     spread true false false = refl
     spread false b c = refl
-
-any_nowhere : {X : Type 0} (xs : List X) → list_any (λ (x : X). false) xs ≡ false
-any_nowhere [] = refl
-any_nowhere (x ∷ xs) = any_nowhere xs
 
 -- some student of some project's applicants, or of all projects' applicants together
 exchanged : {X Y : Type 0} (t : X → Y → Bool) (q : Y → Bool) (xs : List X) (ys : List Y) → list_any (λ x. list_any (λ y. t x y && q y) ys) xs ≡ list_any (λ y. list_any (λ x. t x y) xs && q y) ys
@@ -370,7 +349,7 @@ pub ranking : (w : World) (k : Key) (list : List Key) → Sound w → is_ranking
 ranking w k list g e none =
     let keys : map lecturer_key (map (with_ranking k list) w.lecturers) ≡ map lecturer_key w.lecturers = map_same lecturer_key (with_ranking k list) (λ l. ap (λ r. r.key) (ranking_row k list l)) w.lecturers in
     let codes : map (λ (l : rows.Lecturer). l.row.code) (map (with_ranking k list) w.lecturers) ≡ map (λ l. l.row.code) w.lecturers = map_same _ (with_ranking k list) (λ l. ap (λ r. r.code) (ranking_row k list l)) w.lecturers in
-    let long : length (map (with_ranking k list) w.lecturers) ≡ length w.lecturers = length_same (with_ranking k list) w.lecturers in
+    let long : length (map (with_ranking k list) w.lecturers) ≡ length w.lecturers = length-map w.lecturers (with_ranking k list) in
     let now : (is_setup w.phase ≡ false) × (is_from_ranking w.phase ≡ true) × (is_published w.phase ≡ false) = only_ranking w.phase e in
     record {
       lecturers_rise = subst Rise (sym keys) g.lecturers_rise;

@@ -27,3 +27,4 @@ pub mod Only
 pub mod Published
 pub mod Scan
 pub mod Givers
+pub mod Pieces

@@ -2,6 +2,7 @@
 use Rattle.std.proofs.Common.{◌≡◌, ℕ, zero, suc, ◌+◌, ◌<◌, Bool, true, false, List, [], ◌∷◌, map, length, get_or, refl, sym, ◌∙◌, ap, subst, arith}
 use Rattle.std.specs.Prelude.{Option, Some, None, option_map}
 use Rattle.std.specs.List.{AllByRecursion}
+use Rattle.std.proofs.lemmas.List.{length-map}
 use Rattle.spa_model.specs.Spa.{IsMatching}
 use Rattle.spa_model.specs.Pairs.{number_in}
 use Rattle.portal_core.specs.Words.{Key, is, is_before, Rise}
@@ -10,29 +11,17 @@ use Rattle.portal_core.specs.World.{World, student_key}
 use Rattle.portal_core.specs.Change.{Places, place_in, with_place, changed}
 use Rattle.portal_core.specs.Instance.{instance, matching_of, pairs_by, project_keys, student_keys}
 use Rattle.portal_core.specs.Good.{Sound}
-use Rattle.portal_core.proofs.Keys.{is_same, is_own, not_before_itself, all_unmap}
-use Rattle.portal_core.proofs.AllLaws.{length_same}
+use Rattle.portal_core.proofs.Keys.{is_same, is_own, all_unmap}
+use Rattle.portal_core.proofs.AllLaws.{all_at}
+use Rattle.portal_core.proofs.Fills.{before_other}
 use Rattle.portal_core.proofs.Only.{on_roll}
-
--- a key that stands before another is another
-differs : (k l : Key) → is_before k l ≡ true → is k l ≡ false
-differs k l before = go (is k l) refl
-  where
-    go : (b : Bool) → is k l ≡ b → b ≡ false
-    go true e = absurd (not_before_itself k (subst (λ x. is_before k x ≡ true) (sym (is_same k l e)) before))
-    go false e = refl
-
-at_all : (P : Key → Type 0) (ks : List Key) (n : ℕ) → AllByRecursion P ks → n < length ks → P (get_or ks n [])
-at_all P [] n all lt = absurd (omega arith)
-at_all P (k ∷ ks) zero all lt = all.0
-at_all P (k ∷ ks) (suc n) all lt = at_all P ks n all.1 (omega arith)
 
 -- the number of the key with a number
 pub number_back : (keys : List Key) (n : ℕ) → Rise keys → n < length keys → number_in keys (get_or keys n []) ≡ n
 number_back [] n rise lt = absurd (omega arith)
 number_back (k ∷ ks) zero rise lt = rw (is_own k) refl
 number_back (k ∷ ks) (suc n) rise lt =
-    rw (differs k (get_or ks n []) (at_all (λ l. is_before k l ≡ true) ks n rise.0 (omega arith))) (ap (λ (m : ℕ). 1 + m) (number_back ks n rise.1 (omega arith)) ∙ one_more)
+    rw (before_other k (get_or ks n []) (all_at (λ l. is_before k l ≡ true) ks n [] rise.0 (omega arith))) (ap (λ (m : ℕ). 1 + m) (number_back ks n rise.1 (omega arith)) ∙ one_more)
   where
     one_more : 1 + n ≡ suc n
     one_more = omega arith
@@ -46,14 +35,14 @@ module _ (projects : List Key) (rise : Rise projects) where
       → map (number_of ((k, p) ∷ pairs)) ss ≡ map (number_of pairs) ss
   later k p pairs [] all = refl
   later k p pairs (s ∷ ss) all =
-      let here : number_of ((k, p) ∷ pairs) s ≡ number_of pairs s = rw (differs k (student_key s) all.0) refl in
+      let here : number_of ((k, p) ∷ pairs) s ≡ number_of pairs s = rw (before_other k (student_key s) all.0) refl in
       λ i. here i ∷ later k p pairs ss all.1 i
 
   absent : (ss : List rows.Student) (places : List (Option ℕ)) (k : Key) → AllByRecursion (λ s. is_before k (student_key s) ≡ true) ss
       → place_in (pairs_by (map student_key ss) projects places) k ≡ None
   absent [] places k all = refl
   absent (s ∷ ss) [] k all = refl
-  absent (s ∷ ss) (Some p ∷ places) k all = rw (other s.row.key k (differs k s.row.key all.0)) (absent ss places k all.1)
+  absent (s ∷ ss) (Some p ∷ places) k all = rw (other s.row.key k (before_other k s.row.key all.0)) (absent ss places k all.1)
     where
       other : (a b : Key) → is b a ≡ false → is a b ≡ false
       other a b e = go (is a b) refl
@@ -92,5 +81,5 @@ pub pairs_place : (w : World) (places : List (Option ℕ)) → Sound w → IsMat
 pairs_place w places sound matching =
     placed_map (pairs_by (student_keys w) (project_keys w) places) (project_keys w) w.students
     ∙ placed_back (project_keys w) sound.projects_rise w.students places sound.students_rise
-    (matching.students ∙ length_same _ w.students)
+    (matching.students ∙ length-map w.students _)
     (λ s p e. on_roll (project_keys w) w.students sound.choices s p (matching.acceptable s p e))

@@ -4,7 +4,7 @@ use Rattle.std.specs.Prelude.{map, filter, Option, Some, None, option_map, not, 
 use Rattle.std.specs.List.{list_any, find, filter_map, cons_option, AllZip}
 use Rattle.portal_core.specs.Words.{Key, is, has, is_empty, is_before, put, put_all}
 use Rattle.portal_core.specs.World as rows
-use Rattle.portal_core.specs.World.{World, lecturer_key, project_key, student_key, applicants_to, projects_of, applicants_of, placed_at, is_at, pairs_of, is_still_to_rank, is_published, is_from_ranking}
+use Rattle.portal_core.specs.World.{World, lecturer_key, project_key, student_key, applicants_to, projects_of, applicants_of, placed_at, is_at, is_still_to_rank, is_published, is_from_ranking}
 use Rattle.portal_core.specs.Change.{Change, Choices, Ranks, Lecturers, Projects, Students, To, Places, Fill, changed, with_choice, with_ranking, with_place, with_fill, place_in, new_lecturer, new_student}
 use Rattle.portal_core.specs.declared.rows.Person.{Person}
 use Rattle.portal_core.specs.declared.view.View.{View as Sight}

@@ -3,7 +3,7 @@ use Rattle.std.proofs.Common.{◌≡◌, ℕ, ◌+◌, ◌<◌, Bool, true, fals
 use Rattle.std.specs.Prelude.{map, Some, None, not, ◌||◌, nat_le, codes, if◌then◌else◌}
 use Rattle.std.specs.List.{list_any, find, AllByRecursion}
 use Rattle.std.proofs.lemmas.Bool.Decides.{nat_tests}
-use Rattle.portal_core.specs.Words.{Key, is, has, AreDistinct}
+use Rattle.portal_core.specs.Words.{Key, is, has}
 use Rattle.portal_core.specs.World.{World, student_key, applicants_of, projects_of, is_from_ranking}
 use Rattle.portal_core.specs.World as rows
 use Rattle.portal_core.specs.declared.rows.Listing.{Listing}
@@ -13,15 +13,11 @@ use Rattle.portal_core.specs.Faults.{ListFault, fault_at, choice_fault, ranking_
 use Rattle.portal_core.specs.Rolls.{Roll, Took, take_rows}
 use Rattle.portal_core.specs.Good.{IsChoice, IsRanking}
 use Rattle.portal_core.specs.Legal.{AreFresh}
-use Rattle.portal_core.proofs.AllLaws.{all_weaker, all_both, any_map, any_alike, any_append, is_sym, or_parts}
+use Rattle.portal_core.proofs.AllLaws.{all_weaker, all_both, any_map, any_alike, is_sym, none_after, none_yet, not_first}
 use Rattle.portal_core.proofs.Kept.{Ranked, shown_sets, union_any}
 use Rattle.portal_core.proofs.Reorder.{taken}
 
 -- a student's list
-
-none_yet : (ks : List Key) → AllByRecursion (λ k. has [] k ≡ false) ks
-none_yet [] = tt
-none_yet (k ∷ ks) = (refl, none_yet ks)
 
 pub choice_taken : (catalogue : List Listing) (list : List Key) → IsChoice (map (λ (l : Listing). l.key) catalogue) list → choice_fault catalogue 1 [] list ≡ None
 choice_taken catalogue list c =
@@ -39,19 +35,12 @@ ranking_fits : (ps : List (Key × List Person)) (at : ℕ) (earlier list : List 
 ranking_fits ps at earlier [] r = ap (λ b. if b then Some (fault_at 0 (codes "missing")) else None) (subst (λ ks. lacks_one ps ks ≡ false) (append-nil earlier) r.all)
 ranking_fits ps at earlier (k ∷ ks) r = step (is_applicant ps k) (has earlier k) r.only.0 r.new.0 _ _ (ranking_fits ps (at + 1) (earlier ++ k ∷ []) ks rest)
   where
-    none_after : (l : Key) (xs : List Key) → has xs l ≡ false → is l k ≡ false → has (xs ++ k ∷ []) l ≡ false
-    none_after l xs h e = any_append (is l) xs (k ∷ []) ∙ ap (λ b. b || (is l k || false)) h ∙ ap (λ b. b || false) e
-
-    not_first : (l : Key) (xs : List Key) → AreDistinct (l ∷ xs) → AllByRecursion (λ m. is m l ≡ false) xs
-    not_first l [] d = tt
-    not_first l (m ∷ xs) d = (is_sym m l ∙ (or_parts (is l m) (has xs l) d.0).0, not_first l xs ((or_parts (is l m) (has xs l) d.0).1, d.1.1))
-
     rest : Ranked ps (earlier ++ k ∷ []) ks
     rest =
         record {
           only = r.only.1;
           once = r.once.1;
-          new = all_weaker _ _ (λ l h. none_after l earlier h.0 h.1) ks (all_both _ _ ks r.new.1 (not_first k ks r.once));
+          new = all_weaker _ _ (λ l h. none_after earlier k l h.0 h.1) ks (all_both _ _ ks r.new.1 (not_first k ks r.once));
           all = subst (λ xs. lacks_one ps xs ≡ false) (sym (append_assoc earlier (k ∷ []) ks)) r.all;
         }
 

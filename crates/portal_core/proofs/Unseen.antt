@@ -86,10 +86,10 @@ lecturer_blind w k list l e =
     let shut : (is_from_ranking w.phase ≡ false) × (is_published w.phase ≡ false) = choosing_open w.phase e in
     (λ i. gated (changed w (Choices k list)) l (shut.0 i) (shut.1 i)) ∙ sym (λ i. gated w l (shut.0 i) (shut.1 i))
 
-choice_other : (k : Key) (list : List Key) (s : rows.Student) → is s.row.key k ≡ false → with_choice k list s ≡ s
+pub choice_other : (k : Key) (list : List Key) (s : rows.Student) → is s.row.key k ≡ false → with_choice k list s ≡ s
 choice_other k list s e = ap (λ b. cond b (record s { choice = list }) s) e
 
-ranking_other : (k : Key) (list : List Key) (l : rows.Lecturer) → is l.row.key k ≡ false → with_ranking k list l ≡ l
+pub ranking_other : (k : Key) (list : List Key) (l : rows.Lecturer) → is l.row.key k ≡ false → with_ranking k list l ≡ l
 ranking_other k list l e = ap (λ b. cond b (record l { ranking = Some list }) l) e
 
 pub office_not : (w : World) (c : Key) → is w.office c ≡ false → caller w c ≡ OfficeCaller → ⊥

@@ -11,7 +11,7 @@ use Rattle.portal_core.specs.View.{listings, catalogue}
 use Rattle.portal_core.specs.Good.{Sound}
 use Rattle.portal_core.proofs.AllLaws.{any_map, any_alike, is_sym}
 
-finds_one : {X : Type 0} (p : X → Bool) (xs : List X) → list_any p xs ≡ true → (x : X) × (find p xs ≡ Some x)
+pub finds_one : {X : Type 0} (p : X → Bool) (xs : List X) → list_any p xs ≡ true → (x : X) × (find p xs ≡ Some x)
 finds_one p [] h = cc
 finds_one {X} p (x ∷ xs) h =
     (elim (p x) as (λ b. (b || list_any p xs) ≡ true → (y : X) × (cond b (Some x) (find p xs) ≡ Some y)) [

@@ -4,11 +4,12 @@ use Rattle.std.specs.Prelude.{Option, Some, None, IsTrue, ◌≢◌, nat_le, if�
 use Rattle.std.proofs.lemmas.Bool.{leb-true}
 use Rattle.httparse.specs.Grammar.{RequestHead}
 use Rattle.httparse.proofs.GrammarLemmas.{request_unique}
+use Rattle.portal_wire.proofs.Exist.{not_headless}
 use Rattle.portal_desk.specs.declared.reading.Lack.{Lack}
 use Rattle.portal_desk.specs.declared.reading.Lack.TheVariants as lack
 use Rattle.portal_frame.specs.declared.types.Frame.{Frame}
 use Rattle.portal_frame.specs.declared.types.Frame.TheVariants as frame
-use Rattle.portal_frame.specs.Stream.{Framed, IsWithinLimits, Opens, whole, fault, over, seen, refused, Asked, item_of, after_lines, asked_of, is_head, lines_of, body_length, bad_head, bad_length}
+use Rattle.portal_frame.specs.Stream.{Framed, IsWithinLimits, Opens, whole, fault, over, seen, refused, Asked, item_of, after_lines, asked_of, is_head, lines_of, body_length, bad_length}
 use Rattle.portal_desk.specs.Reading.{Reads, Stays, Heads, Follows, IsWithin, NoneWhole, HoldsNone}
 
 heads : (stream after rest : List ℕ) (ended : Bool) (f : Frame) → after ++ rest ≡ stream → (IsTrue ended → rest ≡ [])
@@ -34,10 +35,6 @@ within buffer frame.End limits = tt
 within buffer (frame.Request request used) limits = (limits.1, limits.2)
 within buffer (frame.Bad refusal head_only) limits = tt
 
-headless_not : (b : Bool) (a : Asked) (after : List ℕ) → whole a after ≡ (if b then over else fault bad_head false) → ⊥
-headless_not true a after e = absurd (cc)
-headless_not false a after e = absurd (cc)
-
 too_short : (n : ℕ) (rest : List ℕ) (short : length rest < n) (h : RequestHead) (b : Bool) (a : Asked) (after : List ℕ) → nat_le n (length rest) ≡ b
     → whole a after ≡ (if b then whole (asked_of h (take n rest)) (drop n rest) else fault bad_length (is_head h.method)) → ⊥
 too_short n rest short h true a after le e = omega (arith, short, leb-true n (length rest) le)
@@ -51,7 +48,7 @@ sized h n rest (Err x) short e a after is = absurd (cc)
 
 pub none_whole : (bytes : List ℕ) (ended : Bool) → Framed bytes ended frame.Need → NoneWhole bytes
 none_whole bytes ended (on, inl waits) a after (inl (h, rest, takes, e)) = waits.none h rest takes
-none_whole bytes ended (on, inl waits) a after (inr (nothing, e)) = headless_not _ a after e
+none_whole bytes ended (on, inl waits) a after (inr (nothing, e)) = not_headless a after _ e
 none_whole bytes ended (on, inr (h, rest, n, takes, size, short)) a after (inl (k, other, took, e)) =
     let same = request_unique bytes h k rest other takes.reads took.reads in
     sized h n rest (body_length h.minor (lines_of h)) short size a after
@@ -68,10 +65,6 @@ stays None mid new before during after ended reads stay = tt
 stays (Some more) mid new before during after ended (rest, known, same, last) stay =
     let s = subst (λ o. Stays o new during after) known stay in
     (s.0, s.1, s.2 ∙ same)
-
-pub stays-start : (old : Option (List ℕ)) (before : List ℕ) → Reads old old before before false
-stays-start None before = tt
-stays-start (Some more) before = (more, refl, refl, λ never. absurd (cc))
 
 pub holds_err : {A : Type 0} (r : Result A Lack) (bytes : List ℕ) → NoneWhole bytes → IfErr r (λ l. HoldsNone l bytes)
 holds_err (Ok a) bytes none = tt

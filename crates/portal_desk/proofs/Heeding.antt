@@ -9,9 +9,9 @@ use Rattle.portal_core.specs.declared.view.View.{View as Sight}
 use Rattle.portal_core.specs.Answer.{Answer}
 use Rattle.portal_core.specs.Run.{Run, end_of}
 use Rattle.portal_core.specs.Heard.{Item, Asked, Sees, own_item, SeenIf, Heard, replies_to}
-use Rattle.portal_core.specs.Places.{SameButPlaces, SameRequest, AlikeUntilPublished, Unless, has_places, opens_result}
+use Rattle.portal_core.specs.Places.{SameButPlaces, SameRequest, AlikeUntilPublished, has_places, opens_result}
 use Rattle.portal_core.proofs.Hearing.{same_replies}
-use Rattle.portal_core.proofs.Disclosed.{places_unseen}
+use Rattle.portal_core.proofs.Disclosed.{places_unseen, unless_map}
 use Rattle.portal_wire.specs.Text.{reply_text}
 use Rattle.portal_wire.specs.Conversation.{Exchange, asked_in, told_in, text, text_of}
 use Rattle.portal_desk.specs.Visits.{Visit, IsVisit, AreVisits, AreAnswered, exchanges_of, worlds_of, Hears, texts_to, replies_in, AlikeTexts, Session, AreServed, AllTellOf}
@@ -78,10 +78,6 @@ same_bytes c w v visits others items are all heard were also listened same =
     let left = texts_heard c w (exchanges_of visits) (worlds_of visits) items a heard in
     let right = texts_heard c v (exchanges_of others) (worlds_of others) items b listened in
     (left ∙ (ap (texts_by (marks items)) told.0 ∙ sym right), told.1)
-
-unless_map : (b : Bool) (P Q : Type 0) → (P → Q) → Unless b P → Unless b Q
-unless_map true P Q f u = tt
-unless_map false P Q f u = f u
 
 text_same : (e f : Exchange) → SameRequest e.request f.request → e.reply ≡ f.reply → text_of e ≡ text_of f
 text_same e f same is =

@@ -1,7 +1,6 @@
 -- The pairs of a matching, one student after the other.
-use Rattle.std.proofs.Common.{◌≡◌, ℕ, ◌+◌, ◌<◌, ◌≤◌, List, [], ◌∷◌, ◌++◌, length, get_or, drop, Option, Some, None, refl, sym, ◌∙◌, ap, add-one, append_assoc}
+use Rattle.std.proofs.Common.{◌≡◌, ℕ, ◌+◌, ◌<◌, List, [], ◌∷◌, ◌++◌, length, get_or, drop, Option, Some, None, refl, sym, ◌∙◌, ap, add-one, append_assoc}
 use Rattle.std.proofs.Math.Seq.{drop-cons}
-use Rattle.std.proofs.lemmas.List.{append-nil, drop_all}
 use Rattle.portal_core.specs.Words.{Key}
 use Rattle.portal_core.specs.Instance.{pairs_by}
 
@@ -21,6 +20,3 @@ module _ (keys projects : List Key) (places : List (Option ℕ)) where
 
   pub none_more : (s : ℕ) (front total : List (Key × Key)) → s < length keys → s < length places → None ≡ get_or places s None → front ++ rest s ≡ total → front ++ rest (s + 1) ≡ total
   none_more s front total low below at so_far = ap (λ (ps : List (Key × Key)). front ++ ps) (sym (here s low below ∙ rw (← at) refl)) ∙ so_far
-
-  pub all_pairs : (s : ℕ) (front : List (Key × Key)) → length keys ≤ s → front ++ rest s ≡ pairs_by keys projects places → front ≡ pairs_by keys projects places
-  all_pairs s front past so_far = sym (append-nil front) ∙ ap (λ (ps : List (Key × Key)). front ++ ps) (sym (ap (λ ks. pairs_by ks projects (drop s places)) (drop_all s keys past))) ∙ so_far

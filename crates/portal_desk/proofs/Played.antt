@@ -1,5 +1,5 @@
 -- What was decided in a good world may be done, and leaves a good world.
-use Rattle.std.proofs.Common.{◌≡◌, List, Result, Ok, Err, OnOk, sym, ◌∙◌, ap, subst}
+use Rattle.std.proofs.Common.{◌≡◌, List, sym, ◌∙◌, ap, subst}
 use Rattle.spa_model.specs.Spa.{Spa, IsBest}
 use Rattle.portal_core.specs.Words.{Key}
 use Rattle.portal_core.specs.World.{World, is_setup}
@@ -53,7 +53,3 @@ pub published : (w u v : World) (i : Spa) (pairs : List (Key × Key)) → Good w
 published w u v i pairs g is solved same made =
     let end : v ≡ changed w (Places pairs) = made ∙ ap (λ x. changed x (Places pairs)) same in
     (pairs, end, subst (λ x. IsBest (instance w) (matching_of x)) (sym end) (solved_best w i pairs g is solved))
-
-pub if_ok : {X E : Type 0} {P Q : Type 0} (r : Result X E) → (P → Q) → OnOk r P → OnOk r Q
-if_ok (Ok x) f h = f h
-if_ok (Err e) f h = h

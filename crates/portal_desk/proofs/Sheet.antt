@@ -1,5 +1,5 @@
 -- A decision whose sheet is written is the whole decision.
-use Rattle.std.proofs.Common.{◌≡◌, ℕ, Bool, true, false, List, [], refl, sym, ◌∙◌, ap, subst}
+use Rattle.std.proofs.Common.{◌≡◌, ℕ, Bool, true, false, List, [], refl, ◌∙◌, ap}
 use Rattle.std.specs.Prelude.{Option, Some, None, if◌then◌else◌}
 use Rattle.serde_json.specs.Data.{Data}
 use Rattle.portal_core.specs.declared.phase.Phase.{Phase}
@@ -13,9 +13,8 @@ use Rattle.portal_core.specs.declared.view.View.TheVariants.{Nobody, Office, Lec
 use Rattle.portal_core.specs.Ask.{Ask}
 use Rattle.portal_core.specs.Faults.{ListFault, choice_fault, ranking_fault}
 use Rattle.portal_core.specs.Rolls.{Taken, Faulty, Took, take_rows, lecturer_roll, project_roll, student_roll}
-use Rattle.portal_core.specs.Answer.{Answer, Said, Json, Csv, Plain, Unavailable, Nothing, Apply, Decision, decision, emptied, only, unless, added, row_fault, moves, publishes, is_open_to_rolls, to_student, to_lecturer, to_office}
-use Rattle.portal_core.specs.Answer.{IsWhole}
-use Rattle.portal_desk.specs.Play.{with_sheet, IsTold}
+use Rattle.portal_core.specs.Answer.{Answer, Said, Json, Unavailable, Nothing, Apply, Decision, decision, emptied, only, unless, added, row_fault, moves, publishes, is_open_to_rolls, to_student, to_lecturer, to_office}
+use Rattle.portal_desk.specs.Play.{with_sheet}
 
 -- another body than that of 503
 abbrev pub IsSaid : Said → Type 0
@@ -146,13 +145,3 @@ pub whole_decision : (v : Sight) (ask : Ask) (d e : Decision) (reply : Answer) �
 whole_decision v ask d e reply is told made =
     made ∙ (ap (λ r. record { reply = r; act = d.act }) (told ∙ ap (λ (x : Decision). with_sheet v x.act x.reply) is ∙ (decision_filled v ask).0)
     ∙ ap (λ (x : Decision). record { reply = (decision v ask).reply; act = x.act }) is)
-
--- the body of a whole decision
-pub told_whole : (v : Sight) (ask : Ask) (d : Decision) → d ≡ decision v ask → IsWhole d.reply.body → IsTold d.reply.body
-told_whole v ask d is whole = join d.reply.body whole (subst (λ (x : Decision). IsSaid x.reply.body) (sym is) (decision_filled v ask).1)
-  where
-    join : (s : Said) → IsWhole s → IsSaid s → IsTold s
-    join (Json body) whole said = whole
-    join (Csv bytes) whole said = tt
-    join (Plain bytes) whole said = tt
-    join Unavailable whole said = absurd said

@@ -1,43 +1,14 @@
 -- How many bytes a reader gave.
-use Rattle.std.proofs.Common.{◌≡◌, ℕ, ◌+◌, ◌*◌, ◌-◌, ◌<◌, ◌≤◌, Bool, List, ◌++◌, length, drop, refl, sym, ap, ◌∙◌, subst, arith}
+use Rattle.std.proofs.Common.{◌≡◌, ℕ, ◌+◌, ◌*◌, ◌-◌, ◌<◌, ◌≤◌, List, ◌++◌, length, drop, sym, ap, ◌∙◌, subst, arith}
 use Rattle.std.specs.Prelude.{Option, Some, None}
-use Rattle.std.specs.Io.KnownBytes.{Keeps, Consumes}
 use Rattle.std.proofs.lemmas.List.{length-append, length-drop}
 use Rattle.portal_frame.specs.declared.types.Frame.{Frame}
 use Rattle.portal_desk.specs.Devices.{TakesAtMost}
-use Rattle.portal_desk.specs.Reading.{Reads, Follows}
-
-pub none_taken : (n : ℕ) (o : Option (List ℕ)) → TakesAtMost n o o
-none_taken n None = tt
-none_taken n (Some xs) = (xs, refl, omega arith)
-
-pub kept_taken : (n : ℕ) (old new : Option (List ℕ)) → Keeps old new → TakesAtMost n old new
-kept_taken n None new keeps = tt
-kept_taken n (Some xs) None keeps = absurd keeps
-kept_taken n (Some xs) (Some ys) keeps = (ys, refl, subst (λ zs. length xs ≤ length zs + n) (sym keeps) (omega arith))
-
-pub gave_taken : (n : ℕ) (old new : Option (List ℕ)) (bs : List ℕ) → length bs ≤ n → Consumes old new bs → TakesAtMost n old new
-gave_taken n None new bs few gives = tt
-gave_taken n (Some xs) None bs few gives = absurd gives
-gave_taken n (Some xs) (Some ys) bs few gives = (ys, refl, fewer (length xs) (length bs) (length ys) (ap length gives ∙ length-append bs ys) few)
-  where
-    fewer : (x b y : ℕ) → x ≡ b + y → b ≤ n → x ≤ y + n
-    fewer x b y e few = omega (arith, e, few)
+use Rattle.portal_desk.specs.Reading.{Follows}
 
 -- the lengths of what stays one stream
 one_stream : (before after more rest : List ℕ) → after ++ rest ≡ before ++ more → length after + length rest ≡ length before + length more
 one_stream before after more rest e = sym (length-append after rest) ∙ (ap length e ∙ length-append before more)
-
--- what was read into a buffer, and then no more than there was room for
-pub lacks_taken : (n : ℕ) (old mid new : Option (List ℕ)) (before during : List ℕ) (ended : Bool) → length before ≤ n → length during ≤ n
-    → Reads old mid before during ended → TakesAtMost (n - length during) mid new → TakesAtMost (n - length before) old new
-lacks_taken n None mid new before during ended low held reads taken = tt
-lacks_taken n (Some more) mid new before during ended low held (rest, known, same, last) taken =
-    let t = subst (λ o. TakesAtMost (n - length during) o new) known taken in
-    (t.0, t.1, few (length before) (length during) (length more) (length rest) (length t.0) low held (one_stream before during more rest same) t.2)
-  where
-    few : (b a m r l : ℕ) → b ≤ n → a ≤ n → a + r ≡ b + m → r ≤ l + (n - a) → m ≤ l + (n - b)
-    few b a m r l low held same fits = omega (arith, low, held, same, fits)
 
 -- so many requests before, and what the buffer holds
 abbrev pub TakenBy : ℕ → ℕ → Option (List ℕ) → Option (List ℕ) → Type 0
@@ -52,16 +23,6 @@ follows_taken done (Some bytes) mid new before after f (left, known, fits) follo
   where
     few : (b a m r x : ℕ) → a + r ≡ b + m → x ≤ m + (done * 1064960 + b) → x ≤ r + (done * 1064960 + a)
     few b a m r x same fits = omega (arith, same, fits)
-
-pub stopped_taken : (done : ℕ) (old mid new : Option (List ℕ)) (before : List ℕ) → done < 256 → length before ≤ 1064960
-    → TakenBy done (length before) old mid → TakesAtMost (1064960 - length before) mid new → TakesAtMost (256 * 1064960) old new
-stopped_taken done None mid new before small held taken more = tt
-stopped_taken done (Some bytes) mid new before small held (left, known, fits) more =
-    let t = subst (λ o. TakesAtMost (1064960 - length before) o new) known more in
-    (t.0, t.1, few (length before) (length left) (length t.0) (length bytes) held fits t.2)
-  where
-    few : (b m l x : ℕ) → b ≤ 1064960 → x ≤ m + (done * 1064960 + b) → m ≤ l + (1064960 - b) → x ≤ l + 256 * 1064960
-    few b m l x held fits more = omega (arith, small, held, fits, more)
 
 pub ended_taken : (done : ℕ) (old new : Option (List ℕ)) (held : List ℕ) → done < 256 → length held ≤ 1064960
     → TakenBy done (length held) old new → TakesAtMost (256 * 1064960) old new

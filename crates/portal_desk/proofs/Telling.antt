@@ -4,6 +4,7 @@ use Rattle.std.specs.Prelude.{Option, Some, None, IfSome, nat_le, ◌||◌}
 use Rattle.std.specs.Io.KnownBytes.{Appends}
 use Rattle.std.proofs.lemmas.Bool.{leb-false}
 use Rattle.std.proofs.lemmas.List.{length-append}
+use Rattle.std.proofs.lemmas.Bool.{both_ways}
 use Rattle.portal_core.specs.World.{World}
 use Rattle.portal_core.specs.Answer.{Answer}
 use Rattle.portal_core.specs.Run.{Request as Wanted, Serves}
@@ -16,31 +17,22 @@ use Rattle.portal_desk.specs.declared.served.Cause.{Cause}
 use Rattle.portal_desk.specs.declared.served.Cause.TheVariants as cause
 use Rattle.portal_wire.specs.Text.{reply_text}
 use Rattle.portal_wire.specs.Refusals.{answer_to}
-use Rattle.portal_desk.specs.Reading.{Heads, Follows, Stays, NoneWhole}
+use Rattle.portal_desk.specs.Reading.{Heads, Follows}
 use Rattle.portal_wire.specs.Conversation as talk
-use Rattle.portal_wire.specs.Conversation.{request_of, closes_at, last_for, more, shut, Leads, Ends, Exchange, asked_in, text, text_of}
+use Rattle.portal_wire.specs.Conversation.{request_of, closes_at, last_for, more, shut, Leads, Exchange, asked_in, text, text_of}
+use Rattle.portal_wire.proofs.Exist.{shut_ends}
 use Rattle.portal_desk.specs.Serving.{Deals, Tells, Told, Stops, Partly, Replied, Broke}
 use Rattle.portal_desk.specs.Kept.{Kept}
 use Rattle.portal_desk.proofs.Known.{Appends-append}
-use Rattle.portal_desk.proofs.Sent.{Appends-nil}
-use Rattle.portal_desk.proofs.Steps.{text-snoc, Reaches-none, Reaches-snoc, after_one, Leads-snoc}
+use Rattle.portal_desk.proofs.Steps.{text-snoc, Reaches-snoc, after_one, Leads-snoc}
 
 exchange : Wanted → Answer → Exchange
 exchange r a = record { request = r; reply = a }
-
-pub told_start : (clean : Type 0) (w : World) (before : Option (List ℕ)) (bytes : List ℕ) → Told clean w w before before bytes bytes 0
-told_start clean w before bytes = ([], record { leads = refl; reaches = λ x. Reaches-none w; counted = refl }, Appends-nil before)
 
 -- what the loop knows before a turn
 abbrev pub SoFar : Option (List ℕ) → Option (List ℕ) → Type 0 → World → World → Option (List ℕ) → Option (List ℕ) → List ℕ → ℕ → Type 0
 SoFar src rem clean old mid before w front count =
     IfSome src (λ bytes. (rest : List ℕ) × (rem ≡ Some rest) × Told clean old mid before w bytes (front ++ rest) count)
-
-pub told_init : (src : Option (List ℕ)) (clean : Type 0) (w : World) (before : Option (List ℕ)) (buffer : List ℕ) → buffer ≡ []
-    → SoFar src src clean w w before before buffer 0
-told_init None clean w before buffer e = tt
-told_init (Some bytes) clean w before buffer e =
-    (bytes, refl, subst (λ b. Told clean w w before before bytes (b ++ bytes) 0) (sym e) (told_start clean w before bytes))
 
 -- what was told, and what the rest of the stream opens with
 abbrev pub Joined : Type 0 → World → World → Option (List ℕ) → Option (List ℕ) → Option (List ℕ) → ℕ → List ℕ → Frame → List ℕ → Type 0
@@ -95,19 +87,6 @@ cut_known (Some bytes) rem known why failed clean old mid left before w now fron
     let x = joined bytes rem known clean old mid before w front buffer count (frame.Bad refusal head_only) told follows in
     cut_by why failed clean old mid left before w now bytes x.0 count refusal head_only x.2 x.5 part
 
-pub lack_known : (src rem : Option (List ℕ)) (failed : Bool) (clean : Type 0) (old mid : World) (left before w : Option (List ℕ)) (front : List ℕ) (count : ℕ)
-    → SoFar src rem clean old mid before w front count → IfSome src (λ bytes. Stops cause.Memory failed clean old mid left before w bytes count)
-lack_known None rem failed clean old mid left before w front count told = tt
-lack_known (Some bytes) rem failed clean old mid left before w front count (rest, e, (es, deals, written)) = (es, more (front ++ rest), deals, inr written)
-
-pub read_known : (src rem : Option (List ℕ)) (failed : Bool) (clean : Type 0) (old mid : World) (left before w : Option (List ℕ)) (front buffer : List ℕ) (count : ℕ)
-    → SoFar src rem clean old mid before w front count → Stays rem left front buffer → NoneWhole buffer
-    → IfSome src (λ bytes. Stops cause.Read failed clean old mid left before w bytes count)
-read_known None rem failed clean old mid left before w front buffer count told stays none = tt
-read_known (Some bytes) rem failed clean old mid left before w front buffer count (rest, e, (es, deals, written)) stays none =
-    let s = subst (λ o. Stays o left front buffer) e stays in
-    (es, more (front ++ rest), deals, ((buffer, s.0, ap more (sym s.2), s.1, none), written))
-
 Deals-snoc : (clean now : Type 0) (old mid new : World) (bytes left after : List ℕ) (count : ℕ) (es : List Exchange) (a : Asked) (closes : Bool) (reply : Answer)
     → Deals clean old mid bytes count es (more left) → (now → clean) → Opens left (whole a after) → closes ≡ closes_at (256 - count) a
     → (now → Serves mid (request_of closes a) reply new)
@@ -142,10 +121,6 @@ Told-snoc clean later old mid new before w now bytes left after count a closes (
       subst (Appends before now) (sym (text-snoc es e)) (Appends-append before w now (text es) (text_of e) written adds),
     )
 
-ends_shut : (close : Bool) → Ends (shut close) (last_for close) []
-ends_shut true = refl
-ends_shut false = refl
-
 pub closes_known : (src rem known : Option (List ℕ)) (clean later : Type 0) (old mid new : World) (before w now : Option (List ℕ)) (front buffer : List ℕ) (count : ℕ)
     (request : Request) (used : ℕ) (closes : Bool)
     → SoFar src rem clean old mid before w front count → (later → clean) → Follows rem known front buffer (frame.Request request used)
@@ -161,7 +136,7 @@ closes_known (Some bytes) rem known clean later old mid new before w now front b
       shut a.close,
       [],
       subst (λ b. Deals later old new bytes (count + 1) t.0 (after_one b a after)) shuts t.1,
-      ends_shut a.close,
+      shut_ends a.close,
       subst (Appends before now) (sym (append-nil (text t.0))) t.2,
     )
 
@@ -230,13 +205,9 @@ goes_on count asked closes small stays at = last asked.close (nat_le (256 - coun
     last false true e f = absurd (cc)
     last false false e f = omega (arith, small, leb-false (256 - count) 1 e)
 
-pub clash : (b : Bool) → b ≡ true → b ≡ false → ⊥
-clash true e f = absurd (cc)
-clash false e f = absurd (cc)
-
 -- a desk that had failed is as it was, and so it cannot have answered
 pub still_failed : {K : Type 0} (first now next : Kept K) → (first.failed ≡ true → now ≡ first) → (now.failed ≡ true → next ≡ now) → next.failed ≡ false
     → first.failed ≡ true → ⊥
 still_failed {K = K} first now next waits stays calm failed =
     let was = ap (λ (k : Kept K). k.failed) (waits failed) ∙ failed in
-    clash next.failed (ap (λ (k : Kept K). k.failed) (stays was) ∙ was) calm
+    both_ways next.failed calm (ap (λ (k : Kept K). k.failed) (stays was) ∙ was)

@@ -1,8 +1,8 @@
 -- Heads at the front of a stream, cut and continued.
 use Rattle.std.proofs.Common.{◌≡◌, ℕ, ◌+◌, ◌-◌, ◌<◌, ◌≤◌, inl, inr, Bool, true, false, List, [], ◌∷◌, ◌++◌, length, take, drop, refl, sym, ap, ◌∙◌, arith, rules, append_assoc, append-nil, subst}
-use Rattle.std.specs.Prelude.{◌==◌, ◌&&◌, ◌||◌, if◌then◌else◌, Ok, Err, Result}
+use Rattle.std.specs.Prelude.{◌==◌, ◌&&◌, ◌||◌, if◌then◌else◌, Ok, Result}
 use Rattle.std.proofs.Math.Seq.{take-append-add}
-use Rattle.std.proofs.lemmas.Bool.{eqb-true, le-leb, lt-leb, cases_lt}
+use Rattle.std.proofs.lemmas.Bool.{eqb-true, le-leb, cases_lt}
 use Rattle.std.proofs.lemmas.Grind.{common_steps}
 use Rattle.std.proofs.lemmas.List.{take-append-le, drop-append-le, take-append-drop, drop-drop, length-append, length-take-le, length-take, length-map, take_all}
 use Rattle.std.proofs.lemmas.List.Elements.{All-cons, All-nil}
@@ -12,7 +12,7 @@ use Rattle.httparse.specs.Grammar.{RequestHead, IsRequestHead, ReadsRequest, Has
 use Rattle.httparse.specs.Spans.{RequestOverflows}
 use Rattle.httparse.proofs.GrammarLemmas.{ReadsRequest-append, print_request-append}
 use Rattle.portal_frame.specs.declared.types.Fault.{Fault}
-use Rattle.portal_frame.specs.Stream.{Refuses, body_length, told, bad_head, bad_length, Takes, HasNoHead, Asked, whole, fault, over, asked_of, after_lines, lines_of, is_head, Opens, headless, is_blank, IsHead}
+use Rattle.portal_frame.specs.Stream.{Refuses, body_length, bad_head, bad_length, Takes, HasNoHead, Asked, whole, fault, over, asked_of, after_lines, lines_of, is_head, Opens, headless, is_blank, IsHead}
 use Rattle.httparse.specs.Spans.{IsRequestAt, IsRequestWithin, header_bytes, name_and_value}
 use Rattle.httparse.specs.declared.spans.HeaderSpan.{HeaderSpan}
 use Rattle.httparse.specs.declared.spans.RequestSpans.{RequestSpans}
@@ -143,22 +143,10 @@ opens_full bytes more none full =
 
 -- ---- after a head
 
-pub after_err : (bytes more : List ℕ) (h : RequestHead) (rest : List ℕ) (why : Fault) → Takes bytes h rest
-    → body_length h.minor (lines_of h) ≡ Err why
-    → Opens (bytes ++ more) (fault (told why) (is_head h.method))
-after_err bytes more h rest why t e =
-    inl (h, rest ++ more, Takes-append bytes more h rest t, sym (ap (λ r. after_lines h r (rest ++ more)) e))
-
 -- the item for a length that the head announces
 sized : (h : RequestHead) (n : ℕ) (rest : List ℕ) (enough : Bool) → nat_le n (length rest) ≡ enough
     → after_lines h (Ok n) rest ≡ (if enough then whole (asked_of h (take n rest)) (drop n rest) else fault bad_length (is_head h.method))
 sized h n rest enough e = ap (λ b. if b then whole (asked_of h (take n rest)) (drop n rest) else fault bad_length (is_head h.method)) e
-
-pub after_short : (bytes : List ℕ) (h : RequestHead) (rest : List ℕ) (n : ℕ) → Takes bytes h rest
-    → body_length h.minor (lines_of h) ≡ Ok n → length rest < n
-    → Opens bytes (fault bad_length (is_head h.method))
-after_short bytes h rest n t e short =
-    inl (h, rest, t, sym (ap (λ r. after_lines h r rest) e ∙ sized h n rest false (lt-leb n (length rest) short)))
 
 pub after_whole : (bytes more : List ℕ) (h : RequestHead) (len n : ℕ) → Takes bytes h (drop len bytes)
     → body_length h.minor (lines_of h) ≡ Ok n → n ≤ length (drop len bytes)

@@ -1,5 +1,5 @@
 -- How long what is waited for can be.
-use Rattle.std.proofs.Common.{◌≡◌, ℕ, ◌+◌, ◌<◌, ◌≤◌, Bool, true, false, List, [], ◌∷◌, ◌++◌, length, refl, ap, ◌∙◌, arith}
+use Rattle.std.proofs.Common.{◌≡◌, ℕ, ◌+◌, ◌<◌, ◌≤◌, Bool, true, false, List, [], ◌∷◌, ◌++◌, length, refl, arith}
 use Rattle.std.specs.Prelude.{Result, Ok, Err, if◌then◌else◌, nat_lt, codes}
 use Rattle.std.specs.Str.Parse.{digits_value}
 use Rattle.std.proofs.lemmas.Bool.{ltb-false}
@@ -8,7 +8,7 @@ use Rattle.httparse.specs.Grammar.{RequestHead, print_request, print_section, pr
 use Rattle.portal_frame.specs.declared.types.Fault.{Fault}
 use Rattle.portal_frame.specs.declared.types.Fault.TheVariants as faults
 use Rattle.portal_frame.specs.Heads.{is_length, has_bad_host, has_any, values_of}
-use Rattle.portal_frame.specs.Stream.{body_length, length_of, WaitsForBody, lines_of}
+use Rattle.portal_frame.specs.Stream.{body_length, length_of, lines_of}
 
 ok_same : (d n : ℕ) → ◌≡◌ {A = Result ℕ Fault} (Ok d) (Ok n) → d ≡ n
 ok_same d n e = cc
@@ -33,13 +33,6 @@ after_host false false values n e = length_of-le values n e
 pub body_length-le : (minor : ℕ) (lines : List (List ℕ × List ℕ)) (n : ℕ) → body_length minor lines ≡ Ok n → n ≤ 1048576
 body_length-le minor lines n e =
     after_host (has_bad_host minor (values_of (codes "host") lines)) (has_any (values_of (codes "transfer-encoding") lines)) (values_of (codes "content-length") lines) n e
-
--- what is waited for is shorter than the longest head and the longest body
-pub body-short : (bytes : List ℕ) → WaitsForBody bytes → length bytes < 1064960
-body-short bytes (h, rest, n, takes, sized, short) =
-    let parts : length bytes ≡ length (print_request h) + length rest = ap length takes.reads.1 ∙ length-append (print_request h) rest in
-    let most : n ≤ 1048576 = body_length-le h.minor (lines_of h) n sized in
-    omega (arith, parts, most, short, takes.short)
 
 some_left : (xs ys : List ℕ) → 0 < length xs → 0 < length (xs ++ ys)
 some_left xs ys some = rw (length-append xs ys) (omega (arith, some))

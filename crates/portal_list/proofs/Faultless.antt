@@ -2,6 +2,7 @@
 use Rattle.std.proofs.Common.{◌≡◌, inl, inr, ℕ, ◌<◌, ◌≤◌, Bool, true, false, List, [], ◌∷◌, map, length, get_or, Any, refl, sym, ◌∙◌, subst, arith}
 use Rattle.std.specs.Prelude.{Option, Some, None, is_none, unwrap_or, IfSome, not, ◌&&◌}
 use Rattle.std.specs.List.{list_any, AllByRecursion}
+use Rattle.std.proofs.lemmas.Bool.{and_parts, and_from}
 use Rattle.std.proofs.lemmas.List.{length-map}
 use Rattle.std.proofs.lemmas.List.Folds.{Any-from_list_any, list_any-from_Any}
 use Rattle.spa_rows.specs.Form.{is_key}
@@ -19,8 +20,8 @@ use Rattle.portal_core.specs.declared.rows.ProjectRow.{ProjectRow}
 use Rattle.portal_core.proofs.Keys.{is_same, is_own}
 use Rattle.portal_core.proofs.AllLaws as laws
 use Rattle.portal_list.specs.Lines.{lecturer_line, project_line, student_line, lines_of}
-use Rattle.portal_list.proofs.Rising.{all_at, map_map}
-use Rattle.portal_list.proofs.Members.{and_parts, and_both, there, has_it, has_all, key_there, filtered_any, repeats_not, earlier_not, none_of}
+use Rattle.portal_list.proofs.Rising.{map_map}
+use Rattle.portal_list.proofs.Members.{there, has_it, has_all, key_there, repeats_not, earlier_not, none_of}
 
 module _ (w : World) where
   abbrev rows : Rows
@@ -32,7 +33,7 @@ module _ (w : World) where
 
   wants_finds : (l : Key) (s : Student) → wants l s ≡ true → FindsOne rows (student_line s) l
   wants_finds l s h =
-      let found = Any-from_list_any (λ p. is p.lecturer l && has s.choice p.key) w.projects (sym (filtered_any (λ p. has s.choice p.key) (λ p. is p.lecturer l) w.projects) ∙ h) in
+      let found = Any-from_list_any (λ p. is p.lecturer l && has s.choice p.key) w.projects (sym (laws.filtered_any (λ p. has s.choice p.key) (λ p. is p.lecturer l) w.projects) ∙ h) in
       let p : ProjectRow = found.1 in
       let parts : (is p.lecturer l ≡ true) × (has s.choice p.key ≡ true) = and_parts (is p.lecturer l) (has s.choice p.key) found.4 in
       let listed = there s.choice p.key parts.1 in (
@@ -49,14 +50,14 @@ module _ (w : World) where
       let p : ProjectRow = found.1 in
       let listed : has s.choice p.key ≡ true = has_it s.choice p.key (m, x, low, at, sym found.4.0) in
       let own : is p.lecturer l ≡ true = subst (λ y. is y l ≡ true) (sym found.4.1) (is_own l) in
-      filtered_any (λ q. has s.choice q.key) (λ q. is q.lecturer l) w.projects
-      ∙ list_any-from_Any (λ q. is q.lecturer l && has s.choice q.key) w.projects (found.0, p, found.2, found.3, and_both (is p.lecturer l) (has s.choice p.key) own listed)
+      laws.filtered_any (λ q. has s.choice q.key) (λ q. is q.lecturer l) w.projects
+      ∙ list_any-from_Any (λ q. is q.lecturer l && has s.choice q.key) w.projects (found.0, p, found.2, found.3, and_from (is p.lecturer l) (has s.choice p.key) own listed)
 
   abbrev applicant_keys : Key → List Key
   applicant_keys l = map student_key (applicants_of w l)
 
   among : (l k : Key) → has (applicant_keys l) k ≡ list_any (λ s. wants l s && is k s.row.key) w.students
-  among l k = laws.any_map (is k) student_key (applicants_of w l) ∙ filtered_any (λ s. is k s.row.key) (wants l) w.students
+  among l k = laws.any_map (is k) student_key (applicants_of w l) ∙ laws.filtered_any (λ s. is k s.row.key) (wants l) w.students
 
   has_applicant : (l k : Key) → has (applicant_keys l) k ≡ true → IsApplicant rows l k
   has_applicant l k h =
@@ -65,7 +66,7 @@ module _ (w : World) where
       any_map (λ x. (x.key ≡ k) × FindsOne rows x l) student_line w.students found.0 found.1 found.2 (sym found.3) (sym (is_same k found.1.row.key parts.1), wants_finds l found.1 parts.0)
 
   is_applicant : (l : Key) (j : ℕ) (s : Student) → j < length w.students → get_or w.students j s ≡ s → FindsOne rows (student_line s) l → has (applicant_keys l) s.row.key ≡ true
-  is_applicant l j s low at finds = among l s.row.key ∙ list_any-from_Any (λ t. wants l t && is s.row.key t.row.key) w.students (j, s, low, at, and_both (wants l s) (is s.row.key s.row.key) (finds_wants l s finds) (is_own s.row.key))
+  is_applicant l j s low at finds = among l s.row.key ∙ list_any-from_Any (λ t. wants l t && is s.row.key t.row.key) w.students (j, s, low, at, and_from (wants l s) (is s.row.key s.row.key) (finds_wants l s finds) (is_own s.row.key))
 
   abbrev Ranks : Key → Option (List Key) → Type 0
   Ranks l o = IfSome o (IsRanking (applicant_keys l))
@@ -76,7 +77,7 @@ module _ (w : World) where
 
   no_other : (l : Key) (o : Option (List Key)) → Ranks l o → Any (λ text. IsApplicant rows l text → ⊥) (unwrap_or o []) → ⊥
   no_other l None ranks (j, text, low, at, no_one) = absurd (omega arith)
-  no_other l (Some r) ranks (j, text, low, at, no_one) = no_one (has_applicant l text (subst (λ k. has (applicant_keys l) k ≡ true) at (all_at (λ k. has (applicant_keys l) k ≡ true) r j text ranks.only low)))
+  no_other l (Some r) ranks (j, text, low, at, no_one) = no_one (has_applicant l text (subst (λ k. has (applicant_keys l) k ≡ true) at (laws.all_at (λ k. has (applicant_keys l) k ≡ true) r j text ranks.only low)))
 
   none_empty : {X : Type 0} (key : X → Key) (xs : List X) (k : Key) → (not (is_empty xs) && true) ≡ false → has (map key xs) k ≡ true → ⊥
   none_empty key [] k e h = cc
@@ -120,7 +121,7 @@ module _ (w : World) where
     faultless BadCapacity low q (inr bad) = none_of IsProject project_line (λ x. x.row) (λ _ x. IsBadCapacity x.capacity) w.projects sound.project_forms (λ j e l at form h. no_bad_capacity e.capacity form.low form.high h) q bad
     faultless NoSuchLecturer low q bad = none_of (λ p. has (lecturer_keys w) p.lecturer ≡ true) project_line (λ x. x.row) (λ _ x. IsKeyOf rows.lecturers (λ y. y.key) x.lecturer → ⊥) w.projects sound.lecturers_known (λ j e l at known h. h (key_there lecturer_line (λ y. y.key) w.lecturers e.lecturer known)) q bad
     faultless NoSuchProject low q bad = none_of (λ s. IsChoice (project_keys w) s.choice) student_line (λ x. x.row) (λ _ x. NamesNone rows.projects (λ y. y.key) x.list) w.students sound.choices (λ j e l at choice (m, text, less, is_text, no_one).
-        no_one (key_there project_line (λ y. y.key) w.projects text (subst (λ k. has (project_keys w) k ≡ true) is_text (all_at (λ k. has (project_keys w) k ≡ true) e.choice m text choice.known less)))) q bad
+        no_one (key_there project_line (λ y. y.key) w.projects text (subst (λ k. has (project_keys w) k ≡ true) is_text (laws.all_at (λ k. has (project_keys w) k ≡ true) e.choice m text choice.known less)))) q bad
     faultless RepeatInList low q (inl bad) = none_of (λ l. Ranks l.row.key l.ranking × (is_still_to_rank w l ≡ false)) lecturer_line (λ x. x.row) (λ _ x. Repeats x.list) w.lecturers ranked (λ j e l at is_ranked h. no_repeat e.row.key e.ranking is_ranked.0 h) q bad
     faultless RepeatInList low q (inr bad) = none_of (λ s. IsChoice (project_keys w) s.choice) student_line (λ x. x.row) (λ _ x. Repeats x.list) w.students sound.choices (λ j e l at choice h. repeats_not e.choice choice.once h) q bad
     faultless ListTooLong low q bad = none_of (λ s. IsChoice (project_keys w) s.choice) student_line (λ x. x.row) (λ _ x. 20 < length x.list) w.students sound.choices (λ j e l at choice h. let few : length e.choice ≤ 20 = choice.few in omega arith) q bad

@@ -1,7 +1,6 @@
 -- What stands in a list, in a list made of it, and in a part of it.
-use Rattle.std.proofs.Common.{◌≡◌, ℕ, zero, suc, ◌<◌, Bool, true, false, cond, List, [], ◌∷◌, map, length, get_or, Any, Less, refl, sym, ◌∙◌, ap, subst, arith}
-use Rattle.std.specs.Prelude.{◌&&◌, ◌||◌, filter}
-use Rattle.std.specs.List.{list_any, AllByRecursion}
+use Rattle.std.proofs.Common.{◌≡◌, ℕ, zero, suc, ◌<◌, true, List, [], ◌∷◌, map, length, get_or, Any, Less, sym, ◌∙◌, subst, arith}
+use Rattle.std.specs.List.{AllByRecursion}
 use Rattle.std.specs.Ordering.{nat_cmp}
 use Rattle.std.specs.Cmp.Lexicographic.{slice_cmp}
 use Rattle.std.proofs.lemmas.List.{get_or_default, get_or-take, length-take, length-map}
@@ -12,15 +11,9 @@ use Rattle.spa_rows.proofs.Lists.{at_place, map_at}
 use Rattle.spa_model.proofs.Zips.{any_map, any_unmap}
 use Rattle.portal_core.specs.Words.{Key, is, has, Rise, AreDistinct}
 use Rattle.portal_core.proofs.Keys.{is_same, is_own}
+use Rattle.portal_core.proofs.AllLaws.{all_at}
 use Rattle.spa_model.proofs.Rising.{never_itself}
-use Rattle.portal_list.proofs.Rising.{all_at, pairs_rise}
-
-pub and_parts : (a b : Bool) → (a && b) ≡ true → (a ≡ true) × (b ≡ true)
-and_parts true b h = (refl, h)
-and_parts false b h = cc
-
-pub and_both : (a b : Bool) → a ≡ true → b ≡ true → (a && b) ≡ true
-and_both a b h g = rw (h, g) refl
+use Rattle.portal_list.proofs.Rising.{pairs_rise}
 
 pub there : (ks : List Key) (k : Key) → has ks k ≡ true → Any (λ x. x ≡ k) ks
 there ks k h = let found = Any-from_list_any (is k) ks h in (found.0, found.1, found.2, found.3, sym (is_same k found.1 found.4))
@@ -36,14 +29,6 @@ pub key_there : {X L : Type 0} (f : X → L) (key : L → Key) (xs : List X) (k 
 key_there f key xs k h =
     let found = any_unmap (λ y. y ≡ k) (λ x. key (f x)) xs (there (map (λ x. key (f x)) xs) k h) in
     any_map (λ y. key y ≡ k) f xs found.0 found.1 found.2 (sym found.3) found.4
-
-pub filtered_any : {X : Type 0} (q p : X → Bool) (xs : List X) → list_any q (filter p xs) ≡ list_any (λ x. p x && q x) xs
-filtered_any q p [] = refl
-filtered_any {X} q p (x ∷ xs) = step (p x) (filtered_any q p xs)
-  where
-    step : (b : Bool) → list_any q (filter p xs) ≡ list_any (λ y. p y && q y) xs → list_any q (cond b (x ∷ filter p xs) (filter p xs)) ≡ ((b && q x) || list_any (λ y. p y && q y) xs)
-    step true rest = ap (λ b. q x || b) rest
-    step false rest = rest
 
 pub distinct_apart : (list : List Key) (i j : ℕ) (d : Key) → AreDistinct list → i < j → j < length list → get_or list i d ≡ get_or list j d → ⊥
 distinct_apart [] i j d once less low same = absurd (omega arith)

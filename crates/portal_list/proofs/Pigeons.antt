@@ -1,11 +1,13 @@
 -- Lists without repeats that hold the same keys are as long as each other.
-use Rattle.std.proofs.Common.{◌≡◌, suc, ◌+◌, ◌≤◌, Bool, true, false, cond, List, [], ◌∷◌, map, length, refl, sym, ◌∙◌, subst, arith}
-use Rattle.std.specs.Prelude.{◌||◌, filter}
+use Rattle.std.proofs.Common.{◌≡◌, suc, ◌+◌, ◌≤◌, Bool, true, false, cond, List, [], ◌∷◌, length, refl, sym, ◌∙◌, subst, arith}
+use Rattle.std.specs.Prelude.{◌||◌}
 use Rattle.std.specs.List.{AllByRecursion}
-use Rattle.portal_core.specs.Words.{Key, is, is_before, has, Rise, AreDistinct}
+use Rattle.std.proofs.Math.Bool.{or-true}
+use Rattle.portal_core.specs.Words.{Key, is, has, Rise, AreDistinct}
 use Rattle.portal_core.specs.Good.{IsRanking}
-use Rattle.portal_core.proofs.Keys.{is_same, is_own, not_before_itself}
-use Rattle.portal_core.proofs.AllLaws.{all_both, all_weaker, or_parts, none_is}
+use Rattle.portal_core.proofs.Keys.{is_same, is_own}
+use Rattle.portal_core.proofs.AllLaws.{all_both, all_weaker, none_of}
+use Rattle.portal_core.proofs.Fills.{rise_distinct}
 
 -- the keys without the first that is k
 without : Key → List Key → List Key
@@ -32,24 +34,16 @@ has_without k x (a ∷ ks) other h = at (is k a) (is x a) refl refl (has_without
     at false true e f again h = rw f refl
     at false false e f again h = rw f (again h)
 
-differ : (k : Key) (ks : List Key) → has ks k ≡ false → AllByRecursion (λ x. is k x ≡ false) ks
-differ k [] h = tt
-differ k (x ∷ xs) h = let parts : (is k x ≡ false) × (has xs k ≡ false) = or_parts (is k x) (has xs k) h in (parts.0, differ k xs parts.1)
-
 pub fits : (ks all : List Key) → AreDistinct ks → AllByRecursion (λ k. has all k ≡ true) ks → length ks ≤ length all
 fits [] all once known = omega arith
 fits (k ∷ ks) all once known =
-    let left : AllByRecursion (λ x. has (without k all) x ≡ true) ks = all_weaker (λ x. (is k x ≡ false) × (has all x ≡ true)) (λ x. has (without k all) x ≡ true) (λ x h. has_without k x all h.0 h.1) ks (all_both (λ x. is k x ≡ false) (λ x. has all x ≡ true) ks (differ k ks once.0) known.1) in
+    let left : AllByRecursion (λ x. has (without k all) x ≡ true) ks = all_weaker (λ x. (is k x ≡ false) × (has all x ≡ true)) (λ x. has (without k all) x ≡ true) (λ x h. has_without k x all h.0 h.1) ks (all_both (λ x. is k x ≡ false) (λ x. has all x ≡ true) ks (none_of ks k once.0) known.1) in
     omega (arith, fits ks (without k all) once.1 left, length_without k all known.0)
 
 -- each key of a list is on it
 own : (front ks : List Key) → AllByRecursion (λ k. has ks k ≡ true) ks
 own front [] = tt
-own front (k ∷ ks) = (rw (is_own k) refl, all_weaker (λ x. has ks x ≡ true) (λ x. has (k ∷ ks) x ≡ true) (λ x h. rw h (right (is x k))) ks (own front ks))
-  where
-    right : (b : Bool) → (b || true) ≡ true
-    right true = refl
-    right false = refl
+own front (k ∷ ks) = (rw (is_own k) refl, all_weaker (λ x. has ks x ≡ true) (λ x. has (k ∷ ks) x ≡ true) (λ x h. rw h (or-true (is x k))) ks (own front ks))
 
 pub all_on : (ks all : List Key) → AreDistinct ks → AllByRecursion (λ k. has all k ≡ true) ks → length all ≤ length ks → AllByRecursion (λ a. has ks a ≡ true) all
 all_on ks all once known long = all_weaker (λ a. has all a ≡ true) (λ a. has ks a ≡ true) (λ a h. at a (has ks a) refl h) all (own [] all)
@@ -58,33 +52,8 @@ all_on ks all once known long = all_weaker (λ a. has all a ≡ true) (λ a. has
     at a true e h = refl
     at a false e h = absurd (omega (arith, fits (a ∷ ks) all (e, once) (h, known)))
 
-pub rise_distinct : (ks : List Key) → Rise ks → AreDistinct ks
-rise_distinct [] rise = tt
-rise_distinct (k ∷ ks) rise = (none_is k ks (all_weaker (λ l. is_before k l ≡ true) (λ l. is l k ≡ false) (λ l h. at l (is l k) refl h) ks rise.0), rise_distinct ks rise.1)
-  where
-    at : (l : Key) (b : Bool) → is l k ≡ b → is_before k l ≡ true → b ≡ false
-    at l false e h = refl
-    at l true e h = absurd (not_before_itself k (subst (λ x. is_before k x ≡ true) (is_same l k e) h))
-
 pub ranking_long : (all r : List Key) → Rise all → IsRanking all r → length r ≡ length all
 ranking_long all r rise is_r = omega (arith, fits r all is_r.once is_r.only, fits all r (rise_distinct all rise) is_r.all)
 
 pub ranking_so : (all r : List Key) → length r ≡ length all → AllByRecursion (λ k. has all k ≡ true) r → AreDistinct r → IsRanking all r
 ranking_so all r long only once = record { all = all_on r all once only (omega arith); only = only; once = once }
-
--- a part of rows whose keys rise
-all_filter : {X : Type 0} (P : Key → Type 0) (key : X → Key) (p : X → Bool) (xs : List X) → AllByRecursion P (map key xs) → AllByRecursion P (map key (filter p xs))
-all_filter P key p [] all = tt
-all_filter {X} P key p (x ∷ xs) all = at (p x) (all_filter P key p xs all.1)
-  where
-    at : (b : Bool) → AllByRecursion P (map key (filter p xs)) → AllByRecursion P (map key (cond b (x ∷ filter p xs) (filter p xs)))
-    at true rest = (all.0, rest)
-    at false rest = rest
-
-pub rise_filter : {X : Type 0} (key : X → Key) (p : X → Bool) (xs : List X) → Rise (map key xs) → Rise (map key (filter p xs))
-rise_filter key p [] rise = tt
-rise_filter {X} key p (x ∷ xs) rise = at (p x) (rise_filter key p xs rise.1)
-  where
-    at : (b : Bool) → Rise (map key (filter p xs)) → Rise (map key (cond b (x ∷ filter p xs) (filter p xs)))
-    at true rest = (all_filter (λ l. is_before (key x) l ≡ true) key p xs rise.0, rest)
-    at false rest = rest

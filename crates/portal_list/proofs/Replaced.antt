@@ -1,25 +1,19 @@
 -- One row is replaced where the keys rise.
-use Rattle.std.proofs.Common.{◌≡◌, ℕ, suc, zero, ◌<◌, Bool, true, false, cond, List, [], ◌∷◌, length, get_or, refl, sym, ◌∙◌, ap, subst, arith}
+use Rattle.std.proofs.Common.{◌≡◌, ℕ, suc, zero, ◌<◌, true, false, cond, List, [], ◌∷◌, length, get_or, refl, sym, ◌∙◌, ap, subst, arith}
 use Rattle.std.specs.Prelude.{map, slice_set, ◌||◌, Some}
 use Rattle.std.specs.List.{list_any, AllByRecursion}
+use Rattle.std.proofs.lemmas.Bool.{or_parts, false_from_ne_true}
 use Rattle.portal_core.specs.Words.{Key, is, is_before, Rise}
 use Rattle.portal_core.specs.World.{Student, Lecturer}
 use Rattle.portal_core.specs.Change.{with_choice, with_ranking}
 use Rattle.portal_core.proofs.Keys.{is_same, not_before_itself, all_unmap}
-use Rattle.portal_core.proofs.AllLaws.{or_parts}
+use Rattle.portal_core.proofs.AllLaws.{all_at}
+-- a row without the key stays
+pub use Rattle.portal_core.proofs.Unseen.{choice_other as choice_elsewhere, ranking_other as ranking_elsewhere}
 
 -- of two keys of which one comes before the other, only one is the key k
 not_both : (a b k : Key) → is_before a b ≡ true → is a k ≡ true → is b k ≡ true → ⊥
 not_both a b k low here there = not_before_itself k (subst (λ x. is_before k x ≡ true) (is_same b k there) (subst (λ x. is_before x b ≡ true) (is_same a k here) low))
-
-false_else : (b : Bool) → (b ≡ true → ⊥) → b ≡ false
-false_else true no_way = absurd (no_way refl)
-false_else false no_way = refl
-
-pub at : {X : Type 0} (P : X → Type 0) (xs : List X) (i : ℕ) (d : X) → i < length xs → AllByRecursion P xs → P (get_or xs i d)
-at P [] i d low all = absurd (omega arith)
-at P (x ∷ xs) zero d low all = all.0
-at P (x ∷ xs) (suc i) d low all = at P xs i d (omega arith) all.1
 
 module _ {X : Type 0} (key : X → Key) (k : Key) (f : X → X) (other : (x : X) → is (key x) k ≡ false → f x ≡ x) where
   -- no row has the key
@@ -32,7 +26,7 @@ module _ {X : Type 0} (key : X → Key) (k : Key) (f : X → X) (other : (x : X)
   none_later : (x : X) (xs : List X) → is (key x) k ≡ true → AllByRecursion (λ y. is_before (key x) (key y) ≡ true) xs → list_any (λ y. is (key y) k) xs ≡ false
   none_later x [] here low = refl
   none_later x (y ∷ ys) here low =
-      ap (λ b. b || list_any (λ z. is (key z) k) ys) (false_else (is (key y) k) (λ there. not_both (key x) (key y) k low.0 here there))
+      ap (λ b. b || list_any (λ z. is (key z) k) ys) (false_from_ne_true (is (key y) k) (λ there. not_both (key x) (key y) k low.0 here there))
       ∙ none_later x ys here low.1
 
   -- the row with the key is written, and the others stay
@@ -41,18 +35,12 @@ module _ {X : Type 0} (key : X → Key) (k : Key) (f : X → X) (other : (x : X)
   replaced (x ∷ xs) zero e d rise low here new =
       λ j. new j ∷ sym (unchanged xs (none_later x xs here (all_unmap (λ l. is_before (key x) l ≡ true) key xs rise.0))) j
   replaced (x ∷ xs) (suc i) e d rise low here new =
-      let before : is_before (key x) (key (get_or xs i d)) ≡ true = at (λ y. is_before (key x) (key y) ≡ true) xs i d (omega arith) (all_unmap (λ l. is_before (key x) l ≡ true) key xs rise.0) in
-      let not_mine : is (key x) k ≡ false = false_else (is (key x) k) (λ mine. not_both (key x) (key (get_or xs i d)) k before mine here) in
+      let before : is_before (key x) (key (get_or xs i d)) ≡ true = all_at (λ y. is_before (key x) (key y) ≡ true) xs i d (all_unmap (λ l. is_before (key x) l ≡ true) key xs rise.0) (omega arith) in
+      let not_mine : is (key x) k ≡ false = false_from_ne_true (is (key x) k) (λ mine. not_both (key x) (key (get_or xs i d)) k before mine here) in
       λ j. sym (other x not_mine) j ∷ replaced xs i e d rise.1 (omega arith) here new j
 
 pub choice_here : (k : Key) (list : List Key) (s : Student) → is s.row.key k ≡ true → record s { choice = list } ≡ with_choice k list s
 choice_here k list s e = sym (ap (λ b. cond b (record s { choice = list }) s) e)
 
-pub choice_elsewhere : (k : Key) (list : List Key) (s : Student) → is s.row.key k ≡ false → with_choice k list s ≡ s
-choice_elsewhere k list s e = ap (λ b. cond b (record s { choice = list }) s) e
-
 pub ranking_here : (k : Key) (list : List Key) (l : Lecturer) → is l.row.key k ≡ true → record l { ranking = Some list } ≡ with_ranking k list l
 ranking_here k list l e = sym (ap (λ b. cond b (record l { ranking = Some list }) l) e)
-
-pub ranking_elsewhere : (k : Key) (list : List Key) (l : Lecturer) → is l.row.key k ≡ false → with_ranking k list l ≡ l
-ranking_elsewhere k list l e = ap (λ b. cond b (record l { ranking = Some list }) l) e

@@ -1,8 +1,7 @@
 -- A new ranking leaves the catalogue as it was.
-use Rattle.std.proofs.Common.{◌≡◌, ℕ, ◌++◌, List, [], map, take, length, ap, ◌∙◌, arith}
+use Rattle.std.proofs.Common.{◌≡◌, List, [], map, length, ap, ◌∙◌}
 use Rattle.std.specs.Prelude.{Result, Ok, Err, OnOk, OnErr}
-use Rattle.std.proofs.lemmas.List.{length-map, take-append-le}
-use Rattle.spa_model.proofs.Zips.{take_all}
+use Rattle.std.proofs.lemmas.List.{length-map}
 use Rattle.portal_core.specs.declared.phase.Phase.TheVariants.{Setup}
 use Rattle.portal_core.specs.declared.rows.ProjectRow.{ProjectRow}
 use Rattle.portal_core.specs.Words.{Key}
@@ -23,7 +22,3 @@ module _ {T E : Type 0} (old new : List Lecturer) (k : Key) (list : List Key) wh
   pub same_length : (r : Result T E) → OnOk r (new ≡ map (with_ranking k list) old) → OnErr r (new ≡ old) → length new ≡ length old
   same_length (Ok _) made same = ap length made ∙ length-map old (with_ranking k list)
   same_length (Err _) made same = ap length same
-
--- what a slice of a whole vector leaves in it
-pub written : (n : ℕ) (new rest : List Lecturer) → length new ≡ n → take n (new ++ rest) ≡ new
-written n new rest e = take-append-le n new rest (omega (arith, e)) ∙ take_all n new (omega (arith, e))

@@ -1,7 +1,7 @@
 -- The only lawful instance that stands for rows whose keys rise.
-use Rattle.std.proofs.Common.{◌≡◌, ℕ, ◌<◌, List, [], map, length, get_or, sym, ◌∙◌, ap, arith}
+use Rattle.std.proofs.Common.{◌≡◌, ℕ, ◌<◌, [], map, length, get_or, sym, ◌∙◌, ap, arith}
 use Rattle.std.proofs.lemmas.List.{ext_get_or, length-map}
-use Rattle.spa_rows.specs.Lines.{Text, Lecturer, Project, Student, Rows}
+use Rattle.spa_rows.specs.Lines.{Lecturer, Project, Student, Rows}
 use Rattle.spa_rows.proofs.Lists.{at_place, map_at}
 use Rattle.spa_model.specs.Spa.{Spa, Rise, IsLawful, choices_of, lecturer_of, capacity_of, ranking_of, limit_of}
 use Rattle.spa_model.specs.Built.{HasKey, keys_at, StandsFor, StandsStudent, StandsProject, StandsLecturer}

@@ -1,13 +1,9 @@
 -- Steps of loops over lists.
 use Rattle.std.proofs.Common.{◌≡◌, ℕ, ◌+◌, ◌<◌, Bool, true, false, cond, List, [], ◌∷◌, ◌++◌, map, take, length, get_or, refl, sym, ◌∙◌, ap, subst}
-use Rattle.std.specs.Prelude.{filter, Result, Ok, Err, IfOk}
+use Rattle.std.specs.Prelude.{filter}
 use Rattle.std.specs.List.{AllByRecursion}
 use Rattle.std.proofs.lemmas.List.{take_more}
 use Rattle.portal_core.proofs.AllLaws.{all_append}
-
-pub ok_weaker : {T E : Type 0} (P Q : T → Type 0) (r : Result T E) → ((x : T) → P x → Q x) → IfOk r P → IfOk r Q
-ok_weaker P Q (Ok x) f h = f x h
-ok_weaker P Q (Err e) f h = tt
 
 -- one more element
 pub grown : {X : Type 0} (xs : List X) (i : ℕ) (x : X) → i < length xs → get_or xs i x ≡ x → take (i + 1) xs ≡ take i xs ++ x ∷ []
@@ -31,7 +27,3 @@ filter_push {X} {Y} p f (y ∷ ys) x b e = at (p y) (filter_push p f ys x b e)
 
 pub filter_more : {X Y : Type 0} (p : X → Bool) (f : X → Y) (xs : List X) (i : ℕ) (x : X) (b : Bool) → i < length xs → get_or xs i x ≡ x → p x ≡ b → map f (filter p (take (i + 1) xs)) ≡ map f (filter p (take i xs)) ++ cond b (f x ∷ []) []
 filter_more p f xs i x b low at e = ap (λ ys. map f (filter p ys)) (grown xs i x low at) ∙ filter_push p f (take i xs) x b e
-
-pub pushed : {X Y : Type 0} (f : X → Y) (xs : List X) (y : X) → map f (xs ++ y ∷ []) ≡ map f xs ++ f y ∷ []
-pushed f [] y = refl
-pushed f (x ∷ xs) y = ap (λ zs. f x ∷ zs) (pushed f xs y)

@@ -2,9 +2,11 @@
 use Rattle.std.proofs.Common.{◌≡◌, Bool, true, false, cond, List, [], ◌∷◌, refl, sym, ◌∙◌, ap}
 use Rattle.std.specs.Prelude.{map, filter, is_none, not, ◌&&◌, ◌||◌}
 use Rattle.std.specs.List.{list_any}
+use Rattle.std.proofs.Math.Bool.{and_comm}
 use Rattle.portal_core.specs.Words.{Key, is, has, is_empty}
 use Rattle.portal_core.specs.World.{World, Student, Lecturer, is_still_to_rank}
 use Rattle.portal_core.specs.declared.rows.ProjectRow.{ProjectRow}
+use Rattle.portal_core.proofs.AllLaws.{any_or, any_nowhere}
 use Rattle.portal_list.specs.Shown.{is_wanted, is_waiting}
 
 -- some element passes
@@ -16,38 +18,18 @@ any_left {X} p (x ∷ xs) =
       | false ↦ any_left p xs
     ]
 
-any_or : {X : Type 0} (f g : X → Bool) (xs : List X) → list_any (λ x. f x || g x) xs ≡ (list_any f xs || list_any g xs)
-any_or f g [] = refl
-any_or f g (x ∷ xs) = ap (λ b. (f x || g x) || b) (any_or f g xs) ∙ turned (f x) (g x) (list_any f xs) (list_any g xs)
-  where
-    turned : (a b c d : Bool) → ((a || b) || (c || d)) ≡ ((a || c) || (b || d))
-    turned true b c d = refl
-    turned false true true d = refl
-    turned false true false d = refl
-    turned false false c d = refl
-
-none_at_all : {X : Type 0} (xs : List X) → list_any (λ (x : X). false) xs ≡ false
-none_at_all [] = refl
-none_at_all (x ∷ xs) = none_at_all xs
-
 -- some list holds a project of the lecturer
 wanted : (ss : List Student) (l : Key) (ps : List ProjectRow) → list_any (λ s. list_any (λ p. has s.choice p.key) (filter (λ p. is p.lecturer l) ps)) ss ≡ is_wanted ss ps l
-wanted ss l [] = none_at_all ss
+wanted ss l [] = any_nowhere ss
 wanted ss l (p ∷ ps) =
     elim (is p.lecturer l) as (λ b. list_any (λ s. list_any (λ q. has s.choice q.key) (cond b (p ∷ filter (λ q. is q.lecturer l) ps) (filter (λ q. is q.lecturer l) ps))) ss ≡ ((b && list_any (λ s. has s.choice p.key) ss) || is_wanted ss ps l)) [
       | true ↦ any_or (λ (s : Student). has s.choice p.key) (λ s. list_any (λ q. has s.choice q.key) (filter (λ q. is q.lecturer l) ps)) ss ∙ ap (λ b. list_any (λ s. has s.choice p.key) ss || b) (wanted ss l ps)
       | false ↦ wanted ss l ps
     ]
 
-both_ways : (a b : Bool) → (a && b) ≡ (b && a)
-both_ways true true = refl
-both_ways true false = refl
-both_ways false true = refl
-both_ways false false = refl
-
 pub waiting_is : (w : World) (l : Lecturer) → is_waiting w.students w.projects l ≡ is_still_to_rank w l
 waiting_is w l =
-    both_ways (is_none l.ranking) (is_wanted w.students w.projects l.row.key)
+    and_comm (is_none l.ranking) (is_wanted w.students w.projects l.row.key)
     ∙ ap (λ b. b && is_none l.ranking) (sym (any_left _ w.students ∙ wanted w.students l.row.key w.projects))
 
 pub waiting_lecturers : (w : World) → map (λ (l : Lecturer). l.row.key) (filter (is_waiting w.students w.projects) w.lecturers) ≡ map (λ l. l.row.key) (filter (is_still_to_rank w) w.lecturers)

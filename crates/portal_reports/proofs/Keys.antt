@@ -2,6 +2,7 @@
 use Rattle.std.proofs.Common.{◌≡◌, ℕ, Bool, true, false, List, [], ◌∷◌, length, refl, ap, ◌∙◌, arith, rules, IsTrue}
 use Rattle.std.specs.Prelude.{◌&&◌, nat_lt, nat_le}
 use Rattle.std.specs.List.{list_all}
+use Rattle.std.proofs.lemmas.Bool.{and_parts}
 use Rattle.std.proofs.lemmas.Grind.{common_steps}
 use Rattle.spa_rows.specs.Form.{is_key, is_key_byte}
 use Rattle.portal_reports.specs.Status.{is_short}
@@ -9,15 +10,10 @@ use Rattle.portal_reports.specs.Status.{is_short}
 low : (b : ℕ) → is_key_byte b ≡ true → nat_lt b 128 ≡ true
 low b e = grind (arith, common_steps, e)
 
-both : (p q : Bool) → (p && q) ≡ true → (p ≡ true) × (q ≡ true)
-both true true e = (refl, refl)
-both true false e = absurd (cc)
-both false q e = absurd (cc)
-
 all-low : (text : List ℕ) → list_all is_key_byte text ≡ true → list_all (λ b. nat_lt b 128) text ≡ true
 all-low [] all = refl
 all-low (b ∷ text) all =
-    let parts = both (is_key_byte b) (list_all is_key_byte text) all in
+    let parts = and_parts (is_key_byte b) (list_all is_key_byte text) all in
     ap (λ t. t && list_all (λ c. nat_lt c 128) text) (low b parts.0) ∙ all-low text parts.1
 
 pub key-short : (text : List ℕ) → IsTrue (is_key text) → IsTrue (is_short text)

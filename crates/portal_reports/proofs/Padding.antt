@@ -1,19 +1,13 @@
 -- What std writes for a place of a width is the padding of the definition.
-use Rattle.std.proofs.Common.{◌≡◌, ℕ, zero, suc, ◌+◌, ◌-◌, ◌<◌, ◌≤◌, Bool, true, false, List, [], ◌∷◌, ◌++◌, length, replicate, refl, ap, ◌∙◌, arith, rules, append-nil, IfOk, Ok, Err, Some, string_bytes, IsTrue, decimal}
-use Rattle.std.specs.Prelude.{Result, IfSome, String, if◌then◌else◌, ◌||◌, ◌&&◌, ◌==◌, nat_lt, nat_le}
-use Rattle.std.specs.Global.{Global}
+use Rattle.std.proofs.Common.{◌≡◌, ℕ, zero, suc, ◌+◌, ◌-◌, ◌<◌, ◌≤◌, Bool, true, false, List, [], ◌∷◌, ◌++◌, length, replicate, refl, ap, ◌∙◌, arith, rules, append-nil, IsTrue, decimal}
+use Rattle.std.specs.Prelude.{if◌then◌else◌, ◌||◌, ◌&&◌, ◌==◌, nat_lt, nat_le}
 use Rattle.std.specs.List.{repeat, list_all}
 use Rattle.std.specs.Char.{encode_utf8}
 use Rattle.std.specs.Fmt.{padded, padded_integral, format_spec, take_chars, char_count, is_char_start, styled_text, styled_decimal}
-use Rattle.std.proofs.lemmas.Bool.{leb-true}
+use Rattle.std.proofs.lemmas.Bool.{and_parts, leb-true}
 use Rattle.std.proofs.lemmas.Grind.{common_steps}
 use Rattle.portal_core.specs.Sheets.{padded_left, padded_right}
 use Rattle.portal_reports.specs.Status.{is_short}
-
-pub said : {E : Type 0} (r : Result (String Global) E) (x y : List ℕ) → IfOk r (λ s. IfSome (Some x) (λ bs. string_bytes s ≡ bs)) → x ≡ y
-    → IfOk r (λ s. string_bytes s ≡ y)
-said (Ok s) x y given e = given ∙ e
-said (Err why) x y given e = tt
 
 blank : encode_utf8 32 ≡ 32 ∷ []
 unfolding encode_utf8
@@ -31,11 +25,6 @@ fill n = ap (repeat {A = ℕ} n) blank ∙ go n
 ascii : List ℕ → Type 0
 ascii text = list_all (λ b. nat_lt b 128) text ≡ true
 
-both : (p q : Bool) → (p && q) ≡ true → (p ≡ true) × (q ≡ true)
-both true true e = (refl, refl)
-both true false e = absurd (cc)
-both false q e = absurd (cc)
-
 start : (b : ℕ) → nat_lt b 128 ≡ true → is_char_start b ≡ true
 start b e = ap (λ t. t || nat_le 192 b) e
 
@@ -43,14 +32,14 @@ count-all : (text : List ℕ) → list_all (λ b. nat_lt b 128) text ≡ true �
 unfolding char_count
 count-all [] all = refl
 count-all (b ∷ text) all =
-    let parts = both (nat_lt b 128) (list_all (λ c. nat_lt c 128) text) all in
+    let parts = and_parts (nat_lt b 128) (list_all (λ c. nat_lt c 128) text) all in
     ap (λ t. (if t then 1 else 0) + char_count text) (start b parts.0) ∙ (ap (λ n. 1 + n) (count-all text parts.1) ∙ omega arith)
 
 take-all : (n : ℕ) (text : List ℕ) → list_all (λ b. nat_lt b 128) text ≡ true → length text ≤ n → take_chars n text ≡ text
 unfolding take_chars
 take-all n [] all le = refl
 take-all n (b ∷ text) all le =
-    let parts = both (nat_lt b 128) (list_all (λ c. nat_lt c 128) text) all in
+    let parts = and_parts (nat_lt b 128) (list_all (λ c. nat_lt c 128) text) all in
     ap (λ t. if t then (if n == 0 then [] else b ∷ take_chars (n - 1) text) else b ∷ take_chars n text) (start b parts.0)
     ∙ (ap (λ t. if t then [] else b ∷ take_chars (n - 1) text) (positive n (omega (arith, le)))
     ∙ ap (λ xs. b ∷ xs) (take-all (n - 1) text parts.1 (omega (arith, le))))

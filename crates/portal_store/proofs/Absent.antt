@@ -19,7 +19,8 @@ use Rattle.portal_store.specs.Putting.{TurnsThere}
 use Rattle.portal_store.proofs.Sorted.{put_all_map, map_twice}
 use Rattle.portal_store.proofs.Shapes.{IsLecturerRow, lecturer_rows_formed}
 use Rattle.portal_store.proofs.Parents.{text_there}
-use Rattle.portal_store.proofs.RankTurns.{key_test, same_key, all_map_on}
+use Rattle.portal_store.proofs.Listed.{all_map_on}
+use Rattle.portal_store.proofs.RankTurns.{key_test, same_key}
 
 -- a query shows as many rows as pass
 as_many : (keys : List ℕ) (p : Row → Bool) (show : Row → Row) (table shown : List Row) → ListsBy keys p show table shown

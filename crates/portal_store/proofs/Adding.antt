@@ -27,6 +27,7 @@ use Rattle.portal_store.specs.Kept.{HasOffice, Holds, Turned, Turns}
 use Rattle.portal_store.specs.Lists.{of_key, IsWhole, list_of}
 use Rattle.portal_store.specs.World.{world_of, phase_of, row_key, is_ranked, lecturer_of, project_row, student_of}
 use Rattle.portal_store.proofs.Sorted.{permutes, permutes_more, more_put, rise_distinct, all_permuted, distinct_permuted, map_twice, map_alike}
+use Rattle.portal_store.proofs.Listed.{all_map_on}
 use Rattle.portal_store.proofs.Parents.{none_of, choice_parents, ranking_parents}
 use Rattle.portal_store.proofs.Holding.{whole_same, keeps_then}
 use Rattle.portal_core.proofs.Keys.{all_unmap}
@@ -152,10 +153,6 @@ project_new r = project_cells r.key r.lecturer r.title (pos r.capacity)
 
 abbrev pub student_new : StudentRow → Row
 student_new r = student_cells r.key r.name r.code Null
-
-map_on : {X Y : Type 0} (P : X → Type 0) (f g : X → Y) (xs : List X) → AllByRecursion P xs → ((x : X) → P x → f x ≡ g x) → map f xs ≡ map g xs
-map_on P f g [] all h = refl
-map_on P f g (x ∷ xs) all h = ap₂ (λ a b. a ∷ b) (h x all.0) (map_on P f g xs all.1 h)
 
 module _ (rows : List LecturerRow) (old new : Database) (was : Holds old) (better : Good (changed (world_of old.trees) (Lecturers rows))) (a : Added lecturer_tree (map lecturer_new rows) old new) where
   lecturers_up : Rise (map lecturer_key (put_all lecturer_key (map new_lecturer rows) (put_all lecturer_key (map (lecturer_of (old.trees ranking_tree)) (old.trees lecturer_tree)) [])))
@@ -305,7 +302,7 @@ module _ (rows : List StudentRow) (old new : Database) (was : Holds old) (better
       let ready = was.apart in
       let f = student_of (old.trees choice_tree) in
       let news : map (λ c. f (unnumbered c)) (map student_new rows) ≡ map new_student rows =
-      sym (map_twice (λ c. f (unnumbered c)) student_new rows) ∙ map_on (λ r. of_key r.key (old.trees choice_tree) ≡ []) (λ r. f (unnumbered (student_new r))) new_student rows unlisted_yet
+      sym (map_twice (λ c. f (unnumbered c)) student_new rows) ∙ all_map_on (λ r. of_key r.key (old.trees choice_tree) ≡ []) (λ r. f (unnumbered (student_new r))) new_student rows unlisted_yet
       (λ r h. ap (λ l. record { row = r; choice = list_of l; placed = None }) h) in
       let same : IsPermutation (map new_student rows ++ map f (old.trees student_tree)) (map f (new.trees student_tree)) =
       subst (λ l. IsPermutation (l ++ map f (old.trees student_tree)) (map f (new.trees student_tree))) news (decoded f student_tree (map student_new rows) old new (student_bare (old.trees choice_tree)) a) in

@@ -2,32 +2,31 @@
 use Rattle.std.proofs.Common.{◌≡◌, Bool, true, false, ◌&&◌, ◌||◌, List, [], ◌∷◌, map, filter, Option, refl, sym, ap, ap₂, subst, ◌∙◌}
 use Rattle.std.specs.Prelude.{if◌then◌else◌}
 use Rattle.std.specs.List.{AllByRecursion, list_any}
+use Rattle.std.proofs.Math.Bool.{and_comm}
 use Rattle.std.proofs.lemmas.List.Sorted.{list_any-IsPermutation}
 use Rattle.sqlite.specs.Order.{Row, column, bytes}
 use Rattle.sqlite.specs.Tree.{Trees}
 use Rattle.sqlite.specs.Effect.{Database}
-use Rattle.sqlite_trees.proofs.ListLemmas.{filter-map}
+use Rattle.sqlite_trees.proofs.ListLemmas.{filter-map, map-map}
 use Rattle.portal_core.specs.declared.phase.Phase.{Phase}
-use Rattle.portal_core.specs.declared.phase.Phase.TheVariants.{Setup, Choosing, Ranking, Published}
 use Rattle.portal_core.specs.declared.rows.Listing.{Listing}
 use Rattle.portal_core.specs.declared.rows.Person.{Person}
 use Rattle.portal_core.specs.Sight.{LecturerSees}
 use Rattle.portal_core.specs.Words.{Key, is, has}
 use Rattle.portal_core.specs.World.{World, Lecturer, Student, project_key, projects_of, applicants_to, placed_at, is_at, is_from_ranking, is_published}
 use Rattle.portal_core.specs.View.{persons, catalogue, lecturer_sees}
-use Rattle.portal_core.proofs.AllLaws.{all_weaker, any_map, is_sym}
+use Rattle.portal_core.proofs.AllLaws.{all_weaker, any_map, filtered_any, is_sym, all_map}
 use Rattle.portal_core.proofs.Givers.{is_mapped}
-use Rattle.portal_list.proofs.Members.{filtered_any}
+use Rattle.portal_core.proofs.Enrol.{open_phase}
 use Rattle.portal_tables.specs.Tables.{student_tree, choice_tree}
 use Rattle.portal_tables.specs.Changes.{ListsBy, columns, has_text}
-use Rattle.portal_tables.proofs.Lists.{map-map}
 use Rattle.portal_store.specs.declared.queries.applicants.Line.{Line}
 use Rattle.portal_store.specs.Kept.{Holds}
 use Rattle.portal_store.specs.Lists.{of_key, named_by, place_key, by_place, chosen}
 use Rattle.portal_store.specs.World.{world_of, row_key, student_of}
 use Rattle.portal_store.specs.Shown.{first, by_key, students_shown}
 use Rattle.portal_store.specs.Queried.{line_of, shown_line, applicants_at, applicants_told, placed_told}
-use Rattle.portal_store.proofs.Listed.{permuted, all_mapped, for_each}
+use Rattle.portal_store.proofs.Listed.{permuted, for_each}
 use Rattle.portal_store.proofs.Loaded.{roll_columns, students_are}
 use Rattle.portal_store.proofs.Queried.{filter_alike}
 use Rattle.portal_store.proofs.Shapes.{IsChoiceRow, has_text_of, choice_rows_formed}
@@ -41,11 +40,14 @@ pub any_alike : {X : Type 0} (p q : X → Bool) (xs : List X) → AllByRecursion
 any_alike p q [] all = refl
 any_alike p q (x ∷ xs) all = ap₂ (λ a b. a || b) all.0 (any_alike p q xs all.1)
 
-and_turned : (a b : Bool) → (a && b) ≡ (b && a)
-and_turned true true = refl
-and_turned true false = refl
-and_turned false true = refl
-and_turned false false = refl
+-- a key is shown of the rows that pass where one of them is its own
+pub named_where : (t : Row → Bool) (table shown : List Row) → ListsBy (1 ∷ []) t (columns (1 ∷ [])) table shown → (k : Key) → has (map first shown) k ≡ list_any (λ r. t r && is k (row_key r)) table
+named_where t table shown lists k =
+    let f : Row → Row = columns (1 ∷ []) in
+    is_mapped first shown k
+    ∙ sym (list_any-IsPermutation (λ c. is k (first c)) (map f (filter t table)) shown (permuted _ _ _ table shown lists))
+    ∙ any_map (λ c. is k (first c)) f (filter t table)
+    ∙ filtered_any (λ r. is k (row_key r)) t table
 
 -- a student is among those who name the project where the student's list names it
 module _ (db : Database) (holds : Holds db) (p : Key) (shown : List Row) (lists : ListsBy (1 ∷ []) (has_text 3 p) (columns (1 ∷ [])) (db.trees choice_tree) shown) where
@@ -58,27 +60,21 @@ module _ (db : Database) (holds : Holds db) (p : Key) (shown : List Row) (lists 
       let by : has_text 1 k r ≡ is x.student k = has_text_of 1 k r x.student (ap (λ s. column s 1) x.is) in
       let key : is k (row_key r) ≡ is x.student k = ap (λ s. is k (bytes (column s 1))) x.is ∙ is_sym k x.student in
       let name : is p (named_by r) ≡ is x.project p = ap (λ s. is p (bytes (column s 3))) x.is ∙ is_sym p x.project in
-      ap₂ (λ a b. a && b) of key ∙ and_turned (is x.project p) (is x.student k) ∙ sym (ap₂ (λ a b. a && b) by name)
+      ap₂ (λ a b. a && b) of key ∙ and_comm (is x.project p) (is x.student k) ∙ sym (ap₂ (λ a b. a && b) by name)
 
   chooser : (k : Key) → has (map first shown) k ≡ has (chosen table k) p
   chooser k =
-      let f : Row → Row = columns (1 ∷ []) in
-      let left : has (map first shown) k ≡ list_any (λ r. has_text 3 p r && is k (row_key r)) table =
-      is_mapped first shown k
-      ∙ sym (list_any-IsPermutation (λ c. is k (first c)) (map f (filter (has_text 3 p) table)) shown (permuted _ _ _ table shown lists))
-      ∙ any_map (λ c. is k (first c)) f (filter (has_text 3 p) table)
-      ∙ filtered_any (λ r. is k (row_key r)) (has_text 3 p) table in
       let right : has (chosen table k) p ≡ list_any (λ r. has_text 1 k r && is p (named_by r)) table =
       is_mapped named_by (by_place (of_key k table)) p
       ∙ sym (list_any-IsPermutation (λ r. is p (named_by r)) (of_key k table) (by_place (of_key k table)) (permutes place_key (of_key k table)))
       ∙ filtered_any (λ r. is p (named_by r)) (has_text 1 k) table in
-      left ∙ any_alike _ _ table (all_weaker IsChoiceRow _ (alike k) table (choice_rows_formed db holds.own holds.sound holds.apart.1.1.1.1.0)) ∙ sym right
+      named_where (has_text 3 p) table shown lists k ∙ any_alike _ _ table (all_weaker IsChoiceRow _ (alike k) table (choice_rows_formed db holds.own holds.sound holds.apart.1.1.1.1.0)) ∙ sym right
 
   pub choosers : AllByRecursion (λ (s : Student). has (map first shown) s.row.key ≡ has s.choice p) (world_of db.trees).students
   unfolding world_of
   choosers =
       subst (AllByRecursion (λ (s : Student). has (map first shown) s.row.key ≡ has s.choice p)) (sym (students_are db.trees))
-      (all_mapped (λ (s : Student). has (map first shown) s.row.key ≡ has s.choice p) (student_of (db.trees choice_tree)) (by_key (db.trees student_tree)) (for_each _ (by_key (db.trees student_tree)) (λ r. chooser (row_key r))))
+      (all_map (λ (s : Student). has (map first shown) s.row.key ≡ has s.choice p) (student_of (db.trees choice_tree)) (by_key (db.trees student_tree)) (for_each _ (by_key (db.trees student_tree)) (λ r. chooser (row_key r))))
 
 persons_of : (p : Line → Bool) (ss : List Student) → map (λ (l : Line). l.person) (filter p (map line_of ss)) ≡ persons (filter (λ s. p (line_of s)) ss)
 persons_of p ss = ap (map (λ (l : Line). l.person)) (filter-map p line_of ss) ∙ map-map (λ (l : Line). l.person) line_of (filter (λ s. p (line_of s)) ss)
@@ -101,12 +97,6 @@ placed_are w phase lines keys at told =
     ap (λ (ls : List Line). map (λ (l : Line). l.person) (filter (λ (l : Line). is_at k l.placed) ls)) told ∙ persons_of (λ (l : Line). is_at k l.placed) w.students in
     ap₂ (λ (f : Phase) (list : List Person). (k, if is_published f then list else [])) at here)
 
-not_published : (f : Phase) → is_from_ranking f ≡ false → is_published f ≡ false
-not_published Setup e = refl
-not_published Choosing e = refl
-not_published Ranking e = refl
-not_published Published e = e
-
 pub all_applicants : (w : World) (phase : Phase) (keys : List Key) → is_from_ranking phase ≡ true → phase ≡ w.phase → map (applicants_at w) keys ≡ applicants_told w keys
 all_applicants w phase keys closed at =
     map_alike (applicants_at w) (λ k. (k, if is_from_ranking w.phase then persons (applicants_to w k) else [])) keys (λ k. ap (λ b. (k, if b then persons (applicants_to w k) else [])) (sym closed ∙ ap is_from_ranking at))
@@ -117,7 +107,7 @@ no_applicants w phase keys ajar at =
 
 pub none_placed : (w : World) (phase : Phase) (keys : List Key) → is_from_ranking phase ≡ false → phase ≡ w.phase → map (λ k. (k, [])) keys ≡ placed_told w keys
 none_placed w phase keys ajar at =
-    map_alike (λ k. (k, [])) (λ k. (k, if is_published w.phase then persons (placed_at w k) else [])) keys (λ k. ap (λ b. (k, if b then persons (placed_at w k) else [])) (sym (not_published phase ajar) ∙ ap is_published at))
+    map_alike (λ k. (k, [])) (λ k. (k, if is_published w.phase then persons (placed_at w k) else [])) keys (λ k. ap (λ b. (k, if b then persons (placed_at w k) else [])) (sym (open_phase phase ajar) ∙ ap is_published at))
 
 -- told of a lecturer's projects
 

@@ -1,5 +1,5 @@
 -- Queries in turn, and what `open` makes of them.
-use Rattle.std.proofs.Common.{List, [], ◌∷◌, pos, ◌≡◌, inl, inr, ℕ, Bool, false, IsTrue, IfErr, Ok, Err, Result, OnOk, OnErr, map, length, filter, slice_index_or, refl, sym, ap, subst, ◌∙◌, arith}
+use Rattle.std.proofs.Common.{List, [], ◌∷◌, pos, ◌≡◌, inl, ℕ, Bool, false, IsTrue, IfErr, Ok, Err, Result, OnOk, OnErr, map, length, filter, slice_index_or, refl, sym, ap, subst, ◌∙◌, arith}
 use Rattle.std.specs.Result.{IsErr}
 use Rattle.std.specs.List.Sorted.{IsPermutation}
 use Rattle.std.proofs.lemmas.List.Sorted.{length_permutation}
@@ -17,34 +17,14 @@ use Rattle.portal_tables.specs.Own.{IsOwn}
 use Rattle.portal_tables.specs.Changes.{ListsBy, every, columns}
 use Rattle.portal_tables.specs.Rows.{portal_row}
 use Rattle.portal_tables.specs.Steps.{Leaves}
-use Rattle.portal_tables.proofs.Queries.{on_ok}
+use Rattle.std.proofs.lemmas.Result.{on_ok_weaker, on_err_weaker}
 use Rattle.portal_core.specs.Words.{Key}
 use Rattle.portal_store.specs.World.{number_of, world_of}
 use Rattle.portal_store.specs.Kept.{HasOffice, Holds, IsKept}
+use Rattle.portal_store.proofs.InTurn.{unchanged_then, then_leaves}
 use Rattle.portal_store.specs.Asked.{Asks, Refutes, Admits}
 use Rattle.portal_store.specs.declared.store.OpenFault.{OpenFault}
 use Rattle.portal_store.specs.declared.store.OpenFault.TheVariants.{NotPortal, OtherVersion, Damaged, Store, Memory}
-
-unchanged_then : (a b c : State) → IsUnchanged a b → IsUnchanged b c → IsUnchanged a c
-unchanged_then a b c p q = (
-  record { was_open = p.0.was_open; is_open = q.0.is_open; now_is = q.0.now_is ∙ p.0.now_is; committed_is = q.0.committed_is ∙ p.0.committed_is; mode = q.0.mode ∙ p.0.mode },
-  record { changes = q.1.changes ∙ p.1.changes; last_rowid = q.1.last_rowid ∙ p.1.last_rowid },
-  q.2 ∙ p.2,
-)
-
-then_leaves : (a b c : State) → IsUnchanged a b → Leaves b c → Leaves a c
-then_leaves a b c p (inl q) = inl (unchanged_then a b c p q)
-then_leaves a b c p (inr q) = inr (record {
-  was_open = λ _. p.0.was_open;
-  undone = λ on. let u = q.undone on in (u.0 ∙ p.0.committed_is, u.1 ∙ p.0.committed_is);
-  autocommit = q.autocommit;
-  unmarked = q.unmarked;
-  counts = record { changes = q.counts.changes ∙ p.1.changes; last_rowid = q.counts.last_rowid ∙ p.1.last_rowid };
-})
-
-more_err : {V E : Type 0} (A B : Type 0) (r : Result V E) → (A → B) → OnErr r A → OnErr r B
-more_err A B (Ok v) more h = tt
-more_err A B (Err e) more h = more h
 
 -- one query
 pub asks_of : {V E : Type 0} (r : Result V E) (a b : State) → (IsOwn a.now.schema → HasCleanDisk b → OnOk r (IsUnchanged a b)) → (IsOwn a.now.schema → HasCleanDisk b → OnErr r (Leaves a b))
@@ -57,8 +37,8 @@ asks_then u r a b c p q =
     let middle : IsOwn a.now.schema → HasCleanDisk c → IsUnchanged a b = λ own clean. p.same own (omega (arith, q.crash.clean, clean)) in
     let own_there : IsUnchanged a b → IsOwn a.now.schema → IsOwn b.now.schema = λ same own. subst (λ (d : Database). IsOwn d.schema) (sym same.0.now_is) own in
     record {
-      same = λ own clean. let m = middle own clean in on_ok _ _ r (unchanged_then a b c m) (q.same (own_there m own) clean);
-      err = λ own clean. let m = middle own clean in more_err _ _ r (then_leaves a b c m) (q.err (own_there m own) clean);
+      same = λ own clean. let m = middle own clean in on_ok_weaker r (unchanged_then a b c m) (q.same (own_there m own) clean);
+      err = λ own clean. let m = middle own clean in on_err_weaker r (then_leaves a b c m) (q.err (own_there m own) clean);
       crash = survives_then a b c _ _ _ (λ clean db no. no) (λ clean db no own. no (own_there (middle own clean) own)) p.crash q.crash;
     }
 

@@ -17,19 +17,18 @@ use Rattle.portal_core.specs.Instance.{instance, matching_of, project_keys}
 use Rattle.portal_core.specs.declared.rows.ProjectRow.{ProjectRow}
 use Rattle.portal_core.specs.Words.{Key, is, has, Rise}
 use Rattle.portal_core.specs.World.{World, Lecturer, Student, lecturer_key, project_key, student_key, applicants_of, is_published}
-use Rattle.portal_core.proofs.AllLaws.{all_weaker}
-use Rattle.portal_core.proofs.Keys.{is_same}
+use Rattle.portal_core.proofs.AllLaws.{all_weaker, all_map}
+use Rattle.portal_core.proofs.Keys.{is_same, all_unmap}
 use Rattle.portal_core.proofs.Only.{on_roll}
 use Rattle.portal_tables.specs.Tables.{lecturer_tree, project_tree, student_tree, choice_tree, ranking_tree}
-use Rattle.portal_tables.proofs.Lists.{map-map}
 use Rattle.portal_store.specs.declared.load.Lists.TheVariants.{Choices, Rankings}
 use Rattle.portal_store.specs.World.{world_of, row_key, is_ranked, lecturer_row, student_row, lecturer_of, project_row, student_of}
 use Rattle.portal_store.specs.Lists.{of_key, chosen, list_of, IsWhole}
 use Rattle.portal_store.specs.Kept.{Stands}
 use Rattle.portal_store.specs.Shown.{shown_lecturer, shown_project, shown_student, HasPlace, by_key, IsFine, AreFine, RollsRise, lecturers_shown, projects_shown, students_shown}
-use Rattle.portal_store.proofs.Listed.{all_mapped, all_unmapped}
 use Rattle.portal_store.proofs.Loaded.{lecturer_columns, roll_columns, lecturers_are, projects_are, students_are}
 use Rattle.portal_store.proofs.Sorted.{all_permuted, permutes}
+use Rattle.sqlite_trees.proofs.ListLemmas.{map-map}
 
 abbrev IsKey : Key → Type 0
 IsKey k = is_key k ≡ true
@@ -61,7 +60,7 @@ all_two P Q R f (x ∷ xs) p q = (f x p.0 q.0, all_two P Q R f xs p.1 q.1)
 -- in a good world whatever is told of a student is a key
 module _ (w : World) (good : Good w) where
   known_projects : AllByRecursion IsKey (project_keys w)
-  known_projects = all_mapped IsKey project_key w.projects (all_weaker IsProject (λ p. IsKey (project_key p)) (λ p x. x.key) w.projects good.sound.project_forms)
+  known_projects = all_map IsKey project_key w.projects (all_weaker IsProject (λ p. IsKey (project_key p)) (λ p x. x.key) w.projects good.sound.project_forms)
 
   known_students : AllByRecursion (λ s. IsKey (student_key s)) w.students
   known_students = all_weaker (λ s. IsStudent s.row) (λ s. IsKey (student_key s)) (λ s x. x.key) w.students good.sound.student_forms
@@ -85,7 +84,7 @@ module _ (w : World) (good : Good w) where
   choice_keys = all_weaker (λ s. IsChoice (project_keys w) s.choice) (λ s. AllByRecursion IsKey s.choice) (λ s x. all_weaker (λ p. has (project_keys w) p ≡ true) IsKey (λ p known. among (project_keys w) known_projects p known) s.choice x.known) w.students good.sound.choices
 
   applicant_keys : (l : Key) → AllByRecursion IsKey (map student_key (applicants_of w l))
-  applicant_keys l = all_mapped IsKey student_key (applicants_of w l) (all_filtered (λ s. IsKey (student_key s)) _ w.students known_students)
+  applicant_keys l = all_map IsKey student_key (applicants_of w l) (all_filtered (λ s. IsKey (student_key s)) _ w.students known_students)
 
   ranked_keys : (l : Key) (o : Option (List Key)) → IfSome o (IsRanking (map student_key (applicants_of w l))) → IfSome o (AllByRecursion IsKey)
   ranked_keys l None h = tt
@@ -98,11 +97,11 @@ module _ (w : World) (good : Good w) where
 module _ (db : Trees) (stands : Stands db) where
   of_lecturers : (P : Lecturer → Type 0) → AllByRecursion P (world_of db).lecturers → AllByRecursion (λ r. P (lecturer_of (db ranking_tree) r)) (by_key (db lecturer_tree))
   unfolding world_of
-  of_lecturers P all = all_unmapped P (lecturer_of (db ranking_tree)) (by_key (db lecturer_tree)) (subst (AllByRecursion P) (lecturers_are db) all)
+  of_lecturers P all = all_unmap P (lecturer_of (db ranking_tree)) (by_key (db lecturer_tree)) (subst (AllByRecursion P) (lecturers_are db) all)
 
   of_students : (P : Student → Type 0) → AllByRecursion P (world_of db).students → AllByRecursion (λ r. P (student_of (db choice_tree) r)) (by_key (db student_tree))
   unfolding world_of
-  of_students P all = all_unmapped P (student_of (db choice_tree)) (by_key (db student_tree)) (subst (AllByRecursion P) (students_are db) all)
+  of_students P all = all_unmap P (student_of (db choice_tree)) (by_key (db student_tree)) (subst (AllByRecursion P) (students_are db) all)
 
   pub office_code : is_code stands.office.office ≡ true
   unfolding world_of
@@ -118,7 +117,7 @@ module _ (db : Trees) (stands : Stands db) where
 
   of_projects : (P : ProjectRow → Type 0) → AllByRecursion P (world_of db).projects → AllByRecursion (λ r. P (project_row r)) (by_key (db project_tree))
   unfolding world_of
-  of_projects P all = all_unmapped P project_row (by_key (db project_tree)) (subst (AllByRecursion P) (projects_are db) all)
+  of_projects P all = all_unmap P project_row (by_key (db project_tree)) (subst (AllByRecursion P) (projects_are db) all)
 
   in_order : (P : Row → Type 0) (table : List Row) → AllByRecursion P table → AllByRecursion P (by_key table)
   in_order P table all = all_permuted P table (by_key table) (permutes row_key table) all
@@ -148,13 +147,13 @@ module _ (db : Trees) (stands : Stands db) where
       let S = by_key (db student_tree) in
       let L = by_key (db lecturer_tree) in
       record {
-        lecturer_forms = all_mapped (λ c. IsLecturer (shown_lecturer c)) lecturer_columns L lecturers;
-        project_forms = all_mapped (λ c. IsProject (shown_project c)) roll_columns (by_key (db project_tree)) (of_projects IsProject good.sound.project_forms);
-        student_forms = all_mapped (λ c. IsStudent (shown_student c)) roll_columns S students;
-        places = all_mapped HasPlace roll_columns S (of_students (λ s. IfSome s.placed IsKey) (placed_keys w good));
-        choices = all_mapped (IsFine Choices db) roll_columns S (all_two (λ r. IsStudent (student_row r) × AllByRecursion IsKey (chosen (db choice_tree) (row_key r))) (λ r. IsWhole (of_key (row_key r) (db choice_tree))) (λ r. IsFine Choices db (roll_columns r)) fine_choice S
+        lecturer_forms = all_map (λ c. IsLecturer (shown_lecturer c)) lecturer_columns L lecturers;
+        project_forms = all_map (λ c. IsProject (shown_project c)) roll_columns (by_key (db project_tree)) (of_projects IsProject good.sound.project_forms);
+        student_forms = all_map (λ c. IsStudent (shown_student c)) roll_columns S students;
+        places = all_map HasPlace roll_columns S (of_students (λ s. IfSome s.placed IsKey) (placed_keys w good));
+        choices = all_map (IsFine Choices db) roll_columns S (all_two (λ r. IsStudent (student_row r) × AllByRecursion IsKey (chosen (db choice_tree) (row_key r))) (λ r. IsWhole (of_key (row_key r) (db choice_tree))) (λ r. IsFine Choices db (roll_columns r)) fine_choice S
             (all_two (λ r. IsStudent (student_row r)) (λ r. AllByRecursion IsKey (chosen (db choice_tree) (row_key r))) _ (λ r p q. (p, q)) S students choices) whole_choices);
-        rankings = all_mapped (IsFine Rankings db) lecturer_columns L (all_two (λ r. IsLecturer (lecturer_row r) × IfSome (lecturer_of (db ranking_tree) r).ranking (AllByRecursion IsKey))
+        rankings = all_map (IsFine Rankings db) lecturer_columns L (all_two (λ r. IsLecturer (lecturer_row r) × IfSome (lecturer_of (db ranking_tree) r).ranking (AllByRecursion IsKey))
             (λ r. IsWhole (of_key (row_key r) (db ranking_tree)) × (is_ranked r ≡ false → of_key (row_key r) (db ranking_tree) ≡ [])) (λ r. IsFine Rankings db (lecturer_columns r)) fine_ranking L
             (all_two (λ r. IsLecturer (lecturer_row r)) (λ r. IfSome (lecturer_of (db ranking_tree) r).ranking (AllByRecursion IsKey)) _ (λ r p q. (p, q)) L lecturers rankings)
             (all_two (λ r. IsWhole (of_key (row_key r) (db ranking_tree))) (λ r. is_ranked r ≡ false → of_key (row_key r) (db ranking_tree) ≡ []) _ (λ r p q. (p, q)) L whole_rankings ranked));

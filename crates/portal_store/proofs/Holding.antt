@@ -44,7 +44,7 @@ whole_same old new l s c r was = record {
   ranked = subst₂ (λ a b. AllByRecursion (λ x. is_ranked x ≡ false → of_key (row_key x) b ≡ []) a) (sym l) (sym r) was.ranked;
 }
 
-phase_back : (p : Phase) → phase_of (number_of p) ≡ p
+pub phase_back : (p : Phase) → phase_of (number_of p) ≡ p
 phase_back Setup = refl
 phase_back Choosing = refl
 phase_back Ranking = refl

@@ -6,10 +6,10 @@ use Rattle.sqlite.specs.State.{State, HasCleanDisk, IsUnchanged, Survives}
 use Rattle.sqlite.proofs.StateLemmas.{survives_then, survives_weaker}
 use Rattle.portal_tables.specs.Own.{IsOwn}
 use Rattle.portal_tables.specs.Steps.{Leaves}
-use Rattle.portal_tables.proofs.Queries.{on_ok}
+use Rattle.std.proofs.lemmas.Result.{on_ok_weaker, on_err_weaker}
 use Rattle.portal_store.specs.Reading.{Reads}
 
-unchanged_then : (a b c : State) → IsUnchanged a b → IsUnchanged b c → IsUnchanged a c
+pub unchanged_then : (a b c : State) → IsUnchanged a b → IsUnchanged b c → IsUnchanged a c
 unchanged_then a b c p q = (
   record { was_open = p.0.was_open; is_open = q.0.is_open; now_is = q.0.now_is ∙ p.0.now_is; committed_is = q.0.committed_is ∙ p.0.committed_is; mode = q.0.mode ∙ p.0.mode },
   record { changes = q.1.changes ∙ p.1.changes; last_rowid = q.1.last_rowid ∙ p.1.last_rowid },
@@ -19,7 +19,7 @@ unchanged_then a b c p q = (
 unchanged_self : (s : State) → IsTrue s.is_open → IsUnchanged s s
 unchanged_self s on = (record { was_open = on; is_open = on; now_is = refl; committed_is = refl; mode = refl }, record { changes = refl; last_rowid = refl }, refl)
 
-then_leaves : (a b c : State) → IsUnchanged a b → Leaves b c → Leaves a c
+pub then_leaves : (a b c : State) → IsUnchanged a b → Leaves b c → Leaves a c
 then_leaves a b c p (inl q) = inl (unchanged_then a b c p q)
 then_leaves a b c p (inr q) = inr (record {
   was_open = λ _. p.0.was_open;
@@ -28,10 +28,6 @@ then_leaves a b c p (inr q) = inr (record {
   unmarked = q.unmarked;
   counts = record { changes = q.counts.changes ∙ p.1.changes; last_rowid = q.counts.last_rowid ∙ p.1.last_rowid };
 })
-
-more_err : {V E : Type 0} (A B : Type 0) (r : Result V E) → (A → B) → OnErr r A → OnErr r B
-more_err A B (Ok v) more h = tt
-more_err A B (Err e) more h = more h
 
 -- what is known in the middle
 pub still : {V E : Type 0} (v : V) (a b : State) → Reads {V = V} {E = E} (Ok v) a b → IsOwn a.now.schema → HasCleanDisk b → IsTrue a.is_open → IsUnchanged a b
@@ -56,8 +52,8 @@ reads_then u r a b c p q =
     let before : HasCleanDisk c → HasCleanDisk b = clean_before b c _ q.crash in
     let middle : IsOwn a.now.schema → HasCleanDisk c → IsTrue a.is_open → IsUnchanged a b = λ own clean on. p.same own (before clean) on in
     record {
-      same = λ own clean on. let m = middle own clean on in on_ok _ _ r (unchanged_then a b c m) (q.same (still_own a b m own) clean m.0.is_open);
-      err = λ own clean on. let m = middle own clean on in more_err _ _ r (then_leaves a b c m) (q.err (still_own a b m own) clean m.0.is_open);
+      same = λ own clean on. let m = middle own clean on in on_ok_weaker r (unchanged_then a b c m) (q.same (still_own a b m own) clean m.0.is_open);
+      err = λ own clean on. let m = middle own clean on in on_err_weaker r (then_leaves a b c m) (q.err (still_own a b m own) clean m.0.is_open);
       crash = survives_then a b c _ _ _ (λ clean db no. no) (λ clean db no own on. let m = middle own clean on in no (still_own a b m own) m.0.is_open) p.crash q.crash;
     }
 

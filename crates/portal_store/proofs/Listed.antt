@@ -16,33 +16,28 @@ use Rattle.sqlite.specs.declared.types.Value.TheVariants.{Null, Int, Real, Blob,
 use Rattle.sqlite.specs.Order.{Row, column, bytes, value_cmp}
 use Rattle.sqlite_trees.specs.Objects.{number_in}
 use Rattle.sqlite_trees.specs.Tree.{IsAscending}
+use Rattle.sqlite_trees.proofs.ListLemmas.{map-map}
 use Rattle.sqlite_value.proofs.OrderLemmas.{value_cmp_total, value_cmp-Int, value_cmp-Text, then-Equal}
 use Rattle.sqlite_exec.proofs.PartitionLemmas.{ascending_from_sorted}
 use Rattle.sqlite_exec.proofs.RowsLemmas.{IsSorted-map}
 use Rattle.portal_core.specs.Words.{Key, is_before, Rise, put_all}
-use Rattle.portal_core.proofs.AllLaws.{all_weaker}
+use Rattle.portal_core.proofs.AllLaws.{all_weaker, all_map}
+use Rattle.portal_core.proofs.Keys.{all_unmap}
 use Rattle.portal_tables.specs.Changes.{ListsBy, every, columns, has_text}
-use Rattle.portal_tables.proofs.Lists.{map-map, filter_all}
+use Rattle.portal_tables.proofs.Lists.{filter_all}
 use Rattle.portal_store.specs.World.{row_key}
 use Rattle.portal_store.specs.Lists.{of_key, place_of, place_key, by_place, chosen, CountUp, IsWhole}
 use Rattle.portal_store.specs.Shown.{first, shown_place, shown_name, by_key}
 use Rattle.portal_store.proofs.Sorted.{NeverFall, all_permuted, in_order, sorted_order, put_all_map, permutes}
 
-pub all_mapped : {X Y : Type 0} (P : Y → Type 0) (f : X → Y) (xs : List X) → AllByRecursion (λ x. P (f x)) xs → AllByRecursion P (map f xs)
-all_mapped P f [] all = tt
-all_mapped P f (x ∷ xs) all = (all.0, all_mapped P f xs all.1)
-
-pub all_unmapped : {X Y : Type 0} (P : Y → Type 0) (f : X → Y) (xs : List X) → AllByRecursion P (map f xs) → AllByRecursion (λ x. P (f x)) xs
-all_unmapped P f [] all = tt
-all_unmapped P f (x ∷ xs) all = (all.0, all_unmapped P f xs all.1)
+-- what a map gives, where its elements are known
+pub all_map_on : {X Y : Type 0} (P : X → Type 0) (f g : X → Y) (xs : List X) → AllByRecursion P xs → ((x : X) → P x → f x ≡ g x) → map f xs ≡ map g xs
+all_map_on P f g [] all h = refl
+all_map_on P f g (x ∷ xs) all h = λ i. h x all.0 i ∷ all_map_on P f g xs all.1 h i
 
 pub for_each : {X : Type 0} (P : X → Type 0) (xs : List X) → ((x : X) → P x) → AllByRecursion P xs
 for_each P [] h = tt
 for_each P (x ∷ xs) h = (h x, for_each P xs h)
-
-map_same : {X Y : Type 0} (f g : X → Y) (xs : List X) → AllByRecursion (λ x. f x ≡ g x) xs → map f xs ≡ map g xs
-map_same f g [] all = refl
-map_same f g (x ∷ xs) all = λ i. all.0 i ∷ map_same f g xs all.1 i
 
 -- the rows are those that pass, as they are shown
 pub permuted : (keys : List ℕ) (p : Row → Bool) (show : Row → Row) (table shown : List Row) → ListsBy keys p show table shown → IsPermutation (map show (filter p table)) shown
@@ -58,11 +53,11 @@ ascends : (at : ℕ) (rest : List ℕ) (p : Row → Bool) (table shown : List Ro
 ascends at rest p table shown h =
     let pair : Row → Row × Row = λ r. (columns (at ∷ []) r, columns (at ∷ rest) r) in
     let alike : AllByRecursion (λ (k : Row × Row). column k.0 0 ≡ column k.1 0) h.keyed =
-    all_permuted _ (map pair (filter p table)) h.keyed h.same (all_mapped (λ (k : Row × Row). column k.0 0 ≡ column k.1 0) pair (filter p table) (for_each _ (filter p table) (λ r. refl))) in
+    all_permuted _ (map pair (filter p table)) h.keyed h.same (all_map (λ (k : Row × Row). column k.0 0 ≡ column k.1 0) pair (filter p table) (for_each _ (filter p table) (λ r. refl))) in
     let by_value : IsSorted (λ (a b : Row × Row). value_cmp (column a.0 0) (column b.0 0)) h.keyed =
     subst (λ (cmp : Row × Row → Row × Row → Ordering). IsSorted cmp h.keyed) (λ i a b. then-Equal (value_cmp (column a.0 0) (column b.0 0)) i) h.sorted in
     let up : IsAscending AtMost (map (λ (k : Row × Row). column k.0 0) h.keyed) = ascending_from_sorted value_cmp value_cmp_total _ (IsSorted-map value_cmp (λ (k : Row × Row). column k.0 0) h.keyed by_value) in
-    subst (IsAscending AtMost) (map_same (λ (k : Row × Row). column k.0 0) (λ k. column k.1 0) h.keyed alike ∙ sym (ap (map (λ c. column c 0)) h.is ∙ map-map (λ c. column c 0) (λ (k : Row × Row). k.1) h.keyed)) up
+    subst (IsAscending AtMost) (all_map_on _ (λ (k : Row × Row). column k.0 0) (λ k. column k.1 0) h.keyed alike (λ k same. same) ∙ sym (ap (map (λ c. column c 0)) h.is ∙ map-map (λ c. column c 0) (λ (k : Row × Row). k.1) h.keyed)) up
 
 -- so keys that go as the values do never fall
 module _ (f : Value → Key) (G : Value → Type 0) (agrees : (a b : Value) → G a → G b → AtMost a b → is_before (f b) (f a) ≡ false) where
@@ -121,7 +116,7 @@ module _ (rest : List ℕ) (table shown : List Row) (h : ListsBy (1 ∷ []) ever
   -- and they do where those of the world's order rise
   pub roll_rises : AllByRecursion (λ r. IsText (column r 1)) table → Rise (map row_key (by_key table)) → Rise (map first shown)
   roll_rises texts up =
-      let good : AllByRecursion IsText (map (λ c. column c 0) shown) = all_mapped IsText (λ c. column c 0) shown (all_permuted (λ c. IsText (column c 0)) (map (columns (1 ∷ rest)) table) shown whole_roll (all_mapped (λ c. IsText (column c 0)) (columns (1 ∷ rest)) table texts)) in
+      let good : AllByRecursion IsText (map (λ c. column c 0) shown) = all_map IsText (λ c. column c 0) shown (all_permuted (λ c. IsText (column c 0)) (map (columns (1 ∷ rest)) table) shown whole_roll (all_map (λ c. IsText (column c 0)) (columns (1 ∷ rest)) table texts)) in
       let never : NeverFall (map first shown) = subst NeverFall (map-map bytes (λ c. column c 0) shown) (falls bytes IsText texts_agree _ (ascends 1 rest every table shown h) good) in
       let there : map first (put_all first (map (columns (1 ∷ rest)) table) []) ≡ map row_key (by_key table) = ap (map first) in_place ∙ map-map first (columns (1 ∷ rest)) (by_key table) in
       let found = sorted_order first (map (columns (1 ∷ rest)) table) shown whole_roll never (subst Rise (sym there) up) in
@@ -129,7 +124,7 @@ module _ (rest : List ℕ) (table shown : List Row) (h : ListsBy (1 ∷ []) ever
 
 -- the list of one owner by its places
 
-less_is : (m n : ℕ) → m < n → is_before (m ∷ []) (n ∷ []) ≡ true
+pub less_is : (m n : ℕ) → m < n → is_before (m ∷ []) (n ∷ []) ≡ true
 less_is m n less = ap (λ o. is_lt (ordering_then o Equal)) (sym (nat_cmp_is m n Less less))
 
 abbrev one : ℕ → Key
@@ -185,9 +180,9 @@ module _ (key : Key) (table shown : List Row) (h : ListsBy (2 ∷ []) (has_text 
 
   pub list_counts : IsWhole (of_key key table) → CountUp 1 (map shown_place shown)
   list_counts whole =
-      let high : AllByRecursion (λ r. 1 ≤ place_of r) (by_place mine) = all_unmapped (λ m. 1 ≤ m) place_of (by_place mine) (counts_high 1 _ (omega arith) whole) in
+      let high : AllByRecursion (λ r. 1 ≤ place_of r) (by_place mine) = all_unmap (λ m. 1 ≤ m) place_of (by_place mine) (counts_high 1 _ (omega arith) whole) in
       let low : AllByRecursion (λ r. IsCount (column r 2)) mine = all_weaker _ _ (λ r. is_count (column r 2)) mine (all_permuted _ (by_place mine) mine (IsPermutation-sym _ _ (permutes place_key mine)) high) in
-      let good : AllByRecursion IsCount (map (λ c. column c 0) shown) = all_mapped IsCount (λ c. column c 0) shown (all_permuted (λ c. IsCount (column c 0)) (map list_columns mine) shown list_rows (all_mapped (λ c. IsCount (column c 0)) list_columns mine low)) in
+      let good : AllByRecursion IsCount (map (λ c. column c 0) shown) = all_map IsCount (λ c. column c 0) shown (all_permuted (λ c. IsCount (column c 0)) (map list_columns mine) shown list_rows (all_map (λ c. IsCount (column c 0)) list_columns mine low)) in
       let never : NeverFall (map shown_key shown) = subst NeverFall (map-map (λ v. one (number_in v)) (λ c. column c 0) shown) (falls (λ v. one (number_in v)) IsCount counts_agree _ (ascends 2 (3 ∷ []) (has_text 1 key) table shown h) good) in
       let rises : Rise (map shown_key (put_all shown_key (map list_columns mine) [])) =
       subst Rise (map-map one place_of (by_place mine) ∙ sym (ap (map shown_key) list_place ∙ map-map shown_key list_columns (by_place mine))) (counts_rise 1 _ whole) in

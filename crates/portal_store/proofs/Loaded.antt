@@ -6,16 +6,16 @@ use Rattle.std.proofs.lemmas.List.Sorted.{IsPermutation-sym}
 use Rattle.sqlite.specs.Order.{Row, column, bytes}
 use Rattle.sqlite.specs.Tree.{Trees}
 use Rattle.sqlite_trees.specs.Objects.{number_in}
+use Rattle.sqlite_trees.proofs.ListLemmas.{map-map}
 use Rattle.portal_core.specs.declared.phase.Phase.{Phase}
-use Rattle.portal_core.specs.declared.phase.Phase.TheVariants.{Setup, Choosing, Ranking, Published}
 use Rattle.portal_core.specs.Words.{Key, put_all}
 use Rattle.portal_core.specs.World.{Lecturer, Student, lecturer_key, project_key, student_key}
 use Rattle.portal_core.proofs.AllLaws.{all_weaker}
+use Rattle.portal_core.proofs.Keys.{all_unmap}
 use Rattle.portal_list.specs.Rows.{Rows, rows_of}
 use Rattle.portal_tables.specs.Tables.{portal_tree, lecturer_tree, project_tree, student_tree, choice_tree, ranking_tree}
 use Rattle.portal_tables.specs.Rows.{portal_row}
 use Rattle.portal_tables.specs.Changes.{columns}
-use Rattle.portal_tables.proofs.Lists.{map-map}
 use Rattle.portal_store.specs.declared.load.Lists.TheVariants.{Choices, Rankings}
 use Rattle.portal_store.specs.declared.load.LoadFault.{LoadFault}
 use Rattle.portal_store.specs.World.{world_of, number_of, phase_of, row_key, is_ranked, lecturer_of, project_row, student_of}
@@ -23,20 +23,14 @@ use Rattle.portal_store.specs.Lists.{of_key, chosen, IsWhole}
 use Rattle.portal_store.specs.Kept.{Whole}
 use Rattle.portal_store.specs.Loads.{Loads}
 use Rattle.portal_store.specs.Shown.{shown_lecturer, shown_project, shown_student, shown_pair, by_key, entry, IsRead, AreRead, rows_from, lecturers_shown, projects_shown, students_shown}
-use Rattle.portal_store.proofs.Listed.{all_unmapped}
 use Rattle.portal_store.proofs.Sorted.{all_permuted, permutes, put_all_map}
-
-pub phase_back : (p : Phase) → phase_of (number_of p) ≡ p
-phase_back Setup = refl
-phase_back Choosing = refl
-phase_back Ranking = refl
-phase_back Published = refl
+use Rattle.portal_store.proofs.Holding.{phase_back}
 
 pub some_mapped : {X Y Z : Type 0} (f : Y → Option Z) (g : X → Y) (xs : List X) → filter_map f (map g xs) ≡ filter_map (λ x. f (g x)) xs
 some_mapped f g [] = refl
 some_mapped f g (x ∷ xs) = ap (cons_option (f (g x))) (some_mapped f g xs)
 
-some_alike : {X Z : Type 0} (f g : X → Option Z) (xs : List X) → ((x : X) → f x ≡ g x) → filter_map f xs ≡ filter_map g xs
+pub some_alike : {X Z : Type 0} (f g : X → Option Z) (xs : List X) → ((x : X) → f x ≡ g x) → filter_map f xs ≡ filter_map g xs
 some_alike f g [] h = refl
 some_alike f g (x ∷ xs) h = λ i. cons_option (h x i) (some_alike f g xs h i)
 
@@ -108,8 +102,8 @@ module _ (db : Trees) where
 
   whole_is : AreRead db (lecturers_shown db) (students_shown db) → Whole db
   whole_is read =
-      let lists = all_unmapped (IsRead Choices db) roll_columns by_student read.choices in
-      let ranks = all_unmapped (IsRead Rankings db) lecturer_columns by_lecturer read.rankings in
+      let lists = all_unmap (IsRead Choices db) roll_columns by_student read.choices in
+      let ranks = all_unmap (IsRead Rankings db) lecturer_columns by_lecturer read.rankings in
       record {
         choices = back (λ r. IsWhole (of_key (row_key r) (db choice_tree))) (db student_tree) (all_weaker (λ r. IsRead Choices db (roll_columns r)) (λ r. IsWhole (of_key (row_key r) (db choice_tree))) (λ r x. x.whole) by_student lists);
         rankings = back (λ r. IsWhole (of_key (row_key r) (db ranking_tree))) (db lecturer_tree) (all_weaker (λ r. IsRead Rankings db (lecturer_columns r)) (λ r. IsWhole (of_key (row_key r) (db ranking_tree))) (λ r x. x.whole) by_lecturer ranks);

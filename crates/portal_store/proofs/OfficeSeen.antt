@@ -1,39 +1,46 @@
 -- What the office sees, of what queries show.
-use Rattle.std.proofs.Common.{◌≡◌, inl, inr, pos, Bool, true, false, ◌&&◌, ◌||◌, cond, Option, Some, None, List, [], ◌∷◌, map, filter, refl, sym, ap, ◌∙◌}
+use Rattle.std.proofs.Common.{◌≡◌, inl, inr, pos, Bool, true, false, ◌&&◌, ◌||◌, cond, Option, Some, None, List, [], ◌∷◌, map, filter, refl, sym, ap, ◌∙◌, ℤ, negsuc, subst}
 use Rattle.std.specs.Prelude.{if◌then◌else◌, not, is_none}
 use Rattle.std.specs.List.{AllByRecursion, list_any, filter_map, cons_option}
-use Rattle.std.proofs.Math.Bool.{or-true}
+use Rattle.std.proofs.Math.Bool.{or-true, and_comm}
 use Rattle.std.proofs.lemmas.Bool.{cases_Bool}
 use Rattle.std.proofs.lemmas.List.Sorted.{list_any-IsPermutation}
-use Rattle.sqlite.specs.Order.{Row}
+use Rattle.std.specs.Ordering.{is_eq}
+use Rattle.sqlite.specs.Order.{Row, column, bytes, value_cmp}
 use Rattle.sqlite.specs.Tree.{Trees}
 use Rattle.sqlite.specs.Effect.{Database}
-use Rattle.sqlite_trees.proofs.ListLemmas.{filter-map}
+use Rattle.sqlite.specs.declared.types.Value.TheVariants.{Int}
+use Rattle.sqlite_trees.proofs.ListLemmas.{filter-map, map-map}
+use Rattle.sqlite_trees.specs.Objects.{number_in}
 use Rattle.portal_core.specs.declared.phase.Phase.{Phase}
 use Rattle.portal_core.specs.declared.rows.Listing.{Listing}
 use Rattle.portal_core.specs.Words.{Key, is, has, is_empty}
 use Rattle.portal_core.specs.World.{Lecturer, Student, student_key, is_still_to_rank, is_from_ranking, is_published}
 use Rattle.portal_core.specs.View.{catalogue, office_sees}
-use Rattle.portal_core.proofs.AllLaws.{all_weaker, is_sym}
+use Rattle.portal_core.proofs.AllLaws.{all_weaker, any_nowhere, is_sym, all_map, filtered_any}
 use Rattle.portal_core.proofs.Givers.{is_mapped}
-use Rattle.portal_list.specs.Rows.{Rows, rows_of, choices_in}
+use Rattle.portal_core.proofs.Kept.{empty_map}
+use Rattle.portal_list.specs.Rows.{Rows, rows_of}
 use Rattle.portal_list.specs.Shown.{is_wanted, is_waiting}
 use Rattle.portal_list.proofs.Waiting.{waiting_lecturers}
+use Rattle.portal_list.proofs.Members.{has_all}
 use Rattle.portal_tables.specs.Tables.{portal_tree, lecturer_tree, student_tree, choice_tree, ranking_tree}
 use Rattle.portal_tables.specs.Rows.{portal_row}
-use Rattle.portal_tables.specs.Changes.{ListsBy, columns, has_text}
-use Rattle.portal_tables.proofs.Lists.{map-map}
+use Rattle.portal_tables.proofs.Lists.{eq_self}
+use Rattle.portal_tables.specs.Changes.{ListsBy, columns, has_text, has_number}
 use Rattle.portal_store.specs.Kept.{Holds}
 use Rattle.portal_store.specs.World.{world_of, number_of, row_key, is_ranked, lecturer_of, student_of}
-use Rattle.portal_store.specs.Lists.{chosen}
+use Rattle.portal_store.specs.Lists.{chosen, of_key, place_of, place_key, named_by, by_place, CountUp, IsWhole}
 use Rattle.portal_store.specs.Shown.{first, by_key, shown_project, rows_from, lecturers_shown, projects_shown, students_shown}
 use Rattle.portal_store.specs.Queried.{unlisted, waiting_key, office_from}
-use Rattle.portal_store.proofs.Applying.{any_alike, choosers}
+use Rattle.portal_store.proofs.Applying.{any_alike, choosers, named_where}
 use Rattle.portal_store.proofs.Fine.{all_filtered}
-use Rattle.portal_store.proofs.Listed.{permuted, all_mapped}
-use Rattle.portal_store.proofs.Loaded.{lecturer_columns, some_mapped, lecturers_are, students_are, rows_are}
-use Rattle.portal_store.proofs.Parents.{choice_parents}
+use Rattle.portal_store.proofs.Listed.{permuted, for_each}
+use Rattle.portal_store.proofs.Loaded.{lecturer_columns, some_mapped, lecturers_are, students_are, rows_are, roll_columns}
+use Rattle.portal_store.proofs.Parents.{choice_parents, none_of}
 use Rattle.portal_store.proofs.Sorted.{permutes, all_permuted}
+use Rattle.portal_store.proofs.Queried.{filter_alike}
+use Rattle.portal_store.proofs.Shapes.{IsChoiceRow, choice_rows_formed, has_text_of}
 
 -- somebody names the project
 
@@ -44,19 +51,11 @@ some_more f g (x ∷ xs) more h = elim (cases_Bool (f x)) [
   | inr fails ↦ ap (λ b. g x || b) (some_more f g xs more (sym (ap (λ b. b || list_any f xs) fails) ∙ h)) ∙ or-true (g x)
 ]
 
-none_at_all : {X : Type 0} (xs : List X) → list_any (λ (x : X). false) xs ≡ false
-none_at_all [] = refl
-none_at_all (x ∷ xs) = none_at_all xs
-
 -- of students whose keys these are there is one, where there is a key
 anyone : (ks : List Key) (ss : List Student) → AllByRecursion (λ k. has (map student_key ss) k ≡ true) ks → list_any (λ s. has ks s.row.key) ss ≡ not (is_empty ks)
-anyone [] ss all = none_at_all ss
+anyone [] ss all = any_nowhere ss
 anyone (k ∷ ks) ss all =
     some_more (λ (s : Student). is k s.row.key) (λ s. is s.row.key k || has ks s.row.key) ss (λ s e. ap (λ b. b || has ks s.row.key) (is_sym s.row.key k ∙ e)) (sym (is_mapped student_key ss k) ∙ all.0)
-
-empty_mapped : {X Y : Type 0} (f : X → Y) (xs : List X) → is_empty (map f xs) ≡ is_empty xs
-empty_mapped f [] = refl
-empty_mapped f (x ∷ xs) = refl
 
 -- who has a row is in the world
 on_roll : (db : Trees) (k : Key) → has (map student_key (world_of db).students) k ≡ has (map row_key (db student_tree)) k
@@ -76,9 +75,63 @@ some_chooser db holds p shown lists =
     let table = db.trees choice_tree in
     let On : Key → Type 0 = λ k. has (map student_key w.students) k ≡ true in
     let rows : AllByRecursion (λ r. On (row_key r)) table = all_weaker _ (λ r. On (row_key r)) (λ r known. on_roll db.trees (row_key r) ∙ known.0) table (choice_parents db holds.own holds.sound holds.apart.1.1.1.1.0) in
-    let mapped : AllByRecursion (λ c. On (first c)) (map (columns (1 ∷ [])) (filter (has_text 3 p) table)) = all_mapped (λ c. On (first c)) (columns (1 ∷ [])) (filter (has_text 3 p) table) (all_filtered (λ r. On (row_key r)) (has_text 3 p) table rows) in
-    let keys : AllByRecursion On (map first shown) = all_mapped On first shown (all_permuted (λ c. On (first c)) _ shown (permuted _ _ _ table shown lists) mapped) in
-    ap not (sym (empty_mapped first shown)) ∙ sym (anyone (map first shown) w.students keys) ∙ any_alike _ _ w.students (choosers db holds p shown lists)
+    let mapped : AllByRecursion (λ c. On (first c)) (map (columns (1 ∷ [])) (filter (has_text 3 p) table)) = all_map (λ c. On (first c)) (columns (1 ∷ [])) (filter (has_text 3 p) table) (all_filtered (λ r. On (row_key r)) (has_text 3 p) table rows) in
+    let keys : AllByRecursion On (map first shown) = all_map On first shown (all_permuted (λ c. On (first c)) _ shown (permuted _ _ _ table shown lists) mapped) in
+    ap not (sym (empty_map first shown)) ∙ sym (anyone (map first shown) w.students keys) ∙ any_alike _ _ w.students (choosers db holds p shown lists)
+
+-- who has a list
+
+-- each list of the table is whole: its owner is on the roll, or it is empty
+every_whole : (db : Database) → Holds db → (k : Key) → IsWhole (of_key k (db.trees choice_tree))
+every_whole db holds k = elim (cases_Bool (has (map row_key (db.trees student_tree)) k)) [
+  | inl known ↦ has_all (λ k. IsWhole (of_key k (db.trees choice_tree))) (map row_key (db.trees student_tree)) k (all_map (λ k. IsWhole (of_key k (db.trees choice_tree))) row_key (db.trees student_tree) holds.whole.choices) known
+  | inr off ↦ subst IsWhole (sym (none_of _ (db.trees student_tree) k (db.trees choice_tree) (choice_parents db holds.own holds.sound holds.apart.1.1.1.1.0) off)) tt
+]
+
+one_is : (place : ℤ) → number_in (Int place) ≡ 1 → is_eq (value_cmp (Int place) (Int (pos 1))) ≡ true
+one_is (pos n) e = ap (λ m. is_eq (value_cmp (Int (pos m)) (Int (pos 1)))) e ∙ eq_self (Int (pos 1))
+one_is (negsuc n) e = cc
+
+is_first : (r : Row) → IsChoiceRow r → place_of r ≡ 1 → has_number 2 1 r ≡ true
+is_first r x e =
+    ap (λ s. is_eq (value_cmp (column s 2) (Int (pos 1)))) x.is ∙ one_is x.place (sym (ap place_of x.is) ∙ e)
+
+-- rows with the places 1, 2 and so on begin with the first, if there are any
+begins : (rows : List Row) → AllByRecursion IsChoiceRow rows → CountUp 1 (map place_of rows) → list_any (has_number 2 1) rows ≡ not (is_empty (map named_by rows))
+begins [] shapes up = refl
+begins (r ∷ rs) shapes up = ap (λ b. b || list_any (has_number 2 1) rs) (is_first r shapes.0 up.0)
+
+module _ (db : Database) (holds : Holds db) (shown : List Row) (lists : ListsBy (1 ∷ []) (has_number 2 1) (columns (1 ∷ [])) (db.trees choice_tree) shown) where
+  abbrev table : List Row
+  table = db.trees choice_tree
+
+  formed : AllByRecursion IsChoiceRow table
+  formed = choice_rows_formed db holds.own holds.sound holds.apart.1.1.1.1.0
+
+  alike : (k : Key) (r : Row) → IsChoiceRow r → (has_number 2 1 r && is k (row_key r)) ≡ (has_text 1 k r && has_number 2 1 r)
+  alike k r x =
+      let by : has_text 1 k r ≡ is x.student k = has_text_of 1 k r x.student (ap (λ s. column s 1) x.is) in
+      let key : is k (row_key r) ≡ is x.student k = ap (λ s. is k (bytes (column s 1))) x.is ∙ is_sym k x.student in
+      ap (λ b. has_number 2 1 r && b) (key ∙ sym by) ∙ and_comm (has_number 2 1 r) (has_text 1 k r)
+
+  -- a key is shown where it has a list
+  lister : (k : Key) → has (map first shown) k ≡ not (is_empty (chosen table k))
+  lister k =
+      let mine : List Row = of_key k table in
+      named_where (has_number 2 1) table shown lists k
+      ∙ any_alike _ _ table (all_weaker IsChoiceRow _ (alike k) table formed)
+      ∙ sym (filtered_any (has_number 2 1) (has_text 1 k) table)
+      ∙ list_any-IsPermutation (has_number 2 1) mine (by_place mine) (permutes place_key mine)
+      ∙ begins (by_place mine) (all_permuted IsChoiceRow mine (by_place mine) (permutes place_key mine) (all_filtered IsChoiceRow (has_text 1 k) table formed)) (every_whole db holds k)
+
+  twice : (b : Bool) → not (not b) ≡ b
+  twice true = refl
+  twice false = refl
+
+  pub unlisted_are : (students : List Row) → map first (filter (λ c. not (has (map first shown) (first c))) students) ≡ unlisted db.trees students
+  unlisted_are students =
+      ap (map first) (filter_alike (λ c. not (has (map first shown) (first c))) (λ c. is_empty (chosen table (first c))) students
+      (for_each _ students (λ c. ap not (lister (first c)) ∙ twice (is_empty (chosen table (first c))))))
 
 -- the parts of what is seen
 
@@ -89,11 +142,6 @@ passing {X} {Y} {Z} p key of f same (x ∷ xs) =
     ap (λ o. cons_option o (filter_map f xs)) (same x)
     ∙ ap (cons_option (cond (p (of x)) (Some (key (of x))) None)) (passing p key of f same xs)
     ∙ elim (p (of x)) as (λ b. cons_option (cond {A = Option Z} b (Some (key (of x))) None) (map key (filter p (map of xs))) ≡ map key (cond b (of x ∷ filter p (map of xs)) (filter p (map of xs)))) [ true ↦ refl | false ↦ refl ]
-
-keys_without : (ss : List Student) → unlisted (choices_in ss) ≡ map (λ (s : Student). s.row.key) (filter (λ s. is_empty s.choice) ss)
-keys_without ss =
-    ap (map (λ (e : Key × List Key). e.0)) (filter-map (λ (e : Key × List Key). is_empty e.1) (λ (s : Student). (s.row.key, s.choice)) ss)
-    ∙ map-map (λ (e : Key × List Key). e.0) (λ (s : Student). (s.row.key, s.choice)) (filter (λ s. is_empty s.choice) ss)
 
 ranking_there : (b wanted : Bool) (k : Key) (list : List Key) → cond b None (cond wanted (Some k) None) ≡ cond (is_none (cond b (Some list) None) && wanted) (Some k) None
 ranking_there true wanted k list = refl
@@ -110,12 +158,22 @@ waiting_told db =
     ∙ ap (λ ls. map (λ (l : Lecturer). l.row.key) (filter (is_waiting w.students w.projects) ls)) (sym (lecturers_are db))
     ∙ waiting_lecturers w
 
+unlisted_told : (db : Trees) → unlisted db (students_shown db) ≡ map (λ (s : Student). s.row.key) (filter (λ s. is_empty s.choice) (world_of db).students)
+unfolding world_of
+unlisted_told db =
+    let rows = by_key (db student_tree) in
+    ap (map first) (filter-map (λ c. is_empty (chosen (db choice_tree) (first c))) roll_columns rows)
+    ∙ map-map first roll_columns (filter (λ r. is_empty (chosen (db choice_tree) (row_key r))) rows)
+    ∙ sym (ap (λ ss. map (λ (s : Student). s.row.key) (filter (λ (s : Student). is_empty s.choice) ss)) (students_are db)
+    ∙ ap (map (λ (s : Student). s.row.key)) (filter-map (λ (s : Student). is_empty s.choice) (student_of (db choice_tree)) rows)
+    ∙ map-map (λ (s : Student). s.row.key) (student_of (db choice_tree)) (filter (λ r. is_empty (chosen (db choice_tree) (row_key r))) rows))
+
 pub office_told : (db : Trees) (phase : Phase) (code : Key) (offers : List Listing) → db portal_tree ≡ portal_row (pos 1) (pos (number_of phase)) code ∷ [] → offers ≡ catalogue (world_of db)
     → office_from db phase code offers (lecturers_shown db) (projects_shown db) (students_shown db) ≡ office_sees (world_of db)
 office_told db phase code offers office listed =
     let w = world_of db in
     let same : rows_from db phase code (lecturers_shown db) (projects_shown db) (students_shown db) ≡ rows_of w = rows_are db phase code office in
-    let without = ap (λ (r : Rows). unlisted r.choices) same ∙ keys_without w.students in
+    let without = unlisted_told db in
     let still : (if is_from_ranking phase then filter_map (waiting_key w (map shown_project (projects_shown db))) (lecturers_shown db) else []) ≡ (if is_from_ranking w.phase then map (λ (l : Lecturer). l.row.key) (filter (is_still_to_rank w) w.lecturers) else [])
     = ap (λ (r : Rows). if is_from_ranking r.phase then filter_map (waiting_key w r.projects) (lecturers_shown db) else []) same
     ∙ ap (λ (ks : List Key). if is_from_ranking w.phase then ks else []) (waiting_told db) in

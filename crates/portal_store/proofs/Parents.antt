@@ -6,6 +6,7 @@ use Rattle.std.specs.Ordering.{is_eq}
 use Rattle.std.specs.declared.cmp.Ordering.{Ordering}
 use Rattle.std.specs.declared.cmp.Ordering.TheVariants.{Less, Equal, Greater}
 use Rattle.std.specs.Prelude.{Some}
+use Rattle.std.proofs.Math.Bool.{or-true}
 use Rattle.sqlite.specs.declared.types.Value.{Value}
 use Rattle.sqlite.specs.declared.types.Value.TheVariants.{Null, Int, Real, Blob, Text as Words}
 use Rattle.sqlite.specs.Collation.TheVariants.{Binary}
@@ -17,7 +18,7 @@ use Rattle.sqlite_schema.specs.declared.schema.Constraint.TheVariants.{ForeignKe
 use Rattle.sqlite_schema.specs.Rules.{Keeps, passes, equal}
 use Rattle.portal_core.specs.Words.{Key, is, has}
 use Rattle.portal_core.proofs.Keys.{is_same, is_own}
-use Rattle.portal_tables.specs.Tables.{lecturer_tree, project_tree, student_tree, choice_tree, ranking_tree, project, choice, ranking}
+use Rattle.portal_tables.specs.Tables.{lecturer_tree, project_tree, student_tree, choice_tree, ranking_tree, choice, ranking}
 use Rattle.portal_tables.specs.Own.{IsOwn}
 use Rattle.portal_tables.specs.Changes.{IsApart, has_text}
 use Rattle.sqlite_tied.specs.Compute.{everything}
@@ -73,17 +74,13 @@ ranking_found checks terms db r n l p s is h =
     let parts = and_parts (Found (db 1) l) (Found (db 6) s && true) (subst (λ x. passes ForeignKey (portal_with checks terms) db (with_checks checks terms (ranking 12)) x ≡ true) is h) in
     (parts.0, (and_parts (Found (db 6) s) true parts.1).0)
 
-or_right : (b : Bool) → (b || true) ≡ true
-or_right true = refl
-or_right false = refl
-
 on_roll : (roll : List Row) (k : Key) → Found roll k ≡ true → OnRoll roll k
 on_roll [] k h = absurd (cc)
 on_roll (r ∷ roll) k h = elim (cases_Bool (equal Binary (column r 1) (Words k))) [
   | inl is_so ↦ let e = equals_key (column r 1) k (equals_text (column r 1) k is_so) in
       let own : is k (row_key r) ≡ true = ap (λ v. is k (bytes v)) e ∙ is_own k in
       ap (λ b. b || has (map row_key roll) k) own
-  | inr is_not ↦ ap (λ b. is k (row_key r) || b) (on_roll roll k (ap (λ b. (b && true) || Found roll k) (sym is_not) ∙ h)) ∙ or_right (is k (row_key r))
+  | inr is_not ↦ ap (λ b. is k (row_key r) || b) (on_roll roll k (ap (λ b. (b && true) || Found roll k) (sym is_not) ∙ h)) ∙ or-true (is k (row_key r))
 ]
 
 all_then : (P Q R : Row → Type 0) (rows : List Row) → ((r : Row) → P r → Q r → R r) → AllByRecursion P rows → AllByRecursion Q rows → AllByRecursion R rows

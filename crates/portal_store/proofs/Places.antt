@@ -1,5 +1,5 @@
 -- What the UPDATEs of the students' places are to the world.
-use Rattle.std.proofs.Common.{◌≡◌, inl, inr, ℕ, ℤ, ◌+◌, ◌<◌, Bool, true, false, not, ◌||◌, cond, Option, Some, None, List, [], ◌∷◌, ◌++◌, map, filter, take, get_or, length, refl, sym, ap, ap₂, subst, subst₂, ◌∙◌}
+use Rattle.std.proofs.Common.{◌≡◌, inl, inr, ℕ, ℤ, ◌+◌, ◌<◌, true, false, not, ◌||◌, cond, Option, Some, None, List, [], ◌∷◌, ◌++◌, map, filter, take, get_or, length, refl, sym, ap, ap₂, subst, subst₂, ◌∙◌}
 use Rattle.std.proofs.lemmas.Bool.{cases_Bool}
 use Rattle.std.proofs.lemmas.List.{map-append, take_more}
 use Rattle.std.specs.List.{AllByRecursion, IsDistinct}
@@ -13,6 +13,7 @@ use Rattle.sqlite.specs.State.{State}
 use Rattle.portal_tables.specs.Steps.{Made}
 use Rattle.portal_store.specs.Going.{GoesOn}
 use Rattle.std.proofs.lemmas.Map.Keys.{IsDistinct-IsPermutation}
+use Rattle.std.proofs.Math.Bool.{or-true}
 use Rattle.sqlite_rules.specs.Lists.{Has}
 use Rattle.sqlite_trees.specs.Objects.{number_in}
 use Rattle.portal_core.specs.declared.phase.Phase.TheVariants.{Published}
@@ -235,11 +236,7 @@ shown_rows shown db h =
 has_of : (ks : List Key) (k : Key) → Has ks k → has ks k ≡ true
 has_of [] k h = absurd h
 has_of (l ∷ ks) k (inl e) = ap (λ b. b || has ks k) (subst (λ m. is k m ≡ true) e (is_own k))
-has_of (l ∷ ks) k (inr h) = ap (λ b. is k l || b) (has_of ks k h) ∙ or_right (is k l)
-  where
-    or_right : (b : Bool) → (b || true) ≡ true
-    or_right true = refl
-    or_right false = refl
+has_of (l ∷ ks) k (inr h) = ap (λ b. is k l || b) (has_of ks k h) ∙ or-true (is k l)
 
 each_there : (ks : List Key) → AllByRecursion (λ k. has ks k ≡ true) ks
 each_there ks = all_has (λ k. has ks k ≡ true) ks (has_of ks)

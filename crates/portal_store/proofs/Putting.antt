@@ -1,5 +1,5 @@
 -- A list that is put row by row.
-use Rattle.std.proofs.Common.{◌≡◌, ◌≢◌, ℕ, ◌+◌, ◌<◌, pos, List, [], ◌∷◌, ◌++◌, Bool, true, false, not, ◌&&◌, cond, map, filter, length, refl, sym, ap, subst, ◌∙◌, arith, get_or, take, suc, zero-add}
+use Rattle.std.proofs.Common.{◌≡◌, ℕ, ◌+◌, ◌<◌, pos, List, [], ◌∷◌, ◌++◌, Bool, true, false, not, ◌&&◌, cond, map, filter, length, refl, sym, ap, subst, ◌∙◌, arith, get_or, take, suc, zero-add}
 use Rattle.std.specs.List.{AllByRecursion}
 use Rattle.std.specs.List.Sorted.{IsPermutation}
 use Rattle.std.proofs.lemmas.List.{map-append, take_more, length-take-le}
@@ -9,8 +9,7 @@ use Rattle.portal_tables.proofs.Runs.{made_then, made_more}
 use Rattle.std.proofs.Math.Bool.{and-false}
 use Rattle.std.proofs.lemmas.List.Elements.{filter-append}
 use Rattle.std.proofs.lemmas.List.Sorted.{IsPermutation-refl, IsPermutation-trans, IsPermutation-sym, IsPermutation-cons, IsPermutation-middle, IsPermutation-to_front}
-use Rattle.std.specs.Ordering.{is_eq, is_lt, ordering_then}
-use Rattle.std.specs.Cmp.{nat_cmp_is}
+use Rattle.std.specs.Ordering.{is_eq}
 use Rattle.std.specs.declared.cmp.Ordering.{Ordering}
 use Rattle.std.specs.declared.cmp.Ordering.TheVariants.{Less, Equal, Greater}
 use Rattle.sqlite.specs.declared.types.Value.{Value}
@@ -22,13 +21,14 @@ use Rattle.sqlite_value.proofs.OrderLemmas.{value_cmp_total}
 use Rattle.portal_core.specs.Words.{Key, is, is_before, Rise}
 use Rattle.portal_core.proofs.AllLaws.{is_sym}
 use Rattle.portal_tables.specs.Own.{IsOwn}
-use Rattle.portal_tables.specs.Tables.{own_trees}
-use Rattle.portal_tables.specs.Changes.{Keeps, has_text}
+use Rattle.portal_tables.specs.Changes.{has_text}
 use Rattle.portal_tables.specs.Rows.{Adds, Clears, choice_cells}
 use Rattle.portal_tables.proofs.Keeping.{puts_apart, drops_apart}
 use Rattle.portal_tables.proofs.Lists.{filter_same, filter-filter, put_splits, eq_self}
 use Rattle.portal_store.specs.Lists.{of_key, place_key, by_place, list_of, CountUp, IsWhole}
 use Rattle.portal_store.specs.Putting.{numbered, placed, PutsList}
+use Rattle.portal_store.proofs.Holding.{keeps_then}
+use Rattle.portal_store.proofs.Listed.{less_is}
 use Rattle.portal_store.proofs.Sorted.{in_order, put_all_map, map_twice}
 use Rattle.portal_store.proofs.Shapes.{text_equals}
 
@@ -57,15 +57,6 @@ none_left s (r ∷ rows) = go (has_text 1 s r) refl (none_left s rows)
         → of_key s (cond (not b) (r ∷ filter (λ r. not (has_text 1 s r)) rows) (filter (λ r. not (has_text 1 s r)) rows)) ≡ []
     go true e h = h
     go false e h = rw e h
-
-pub keeps_both : (tree : ℕ) (first mid now : Database) → Keeps tree first mid → Keeps tree mid now → Keeps tree first now
-keeps_both tree first mid now a b = each own_trees a b
-  where
-    each : (trees : List ℕ) → AllByRecursion (λ t. t ≢ tree → mid.trees t ≡ first.trees t) trees
-        → AllByRecursion (λ t. t ≢ tree → now.trees t ≡ mid.trees t) trees
-        → AllByRecursion (λ t. t ≢ tree → now.trees t ≡ first.trees t) trees
-    each [] a b = tt
-    each (t ∷ trees) a b = (λ other. b.0 other ∙ a.0 other, each trees a.1 b.1)
 
 -- once the owner's rows are gone nothing is put
 pub put_begun : (tree : ℕ) (owner : Key) (first now : Database) → Clears tree owner first now → PutsList tree owner [] first now
@@ -124,7 +115,7 @@ put_goes_on tree owner k done first mid now puts adds own apart =
       schema_is = put.schema_is ∙ was.schema_is;
       sound = put.sound;
       apart = puts_apart tree _ mid now put was.apart;
-      tables = keeps_both tree first mid now was.tables put.others;
+      tables = keeps_then tree first mid now was.tables put.others;
       others = λ key other.
           ap (of_key key) rows ∙ split_key key front back new false (text_equals owner key ∙ is_sym owner key ∙ other) ∙ sym (filter-append (has_text 1 key) front back)
           ∙ sym (ap (of_key key) split.2) ∙ was.others key other;
@@ -134,9 +125,6 @@ put_goes_on tree owner k done first mid now puts adds own apart =
 
 abbrev pair_key : ℕ × Key → Key
 pair_key p = p.0 ∷ []
-
-less_is : (m n : ℕ) → m < n → is_before (m ∷ []) (n ∷ []) ≡ true
-less_is m n less = ap (λ o. is_lt (ordering_then o Equal)) (sym (nat_cmp_is m n Less less))
 
 numbers_above : (m n : ℕ) (ks : List Key) → m < n → AllByRecursion (λ l. is_before (m ∷ []) l ≡ true) (map pair_key (numbered n ks))
 numbers_above m n [] less = tt

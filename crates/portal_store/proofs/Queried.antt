@@ -1,14 +1,14 @@
 -- From what queries show of one caller to what the world says.
 use Rattle.std.proofs.Common.{◌≡◌, ℕ, pos, Bool, true, false, cond, Option, Some, None, option_map, List, [], ◌∷◌, map, filter, refl, sym, ap, ap₂, subst, subst₂, ◌∙◌}
 use Rattle.std.specs.Prelude.{if◌then◌else◌, slice_index_or}
-use Rattle.std.specs.List.{AllByRecursion, find, filter_map, cons_option}
+use Rattle.std.specs.List.{AllByRecursion, find}
 use Rattle.std.specs.List.Sorted.{IsPermutation}
 use Rattle.std.proofs.lemmas.List.Sorted.{IsPermutation-map, IsPermutation-sym, IsPermutation-trans, length_permutation}
 use Rattle.sqlite.specs.Order.{Row, column, bytes}
 use Rattle.sqlite.specs.Tree.{Trees}
 use Rattle.sqlite.specs.Effect.{Database}
 use Rattle.sqlite.proofs.Callers.{one_permutation}
-use Rattle.sqlite_trees.proofs.ListLemmas.{IsPermutation-filter, filter-map}
+use Rattle.sqlite_trees.proofs.ListLemmas.{IsPermutation-filter, filter-map, map-map}
 use Rattle.portal_core.specs.declared.rows.LecturerRow.{LecturerRow}
 use Rattle.portal_core.specs.declared.rows.Listing.{Listing}
 use Rattle.portal_core.specs.declared.rows.ProjectRow.{ProjectRow}
@@ -24,13 +24,13 @@ use Rattle.portal_tables.specs.Rows.{portal_row}
 use Rattle.sqlite_trees.specs.Objects.{number_in}
 use Rattle.portal_tables.specs.Tables.{portal_tree, lecturer_tree, project_tree, student_tree, choice_tree, ranking_tree}
 use Rattle.portal_tables.specs.Changes.{ListsBy, columns, has_text}
-use Rattle.portal_tables.proofs.Lists.{map-map}
 use Rattle.portal_store.specs.Kept.{Holds}
 use Rattle.portal_store.specs.World.{world_of, number_of, phase_of, row_key, lecturer_of, student_of}
 use Rattle.portal_store.specs.Shown.{by_key, shown_lecturer, shown_project, lecturers_shown, projects_shown}
 use Rattle.portal_store.specs.Queried.{as_list, lecturer_from, student_from, name_of, offered}
 use Rattle.portal_store.proofs.Listed.{permuted}
-use Rattle.portal_store.proofs.Loaded.{phase_back, lecturer_columns, roll_columns, lecturers_are, projects_are, students_are}
+use Rattle.portal_store.proofs.Holding.{phase_back}
+use Rattle.portal_store.proofs.Loaded.{lecturer_columns, roll_columns, lecturers_are, projects_are, students_are, some_alike}
 use Rattle.portal_store.proofs.Shapes.{IsLecturerRow, IsStudentRow, has_text_of, lecturer_rows_formed, student_rows_formed}
 use Rattle.portal_store.proofs.Sorted.{permutes, map_alike, map_twice}
 
@@ -112,10 +112,6 @@ unfolding world_of
 projects_told db = map-map shown_project roll_columns (by_key (db project_tree)) ∙ sym (projects_are db)
 
 -- the catalogue
-
-some_alike : {X Z : Type 0} (f g : X → Option Z) (xs : List X) → ((x : X) → f x ≡ g x) → filter_map f xs ≡ filter_map g xs
-some_alike f g [] h = refl
-some_alike f g (x ∷ xs) h = λ i. cons_option (h x i) (some_alike f g xs h i)
 
 name_row : (o : Option Lecturer) → option_map (λ (r : LecturerRow). r.name) (option_map (λ (l : Lecturer). l.row) o) ≡ option_map (λ (l : Lecturer). l.row.name) o
 name_row None = refl

@@ -28,6 +28,7 @@ use Rattle.portal_store.specs.Lists.{of_key, chosen, IsWhole}
 use Rattle.portal_store.specs.World.{world_of, phase_of, row_key, student_of, lecturer_of, lecturer_row, project_row, is_ranked}
 use Rattle.portal_store.specs.Kept.{HasOffice, Whole, Holds}
 use Rattle.portal_store.specs.Putting.{HasPut, PutsList, TurnsThere}
+use Rattle.portal_store.proofs.Listed.{all_map_on}
 use Rattle.portal_store.proofs.Sorted.{put_all_map, put_same, distinct_if_rise, map_twice, all_permuted}
 use Rattle.portal_store.proofs.Shapes.{IsLecturerRow, lecturer_rows_formed, has_text_of}
 use Rattle.portal_store.proofs.ChoiceTurns.{chosen_is, whole_at}
@@ -94,10 +95,6 @@ others_apart k (r ∷ table) all = go (has_text 1 k r) refl (others_apart k tabl
 
 pub same_key : (k : Key) (list : List Key) (l : Lecturer) → lecturer_key (with_ranking k list l) ≡ lecturer_key l
 same_key k list l = elim (is l.row.key k) as (λ b. lecturer_key (cond b (record l { ranking = Some list }) l) ≡ lecturer_key l) [ true ↦ refl | false ↦ refl ]
-
-pub all_map_on : {X Y : Type 0} (P : X → Type 0) (f g : X → Y) (xs : List X) → AllByRecursion P xs → ((x : X) → P x → f x ≡ g x) → map f xs ≡ map g xs
-all_map_on P f g [] all h = refl
-all_map_on P f g (x ∷ xs) all h = λ i. h x all.0 i ∷ all_map_on P f g xs all.1 h i
 
 all_both_on : {X : Type 0} (P Q R : X → Type 0) (xs : List X) → ((x : X) → P x → Q x → R x) → AllByRecursion P xs → AllByRecursion Q xs → AllByRecursion R xs
 all_both_on P Q R [] h p q = tt

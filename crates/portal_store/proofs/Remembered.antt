@@ -1,7 +1,7 @@
 -- The own projects of a lecturer, of the catalogue; and what is known over the tables at the start, of a reading in the middle.
-use Rattle.std.proofs.Common.{◌≡◌, Bool, true, false, cond, IsTrue, List, [], ◌∷◌, map, filter, refl, sym, ap, subst, ◌∙◌}
-use Rattle.std.specs.Prelude.{◌||◌, Some}
-use Rattle.std.specs.List.{list_any, find, AllByRecursion}
+use Rattle.std.proofs.Common.{◌≡◌, true, false, cond, IsTrue, List, [], ◌∷◌, map, filter, refl, sym, ap, subst, ◌∙◌}
+use Rattle.std.specs.Prelude.{Some}
+use Rattle.std.specs.List.{find, AllByRecursion}
 use Rattle.sqlite.specs.Effect.{Database}
 use Rattle.sqlite.specs.State.{State, HasCleanDisk, IsUnchanged}
 use Rattle.portal_core.specs.Words.{Key, is, has}
@@ -11,19 +11,12 @@ use Rattle.portal_core.specs.declared.rows.ProjectRow.{ProjectRow}
 use Rattle.portal_core.specs.View.{listing_with, listings, catalogue}
 use Rattle.portal_core.specs.Good.{Good}
 use Rattle.portal_core.proofs.AllLaws.{any_map, any_alike, is_sym}
+use Rattle.portal_core.proofs.Whole.{finds_one}
 use Rattle.portal_store.specs.Kept.{Holds}
 
 -- what holds of a reading after one that changed nothing holds over the tables before that one
 pub at_start : (a b c : State) → IsUnchanged a b → (P : Database → Type 0) → (Holds b.now → HasCleanDisk c → IsTrue b.is_open → P b.now) → Holds a.now → HasCleanDisk c → P a.now
 at_start a b c m P next holds clean = subst (λ (x : Database). Holds x → HasCleanDisk c → IsTrue b.is_open → P x) m.0.now_is next holds clean m.0.is_open
-
-finds_one : {X : Type 0} (p : X → Bool) (xs : List X) → list_any p xs ≡ true → (x : X) × (find p xs ≡ Some x)
-finds_one p [] h = cc
-finds_one {X} p (x ∷ xs) h =
-    (elim (p x) as (λ b. (b || list_any p xs) ≡ true → (y : X) × (cond b (Some x) (find p xs) ≡ Some y)) [
-      | true ↦ λ t. (x, refl)
-      | false ↦ λ t. finds_one p xs t
-    ]) h
 
 own_among : (ls : List Lecturer) (ps : List ProjectRow) (k : Key) → AllByRecursion (λ p. has (map lecturer_key ls) p.lecturer ≡ true) ps
     → map (λ (l : Listing). l.key) (filter (λ (l : Listing). is l.lecturer k) (listings ls ps)) ≡ map project_key (filter (λ (p : ProjectRow). is p.lecturer k) ps)

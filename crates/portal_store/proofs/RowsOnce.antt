@@ -8,8 +8,8 @@ use Rattle.portal_core.specs.World.{World, Lecturer, Student}
 use Rattle.portal_core.specs.Good.{Sound}
 use Rattle.portal_list.specs.Rows.{Rows, rows_of}
 use Rattle.portal_list.specs.Fit.{lecturers_fitting, students_fitting}
-use Rattle.portal_list.proofs.Rising.{map_map}
 use Rattle.portal_list.proofs.Fitting.{lecturers_back, students_back}
+use Rattle.sqlite_trees.proofs.ListLemmas.{map-map}
 
 same_some : {X : Type 0} (x y : X) → Some x ≡ Some y → x ≡ y
 same_some x y e = cc
@@ -19,11 +19,11 @@ rows_once w v sound same = λ i. record { phase = (same i).phase; office = (same
   where
     lecturers_rise : Rise (map (λ l. l.row.key) v.lecturers)
     lecturers_rise =
-        subst Rise (sym (map_map (λ (r : LecturerRow). r.key) (λ (l : Lecturer). l.row) w.lecturers) ∙ ap (λ (r : Rows). map (λ l. l.key) r.lecturers) (sym same) ∙ map_map (λ (r : LecturerRow). r.key) (λ (l : Lecturer). l.row) v.lecturers) sound.lecturers_rise
+        subst Rise (sym (map-map (λ (r : LecturerRow). r.key) (λ (l : Lecturer). l.row) w.lecturers) ∙ ap (λ (r : Rows). map (λ l. l.key) r.lecturers) (sym same) ∙ map-map (λ (r : LecturerRow). r.key) (λ (l : Lecturer). l.row) v.lecturers) sound.lecturers_rise
 
     students_rise : Rise (map (λ s. s.row.key) v.students)
     students_rise =
-        subst Rise (sym (map_map (λ (r : StudentRow). r.key) (λ (s : Student). s.row) w.students) ∙ ap (λ (r : Rows). map (λ s. s.key) r.students) (sym same) ∙ map_map (λ (r : StudentRow). r.key) (λ (s : Student). s.row) v.students) sound.students_rise
+        subst Rise (sym (map-map (λ (r : StudentRow). r.key) (λ (s : Student). s.row) w.students) ∙ ap (λ (r : Rows). map (λ s. s.key) r.students) (sym same) ∙ map-map (λ (r : StudentRow). r.key) (λ (s : Student). s.row) v.students) sound.students_rise
 
     lecturers : v.lecturers ≡ w.lecturers
     lecturers = same_some _ _ (sym (lecturers_back v.lecturers lecturers_rise) ∙ ap (λ (r : Rows). lecturers_fitting r.lecturers r.rankings) same ∙ lecturers_back w.lecturers sound.lecturers_rise)

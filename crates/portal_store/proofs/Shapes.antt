@@ -18,7 +18,7 @@ use Rattle.sqlite_schema.specs.Rules.{Keeps, are_typed, are_present, is_of}
 use Rattle.sqlite_sql.specs.Ops.{is_null}
 use Rattle.sqlite.specs.Kind.TheVariants.{Integer, Text}
 use Rattle.portal_core.specs.Words.{Key, is}
-use Rattle.portal_tables.specs.Tables.{column_of, lecturer_tree, student_tree, choice_tree, ranking_tree, lecturer, project, student, choice, ranking}
+use Rattle.portal_tables.specs.Tables.{column_of, lecturer_tree, student_tree, choice_tree, ranking_tree, lecturer, student, choice, ranking}
 use Rattle.portal_tables.specs.Own.{IsOwn}
 use Rattle.portal_tables.specs.Changes.{IsApart, has_text}
 use Rattle.portal_tables.specs.Rows.{lecturer_cells, choice_cells, ranking_cells}

@@ -1,47 +1,21 @@
 -- Rows put by their keys are the one order of them in which the keys rise.
 use Rattle.std.proofs.Common.{◌≡◌, inl, inr, true, false, cond, List, [], ◌∷◌, ◌++◌, map, refl, sym, ap, ap₂, subst, ◌∙◌}
-use Rattle.std.proofs.lemmas.Bool.{cases_Bool}
 use Rattle.std.proofs.lemmas.List.{append-nil}
 use Rattle.std.specs.List.{AllByRecursion, IsDistinct}
 use Rattle.std.specs.List.Sorted.{IsPermutation}
 use Rattle.std.proofs.lemmas.List.Sorted.{IsPermutation-refl, IsPermutation-trans, IsPermutation-sym, IsPermutation-cons, IsPermutation-middle, IsPermutation-map, IsPermutation-append_right, All-permutation}
 use Rattle.std.proofs.lemmas.List.Elements.{All-from_recursion, recursion_from_All}
 use Rattle.std.proofs.lemmas.Map.Keys.{IsDistinct-IsPermutation}
-use Rattle.std.specs.Ordering.{is_lt, is_eq, nat_cmp, ordering_reverse}
-use Rattle.std.specs.Cmp.Lexicographic.{slice_cmp, nat_list_cmp_total, texts_ties}
-use Rattle.std.specs.declared.cmp.Ordering.{Ordering}
-use Rattle.std.specs.declared.cmp.Ordering.TheVariants.{Less, Equal, Greater}
 use Rattle.sqlite_rules.specs.Lists.{Has}
 use Rattle.portal_core.specs.Words.{Key, is, is_before, Rise, AreDistinct, put, put_all}
-use Rattle.portal_core.proofs.Keys.{not_before_itself, is_same}
+use Rattle.portal_core.proofs.Keys.{not_before_itself}
 use Rattle.portal_core.proofs.AllLaws.{is_sym, none_is}
-
-less_of : (o : Ordering) → is_lt o ≡ true → o ≡ Less
-less_of Less e = refl
-less_of Equal e = cc
-less_of Greater e = cc
-
-pub before_trans : (a b c : Key) → is_before a b ≡ true → is_before b c ≡ true → is_before a c ≡ true
-before_trans a b c h k = ap is_lt (nat_list_cmp_total.trans a b c (less_of _ h) (less_of _ k))
-
-pub not_same : (a b : Key) → is_before a b ≡ true → is a b ≡ false
-not_same a b h = elim (cases_Bool (is a b)) [
-  | inl e ↦ absurd (not_before_itself a (subst (λ c. is_before a c ≡ true) (sym (is_same a b e)) h))
-  | inr e ↦ e
-]
-
--- what is not before and not the same is after
-after_other : (a b : Key) → is_before a b ≡ false → is a b ≡ false → is_before b a ≡ true
-after_other a b h d = go (slice_cmp nat_cmp a b) refl
-  where
-    go : (o : Ordering) → slice_cmp nat_cmp a b ≡ o → is_before b a ≡ true
-    go Less e = let x : true ≡ false = sym (ap is_lt e) ∙ h in cc
-    go Equal e = let x : true ≡ false = sym (ap is_eq e) ∙ sym (texts_ties a b) ∙ d in cc
-    go Greater e = ap is_lt (nat_list_cmp_total.antisymm b a ∙ ap ordering_reverse e)
+use Rattle.portal_core.proofs.Puts.{before_trans, after_other}
+use Rattle.portal_core.proofs.Fills.{before_other}
 
 all_apart : (k : Key) (ks : List Key) → AllByRecursion (λ l. is_before k l ≡ true) ks → AllByRecursion (λ l. is k l ≡ false) ks
 all_apart k [] h = tt
-all_apart k (l ∷ ks) h = (not_same k l h.0, all_apart k ks h.1)
+all_apart k (l ∷ ks) h = (before_other k l h.0, all_apart k ks h.1)
 
 pub rise_distinct : (ks : List Key) → Rise ks → IsDistinct is ks
 unfolding IsDistinct

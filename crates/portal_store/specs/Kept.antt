@@ -1,5 +1,5 @@
 -- What a store keeps true between two calls, and what a change of the world is to the tables.
-use Rattle.std.specs.Prelude.{Vec, ◌≡◌, pos, Bool, true, false, List, [], ◌∷◌, Option, IfSome, IsTrue, refl}
+use Rattle.std.specs.Prelude.{Vec, ◌≡◌, pos, Bool, false, List, [], ◌∷◌, Option, IfSome, IsTrue, refl}
 use Rattle.std.specs.Coded.{Coded, code_by, coded×, coded_bool}
 use Rattle.std.specs.List.{AllByRecursion}
 use Rattle.std.specs.declared.alloc.Global.{Global}

@@ -16,10 +16,9 @@ use Rattle.portal_core.specs.Words.{Key, is, is_empty}
 use Rattle.portal_core.specs.World.{World, Lecturer, Student, applicants_to, placed_at, is_from_ranking, is_published}
 use Rattle.portal_list.specs.Shown.{is_wanted}
 use Rattle.portal_tables.specs.Tables.{choice_tree, ranking_tree}
-use Rattle.portal_store.specs.declared.load.Lists.TheVariants.{Choices}
 use Rattle.portal_store.specs.declared.queries.applicants.Line.{Line}
 use Rattle.portal_store.specs.Lists.{chosen}
-use Rattle.portal_store.specs.Shown.{first, shown_lecturer, shown_project, shown_student, shown_pair, entry}
+use Rattle.portal_store.specs.Shown.{first, shown_lecturer, shown_project, shown_student, shown_pair}
 use Rattle.portal_store.specs.World.{world_of, text_or_none}
 
 -- one thing or none, as a list
@@ -64,9 +63,9 @@ applicants_told w keys = map (λ k. (k, if is_from_ranking w.phase then persons 
 abbrev pub placed_told : World → List Key → List (Key × List Person)
 placed_told w keys = map (λ k. (k, if is_published w.phase then persons (placed_at w k) else [])) keys
 
--- the owners of empty lists
-abbrev pub unlisted : List (Key × List Key) → List Key
-unlisted lists = map (λ (e : Key × List Key). e.0) (filter (λ e. is_empty e.1) lists)
+-- the keys of the students whose rows are shown and who have no list in the tables
+abbrev pub unlisted : Trees → List Row → List Key
+unlisted db students = map first (filter (λ c. is_empty (chosen (db choice_tree) (first c))) students)
 
 -- the key of the lecturer whose row is shown, where there is an applicant and no ranking
 abbrev pub waiting_key : World → List ProjectRow → Row → Option Key
@@ -82,7 +81,7 @@ office_from db phase code offers lecturers projects students =
       projects = map shown_project projects;
       students = map shown_student students;
       catalogue = offers;
-      without_list = unlisted (filter_map (entry Choices db) students);
+      without_list = unlisted db students;
       still_to_rank = if is_from_ranking phase then filter_map (waiting_key (world_of db) (map shown_project projects)) lecturers else [];
       pairs = if is_published phase then filter_map shown_pair students else [];
     }

@@ -27,7 +27,7 @@ use crate::fault::keep_fault_of;
 use crate::load::{LoadFault, office_in};
 use caller::{lecturer_in, student_in};
 use lecturer::lecturer_view;
-use offers::{catalogue_in, shared_catalogue};
+use offers::shared_catalogue;
 use office::office_view;
 use portal_core::{KeepFault, Listing, Phase, View};
 use sqlite::{Alter, Connection};
@@ -49,14 +49,16 @@ impl From<AllocError> for LoadFault {
 fn office_sight<S: Alter>(
     alloc: Global,
     conn: &mut Connection<S>,
+    remembered: &mut Option<Rc<Vec<Listing>>>,
     office: Office,
 ) -> Result<View, LoadFault>
     requires idle { conn.old.in_transaction ≡ false }
     ensures idle { conn.new.in_transaction ≡ false }
-    ensures shows { Holds (state S.Store conn.old).now → HasCleanDisk (state S.Store conn.new) → IsTrue (state S.Store conn.old).is_open → (state S.Store conn.old).now.trees portal_tree ≡ portal_row (pos 1) (pos (number_of office.phase)) office.code ∷ [] → IfOk result (λ view. view ≡ sight_of (world_of (state S.Store conn.old).now.trees) OfficeCaller) }
+    ensures shows { Holds (state S.Store conn.old).now → HasCleanDisk (state S.Store conn.new) → IsTrue (state S.Store conn.old).is_open → (state S.Store conn.old).now.trees portal_tree ≡ portal_row (pos 1) (pos (number_of office.phase)) office.code ∷ [] → Remembers remembered.old (seen.catalogue (world_of (state S.Store conn.old).now.trees)) → IfOk result (λ view. view ≡ sight_of (world_of (state S.Store conn.old).now.trees) OfficeCaller) }
+    ensures mind { KeepsInMind remembered.old remembered.new (state S.Store conn.old) (state S.Store conn.new) }
     ensures reads { Reads result (state S.Store conn.old) (state S.Store conn.new) }
 {
-    let catalogue = catalogue_in(alloc, conn)?;
+    let catalogue = shared_catalogue(alloc, conn, remembered)?;
     Ok(View::Office(office_view(alloc, conn, office, catalogue)?))
 }
 
@@ -118,7 +120,7 @@ fn sight<S: Alter>(
 {
     let office = office_in(alloc, conn)?;
     if office.code.as_bytes() == code {
-        return office_sight(alloc, conn, office);
+        return office_sight(alloc, conn, remembered, office);
     }
     person_sight(alloc, conn, remembered, office.phase, code)
 }

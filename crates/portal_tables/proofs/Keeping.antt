@@ -4,6 +4,7 @@ use Rattle.std.specs.List.{AllByRecursion}
 use Rattle.std.specs.Ordering.{is_eq, match_ordering}
 use Rattle.std.specs.declared.cmp.Ordering.{Ordering}
 use Rattle.std.specs.declared.cmp.Ordering.TheVariants.{Less, Equal, Greater}
+use Rattle.std.proofs.lemmas.Bool.{or_parts}
 use Rattle.sqlite.specs.declared.types.Value.TheVariants.{Int}
 use Rattle.sqlite.specs.Order.{Row, value_cmp}
 use Rattle.sqlite.specs.Edit.{next_rowid, is_taken, id_in}
@@ -11,18 +12,18 @@ use Rattle.sqlite.specs.Tree.{put_row, rowid}
 use Rattle.sqlite.specs.Effect.{Database}
 use Rattle.sqlite_trees.proofs.TreeLemmas.{all-put_row}
 use Rattle.portal_tables.specs.Changes.{Puts, Drops, Sets, IsApart}
-use Rattle.portal_tables.proofs.Lists.{apart_filter, eq_flips, or_false}
+use Rattle.portal_tables.proofs.Lists.{apart_filter, eq_flips}
 
 pub apart_put : (new : Row) (rows : List Row) (n : _) → rowid new ≡ Int n → IsApart rows → is_taken rows new ≡ false → IsApart (put_row new rows)
 apart_put new [] n is apart free = (is ∙ ap Int (sym (ap id_in is)), tt, tt)
 apart_put new (r ∷ rows) n is apart free = go (apart_put new rows n is apart.2 both.1) (value_cmp (rowid r) (rowid new)) refl
   where
     both : (is_eq (value_cmp (rowid r) (rowid new)) ≡ false) × (is_taken rows new ≡ false)
-    both = or_false (is_eq (value_cmp (rowid r) (rowid new))) (is_taken rows new) free
+    both = or_parts (is_eq (value_cmp (rowid r) (rowid new))) (is_taken rows new) free
 
     none : (rows : List Row) → is_taken rows new ≡ false → AllByRecursion (λ s. is_eq (value_cmp (rowid new) (rowid s)) ≡ false) rows
     none [] free = tt
-    none (s ∷ rows) free = let two = or_false (is_eq (value_cmp (rowid s) (rowid new))) (is_taken rows new) free in (eq_flips (rowid new) (rowid s) ∙ two.0, none rows two.1)
+    none (s ∷ rows) free = let two = or_parts (is_eq (value_cmp (rowid s) (rowid new))) (is_taken rows new) free in (eq_flips (rowid new) (rowid s) ∙ two.0, none rows two.1)
 
     go : IsApart (put_row new rows) → (o : Ordering) → value_cmp (rowid r) (rowid new) ≡ o → IsApart (match_ordering o (r ∷ put_row new rows) (new ∷ rows) (new ∷ r ∷ rows))
     go rest Less e = (apart.0, all-put_row _ new rows both.0 apart.1, rest)

@@ -4,6 +4,7 @@ use Rattle.std.specs.List.{AllByRecursion, list_any, flat_map}
 use Rattle.std.specs.Ordering.{is_eq, ordering_reverse, match_ordering}
 use Rattle.std.specs.declared.cmp.Ordering.{Ordering}
 use Rattle.std.specs.declared.cmp.Ordering.TheVariants.{Less, Equal, Greater}
+use Rattle.std.proofs.lemmas.Bool.{or_parts}
 use Rattle.sqlite.specs.declared.types.Value.{Value}
 use Rattle.sqlite.specs.declared.types.Value.TheVariants.{Int}
 use Rattle.sqlite.specs.Order.{Row, value_cmp}
@@ -12,10 +13,6 @@ use Rattle.sqlite.specs.Edit.{id_in, is_taken, without_all}
 use Rattle.sqlite_rules.specs.Lists.{Has}
 use Rattle.sqlite_value.proofs.OrderLemmas.{value_cmp_total}
 use Rattle.portal_tables.specs.Changes.{IsApart}
-
-pub map-map : {X Y Z : Type 0} (f : Y → Z) (g : X → Y) (xs : List X) → map f (map g xs) ≡ map (λ x. f (g x)) xs
-map-map f g [] = refl
-map-map f g (x ∷ xs) = ap (λ l. f (g x) ∷ l) (map-map f g xs)
 
 -- a loop that shows each element which passes
 pub looped : {X Y : Type 0} (p : X → Bool) (f : X → Y) (xs : List X) → flat_map (λ x. cond (p x) (f x ∷ []) []) xs ≡ map f (filter p xs)
@@ -124,17 +121,13 @@ apart_filter p (x ∷ rows) h =
     all_filter P [] h = tt
     all_filter P (y ∷ xs) h = elim (p y) as (λ b. AllByRecursion P (cond b (y ∷ filter p xs) (filter p xs))) [ true ↦ (h.0, all_filter P xs h.1) | false ↦ all_filter P xs h.1 ]
 
-pub or_false : (a b : Bool) → (a || b) ≡ false → (a ≡ false) × (b ≡ false)
-or_false true b h = absurd (cc)
-or_false false b h = (refl, h)
-
 -- where its number is free, a row is put somewhere between the others
 pub put_splits : (new : Row) (rows : List Row) → is_taken rows new ≡ false → (front : List Row) × (back : List Row) × (rows ≡ front ++ back) × (put_row new rows ≡ front ++ new ∷ back)
 put_splits new [] free = ([], [], refl, refl)
 put_splits new (r ∷ rows) free = go (put_splits new rows both.1) (value_cmp (rowid r) (rowid new)) refl
   where
     both : (is_eq (value_cmp (rowid r) (rowid new)) ≡ false) × (is_taken rows new ≡ false)
-    both = or_false (is_eq (value_cmp (rowid r) (rowid new))) (is_taken rows new) free
+    both = or_parts (is_eq (value_cmp (rowid r) (rowid new))) (is_taken rows new) free
 
     Split : List Row → List Row → Type 0
     Split old now = (front : List Row) × (back : List Row) × (old ≡ front ++ back) × (now ≡ front ++ new ∷ back)

@@ -21,7 +21,8 @@ use Rattle.sqlite.proofs.Callers.{IsPlain, never_commits}
 use Rattle.portal_tables.specs.Changes.{ListsBy, columns}
 use Rattle.portal_tables.proofs.Query.{one_table, passes, shown_as}
 use Rattle.sqlite_sql.specs.Query.{key_cmp}
-use Rattle.portal_tables.proofs.Lists.{map-map, looped}
+use Rattle.portal_tables.proofs.Lists.{looped}
+use Rattle.sqlite_trees.proofs.ListLemmas.{map-map}
 
 abbrev pub by_columns : ℕ → List Term → List Term → List ℕ → Query
 by_columns tree tests project keys = record (one_table tree tests project) { order = map (λ at. (col 1 at, ascending Binary)) keys }
@@ -76,15 +77,7 @@ pub read_fails : {V : Type 0} (sql : List ℕ) (params : Row) (old new : State) 
 read_fails sql params old new (Ok v) plain h = tt
 read_fails sql params old new (Err e) plain h = failed_leaves sql params old new e plain h
 
--- what is shown says more
-pub if_ok : {V E : Type 0} (A B : V → Type 0) (r : Result V E) → ((v : V) → A v → B v) → IfOk r A → IfOk r B
-if_ok A B (Ok v) more h = more v h
-if_ok A B (Err e) more h = tt
-
-pub on_ok : {V E : Type 0} (A B : Type 0) (r : Result V E) → (A → B) → OnOk r A → OnOk r B
-on_ok A B (Ok v) more h = more h
-on_ok A B (Err e) more h = tt
-
+-- what holds anyway holds at an error
 pub on_err : {V E : Type 0} (A : Type 0) (r : Result V E) → A → OnErr r A
 on_err A (Ok v) h = tt
 on_err A (Err e) h = h

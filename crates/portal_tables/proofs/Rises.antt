@@ -2,12 +2,12 @@
 use Rattle.std.proofs.Common.{◌≡◌, ℤ, List, [], ◌∷◌, map, filter, Bool, true, false, ◌||◌, Option, Some, None, int_cmp, refl, sym, ap, subst, subst₂, ◌∙◌}
 use Rattle.std.specs.declared.cmp.Ordering.{Ordering}
 use Rattle.std.specs.declared.cmp.Ordering.TheVariants.{Less, Equal, Greater}
-use Rattle.std.specs.Ordering.{is_lt, is_eq, ordering_reverse}
+use Rattle.std.specs.Ordering.{is_lt, is_eq}
 use Rattle.std.specs.List.{AllByRecursion, IsDistinct, list_any}
 use Rattle.std.specs.List.Sorted.{IsPermutation}
 use Rattle.std.proofs.lemmas.List.Sorted.{IsPermutation-map, IsPermutation-sym, list_any-IsPermutation}
 use Rattle.std.proofs.lemmas.Map.Keys.{IsDistinct-IsPermutation}
-use Rattle.std.proofs.lemmas.Bool.{and_parts}
+use Rattle.std.proofs.lemmas.Bool.{and_parts, or_parts}
 use Rattle.sqlite.specs.declared.types.Value.{Value}
 use Rattle.sqlite.specs.declared.types.Value.TheVariants.{Null, Int, Real, Blob, Text}
 use Rattle.sqlite.specs.Order.{Row, column, value_cmp}
@@ -15,19 +15,12 @@ use Rattle.sqlite.specs.Edit.{id_in}
 use Rattle.sqlite.specs.Tree.{rowid}
 use Rattle.sqlite_value.proofs.OrderLemmas.{value_cmp_total, value_cmp-Int}
 use Rattle.portal_tables.specs.Changes.{IsApart, ListsBy, every, columns}
-use Rattle.portal_tables.proofs.Lists.{map-map}
+use Rattle.portal_tables.proofs.Lists.{eq_flips}
 use Rattle.portal_tables.specs.Rising.{is_above, rises}
+use Rattle.sqlite_trees.proofs.ListLemmas.{map-map}
 
 abbrev same : Value → Value → Bool
 same a b = is_eq (value_cmp a b)
-
-turned : (o : Ordering) → is_eq (ordering_reverse o) ≡ is_eq o
-turned Less = refl
-turned Equal = refl
-turned Greater = refl
-
-flips : (a b : Value) → same a b ≡ same b a
-flips a b = ap is_eq (value_cmp_total.antisymm a b) ∙ turned (value_cmp b a)
 
 less_of : (o : Ordering) → is_lt o ≡ true → o ≡ Less
 less_of Less e = refl
@@ -96,11 +89,6 @@ none_bad last (r ∷ rs) h =
     let p = and_parts _ _ h in
     ap (λ v. is_bad v || list_any is_bad (ids rs)) (whole last (column r 0) p.0) ∙ none_bad (Some (id_in (column r 0))) rs p.1
 
-both_false : (a b : Bool) → (a || b) ≡ false → (a ≡ false) × (b ≡ false)
-both_false false false h = (refl, refl)
-both_false true b h = absurd cc
-both_false false true h = absurd cc
-
 unmap : (v : Value) (rows : List Row) → AllByRecursion (λ w. same v w ≡ false) (ids rows) → AllByRecursion (λ s. is_eq (value_cmp v (rowid s)) ≡ false) rows
 unmap v [] h = tt
 unmap v (r ∷ rs) h = (h.0, unmap v rs h.1)
@@ -108,7 +96,7 @@ unmap v (r ∷ rs) h = (h.0, unmap v rs h.1)
 build : (rows : List Row) → IsDistinct same (ids rows) → list_any is_bad (ids rows) ≡ false → IsApart rows
 unfolding IsDistinct
 build [] d b = tt
-build (r ∷ rs) d b = let p = both_false _ _ b in (good (column r 0) p.0, unmap (column r 0) rs d.0, build rs d.1 p.1)
+build (r ∷ rs) d b = let p = or_parts _ _ b in (good (column r 0) p.0, unmap (column r 0) rs d.0, build rs d.1 p.1)
 
 all_pass : (rows : List Row) → filter every rows ≡ rows
 all_pass [] = refl
@@ -121,5 +109,5 @@ apart_of table shown h up =
     map-map first (λ r. (columns (0 ∷ []) r, columns (0 ∷ []) r)) (filter every table) ∙ ap ids (all_pass table) in
     let here : map first h.keyed ≡ ids shown = sym (ap ids h.is ∙ map-map (λ r. column r 0) (λ (k : Row × Row). k.1) h.keyed) in
     let moved : IsPermutation (ids table) (ids shown) = subst₂ IsPermutation there here (IsPermutation-map first _ h.keyed h.same) in
-    build table (IsDistinct-IsPermutation same flips (ids shown) (ids table) (IsPermutation-sym (ids table) (ids shown) moved) (distinct None shown up))
+    build table (IsDistinct-IsPermutation same eq_flips (ids shown) (ids table) (IsPermutation-sym (ids table) (ids shown) moved) (distinct None shown up))
     (list_any-IsPermutation is_bad (ids table) (ids shown) moved ∙ none_bad None shown up)

@@ -1,17 +1,15 @@
 -- Steps of a transaction in turn, whatever the change.
-use Rattle.std.proofs.Common.{inl, inr, Bool, true, false, IsTrue, Ok, Err, Result, ◌≡◌, ℕ, List, refl, sym, subst, ◌∙◌, arith}
+use Rattle.std.proofs.Common.{inl, inr, Bool, true, false, IsTrue, ◌≡◌, refl, subst, ◌∙◌, arith}
 use Rattle.std.proofs.lemmas.Bool.{cases_Bool}
 use Rattle.sqlite.specs.Effect.{Database}
-use Rattle.sqlite.specs.Order.{Row}
-use Rattle.sqlite.specs.State.{State, HasCleanDisk, Survives, ExecutesInside, KeepsCommit}
-use Rattle.sqlite.specs.declared.error.Error.{Error}
+use Rattle.sqlite.specs.State.{State, HasCleanDisk, Survives, KeepsCommit}
 use Rattle.sqlite.specs.Store.{Ghosts}
 use Rattle.sqlite.specs.Held.{Held, state}
 use Rattle.sqlite.specs.View.{doubt}
 use Rattle.sqlite_trees.proofs.Doubt.{no_doubt}
 use Rattle.sqlite.proofs.StateLemmas.{survives_then}
 use Rattle.sqlite.proofs.Callers.{survives_begin}
-use Rattle.portal_tables.specs.Steps.{Ran, Made, IsAfter}
+use Rattle.portal_tables.specs.Steps.{Made, IsAfter}
 
 -- a step after another
 pub made_then : (A B C : Database → Database → Type 0) (old mid new : State) → Made A old mid → Made B mid new → (A old.now mid.now → B mid.now new.now → C old.now new.now) → Made C old new
@@ -24,33 +22,11 @@ made_then A B C old mid new a b joined = record {
 pub made_more : (A B : Database → Database → Type 0) (old new : State) → Made A old new → (A old.now new.now → B old.now new.now) → Made B old new
 made_more A B old new a more = record { shown = a.shown; changed = more a.changed }
 
-pub ran_inside : (sql : List ℕ) (params : Row) (old new : State) (count : ℕ) → ExecutesInside 0 sql params old new (Ok count) → Ran sql params old new
-ran_inside sql params old new count h = record { shown = h.1; count = count; runs = h.0 }
-
--- A statement of a transaction leaves the last commit as it was, whatever it answers.
-kept_inside : (sql : List ℕ) (params : Row) (old new : State) (r : Result ℕ Error) → ExecutesInside 0 sql params old new r → KeepsCommit old new
-kept_inside sql params old new (Ok count) h = record { was_open = λ _. h.1.was_open; committed = λ _. h.1.committed_is }
-kept_inside sql params old new (Err e) (inl h) = elim h.1 [
-  | inl same ↦ record { was_open = λ _. same.0.was_open; committed = λ _. same.0.committed_is }
-  | inr undone ↦ record { was_open = undone.was_open; committed = λ on. (undone.undone on).1 }
-]
-kept_inside sql params old new (Err e) (inr h) = record { was_open = λ _. h.2.0.was_open; committed = λ _. h.2.0.committed_is }
-
 pub kept_same : (s : State) → KeepsCommit s s
 kept_same s = record { was_open = λ on. on; committed = λ on. refl }
 
 pub kept_then : (a b c : State) → KeepsCommit a b → KeepsCommit b c → KeepsCommit a c
 kept_then a b c p q = record { was_open = λ on. p.was_open (q.was_open on); committed = λ on. q.committed on ∙ p.committed (q.was_open on) }
-
-pub kept_made : (C : Database → Database → Type 0) (old new : State) → Made C old new → KeepsCommit old new
-kept_made C old new h = record { was_open = λ _. h.shown.was_open; committed = λ _. h.shown.committed_is }
-
-pub kept_step : {S : Type 0} (g : Ghosts S) (old new : Held S) (sql : List ℕ) (params : Row) (r : Result ℕ Error) (e : Error)
-    → (old.in_transaction ≡ false → (r ≡ Err e) × (new ≡ old)) → (IsTrue old.in_transaction → ExecutesInside 0 sql params (state g old) (state g new) r) → KeepsCommit (state g old) (state g new)
-kept_step g old new sql params r e ended runs = elim (cases_Bool old.in_transaction) [
-  | inl on ↦ kept_inside sql params (state g old) (state g new) r (runs on)
-  | inr off ↦ subst (λ h. KeepsCommit (state g old) (state g h)) (sym (ended off).1) (kept_same (state g old))
-]
 
 -- A crash of a transaction that was committed, or failed to be, leaves what was there before or the whole change.
 pub crash_after : {S : Type 0} (g : Ghosts S) (C : Database → Database → Type 0) (old begun mid last : Held S) → begun ≡ record old { in_transaction = true }

@@ -10,10 +10,10 @@ use Rattle.sqlite_tied.specs.Compute.{everything}
 use Rattle.sqlite.specs.Listing.{understood, reads_listing}
 use Rattle.sqlite.proofs.Callers.{IsPlain, command_of, reads_as}
 use Rattle.portal_tables.specs.Own.{IsOwn}
-use Rattle.portal_tables.specs.Changes.{ListsBy, has_text, every, columns}
+use Rattle.portal_tables.specs.Changes.{ListsBy, has_text, has_number, every, columns}
 use Rattle.portal_tables.proofs.Weak.{portal_with, own_is}
 use Rattle.portal_tables.proofs.Query.{passes, shown_as}
-use Rattle.portal_tables.proofs.Tests.{has_key, same_key}
+use Rattle.portal_tables.proofs.Tests.{has_key, same_key, is_number, same_number}
 use Rattle.portal_tables.proofs.Queries.{by_columns, listed}
 
 -- a text that reads one table, in the order of some columns
@@ -149,6 +149,19 @@ choosers_of_plain = known_plain _ _ _ _ _ _ choosers_of_is
 
 pub choosers_of_listed : (old new : State) (key : List ℕ) → IsOwn old.now.schema → (rows : List Row) → Shown choosers_of (Text key ∷ []) old new rows → ListsBy (1 ∷ []) (has_text 3 key) (columns (1 ∷ [])) (old.now.trees 9) rows
 choosers_of_listed old new key own rows h = subst (λ p. ListsBy (1 ∷ []) p (columns (1 ∷ [])) (old.now.trees 9) rows) (same_key 3 key) (listed_own _ _ _ _ _ _ choosers_of_is (Text key ∷ []) old new rows own h)
+
+abbrev pub listed_students : List ℕ
+listed_students = codes "SELECT student FROM choice WHERE place = 1 ORDER BY student"
+
+listed_students_is : Reads listed_students 9 (1 ∷ []) (is_number 2 1) (col 1 1 ∷ []) (codes "student" ∷ [])
+unfolding understood everything
+listed_students_is = record { command = λ checks more. refl; plain = λ checks more. (refl, refl); unlisted = λ checks more. refl }
+
+pub listed_students_plain : (s : Schema) → IsOwn s → IsPlain (understood s listed_students)
+listed_students_plain = known_plain _ _ _ _ _ _ listed_students_is
+
+pub listed_students_listed : (old new : State) → IsOwn old.now.schema → (rows : List Row) → Shown listed_students [] old new rows → ListsBy (1 ∷ []) (has_number 2 1) (columns (1 ∷ [])) (old.now.trees 9) rows
+listed_students_listed old new own rows h = subst (λ p. ListsBy (1 ∷ []) p (columns (1 ∷ [])) (old.now.trees 9) rows) (same_number 2 1 []) (listed_own _ _ _ _ _ _ listed_students_is [] old new rows own h)
 
 abbrev pub lecturer_by_code : List ℕ
 lecturer_by_code = codes "SELECT key, name, code, capacity, ranked FROM lecturer WHERE code = ?1 ORDER BY key"

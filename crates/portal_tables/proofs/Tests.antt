@@ -1,5 +1,5 @@
 -- What the tests of the texts mean.
-use Rattle.std.proofs.Common.{◌≡◌, ℕ, ℤ, List, [], ◌∷◌, true, ◌&&◌, Some, refl}
+use Rattle.std.proofs.Common.{◌≡◌, ℕ, ℤ, pos, List, [], ◌∷◌, true, ◌&&◌, Some, refl}
 use Rattle.std.specs.Ordering.{is_eq}
 use Rattle.std.specs.declared.cmp.Ordering.{Ordering}
 use Rattle.std.specs.declared.cmp.Ordering.TheVariants.{Less, Equal, Greater}
@@ -8,10 +8,10 @@ use Rattle.sqlite.specs.declared.types.Value.TheVariants.{Null, Int, Real, Blob,
 use Rattle.sqlite.specs.Collation.TheVariants.{Binary}
 use Rattle.sqlite.specs.Order.{Row, value_cmp, column}
 use Rattle.sqlite.specs.Ops.{binary, is_true, from_truth}
-use Rattle.sqlite.specs.Term.{Term, col, op2}
+use Rattle.sqlite.specs.Term.{Term, col, lit, op2}
 use Rattle.sqlite_sql.specs.declared.ops.BinaryOp.TheVariants.{Compare}
 use Rattle.sqlite_sql.specs.declared.ops.CompareOp.TheVariants.{Eq}
-use Rattle.portal_tables.specs.Changes.{has_text}
+use Rattle.portal_tables.specs.Changes.{has_text, has_number}
 use Rattle.portal_tables.proofs.Query.{passes}
 
 abbrev pub param : ℕ → Term
@@ -20,6 +20,10 @@ param at = col 0 at
 -- the first value is what stands in this column
 abbrev pub has_key : ℕ → List Term
 has_key at = op2 (Compare Eq Binary) (col 1 at) (param 0) ∷ []
+
+-- this number is what stands in this column
+abbrev pub is_number : ℕ → ℕ → List Term
+is_number at n = op2 (Compare Eq Binary) (col 1 at) (lit (Int (pos n))) ∷ []
 
 told : (o : Ordering) → (is_true (from_truth (Some (is_eq o))) && true) ≡ is_eq o
 told Less = refl
@@ -47,3 +51,6 @@ same_key_of at key more = λ i r. equals_text (column r at) key i
 
 pub same_key : (at : ℕ) (key : List ℕ) → passes (has_key at) (Text key ∷ []) ≡ has_text at key
 same_key at key = same_key_of at key []
+
+pub same_number : (at n : ℕ) (params : Row) → passes (is_number at n) params ≡ has_number at n
+same_number at n params = λ i r. equals_int (column r at) (pos n) i

@@ -1,7 +1,7 @@
 -- What a statement on one table does to its rows.
 use Rattle.std.proofs.Common.{◌≡◌, ◌⊎◌, inl, inr, ℕ, ℤ, List, [], ◌∷◌, ◌++◌, map, slice_get, Bool, true, false, not, ◌&&◌, cond, ◌≢◌, Option, Some, None, Ok, Err, Result, refl, sym, ap, subst, subst₂, ◌∙◌, ◌||◌, filter, length, ◌/◌}
 use Rattle.std.specs.List.{AllByRecursion, list_any}
-use Rattle.sqlite.specs.declared.types.Value.TheVariants.{Null, Int, Text}
+use Rattle.sqlite.specs.declared.types.Value.TheVariants.{Null, Int}
 use Rattle.sqlite.specs.Order.{Row}
 use Rattle.sqlite.specs.Term.{Term, col}
 use Rattle.sqlite.specs.Ops.{unary}
@@ -28,7 +28,7 @@ use Rattle.sqlite_value.specs.declared.keys.Order.{Order}
 use Rattle.portal_tables.proofs.Weak.{portal_with}
 use Rattle.portal_tables.specs.Changes.{Puts, Drops, Sets, IsApart}
 use Rattle.portal_tables.proofs.Query.{one_table, passes, shown_as}
-use Rattle.portal_tables.proofs.Lists.{map-map, looped, filter_same, without_is, found_once}
+use Rattle.portal_tables.proofs.Lists.{looped, filter_same, without_is, found_once}
 use Rattle.std.specs.List.Sorted.{IsPermutation}
 use Rattle.std.proofs.lemmas.List.Sorted.{IsPermutation-map, list_any-IsPermutation}
 use Rattle.sqlite.specs.Program.{IsProgramAnswer}
@@ -36,6 +36,7 @@ use Rattle.sqlite.specs.Query.{IsAnswer, output, Output}
 use Rattle.sqlite_exec.proofs.RunLemmas.{answer_alone}
 use Rattle.sqlite_rules.specs.Calls.{ids_of}
 use Rattle.sqlite_schema.specs.declared.program.Program.{Program}
+use Rattle.sqlite_trees.proofs.ListLemmas.{map-map}
 
 -- the other tables of a schema are as they were
 abbrev KeepsIn : Schema → ℕ → Database → Database → Type 0
@@ -79,10 +80,6 @@ either false x = refl
 pub cast_null : cast kind.Integer Null ≡ Null
 unfolding unary
 cast_null = either _ Null
-
-pub cast_text : (t : List ℕ) → cast kind.Text (Text t) ≡ Text t
-unfolding unary
-cast_text t = refl
 
 pub cast_int : (n : ℤ) → cast kind.Integer (Int n) ≡ Int n
 unfolding unary

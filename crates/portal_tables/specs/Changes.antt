@@ -1,5 +1,5 @@
 -- What a statement does to the rows of one table, and what a query shows of them.
-use Rattle.std.specs.Prelude.{◌≡◌, ◌≢◌, ℕ, Bool, true, false, not, List, [], ◌∷◌, map, filter, ⊤}
+use Rattle.std.specs.Prelude.{◌≡◌, ◌≢◌, ℕ, pos, Bool, true, false, not, List, [], ◌∷◌, map, filter, ⊤}
 use Rattle.std.specs.List.{AllByRecursion}
 use Rattle.std.specs.List.Sorted.{IsPermutation, IsSorted}
 use Rattle.std.specs.Ordering.{is_eq}
@@ -55,6 +55,10 @@ IsApart (r ∷ rs) = (rowid r ≡ Int (id_in (rowid r))) × AllByRecursion (λ s
 -- the text in a column is these bytes
 abbrev pub has_text : ℕ → List ℕ → Row → Bool
 has_text at t r = is_eq (value_cmp (column r at) (Words t))
+
+-- the number in a column is this one
+abbrev pub has_number : ℕ → ℕ → Row → Bool
+has_number at n r = is_eq (value_cmp (column r at) (Int (pos n)))
 
 abbrev pub every : Row → Bool
 every r = true

@@ -7,7 +7,7 @@ ghost use Rattle.sqlite.specs.Held.{state};
 ghost use Rattle.portal_tables.specs.Own.{IsOwn};
 ghost use Rattle.portal_tables.specs.Steps.{Leaves};
 ghost use Rattle.portal_tables.specs.Tables.{portal_tree, lecturer_tree, project_tree, student_tree, choice_tree, ranking_tree};
-ghost use Rattle.portal_tables.specs.Changes.{ListsBy, every, columns, has_text};
+ghost use Rattle.portal_tables.specs.Changes.{ListsBy, every, columns, has_text, has_number};
 
 use crate::run::read;
 use sqlite::types::ValueRef;
@@ -154,6 +154,22 @@ pub fn choosers_of<S: Alter>(conn: &mut Connection<S>, project: &[u8]) -> Result
         conn,
         "SELECT student FROM choice WHERE project = ?1 ORDER BY student",
         &[ValueRef::Text(project)],
+    )
+}
+
+/// The students who have a list, by key: those of the first rows of lists.
+pub fn listed_students<S: Alter>(conn: &mut Connection<S>) -> Result<Vec<Row>, Error>
+    ensures rows { IsOwn conn.old.schema → HasCleanDisk (state S.Store conn.new) → IfOk result (λ rows. ListsBy (1 ∷ []) (has_number 2 1) (columns (1 ∷ [])) ((state S.Store conn.old).now.trees choice_tree) rows.items) }
+    ensures same { IsOwn conn.old.schema → HasCleanDisk (state S.Store conn.new) → OnOk result (IsUnchanged (state S.Store conn.old) (state S.Store conn.new)) }
+    ensures err { IsOwn conn.old.schema → HasCleanDisk (state S.Store conn.new) → OnErr result (Leaves (state S.Store conn.old) (state S.Store conn.new)) }
+    ensures mode { conn.old.in_transaction ≡ false → conn.new.in_transaction ≡ false }
+    ensures crash { IsOwn conn.old.schema → Survives (state S.Store conn.old) (state S.Store conn.new) (λ _. ⊥) }
+    ensures survives { Survives (state S.Store conn.old) (state S.Store conn.new) (λ _. IsOwn conn.old.schema → ⊥) }
+{
+    read(
+        conn,
+        "SELECT student FROM choice WHERE place = 1 ORDER BY student",
+        &[],
     )
 }
 

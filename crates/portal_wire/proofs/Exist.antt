@@ -28,7 +28,7 @@ after_head : (h : RequestHead) (r : _) (rest : List ℕ) (a : Asked) (after : Li
 after_head h (Err why) rest a after e = absurd (cc)
 after_head h (Ok n) rest a after e = (n, after_body h n rest a after (nat_le n (length rest)) e)
 
-not_headless : (a : Asked) (after : List ℕ) (b : Bool) → whole a after ≡ (if b then over else fault bad_head false) → ⊥
+pub not_headless : (a : Asked) (after : List ℕ) (b : Bool) → whole a after ≡ (if b then over else fault bad_head false) → ⊥
 not_headless a after true e = cc
 not_headless a after false e = cc
 
@@ -49,7 +49,8 @@ fronts_after bytes a after opens fronts front rest e =
     let cut : (f : List ℕ) × (bytes ≡ f ++ after) = leaves bytes a after opens in
     fronts (cut.0 ++ front) rest (cut.1 ∙ (ap (λ r. cut.0 ++ r) e ∙ sym (append_assoc cut.0 front rest)))
 
-shut_ends : (close : Bool) → Ends (shut close) (last_for close) []
+-- a stream that a reply shut ends with no text
+pub shut_ends : (close : Bool) → Ends (shut close) (last_for close) []
 shut_ends true = refl
 shut_ends false = refl
 

@@ -7,7 +7,6 @@ use Rattle.std.proofs.lemmas.Bool.{and_parts, ltb-true, ne_eqb, eqb-true}
 use Rattle.std.proofs.lemmas.Str.{IsUtf8-from_is_utf8, IsUtf8-from_ascii, is_utf8-from_IsUtf8}
 use Rattle.matchit.specs.Rows.{RowsOf, param_token, catch_all_token}
 use Rattle.matchit.specs.Seek.{seek, step, own, or_else, param_step, has_slash}
-use Rattle.matchit.specs.Router.{RouteOf}
 use Rattle.portal_wire.specs.declared.routes.Place.{Place}
 use Rattle.portal_wire.specs.Routes.{the_paths, look_up, place_at, row_of, the_rows}
 
@@ -91,9 +90,6 @@ seek_is {K} (b ∷ path) rows e =
     ∙ (ap (λ rs. or_else A (or_else (seek k (param_step {K = K} [] (b ∷ path)).1 path) (own rs))) (no_step catch_all_token rows (omega arith) e)
     ∙ (ap (λ o. or_else A (or_else o None)) (ap (λ r. seek k r path) (after_none {K = K} b path) ∙ seek_none k path)
     ∙ (or_none A ∙ (seek_is path (step b rows) (literal_step b rows e) ∙ find_step b path rows))))
-
-value_of : RouteOf Place → Place
-value_of r = r.value
 
 map_find : (path : List ℕ) (ps : List (List ℕ × Place)) → option_map (λ r. r.value) (find path (map row_of ps)) ≡ look_up path ps
 map_find path [] = refl

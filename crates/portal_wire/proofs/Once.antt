@@ -6,7 +6,7 @@ use Rattle.portal_frame.specs.Stream.{Asked, Refuses, whole, fault, over, Opens}
 use Rattle.portal_wire.specs.Refusals.{answer_to}
 use Rattle.portal_wire.specs.Text.{reply_text}
 use Rattle.portal_wire.specs.Conversation.{request_of, closes_at, Rest, more, shut, Leads, Ends, Last, End, Closed, Refused, Limit}
-use Rattle.portal_wire.proofs.Front.{Opens-unique}
+use Rattle.portal_frame.proofs.Unique.{Opens-unique}
 
 -- what two accounts of one stream share
 abbrev pub Same : List Request → List Request → Last → Last → List ℕ → List ℕ → Type 0

@@ -3,7 +3,9 @@ use Rattle.std.proofs.Common.{◌≡◌, ◌↔◌, ◌⊎◌, inl, inr, ℕ, �
 use Rattle.std.proofs.lemmas.Bool.{cases_lt, cases_eq, eq-eqb, ne_eqb}
 use Rattle.std.proofs.lemmas.List.{length-set, get_or-set_same, get_or-set_other}
 use Rattle.std.proofs.lemmas.List.Sums.{count_by_more_yes, count_by_more_no}
+use Rattle.std.proofs.lemmas.Option.{same_Some}
 use Rattle.spa_model.specs.Spa.{Spa, IsWith, IsOn, IsBefore, IsLawful, IsMatching, SomeWorseWith, place, ranking_of, lecturer_of, project_of, is_project, is_lecturer, at_project, at_lecturer}
+use Rattle.spa_model.proofs.Counts.{off_project}
 use Rattle.spa_check.specs.declared.groups.Group.{Group}
 use Rattle.spa_check.specs.Groups.{IsGroup}
 
@@ -76,10 +78,6 @@ module _ (i : Spa) (m : List (Option ℕ)) where
   other_with : (n l : ℕ) → (IsWith i m l n → ⊥) → (t : ℕ) → IsWithBefore i m (n + 1) l t → IsWithBefore i m n l t
   other_with n l off t there = elim (before_or_here n t there.0) [ inl k ↦ (k, there.1) | inr k ↦ absurd (off (rw k at there.1)) ]
 
-  off_project : (p : ℕ) (o : Option ℕ) → (o ≡ Some p → ⊥) → is_project p o ≡ false
-  off_project p None off = refl
-  off_project p (Some q) off = ne_eqb q p (λ e. off (ap Some e))
-
   off_lecturer : (l : ℕ) (o : Option ℕ) → ((q : ℕ) → o ≡ Some q → lecturer_of i q ≡ l → ⊥) → is_lecturer i l o ≡ false
   off_lecturer l None off = refl
   off_lecturer l (Some q) off = ne_eqb (lecturer_of i q) l (off q refl)
@@ -112,14 +110,11 @@ module _ (i : Spa) (m : List (Option ℕ)) where
               (count_by_more_yes (is_project p) m n None h (ap (is_project p) at ∙ eq-eqb p p refl)) deep count_is depth_is
               (let group = so_far.each p old in_range in rw (sym read) at group))
           | inr other ↦
-              let off : project_of m n ≡ Some q → ⊥ = λ e. other (some_same (sym e ∙ at)) in
+              let off : project_of m n ≡ Some q → ⊥ = λ e. other (same_Some _ _ (sym e ∙ at)) in
               rw (get_or-set_other groups p q new d other) (group_same (ranking_of i (lecturer_of i q)) (IsAtBefore m n q) (IsAtBefore m (n + 1) q) (at_project (take n m) q) (at_project (take (n + 1) m) q) (get_or groups q d)
               (λ t there. (omega (arith, there.0), there.1)) (other_at n q off) (count_by_more_no (is_project q) m n None h (off_project q (get_or m n None) off)) (so_far.each q d (omega arith)))
         ];
       }
-    where
-      some_same : {x y : ℕ} → Some x ≡ Some y → x ≡ y
-      some_same e = cc
 
   pub lecturer_groups_more : (n p l depth : ℕ) (groups : List Group) (old new : Group) → n < length m → project_of m n ≡ Some p → l ≡ lecturer_of i p → l < length groups → old ≡ get_or groups l old → depth ≡ place (ranking_of i l) n + 1 → new.count ≡ old.count + 1 → new.depth ≡ max old.depth depth
       → AreLecturerGroupsBefore i m n groups → AreLecturerGroupsBefore i m (n + 1) (set groups l new)
@@ -135,11 +130,8 @@ module _ (i : Spa) (m : List (Option ℕ)) where
               (count_by_more_yes (is_lecturer i l) m n None h (ap (is_lecturer i l) at ∙ eq-eqb (lecturer_of i p) l (sym is))) deep count_is depth_is
               (let group = so_far.each l old in_range in rw (sym read) at group))
           | inr other ↦
-              let off : IsWith i m q n → ⊥ = λ (r, e, f). other (sym f ∙ ap (lecturer_of i) (some_same (sym e ∙ at)) ∙ sym is) in
+              let off : IsWith i m q n → ⊥ = λ (r, e, f). other (sym f ∙ ap (lecturer_of i) (same_Some _ _ (sym e ∙ at)) ∙ sym is) in
               rw (get_or-set_other groups l q new d other) (group_same (ranking_of i q) (IsWithBefore i m n q) (IsWithBefore i m (n + 1) q) (at_lecturer i (take n m) q) (at_lecturer i (take (n + 1) m) q) (get_or groups q d)
               (λ t there. (omega (arith, there.0), there.1)) (other_with n q off) (count_by_more_no (is_lecturer i q) m n None h (off_lecturer q (get_or m n None) (λ r e f. off (r, e, f)))) (so_far.each q d (omega arith)))
         ];
       }
-    where
-      some_same : {x y : ℕ} → Some x ≡ Some y → x ≡ y
-      some_same e = cc

@@ -6,20 +6,9 @@ use Rattle.std.proofs.lemmas.Bool.{cases_lt}
 use Rattle.spa_model.specs.declared.letter.Letter.{Letter}
 use Rattle.spa_model.specs.declared.letter.Letter.TheVariants.{A, B, C}
 use Rattle.spa_model.specs.Spa.{Spa, Blocks, Wants}
+use Rattle.spa_model.proofs.OneOnly.{one_letter}
 use Rattle.spa_check.specs.declared.block.Block.{Block}
 use Rattle.spa_check.specs.Listed.{IsEarlier, IsPassed, AreBlocksBefore}
-
--- one case at most
-pub one_letter : (i : Spa) (m : List (Option ℕ)) (s p : ℕ) (x y : Letter) → Blocks i m s p x → Blocks i m s p y → x ≡ y
-one_letter i m s p A A a b = refl
-one_letter i m s p B B a b = refl
-one_letter i m s p C C a b = refl
-one_letter i m s p A B a b = absurd (omega (arith, a.2, b.2))
-one_letter i m s p A C a b = absurd (omega (arith, a.1, b.1))
-one_letter i m s p B A a b = absurd (omega (arith, a.2, b.2))
-one_letter i m s p B C a b = absurd (omega (arith, a.1, b.1))
-one_letter i m s p C A a b = absurd (omega (arith, a.1, b.1))
-one_letter i m s p C B a b = absurd (omega (arith, a.1, b.1))
 
 -- a pair that blocks is wanted
 pub blocks_wants : (i : Spa) (m : List (Option ℕ)) (s p : ℕ) (x : Letter) → Blocks i m s p x → Wants i m s p

@@ -4,6 +4,7 @@ use Rattle.std.specs.List.{count_by}
 use Rattle.std.proofs.lemmas.Bool.{cases_lt, cases_eq, cases_Bool, eqb-true}
 use Rattle.std.proofs.lemmas.List.{get_or_default, get_or-take, length-map, length-take-le, length-set, get_or-set_same, get_or-set_other, take_more, take_all}
 use Rattle.std.proofs.lemmas.List.Sums.{count_by_more_no, sum_by_push}
+use Rattle.std.proofs.lemmas.Option.{same_Some}
 use Rattle.spa_rows.specs.Lines.{Pair}
 use Rattle.spa_model.specs.declared.matching.MatchingFault.TheVariants.{NoSuchStudent, NotAcceptable, StudentTwice, ProjectOver, LecturerOver}
 use Rattle.spa_model.specs.Spa.{Spa, IsLawful, IsDistinct, IsMatching, IsAcceptable, place, choices_of, lecturer_of, capacity_of, limit_of, project_of, is_project, is_lecturer, at_project, at_lecturer}
@@ -32,7 +33,7 @@ assigned_more n students projects m j s p apart h size s_is p_is below so_far =
       ];
       no_other = λ t q e. elim (cases_eq t s) [
         | inl same ↦
-            let is_p : p ≡ q = some_same (sym (get_or-set_same m s (Some p) None (omega (arith, so_far.count))) ∙ rw same at e) in
+            let is_p : p ≡ q = same_Some _ _ (sym (get_or-set_same m s (Some p) None (omega (arith, so_far.count))) ∙ rw same at e) in
             (j, omega arith, get_or-take (j + 1) students j 0 (omega arith) ∙ s_is ∙ sym same, get_or-take (j + 1) projects j 0 (omega arith) ∙ p_is ∙ is_p)
         | inr other ↦
             let found = so_far.no_other t q (sym (get_or-set_other m s t (Some p) None other) ∙ e) in (
@@ -50,9 +51,6 @@ assigned_more n students projects m j s p apart h size s_is p_is below so_far =
           omega (arith, so_far.counted test out, ap (count_by (λ q. test (Some q))) last);
     }
   where
-    some_same : {x y : ℕ} → Some x ≡ Some y → x ≡ y
-    some_same e = cc
-
     unassigned : (o : Option ℕ) → project_of m s ≡ o → o ≡ None
     unassigned None e = refl
     unassigned (Some q) e =

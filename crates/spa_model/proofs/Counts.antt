@@ -9,6 +9,11 @@ use Rattle.spa_model.specs.Spa.{Spa, is_project, is_lecturer, at_project, at_lec
 abbrev pub one_if : Bool → ℕ
 one_if b = cond b 1 0
 
+-- a test that fails is false
+pub off_project : (p : ℕ) (o : Option ℕ) → (o ≡ Some p → ⊥) → is_project p o ≡ false
+off_project p None off = refl
+off_project p (Some q) off = ne_eqb q p (λ same. off (ap Some same))
+
 -- a count after a write
 pub count_by-set : (p : Option ℕ → Bool) (m : List (Option ℕ)) (s : ℕ) (v : Option ℕ) → s < length m → count_by p (set m s v) + one_if (p (get_or m s None)) ≡ count_by p m + one_if (p v)
 count_by-set p m s v h = sum_by-set (λ x. cond (p x) 1 0) m s v None h

@@ -9,10 +9,11 @@ use Rattle.spa_model.specs.Spa.{Spa}
 use Rattle.spa_model.specs.Pairs.{HasPairFault, number_of_pair_fault, IsPairRefusal}
 use Rattle.spa_model.specs.Assigned.{HasNone, AreSound}
 
-abbrev fault_of : ℕ → MatchingFault
+-- the fault with a number
+abbrev pub fault_of : ℕ → MatchingFault
 fault_of n = cond (eqb n 1) NoSuchStudent (cond (eqb n 2) NoSuchProject (cond (eqb n 3) NotAcceptable (cond (eqb n 4) StudentTwice (cond (eqb n 5) ProjectOver (cond (eqb n 6) LecturerOver Memory)))))
 
-fault_of-number : (f : MatchingFault) → fault_of (number_of_pair_fault f) ≡ f
+pub fault_of-number : (f : MatchingFault) → fault_of (number_of_pair_fault f) ≡ f
 fault_of-number NoSuchStudent = refl
 fault_of-number NoSuchProject = refl
 fault_of-number NotAcceptable = refl

@@ -1,11 +1,11 @@
 -- What the absence of faults says of lines.
-use Rattle.std.proofs.Common.{◌≡◌, inl, inr, ℕ, ◌<◌, ◌≤◌, Bool, true, false, List, length, get_or, map, take, All, Any, Ordering, Less, Equal, Greater, IsSortedByKey, refl, sym, ◌∙◌, ap, arith}
+use Rattle.std.proofs.Common.{◌≡◌, inl, inr, ℕ, ◌<◌, ◌≤◌, true, false, List, length, get_or, map, take, All, Any, Ordering, Less, Equal, Greater, IsSortedByKey, refl, sym, ◌∙◌, ap, arith}
 use Rattle.std.specs.Ordering.{nat_cmp, is_lt}
 use Rattle.std.specs.Cmp.Lexicographic.{slice_cmp}
 use Rattle.std.proofs.lemmas.Cmp.{nat_list_cmp_total}
 use Rattle.std.proofs.lemmas.Map.Lookups.{exact_bytes}
 use Rattle.std.proofs.lemmas.List.Sorted.{ranks_by, sorted_far}
-use Rattle.std.proofs.lemmas.Bool.{cases_lt}
+use Rattle.std.proofs.lemmas.Bool.{cases_lt, true_from_ne_false}
 use Rattle.std.proofs.lemmas.List.{get_or_default, get_or-take, length-take, length-map}
 use Rattle.spa_rows.specs.Form.{is_key}
 use Rattle.spa_rows.specs.Lines.{Text, Rows}
@@ -42,10 +42,6 @@ rise_from_sorted {X} key lines sorted apart i j d less h =
         let wrong : is_lt Less ≡ false = rw turned at back in
         cc
 
-is_form : (b : Bool) → (b ≡ false → ⊥) → b ≡ true
-is_form true h = refl
-is_form false h = absurd (h refl)
-
 in_range : (n : ℕ) → (IsBadCapacity n → ⊥) → (1 ≤ n) × (n ≤ 200)
 in_range n h = (low, high)
   where
@@ -78,9 +74,9 @@ are_good rows lecturers projects students none = record {
   rise_students = rise_from_sorted (λ x. x.key) rows.students students (none_bad rows.students (λ x. x.row) _ (λ r bad. none KeyTwice (omega arith) r (inr (inr bad))));
   rise_projects = rise_from_sorted (λ x. x.key) rows.projects projects (none_bad rows.projects (λ x. x.row) _ (λ r bad. none KeyTwice (omega arith) r (inr (inl bad))));
   rise_lecturers = rise_from_sorted (λ x. x.key) rows.lecturers lecturers (none_bad rows.lecturers (λ x. x.row) _ (λ r bad. none KeyTwice (omega arith) r (inl bad)));
-  form_students = λ k d h. is_form _ (none_bad rows.students (λ x. x.row) _ (λ r bad. none BadKey (omega arith) r (inr (inr bad))) k d h);
-  form_projects = λ k d h. is_form _ (none_bad rows.projects (λ x. x.row) _ (λ r bad. none BadKey (omega arith) r (inr (inl bad))) k d h);
-  form_lecturers = λ k d h. is_form _ (none_bad rows.lecturers (λ x. x.row) _ (λ r bad. none BadKey (omega arith) r (inl bad)) k d h);
+  form_students = λ k d h. true_from_ne_false _ (none_bad rows.students (λ x. x.row) _ (λ r bad. none BadKey (omega arith) r (inr (inr bad))) k d h);
+  form_projects = λ k d h. true_from_ne_false _ (none_bad rows.projects (λ x. x.row) _ (λ r bad. none BadKey (omega arith) r (inr (inl bad))) k d h);
+  form_lecturers = λ k d h. true_from_ne_false _ (none_bad rows.lecturers (λ x. x.row) _ (λ r bad. none BadKey (omega arith) r (inl bad)) k d h);
   known_projects = none_bad rows.students (λ x. x.row) _ (none NoSuchProject (omega arith));
   known_lecturers = none_bad rows.projects (λ x. x.row) _ (none NoSuchLecturer (omega arith));
   apart_students = none_bad rows.students (λ x. x.row) _ (λ r bad. none RepeatInList (omega arith) r (inr bad));

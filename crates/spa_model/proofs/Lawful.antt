@@ -4,6 +4,7 @@ use Rattle.std.specs.List.{AllZip, list_any}
 use Rattle.std.proofs.lemmas.Bool.{cases_lt, cases_Bool, eqb-true, eq-eqb}
 use Rattle.std.proofs.lemmas.List.{get_or_default, get_or_past, length-map}
 use Rattle.std.proofs.lemmas.List.Folds.{Any-from_list_any, list_any-from_Any}
+use Rattle.std.proofs.lemmas.Slice.Zip.{AllZip-long}
 use Rattle.spa_rows.specs.Lines
 use Rattle.spa_rows.specs.Lines.{Text, Rows}
 use Rattle.spa_rows.specs.Faults.{HasNoneBefore, Repeats}
@@ -18,7 +19,7 @@ use Rattle.spa_model.specs.Inside.{spa_of, AreRanks, HaveRanks}
 use Rattle.spa_model.specs.Numbers.{student_keys, project_keys, lecturer_keys, AreNumbers, IsStudentOf, IsProjectOf, IsLecturerOf, choices_at, lecturer_at, row_at, rank_at, Finds, MissesBelow}
 use Rattle.spa_model.proofs.Places.{get_or-place, place-get_or-le}
 use Rattle.spa_model.proofs.Keys.{one_number, key_number}
-use Rattle.spa_model.proofs.Zips.{zip_at, zip_length, zip_maps, zip_weaker, zip_all}
+use Rattle.spa_model.proofs.Zips.{zip_at, zip_maps, zip_weaker, zip_all}
 use Rattle.spa_model.proofs.Ranks.{distinct_numbers}
 use Rattle.spa_model.proofs.Good.{AreGood}
 use Rattle.spa_model.proofs.Numbered.{AreNumbered}
@@ -141,7 +142,7 @@ module _ (rows : Rows) (students : List Student) (projects : List Project) (lect
         let low : l < length rows.lecturers = ranking_there l s on in
         let y = at_place rows.lecturers l low in
         let zip : AreNumbers (student_keys rows.students) y.0.list (ranking_at l) = ranking_here l y.0 low y.1 in
-        let size : length (ranking_at l) ≡ length y.0.list = zip_length (λ t n. HasKey (student_keys rows.students) n t) y.0.list (ranking_at l) zip in
+        let size : length (ranking_at l) ≡ length y.0.list = AllZip-long (λ t n. HasKey (student_keys rows.students) n t) y.0.list (ranking_at l) zip in
         let i : ℕ = place (ranking_at l) s in
         let text = at_place y.0.list i (omega arith) in
         let mine : HasKey (student_keys rows.students) (get_or (ranking_at l) i s) (get_or y.0.list i text.0) = zip_at (λ t n. HasKey (student_keys rows.students) n t) y.0.list (ranking_at l) i text.0 s (omega arith) zip in
@@ -202,7 +203,7 @@ module _ (rows : Rows) (students : List Student) (projects : List Project) (lect
     short s = elim (cases_lt s (length rows.students)) [
       | inl low ↦
           let x = at_place rows.students s low in
-          let size : length (choices_at students s) ≡ length x.0.list = zip_length (λ t n. HasKey (project_keys rows.projects) n t) x.0.list (choices_at students s) (Numbered.choices_numbered rows students projects so s x.0 low x.1) in
+          let size : length (choices_at students s) ≡ length x.0.list = AllZip-long (λ t n. HasKey (project_keys rows.projects) n t) x.0.list (choices_at students s) (Numbered.choices_numbered rows students projects so s x.0 low x.1) in
           let few : length x.0.list ≤ 20 = subst (λ y. length y.list ≤ 20) x.1 (good.short s x.0 low) in
           omega arith
       | inr past ↦

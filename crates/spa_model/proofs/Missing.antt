@@ -4,8 +4,9 @@ use Rattle.std.specs.List.{AllZip}
 use Rattle.std.proofs.lemmas.Bool.{cases_lt}
 use Rattle.std.proofs.lemmas.Bool.Decides.{nat_tests}
 use Rattle.std.proofs.lemmas.List.{length-map}
+use Rattle.std.proofs.lemmas.Slice.Zip.{AllZip-long}
 use Rattle.spa_rows.specs.Lines
-use Rattle.spa_rows.specs.Lines.{Text, Rows}
+use Rattle.spa_rows.specs.Lines.{Rows}
 use Rattle.spa_rows.specs.Faults.{HasFault}
 use Rattle.spa_rows.specs.declared.faults.InstanceFault.TheVariants.{ApplicantMissing}
 use Rattle.spa_rows.proofs.Lists.{at_place}
@@ -17,7 +18,7 @@ use Rattle.spa_model.specs.Built.{HasKey}
 use Rattle.spa_model.specs.Numbers.{student_keys, IsLecturerOf, choices_at, lecturer_at, row_at, rank_at, Finds, MissesBelow}
 use Rattle.spa_model.proofs.Places.{get_or-place, place-get_or-le}
 use Rattle.spa_model.proofs.Keys.{one_number, key_number}
-use Rattle.spa_model.proofs.Zips.{zip_at, zip_length}
+use Rattle.spa_model.proofs.Zips.{zip_at}
 use Rattle.spa_model.proofs.Applicants.{row_here, rank_here}
 use Rattle.spa_model.proofs.Numbered.{AreNumbered}
 use Rattle.spa_model.proofs.Numbered
@@ -34,7 +35,7 @@ unranked list s off = elim (cases_lt (place list s) (length list)) [
 
 module _ (rows : Rows) (students : List Student) (projects : List Project) (lecturers : List Lecturer) (so : AreNumbered rows students projects) (lists : AllZip (IsLecturerOf (student_keys rows.students)) rows.lecturers lecturers) where
   pub lecturer_count : length lecturers ≡ length rows.lecturers
-  lecturer_count = zip_length (IsLecturerOf (student_keys rows.students)) rows.lecturers lecturers lists
+  lecturer_count = AllZip-long (IsLecturerOf (student_keys rows.students)) rows.lecturers lecturers lists
 
   -- the row of a lecturer
   pub row_of : (l : ℕ) (y : Lines.Lecturer) → l < length rows.lecturers → get_or rows.lecturers l y ≡ y → (z : Lecturer) × (get_or lecturers l z ≡ z) × IsLecturerOf (student_keys rows.students) y z
@@ -48,7 +49,7 @@ module _ (rows : Rows) (students : List Student) (projects : List Project) (lect
     key_x = key_number (λ q. q.key) rows.students s x low is_x
 
     long : length z.ranking.items ≡ length y.list
-    long = zip_length (λ t n. HasKey (student_keys rows.students) n t) y.list z.ranking.items is_z.ranking
+    long = AllZip-long (λ t n. HasKey (student_keys rows.students) n t) y.list z.ranking.items is_z.ranking
 
     -- on the list of texts, on the list of numbers
     pub on_number : Any (λ text. text ≡ x.key) y.list → IsOn z.ranking.items s

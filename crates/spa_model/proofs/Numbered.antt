@@ -2,6 +2,7 @@
 use Rattle.std.proofs.Common.{◌≡◌, ℕ, ◌<◌, List, [], length, get_or, Any, sym, ◌∙◌, ap, arith}
 use Rattle.std.specs.List.{AllZip}
 use Rattle.std.proofs.lemmas.List.{get_or_default, length-map}
+use Rattle.std.proofs.lemmas.Slice.Zip.{AllZip-long}
 use Rattle.spa_rows.specs.Lines
 use Rattle.spa_rows.specs.Lines.{Text, Rows}
 use Rattle.spa_rows.specs.Least.{BadAt}
@@ -15,7 +16,7 @@ use Rattle.spa_model.specs.Built.{HasKey}
 use Rattle.spa_model.specs.Numbers.{student_keys, project_keys, lecturer_keys, AreNumbers, IsStudentOf, IsProjectOf, choices_at, lecturer_at, Finds, IsApplicantOf}
 use Rattle.spa_model.proofs.Keys.{one_number, key_number}
 use Rattle.spa_model.proofs.Ranks.{numbers_below}
-use Rattle.spa_model.proofs.Zips.{zip_at, zip_length}
+use Rattle.spa_model.proofs.Zips.{zip_at}
 use Rattle.spa_model.proofs.Applicants.{choices_here, lecturer_here}
 
 -- students and projects by number
@@ -28,10 +29,10 @@ pub record AreNumbered (rows : Rows) (students : List Student) (projects : List 
 
 module _ (rows : Rows) (students : List Student) (projects : List Project) (so : AreNumbered rows students projects) where
   pub student_count : length students ≡ length rows.students
-  student_count = zip_length (IsStudentOf (project_keys rows.projects)) rows.students students so.choices
+  student_count = AllZip-long (IsStudentOf (project_keys rows.projects)) rows.students students so.choices
 
   pub project_count : length projects ≡ length rows.projects
-  project_count = zip_length (IsProjectOf (lecturer_keys rows.lecturers)) rows.projects projects so.offers
+  project_count = AllZip-long (IsProjectOf (lecturer_keys rows.lecturers)) rows.projects projects so.offers
 
   -- the choices of a student have the texts of the line
   pub choices_numbered : (s : ℕ) (x : Lines.Student) → s < length rows.students → get_or rows.students s x ≡ x → AreNumbers (project_keys rows.projects) x.list (choices_at students s)
@@ -72,7 +73,7 @@ module _ (rows : Rows) (students : List Student) (projects : List Project) (so :
     pub finds_number : (s : ℕ) (x : Lines.Student) → s < length rows.students → get_or rows.students s x ≡ x → FindsOne rows x y.key → Finds projects (choices_at students s) l
     finds_number s x h at (k, text, under, is_text, (j, line, j_low, is_line, (key, offers))) =
         let zip : AreNumbers (project_keys rows.projects) x.list (choices_at students s) = choices_numbered s x h at in
-        let long : length (choices_at students s) ≡ length x.list = zip_length (λ t n. HasKey (project_keys rows.projects) n t) x.list (choices_at students s) zip in
+        let long : length (choices_at students s) ≡ length x.list = AllZip-long (λ t n. HasKey (project_keys rows.projects) n t) x.list (choices_at students s) zip in
         let p : ℕ = get_or (choices_at students s) k 0 in
         let mine : HasKey (project_keys rows.projects) p (get_or x.list k text) = zip_at (λ t n. HasKey (project_keys rows.projects) n t) x.list (choices_at students s) k text 0 under zip in
         let its : HasKey (project_keys rows.projects) j line.key = key_number (λ q. q.key) rows.projects j line j_low is_line in
@@ -84,7 +85,7 @@ module _ (rows : Rows) (students : List Student) (projects : List Project) (so :
     pub finds_text : (s : ℕ) (x : Lines.Student) → s < length rows.students → get_or rows.students s x ≡ x → Finds projects (choices_at students s) l → FindsOne rows x y.key
     finds_text s x h at (k, p, under, is_p, offers) =
         let zip : AreNumbers (project_keys rows.projects) x.list (choices_at students s) = choices_numbered s x h at in
-        let long : length (choices_at students s) ≡ length x.list = zip_length (λ t n. HasKey (project_keys rows.projects) n t) x.list (choices_at students s) zip in
+        let long : length (choices_at students s) ≡ length x.list = AllZip-long (λ t n. HasKey (project_keys rows.projects) n t) x.list (choices_at students s) zip in
         let text = at_place x.list k (omega arith) in
         let mine : HasKey (project_keys rows.projects) (get_or (choices_at students s) k p) (get_or x.list k text.0) = zip_at (λ t n. HasKey (project_keys rows.projects) n t) x.list (choices_at students s) k text.0 p (omega arith) zip in
         let key_p : HasKey (project_keys rows.projects) p text.0 = rw (is_p, text.1) at mine in

@@ -7,13 +7,14 @@ use Rattle.std.proofs.lemmas.List.{get_or-set_same, get_or-set_other, get_or_def
 use Rattle.std.proofs.lemmas.List.Folds.{Any-from_list_any}
 use Rattle.std.proofs.lemmas.Map.Steps.{length-le_from_distinct_below}
 use Rattle.std.proofs.lemmas.Map.Made.{IsDistinct-from_AllPairs}
+use Rattle.std.proofs.lemmas.Slice.Zip.{AllZip-long}
 use Rattle.spa_rows.specs.Lines.{Text}
 use Rattle.spa_rows.specs.Faults.{Repeats}
 use Rattle.spa_model.specs.Spa.{place}
 use Rattle.spa_model.specs.Built.{HasKey}
 use Rattle.spa_model.specs.Numbers.{AreNumbers}
 use Rattle.spa_model.proofs.Places.{place-injective, place-get_or}
-use Rattle.spa_model.proofs.Zips.{zip_at, zip_length, zip_all}
+use Rattle.spa_model.proofs.Zips.{zip_at, zip_all}
 
 -- the table, of the first i of the list
 pub record AreRanksBelow (n : ℕ) (list : List ℕ) (i : ℕ) (ranks : List (Option ℕ)) : Type 0 where
@@ -56,7 +57,7 @@ at_most list n apart below = length-le_from_distinct_below list n (IsDistinct-fr
 -- texts, none twice, have numbers, none twice
 pub distinct_numbers : (keys : List Text) (texts : List Text) (numbers : List ℕ) → AreNumbers keys texts numbers → (Repeats texts → ⊥) → AllPairs (λ a b. a ≢ b) numbers
 distinct_numbers keys texts numbers zip apart i j d less h = λ same.
-    let long : length numbers ≡ length texts = zip_length (λ text n. HasKey keys n text) texts numbers zip in
+    let long : length numbers ≡ length texts = AllZip-long (λ text n. HasKey keys n text) texts numbers zip in
     let first : HasKey keys (get_or numbers i d) (get_or texts i []) = zip_at (λ text n. HasKey keys n text) texts numbers i [] d (omega arith) zip in
     let second : HasKey keys (get_or numbers j d) (get_or texts j []) = zip_at (λ text n. HasKey keys n text) texts numbers j [] d (omega arith) zip in
     let one : get_or texts i [] ≡ get_or texts j [] = sym first.1 ∙ ap (λ n. get_or keys n []) same ∙ second.1 in

@@ -1,24 +1,13 @@
 -- Lemmas on two lists, place by place.
-use Rattle.std.proofs.Common.{◌≡◌, ℕ, zero, suc, ◌+◌, ◌<◌, ◌≤◌, List, [], ◌∷◌, ◌++◌, length, get_or, take, map, refl, sym, ◌∙◌, ap, subst, arith}
+use Rattle.std.proofs.Common.{◌≡◌, ℕ, zero, suc, ◌+◌, ◌<◌, List, [], ◌∷◌, ◌++◌, length, get_or, take, map, refl, sym, ◌∙◌, ap, subst, arith}
 use Rattle.std.specs.List.{Any, AllZip}
 use Rattle.spa_rows.proofs.Lists.{at_place, map_at}
 use Rattle.std.proofs.lemmas.List.{take_more, get_or-map, length-map}
-
-pub zip_length : {A B : Type 0} (R : A → B → Type 0) (xs : List A) (ys : List B) → AllZip R xs ys → length ys ≡ length xs
-zip_length R [] [] h = refl
-zip_length R [] (y ∷ ys) h = absurd h
-zip_length R (x ∷ xs) [] h = absurd h
-zip_length R (x ∷ xs) (y ∷ ys) h = ap suc (zip_length R xs ys h.1)
-
-pub zip_push : {A B : Type 0} (R : A → B → Type 0) (xs : List A) (ys : List B) (x : A) (y : B) → AllZip R xs ys → R x y → AllZip R (xs ++ x ∷ []) (ys ++ y ∷ [])
-zip_push R [] [] x y h r = (r, tt)
-zip_push R [] (z ∷ ys) x y h r = absurd h
-zip_push R (z ∷ xs) [] x y h r = absurd h
-zip_push R (z ∷ xs) (w ∷ ys) x y h r = (h.0, zip_push R xs ys x y h.1 r)
+use Rattle.std.proofs.lemmas.Slice.Zip.{all_zipped_more}
 
 -- one more of each
 pub zip_more : {A B : Type 0} (R : A → B → Type 0) (xs : List A) (ys : List B) (i : ℕ) (x : A) (y : B) → i < length xs → x ≡ get_or xs i x → AllZip R (take i xs) ys → R x y → AllZip R (take (i + 1) xs) (ys ++ y ∷ [])
-zip_more R xs ys i x y h at zip r = rw (take_more xs i x h, ← at) (zip_push R (take i xs) ys x y zip r)
+zip_more R xs ys i x y h at zip r = rw (take_more xs i x h, ← at) (all_zipped_more R (take i xs) ys x y zip r)
 
 -- R of what f makes of the first list
 pub zip_map : {A B C : Type 0} (R : C → B → Type 0) (f : A → C) (xs : List A) (ys : List B) → AllZip (λ x y. R (f x) y) xs ys → AllZip R (map f xs) ys
@@ -56,12 +45,6 @@ zip_all R P (x ∷ xs) (y ∷ ys) f h (suc k) d l = zip_all R P xs ys f h.1 k d 
 -- P holds of what f makes of some element
 pub any_map : {A B : Type 0} (P : B → Type 0) (f : A → B) (xs : List A) (i : ℕ) (x : A) → i < length xs → x ≡ get_or xs i x → P (f x) → Any P (map f xs)
 any_map P f xs i x h at p = (i, f x, omega (arith, length-map xs f), get_or-map f xs i x (f x) h ∙ ap f (sym at), p)
-
-pub take_all : {A : Type 0} (n : ℕ) (xs : List A) → length xs ≤ n → take n xs ≡ xs
-take_all zero [] h = refl
-take_all zero (x ∷ xs) h = absurd (omega arith)
-take_all (suc n) [] h = refl
-take_all (suc n) (x ∷ xs) h = ap (λ t. x ∷ t) (take_all n xs (omega arith))
 
 pub any_unmap : {A B : Type 0} (P : B → Type 0) (f : A → B) (xs : List A) → Any P (map f xs) → (k : ℕ) × (x : A) × (k < length xs) × (get_or xs k x ≡ x) × P (f x)
 any_unmap P f xs (k, y, h, at, p) =

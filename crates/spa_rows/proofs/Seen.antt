@@ -1,25 +1,22 @@
 -- A set that holds the texts of the first lines of a list.
-use Rattle.std.proofs.Common.{◌≡◌, ◌⊎◌, inl, inr, ℕ, zero, suc, ◌+◌, ◌<◌, Bool, true, false, cond, IsTrue, ◌↔◌, List, [], ◌∷◌, ◌++◌, length, take, get_or, Bor, Ordering, Less, Equal, Greater, BTreeSet, refl, sym, ◌∙◌, ap, arith}
+use Rattle.std.proofs.Common.{◌≡◌, ◌⊎◌, inl, inr, ℕ, zero, suc, ◌+◌, ◌<◌, Bool, true, false, cond, IsTrue, ◌↔◌, List, [], ◌∷◌, ◌++◌, length, take, get_or, Bor, Ordering, BTreeSet, refl, sym, ◌∙◌, ap, arith}
 use Rattle.std.specs.Prelude.{not, Any}
 use Rattle.std.specs.Ordering.{nat_cmp, is_eq}
 use Rattle.std.specs.BTreeSet as tree
 use Rattle.std.specs.HashSet as hash
 use Rattle.std.specs.HashSet.{HashSet}
+use Rattle.std.specs.Cmp.{Equal-is}
 use Rattle.std.specs.Cmp.Lexicographic.{slice_cmp}
+use Rattle.std.proofs.Math.Bool.{not-not}
 use Rattle.std.proofs.lemmas.Bool.{false≢true}
-use Rattle.std.proofs.lemmas.Bool.Decides.{nat_tests}
 use Rattle.std.proofs.lemmas.List.{take_more, get_or_append_left, length-append}
 use Rattle.std.proofs.lemmas.List.Quantifiers.{Any-push}
+use Rattle.std.proofs.lemmas.Cmp.{nat_list_cmp_total, tied_itself}
 use Rattle.std.proofs.lemmas.Map.Lookups.{exact_bytes}
 use Rattle.std.proofs.lemmas.Slice.Eq.{bytes_eq-Decides}
 use Rattle.spa_rows.specs.Lines.{Text}
 use Rattle.spa_rows.specs.Faults.{IsEarlierKey}
 use Rattle.spa_rows.specs.Index.{text_eq}
-
--- a key compares with itself as equal
-pub same_cmp : (xs : Text) → slice_cmp nat_cmp xs xs ≡ Equal
-same_cmp [] = refl
-same_cmp (x ∷ xs) = let here : nat_cmp x x ≡ Equal = grind (arith, nat_tests) in rw here (same_cmp xs)
 
 -- the order of slices
 abbrev pub text_cmp : Bor Text → Bor Text → Ordering
@@ -37,21 +34,12 @@ any_push P (x ∷ xs) y (suc k, z, h, at, p) = elim (any_push P xs y (k, z, omeg
 any_left : {X : Type 0} → (P : X → Type 0) (xs ys : List X) → Any P xs → Any P (xs ++ ys)
 any_left P xs ys (k, z, h, at, p) = (k, z, omega (arith, h, length-append xs ys), get_or_append_left xs ys z k h ∙ at, p)
 
-equal_is : (o : Ordering) → is_eq o ≡ true → o ≡ Equal
-equal_is Less e = absurd (false≢true e)
-equal_is Equal e = refl
-equal_is Greater e = absurd (false≢true e)
-
-not_not : (b : Bool) → not (not b) ≡ b
-not_not true = refl
-not_not false = refl
-
 -- the two texts are the same, as a tree and as a hash table test it
 abbrev Tells : (Bor Text → Bor Text → Bool) → Type 0
 Tells same = (p q : Bor Text) → (same p q ≡ true) ↔ (p.now ≡ q.now)
 
 tree_tells : Tells (λ p q. is_eq (text_cmp p q))
-tree_tells p q = (λ same. exact_bytes _ _ (equal_is _ same), λ one. rw one (ap is_eq (same_cmp q.now)))
+tree_tells p q = (λ same. exact_bytes _ _ ((Equal-is _).0 same), λ one. rw one (ap is_eq (tied_itself nat_list_cmp_total q.now)))
 
 hash_tells : Tells text_eq
 hash_tells p q = bytes_eq-Decides p.now q.now
@@ -78,7 +66,7 @@ module _ {X : Type 0} (xs : List X) (key : X → Text) where
 
   before : (contains : Bor Text → Bool) (k : Bor Text) (added : Bool) (n : ℕ) (x : X) → added ≡ not (contains k) → k.now ≡ key x → IsSeen contains n → (IsTrue (not added) ↔ IsEarlierKey xs key n (key x))
   before contains k added n x was is seen =
-      let there : not added ≡ contains k = ap not was ∙ not_not (contains k) in
+      let there : not added ≡ contains k = ap not was ∙ not-not (contains k) in
       rw (there, sym is) (seen.has k)
 
   -- a tree has the texts of the first n

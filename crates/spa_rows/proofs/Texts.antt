@@ -1,8 +1,8 @@
 -- The bytes of a key are ASCII, and so they are a text.
-use Rattle.std.proofs.Common.{◌≡◌, ℕ, ◌<◌, Bool, true, false, List, [], ◌∷◌, refl, arith}
-use Rattle.std.specs.Prelude.{◌&&◌}
+use Rattle.std.proofs.Common.{◌≡◌, ℕ, ◌<◌, true, List, [], ◌∷◌, arith}
 use Rattle.std.specs.List.{list_all}
 use Rattle.std.specs.Str.{IsUtf8, IsAscii}
+use Rattle.std.proofs.lemmas.Bool.{and_parts}
 use Rattle.std.proofs.lemmas.Bool.Decides.{nat_tests}
 use Rattle.std.proofs.lemmas.Str.{IsUtf8-from_ascii}
 use Rattle.std.proofs.lemmas.Str.Ascii.{IsAscii-nil, IsAscii-cons}
@@ -11,13 +11,9 @@ use Rattle.spa_rows.specs.Form.{is_key, is_key_byte}
 key_byte : (b : ℕ) → is_key_byte b ≡ true → b < 128
 key_byte b h = grind (arith, nat_tests)
 
-both : (s t : Bool) → (s && t) ≡ true → (s ≡ true) × (t ≡ true)
-both true t h = (refl, h)
-both false t h = cc
-
 ascii : (bs : List ℕ) → list_all is_key_byte bs ≡ true → IsAscii bs
 ascii [] h = IsAscii-nil
-ascii (b ∷ bs) h = let parts : (is_key_byte b ≡ true) × (list_all is_key_byte bs ≡ true) = both (is_key_byte b) (list_all is_key_byte bs) h in IsAscii-cons b bs (key_byte b parts.0) (ascii bs parts.1)
+ascii (b ∷ bs) h = let parts : (is_key_byte b ≡ true) × (list_all is_key_byte bs ≡ true) = and_parts (is_key_byte b) (list_all is_key_byte bs) h in IsAscii-cons b bs (key_byte b parts.0) (ascii bs parts.1)
 
 pub key_text : (bs : List ℕ) → is_key bs ≡ true → IsUtf8 bs
-key_text bs h = IsUtf8-from_ascii bs (ascii bs (both _ (list_all is_key_byte bs) h).1)
+key_text bs h = IsUtf8-from_ascii bs (ascii bs (and_parts _ (list_all is_key_byte bs) h).1)

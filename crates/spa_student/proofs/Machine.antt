@@ -7,7 +7,7 @@ use Rattle.spa_model.specs.declared.Letter.TheVariants.{A, B, C}
 use Rattle.spa_model.specs.Spa.{Spa, place, is_project, is_lecturer, at_project, at_lecturer, project_of, choices_of, lecturer_of, ranking_of, capacity_of, limit_of, IsOn, IsBefore, IsAcceptable, IsLawful, Improves, Wants, Blocks, IsStable, IsAsGood, IsBest}
 use Rattle.spa_student.specs.Machine.{rank_of, LecturerSpent, ProjectSpent, IsSpent, Holds}
 use Rattle.spa_model.proofs.Places.{place-injective}
-use Rattle.spa_model.proofs.Counts.{one_if, count_by-set, count_by-le, sum_below, sum_below-lt, share, at_lecturer-sum}
+use Rattle.spa_model.proofs.Counts.{one_if, off_project, count_by-set, count_by-le, sum_below, sum_below-lt, share, at_lecturer-sum}
 
 -- a student with a project is a student
 pub student_in_range : (i : Spa) (m : List (Option ℕ)) (s q : ℕ) → project_of m s ≡ Some q → s < length m
@@ -61,11 +61,6 @@ kept i m n Deleted holds stable lawful t p s u at has same less room (Some v) e 
       ]
     ]
 
--- a test that fails is false
-test_false : (p : ℕ) (o : Option ℕ) → (o ≡ Some p → ⊥) → is_project p o ≡ false
-test_false p None h = refl
-test_false p (Some q) h = ne_eqb q p (λ same. h (ap Some same))
-
 -- where n has at u each student whom m has there, m has no more
 no_more : (m n : List (Option ℕ)) (u : ℕ) → length m ≡ length n → ((s : ℕ) → project_of m s ≡ Some u → project_of n s ≡ Some u) → at_project m u ≤ at_project n u
 no_more m n u same keeps = count_by-le (is_project u) m n same (λ s h. is_project-at u (project_of n s) (keeps s (project_from_test u (project_of m s) h)))
@@ -74,7 +69,7 @@ no_more m n u same keeps = count_by-le (is_project u) m n same (λ s h. is_proje
 fewer : (m n : List (Option ℕ)) (u t : ℕ) → length m ≡ length n → ((s : ℕ) → project_of m s ≡ Some u → project_of n s ≡ Some u) → t < length n → project_of n t ≡ Some u → (project_of m t ≡ Some u → ⊥) → at_project m u + 1 ≤ at_project n u
 fewer m n u t same keeps t_in at not_at =
     let more : at_project (set m t (Some u)) u ≤ at_project n u = no_more (set m t (Some u)) n u (length-set m t (Some u) ∙ same) (λ s h. each s (cases_eq s t) h) in
-    omega (arith, more, count_by-set (is_project u) m t (Some u) (omega arith), ap one_if (test_false u (project_of m t) not_at), ap one_if (eq-eqb u u refl))
+    omega (arith, more, count_by-set (is_project u) m t (Some u) (omega arith), ap one_if (off_project u (project_of m t) not_at), ap one_if (eq-eqb u u refl))
   where
     each : (s : ℕ) → (s ≡ t) ⊎ (s ≡ t → ⊥) → get_or (set m t (Some u)) s None ≡ Some u → project_of n s ≡ Some u
     each s (inl here) h = rw here at

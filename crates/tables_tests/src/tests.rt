@@ -9,8 +9,8 @@ use portal_tables::make::create_portal;
 use portal_tables::own::is_own;
 use portal_tables::remove::{clear_choices, clear_rankings};
 use portal_tables::select::{
-    choice_rows, choosers_of, lecturer_by_code, lecturer_rows, list_of, portal_rows, project_rows,
-    ranking_of, ranking_rows, student_by_code, student_rows,
+    choice_rows, choosers_of, lecturer_by_code, lecturer_rows, list_of, listed_students,
+    portal_rows, project_rows, ranking_of, ranking_rows, student_by_code, student_rows,
 };
 use portal_tables::update::{set_assigned, set_phase, set_ranked};
 use sqlite::types::ValueRef;
@@ -177,6 +177,7 @@ fn lists_are_shown(rt: HostRuntime) {
 fn rows_are_found(rt: HostRuntime) {
     let mut conn = department(&rt);
     shows(&rt, choosers_of(&mut conn, b"P1"), 1, "S1 /S2 /");
+    shows(&rt, listed_students(&mut conn), 1, "S1 /S2 /");
     shows(
         &rt,
         lecturer_by_code(&mut conn, b"lee-code-1"),
@@ -205,5 +206,6 @@ fn changes_are_shown(rt: HostRuntime) {
         "S1 Ann ann-code-1 - /S2 Bea bea-code-1 P1 /",
     );
     shows(&rt, choice_rows(&mut conn), 3, "S2 1 P1 /");
+    shows(&rt, listed_students(&mut conn), 1, "S2 /");
     are_apart(&rt, &mut conn);
 }

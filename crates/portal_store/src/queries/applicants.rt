@@ -65,14 +65,14 @@ fn person_of(alloc: Global, person: &Person) -> Result<Person, AllocError>
 }
 
 /// Whether a row begins with the key, among rows whose keys rise.
-fn is_named(rows: &[Row], key: &Key) -> bool
+pub(super) fn is_named(rows: &[Row], key: &[u8]) -> bool
     requires { Rise (map first rows.now) }
     ensures { result ≡ has (map first rows.now) key.now }
 {
     match rows.binary_search_by(
         |row: &Row| -> Ordering
             ensures { result ≡ slice_cmp nat_cmp (first row.now) key.entry.now }
-        { bytes_at(row, 0).cmp(key.as_bytes()) },
+        { bytes_at(row, 0).cmp(key) },
     ) {
         Ok(_) => true,
         Err(_) => false,
@@ -86,7 +86,7 @@ fn persons_among(alloc: Global, lines: &[Line], rows: &[Row]) -> Result<Vec<Pers
 {
     let mut found = Vec::new(alloc);
     for line in lines {
-        if is_named(rows, &line.person.key) {
+        if is_named(rows, line.person.key.as_bytes()) {
             found.push(person_of(alloc, &line.person)?)?;
         }
     }

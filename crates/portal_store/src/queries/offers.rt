@@ -112,7 +112,7 @@ fn catalogue_of(alloc: Global, offers: &Offers) -> Result<Rc<Vec<Listing>>, Allo
 }
 
 /// The catalogue of the tables.
-pub(super) fn catalogue_in<S: Alter>(
+fn catalogue_in<S: Alter>(
     alloc: Global,
     conn: &mut Connection<S>,
 ) -> Result<Rc<Vec<Listing>>, LoadFault>

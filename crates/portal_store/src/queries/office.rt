@@ -1,10 +1,10 @@
 //! What the office sees.
 
-ghost use Rattle.std.specs.Prelude.{◌≡◌, ◌∷◌, [], pos, ◌&&◌, false, IfOk, IsTrue, if◌then◌else◌, map};
+ghost use Rattle.std.specs.Prelude.{◌≡◌, ◌∷◌, [], pos, ◌&&◌, false, IfOk, IsTrue, if◌then◌else◌, not, map, filter};
 ghost use Rattle.std.specs.List.{list_any, filter_map};
 ghost use Rattle.sqlite.specs.State.{HasCleanDisk};
 ghost use Rattle.sqlite.specs.Held.{state};
-ghost use Rattle.portal_core.specs.Words.{is, has};
+ghost use Rattle.portal_core.specs.Words.{is, has, Rise};
 ghost use Rattle.portal_core.specs.World.{is_from_ranking, is_published};
 ghost use Rattle.portal_core.specs.View as seen;
 ghost use Rattle.portal_list.specs.Shown.{is_wanted};
@@ -13,30 +13,55 @@ ghost use Rattle.portal_tables.specs.Rows.{portal_row};
 ghost use Rattle.portal_store.specs.World.{world_of, number_of};
 ghost use Rattle.portal_store.specs.Kept.{Holds};
 ghost use Rattle.portal_store.specs.Reading.{Reads};
-ghost use Rattle.portal_store.specs.Shown.{first, shown_lecturer, shown_project, shown_student, shown_pair, with_list};
+ghost use Rattle.portal_store.specs.Shown.{first, shown_lecturer, shown_project, shown_student, shown_pair};
 ghost use Rattle.portal_store.specs.Queried.{unlisted, waiting_key, office_from};
 
-use super::applicants::are_closed;
-use crate::decode::{Office, bytes_at, key_at, number_at};
-use crate::load::{Lists, LoadFault, Rolls, entries_in, parts_of, rolls_in};
+use super::applicants::{are_closed, is_named};
+use crate::decode::{Office, bytes_at, do_rise, key_at, number_at};
+use crate::load::{LoadFault, Rolls, parts_of, rolls_in};
 use portal_core::{Listing, OfficeView, Phase};
-use portal_tables::select::choosers_of;
+use portal_tables::select::{choosers_of, listed_students};
 use spa_rows::Key;
 use sqlite::{Alter, Connection, Row};
-use std::alloc::{AllocError, Global};
+use std::alloc::Global;
 use std::rc::Rc;
 
-/// The owners of empty lists.
-fn without_list(alloc: Global, lists: &[(Key, Vec<Key>)]) -> Result<Vec<Key>, AllocError>
-    ensures { IfOk result (λ v. v.items ≡ unlisted (map with_list lists.now)) }
+/// The keys that students' rows begin with, but for those of the listed, whose keys rise.
+fn keys_but(alloc: Global, students: &[Row], listed: &[Row]) -> Result<Vec<Key>, LoadFault>
+    requires { Rise (map first listed.now) }
+    ensures { IfOk result (λ v. v.items ≡ map first (filter (λ c. not (has (map first listed.now) (first c))) students.now)) }
 {
-    let mut found = Vec::new(alloc);
-    for (student, list) in lists {
-        if list.is_empty() {
-            found.push(student.copy(alloc)?)?;
+    let mut keys = Vec::new(alloc);
+    for student in students {
+        if !is_named(listed, bytes_at(student, 0)) {
+            keys.push(key_at(alloc, student, 0)?)?;
         }
     }
-    Ok(found)
+    Ok(keys)
+}
+
+/// The keys that students' rows begin with, but for those of the listed.
+fn keys_without(alloc: Global, students: &[Row], listed: &[Row]) -> Result<Vec<Key>, LoadFault>
+    ensures { IfOk result (λ v. v.items ≡ map first (filter (λ c. not (has (map first listed.now) (first c))) students.now)) }
+{
+    if !do_rise(listed) {
+        return Err(LoadFault::Damaged);
+    }
+    keys_but(alloc, students, listed)
+}
+
+/// The students who have no list.
+fn without_list<S: Alter>(
+    alloc: Global,
+    conn: &mut Connection<S>,
+    students: &[Row],
+) -> Result<Vec<Key>, LoadFault>
+    ensures told { Holds (state S.Store conn.old).now → HasCleanDisk (state S.Store conn.new) → IfOk result (λ v. v.items ≡ unlisted (state S.Store conn.old).now.trees students.now) }
+    ensures reads { Reads result (state S.Store conn.old) (state S.Store conn.new) }
+    ensures mode { conn.old.in_transaction ≡ false → conn.new.in_transaction ≡ false }
+{
+    let listed = listed_students(conn)?;
+    keys_without(alloc, students, &listed)
 }
 
 /// Whether a student's list holds the project.
@@ -156,10 +181,10 @@ fn put_together(
     office: Office,
     catalogue: Rc<Vec<Listing>>,
     rolls: &Rolls,
-    lists: &[(Key, Vec<Key>)],
+    without_list: Vec<Key>,
     still_to_rank: Vec<Key>,
 ) -> Result<OfficeView, LoadFault>
-    ensures { IfOk result (λ v. v ≡ record { phase = office.phase; office_code = office.code; lecturers = map shown_lecturer rolls.now.lecturers.items; projects = map shown_project rolls.now.projects.items; students = map shown_student rolls.now.students.items; catalogue = catalogue.value.items; without_list = unlisted (map with_list lists.now); still_to_rank = still_to_rank.items; pairs = if is_published office.phase then filter_map shown_pair rolls.now.students.items else [] }) }
+    ensures { IfOk result (λ v. v ≡ record { phase = office.phase; office_code = office.code; lecturers = map shown_lecturer rolls.now.lecturers.items; projects = map shown_project rolls.now.projects.items; students = map shown_student rolls.now.students.items; catalogue = catalogue.value.items; without_list = without_list.items; still_to_rank = still_to_rank.items; pairs = if is_published office.phase then filter_map shown_pair rolls.now.students.items else [] }) }
 {
     let parts = parts_of(alloc, rolls)?;
     Ok(OfficeView {
@@ -169,7 +194,7 @@ fn put_together(
         projects: parts.projects,
         students: parts.students,
         catalogue,
-        without_list: without_list(alloc, lists)?,
+        without_list,
         still_to_rank,
         pairs: shown_pairs(alloc, office.phase, parts.pairs),
     })
@@ -187,9 +212,9 @@ fn view_of_rolls<S: Alter>(
     ensures reads { Reads result (state S.Store conn.old) (state S.Store conn.new) }
     ensures mode { conn.old.in_transaction ≡ false → conn.new.in_transaction ≡ false }
 {
-    let lists = entries_in(alloc, conn, Lists::Choices, &rolls.students)?;
-    let still_to_rank = still_to_rank(alloc, conn, office.phase, rolls)?;
-    put_together(alloc, office, catalogue, rolls, &lists, still_to_rank)
+    let unlisted = without_list(alloc, conn, &rolls.students)?;
+    let waiting = still_to_rank(alloc, conn, office.phase, rolls)?;
+    put_together(alloc, office, catalogue, rolls, unlisted, waiting)
 }
 
 /// What the office sees whose row this is, with the catalogue.

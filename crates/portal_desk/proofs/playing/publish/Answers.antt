@@ -1,4 +1,5 @@
-use Rattle.portal_desk.proofs.Played.{if_ok, published, solved_good}
+use Rattle.std.proofs.lemmas.Result.{on_ok_weaker}
+use Rattle.portal_desk.proofs.Played.{published, solved_good}
 use Rattle.portal_desk.proofs.playing.publish.Goals as goal
 
 pub apply-requires-clause-leaves_good : goal.apply-requires-clause-leaves_good
@@ -7,7 +8,7 @@ apply-requires-clause-leaves_good g c = λ now.
     rw (c.instance.ensures.same now) (solved_good _ c.in_ok-instance.instance c.in-Ok.pairs.items (c.requires.good before) (c.requires.ready before) (c.in_ok-instance.ensures.instance now) c.in-Ok.ensures)
 
 pub returns-in-Ok-clause-made : goal.returns-in-Ok-clause-made
-returns-in-Ok-clause-made g c = if_ok c.apply.result (λ made after.
+returns-in-Ok-clause-made g c = on_ok_weaker c.apply.result (λ made after.
     let now = c.apply.ensures.clean after in
     let before = c.instance.ensures.clean now in
     published _ _ _ c.in_ok-instance.instance c.in-Ok.pairs.items (c.requires.good before) (c.in_ok-instance.ensures.instance now) c.in-Ok.ensures (c.instance.ensures.same now) (made after)) c.apply.ensures.made

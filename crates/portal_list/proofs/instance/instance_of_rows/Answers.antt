@@ -1,9 +1,9 @@
-use Rattle.std.proofs.Common.{◌≡◌, ◌∙◌, sym, ap}
+use Rattle.std.proofs.Common.{◌≡◌, ◌∙◌, sym}
+use Rattle.std.proofs.lemmas.Result.{IfOk-weaker}
 use Rattle.portal_core.specs.World.{World}
 use Rattle.portal_core.specs.Good.{Sound}
 use Rattle.portal_list.specs.Lines.{HasEntries}
 use Rattle.portal_list.specs.Rows.{rows_of}
-use Rattle.portal_list.proofs.Steps.{ok_weaker}
 use Rattle.portal_list.proofs.instance.instance_of_rows.Goals as goal
 
 pub returns : goal.returns
@@ -15,6 +15,6 @@ returns c =
       students_there = e.students_there ∙ sym c.deref-3.ensures.value;
     } in
     record {
-      instance = ok_weaker _ _ c.instance_among.result (λ i meant w is sound. meant w (entries w is sound) sound) c.instance_among.ensures.instance;
+      instance = IfOk-weaker c.instance_among.result _ _ (λ i meant w is sound. meant w (entries w is sound) sound) c.instance_among.ensures.instance;
       refused = λ e w is sound ranked. c.instance_among.ensures.refused e w (entries w is sound) sound ranked;
     }

@@ -1,9 +1,9 @@
 use Rattle.std.proofs.Common.{◌∙◌, ◌↔◌, IsTrue, map, sym}
 use Rattle.std.proofs.lemmas.Bool.{false≢true}
 use Rattle.std.proofs.lemmas.List.{length-map}
+use Rattle.std.proofs.lemmas.Result.{IfOk-weaker}
 use Rattle.portal_core.specs.Words.{AreDistinct}
 use Rattle.portal_core.specs.Good.{IsRanking}
-use Rattle.portal_list.proofs.Steps.{ok_weaker}
 use Rattle.portal_list.proofs.Pigeons.{ranking_long, ranking_so}
 use Rattle.portal_list.proofs.lists.is_ranking.Goals as goal
 
@@ -15,7 +15,7 @@ returns-then-ranking-applicants c = (
 
 pub returns : goal.returns
 returns c =
-    ok_weaker (λ yes. IsTrue yes ↔ AreDistinct c.args.ranking.now) (λ yes. IsTrue yes ↔ IsRanking (map (λ k. k.now) c.args.applicants.now) c.args.ranking.now) c.keys_are_distinct.result
+    IfOk-weaker c.keys_are_distinct.result (λ yes. IsTrue yes ↔ AreDistinct c.args.ranking.now) (λ yes. IsTrue yes ↔ IsRanking (map (λ k. k.now) c.args.applicants.now) c.args.ranking.now)
     (λ yes same. (
       λ e. ranking_so (map (λ k. k.now) c.args.applicants.now) c.args.ranking.now (c.if-ranking-applicants.false ∙ sym (length-map c.args.applicants.now (λ k. k.now))) (c.are_applicants.ensures.0 c.if-not-are_applicants.false) (same.0 e),
       λ whole. same.1 whole.once,

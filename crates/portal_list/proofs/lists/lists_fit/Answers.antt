@@ -1,13 +1,13 @@
 use Rattle.std.proofs.Common.{◌↔◌, IsTrue, subst, sym}
 use Rattle.std.specs.List.{AllByRecursion}
+use Rattle.std.proofs.lemmas.Result.{IfOk-weaker}
 use Rattle.portal_list.specs.Parts.{applicant_keys, IsRanked, ListsFit}
-use Rattle.portal_list.proofs.Steps.{ok_weaker}
 use Rattle.portal_list.proofs.lists.lists_fit.Goals as goal
 
 pub returns : goal.returns
 returns c =
-    ok_weaker (λ yes. IsTrue yes ↔ AllByRecursion (λ l. IsRanked c.is_published.result (applicant_keys c.args.projects.now c.args.students.now l.row.key) l.ranking) c.args.lecturers.now)
-    (λ yes. IsTrue yes ↔ ListsFit c.args.phase c.args.lecturers.now c.args.projects.now c.args.students.now) c.rankings_fit.result
+    IfOk-weaker c.rankings_fit.result (λ yes. IsTrue yes ↔ AllByRecursion (λ l. IsRanked c.is_published.result (applicant_keys c.args.projects.now c.args.students.now l.row.key) l.ranking) c.args.lecturers.now)
+    (λ yes. IsTrue yes ↔ ListsFit c.args.phase c.args.lecturers.now c.args.projects.now c.args.students.now)
     (λ yes same. (
       λ e. record {
         phase_fits = c.phase_fits.ensures.0 c.if-not-phase_fits.false;

@@ -4,17 +4,17 @@ use Rattle.std.specs.List.{list_any}
 use Rattle.std.proofs.lemmas.Bool.{false≢true}
 use Rattle.portal_core.specs.Words.{Rise, has}
 use Rattle.portal_core.specs.World.{Lecturer, student_key}
+use Rattle.portal_core.proofs.AllLaws.{all_at}
+use Rattle.portal_core.proofs.Fills.{rise_kept}
 use Rattle.portal_list.specs.Parts.{own_keys, applicant_keys, IsRanked}
-use Rattle.portal_list.proofs.Rising.{all_at}
 use Rattle.portal_list.proofs.Steps.{all_more}
-use Rattle.portal_list.proofs.Pigeons.{rise_filter}
 use Rattle.portal_list.proofs.Ranked.{ranked_along}
 use Rattle.portal_list.proofs.lists.rankings_fit.Goals as goal
 
 pub is_ranked-requires : goal.is_ranked-requires
 is_ranked-requires c =
     subst Rise (sym (ap (map (λ k. k.now)) c.deref.ensures.value ∙ c.in_ok-applicants.ensures))
-    (rise_filter student_key (λ s. list_any (λ p. has s.choice p) (own_keys c.args.projects.now c.lecturer.inside.row.key)) c.args.students.now c.requires)
+    (rise_kept student_key (λ s. list_any (λ p. has s.choice p) (own_keys c.args.projects.now c.lecturer.inside.row.key)) c.args.students.now c.requires)
 
 pub returns-then-not-branch : goal.returns-then-not-branch
 returns-then-not-branch c =

@@ -1,9 +1,10 @@
 use Rattle.std.proofs.Common.{◌≡◌, true, false, [], ◌∷◌, ◌++◌, List, map, take, get_or, append-nil, sym, ◌∙◌, ap}
 use Rattle.std.specs.List.{list_any}
+use Rattle.std.proofs.lemmas.List.{map_push}
 use Rattle.portal_core.specs.Words.{Key, has}
 use Rattle.portal_core.specs.World.{Student, student_key}
 use Rattle.portal_list.specs.Parts.{wanting}
-use Rattle.portal_list.proofs.Steps.{filter_more, pushed}
+use Rattle.portal_list.proofs.Steps.{filter_more}
 use Rattle.portal_list.proofs.lists.wanting_students.Goals as goal
 use Rattle.portal_list.proofs.lists.wanting_students.Goals.{then-holds_one+in_ok-push, else-holds_one}
 
@@ -18,7 +19,7 @@ loop-student-preserved c =
       | then-holds_one+in_ok-push w ↦
           ap (λ v. map (λ k. k.now) v.items) w.keys-is
           ∙ ap (map (λ k. k.now)) w.in_ok-push.ensures.items
-          ∙ pushed (λ k. k.now) c.loop-student.keys.items _
+          ∙ map_push (λ k. k.now) c.loop-student.keys.items _
           ∙ (λ i. c.loop-student.invariant i ++ (c.student.view_is i).row.key ∷ [])
           ∙ sym (filter_more (λ s. list_any (λ p. has s.choice p) own) student_key c.args.students.now c.loop-student.student-index student true c.loop-student-test.true at (test ∙ w.if-holds_one.true))
       | else-holds_one w ↦

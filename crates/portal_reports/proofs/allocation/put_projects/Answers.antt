@@ -1,7 +1,7 @@
 use Rattle.std.proofs.Common.{◌≡◌, ◌<◌, ◌++◌, ◌∙◌, List, length, get_or, ap, subst, codes, decimal}
 use Rattle.portal_core.specs.declared.rows.ProjectRow.{ProjectRow}
 use Rattle.portal_core.specs.Sheets.{project_line, padded_left, padded_right, line_feed, students_at}
-use Rattle.portal_reports.proofs.Pieces.{one_more}
+use Rattle.portal_core.proofs.Pieces.{one_more}
 use Rattle.portal_reports.proofs.allocation.put_projects.Goals as goal
 
 pub loop-project-preserved : goal.loop-project-preserved

@@ -2,7 +2,8 @@ use Rattle.std.proofs.Common.{◌++◌, ◌∙◌, codes, decimal, append_assoc,
 use Rattle.std.specs.Fmt.{styled_text, styled_decimal}
 use Rattle.portal_core.specs.Sheets.{padded_left, padded_right}
 use Rattle.portal_reports.specs.Status.{number_line}
-use Rattle.portal_reports.proofs.Padding.{said, left-is, right-is}
+use Rattle.portal_core.proofs.Pieces.{said}
+use Rattle.portal_reports.proofs.Padding.{left-is, right-is}
 use Rattle.portal_reports.proofs.lines.number_line.Goals as goal
 
 pub returns : goal.returns

@@ -1,6 +1,7 @@
 use Rattle.std.proofs.Common.{◌++◌, ◌∙◌, codes, append_assoc, refl, ap}
 use Rattle.std.specs.Fmt.{styled_text, styled_decimal}
-use Rattle.portal_reports.proofs.Padding.{said, left-at, right-is}
+use Rattle.portal_core.proofs.Pieces.{said}
+use Rattle.portal_reports.proofs.Padding.{left-at, right-is}
 use Rattle.portal_reports.proofs.lines.project_line.Goals as goal
 
 pub returns : goal.returns

@@ -4,9 +4,10 @@ use Rattle.sqlite.specs.Held.{state}
 use Rattle.spa_rows.specs.Form.{is_key}
 use Rattle.portal_tables.specs.Changes.{ListsBy, has_text, columns}
 use Rattle.portal_store.specs.Shown.{tree_of, shown_name}
-use Rattle.portal_store.proofs.Listed.{list_whole, list_names, list_counts, all_unmapped}
+use Rattle.portal_store.proofs.Listed.{list_whole, list_names, list_counts}
 use Rattle.portal_store.proofs.InTurn.{named, wholly}
 use Rattle.portal_store.proofs.load.list_in.Goals as goal
+use Rattle.portal_core.proofs.Keys.{all_unmap}
 
 pub returns-clause-names : goal.returns-clause-names
 returns-clause-names g c own clean =
@@ -28,4 +29,4 @@ returns-clause-damaged g c own clean damaged whole keys =
     let h : ListsBy (2 ∷ []) (has_text 1 c.args.owner.now) (columns (2 ∷ 3 ∷ [])) table c.deref.result.now =
     subst₂ (λ key rows. ListsBy (2 ∷ []) (has_text 1 key) (columns (2 ∷ 3 ∷ [])) table rows) c.as_bytes.ensures.bytes (sym c.deref.ensures.value) (c.in_ok-rows.ensures.rows own clean) in
     let up = list_counts c.args.owner.now table c.deref.result.now h whole in
-    c.list_from.ensures.damaged damaged up (all_unmapped (λ k. is_key k ≡ true) shown_name c.deref.result.now (subst (AllByRecursion (λ k. is_key k ≡ true)) (sym (list_names c.args.owner.now table c.deref.result.now h up)) keys))
+    c.list_from.ensures.damaged damaged up (all_unmap (λ k. is_key k ≡ true) shown_name c.deref.result.now (subst (AllByRecursion (λ k. is_key k ≡ true)) (sym (list_names c.args.owner.now table c.deref.result.now h up)) keys))

@@ -2,7 +2,7 @@ use Rattle.std.proofs.Common.{[], ◌∷◌, sym, subst}
 use Rattle.sqlite.specs.Held.{state}
 use Rattle.portal_tables.specs.Tables.{portal_tree}
 use Rattle.portal_tables.specs.Changes.{ListsBy, every, columns}
-use Rattle.portal_tables.proofs.Queries.{if_ok}
+use Rattle.std.proofs.lemmas.Result.{IfOk-weaker}
 use Rattle.portal_store.proofs.OfficeRow.{office_found, office_there}
 use Rattle.portal_store.proofs.load.office_in.Goals as goal
 
@@ -10,7 +10,7 @@ pub returns-clause-row : goal.returns-clause-row
 returns-clause-row g c own sound clean =
     let now = (state g.S.Store c.args.conn.now).now in
     let h : ListsBy (0 ∷ []) every (columns (0 ∷ 2 ∷ 3 ∷ 4 ∷ [])) (now.trees portal_tree) c.deref.result.now = subst (ListsBy (0 ∷ []) every (columns (0 ∷ 2 ∷ 3 ∷ 4 ∷ [])) (now.trees portal_tree)) (sym c.deref.ensures.value) (c.in_ok-rows.ensures.rows own clean) in
-    if_ok _ _ c.office_from.result (λ office found. office_found now own sound c.deref.result.now h office.phase office.code found) c.office_from.ensures.ok
+    IfOk-weaker c.office_from.result _ _ (λ office found. office_found now own sound c.deref.result.now h office.phase office.code found) c.office_from.ensures.ok
 
 pub returns-clause-damaged : goal.returns-clause-damaged
 returns-clause-damaged g c own clean damaged office code =

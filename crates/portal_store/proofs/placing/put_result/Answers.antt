@@ -1,7 +1,7 @@
 use Rattle.std.proofs.Common.{arith}
 use Rattle.sqlite.specs.State.{HasCleanDisk}
 use Rattle.sqlite.specs.Held.{state}
-use Rattle.portal_tables.proofs.Queries.{on_ok}
+use Rattle.std.proofs.lemmas.Result.{on_ok_weaker}
 use Rattle.portal_store.proofs.Places.{result_made}
 use Rattle.portal_store.proofs.placing.put_result.Goals as goal
 
@@ -11,4 +11,4 @@ returns-clause-done g c clean =
     let mid = state g.S.Store c.put_places.new.tx.conn.now in
     let new = state g.S.Store c.set_phase.new.tx.conn.now in
     let early : HasCleanDisk mid = omega (arith, clean, c.set_phase.ensures.survives.clean) in
-    on_ok _ _ c.set_phase.result (result_made c.args.pairs.now c.args.rows.now old mid new (c.in_ok-put_places.ensures.done early)) (c.set_phase.ensures.done clean)
+    on_ok_weaker c.set_phase.result (result_made c.args.pairs.now c.args.rows.now old mid new (c.in_ok-put_places.ensures.done early)) (c.set_phase.ensures.done clean)

@@ -14,14 +14,14 @@ use Rattle.portal_store.proofs.queries.office_sight.Goals as goal
 pub returns-in_err-office_view-clause-reads : goal.returns-in_err-office_view-clause-reads
 returns-in_err-office_view-clause-reads g c =
     let a = state g.S.Store c.args.conn.now in
-    let b = state g.S.Store c.catalogue_in.new.conn in
+    let b = state g.S.Store c.shared_catalogue.new.conn in
     let d = state g.S.Store c.office_view.new.conn in
     reads_handed c.in_err-office_view.field-0.0 c.from_residual-in_err-office_view.result a d c.from_residual-in_err-office_view.ensures.0 (reads_then c.in_ok-catalogue.catalogue _ a b d c.in_ok-catalogue.ensures.reads c.in_err-office_view.ensures.reads)
 
 pub returns-clause-shows : goal.returns-clause-shows
-returns-clause-shows g c holds clean on row =
+returns-clause-shows g c holds clean on row right =
     let a = state g.S.Store c.args.conn.now in
-    let b = state g.S.Store c.catalogue_in.new.conn in
+    let b = state g.S.Store c.shared_catalogue.new.conn in
     let d = state g.S.Store c.office_view.new.conn in
     let before = clean_before b d _ c.in_ok-office_view.ensures.reads.crash clean in
     let m : IsUnchanged a b = c.in_ok-catalogue.ensures.reads.same holds.own before on in
@@ -29,11 +29,11 @@ returns-clause-shows g c holds clean on row =
     let office = c.args.office in
     let there = subst (λ (x : Database). Holds x → HasCleanDisk d → x.trees portal_tree ≡ portal_row (pos 1) (pos (number_of office.phase)) office.code ∷ [] → shared.value.items ≡ catalogue (world_of x.trees) → c.in_ok-office_view.field-0 ≡ office_sees (world_of x.trees)) m.0.now_is
     (λ holds clean. c.in_ok-office_view.ensures.shows holds clean m.0.is_open) in
-    ap Office (there holds clean row (c.in_ok-catalogue.ensures.shows holds before on))
+    ap Office (there holds clean row (c.in_ok-catalogue.ensures.shows holds before on right))
 
 pub returns-clause-reads : goal.returns-clause-reads
 returns-clause-reads g c =
     let a = state g.S.Store c.args.conn.now in
-    let b = state g.S.Store c.catalogue_in.new.conn in
+    let b = state g.S.Store c.shared_catalogue.new.conn in
     let d = state g.S.Store c.office_view.new.conn in
     reads_more c.in_ok-office_view.field-0 _ a d (reads_then c.in_ok-catalogue.catalogue _ a b d c.in_ok-catalogue.ensures.reads c.in_ok-office_view.ensures.reads)

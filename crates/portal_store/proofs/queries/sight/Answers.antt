@@ -8,7 +8,7 @@ use Rattle.portal_core.specs.View.{catalogue, view, sight_of, caller_among, lect
 use Rattle.portal_core.specs.Words.{is}
 use Rattle.portal_tables.specs.Tables.{portal_tree}
 use Rattle.portal_tables.specs.Rows.{portal_row}
-use Rattle.portal_tables.proofs.Queries.{if_ok}
+use Rattle.std.proofs.lemmas.Result.{IfOk-weaker}
 use Rattle.portal_store.specs.Kept.{Holds, Remembers}
 use Rattle.portal_store.specs.World.{world_of, number_of}
 use Rattle.portal_store.proofs.InTurn.{clean_before}
@@ -48,8 +48,16 @@ returns-then-eq-clause-shows g c holds clean good right =
     let code = c.args.code.now in
     let office = c.in_ok-office.office in
     let row = c.in_ok-office.ensures.row holds.own holds.sound before in
-    let there = subst (λ (x : Database). Holds x → HasCleanDisk d → x.trees portal_tree ≡ portal_row (pos 1) (pos (number_of office.phase)) office.code ∷ [] → IfOk c.office_sight.result (λ v. v ≡ sight_of (world_of x.trees) OfficeCaller)) m.0.now_is
+    let there = subst (λ (x : Database). Holds x → HasCleanDisk d → x.trees portal_tree ≡ portal_row (pos 1) (pos (number_of office.phase)) office.code ∷ [] → Remembers c.args.remembered.now (catalogue (world_of x.trees)) → IfOk c.office_sight.result (λ v. v ≡ sight_of (world_of x.trees) OfficeCaller)) m.0.now_is
     (λ holds clean. c.office_sight.ensures.shows holds clean m.0.is_open) in
     let own : is office.code code ≡ true = search rules in
     let mine : is (world_of a.now.trees).office code ≡ true = subst (λ k. is k code ≡ true) (code_told a.now.trees office.phase _ row) own in
-    if_ok _ _ c.office_sight.result (λ v is. is ∙ sym (ap (λ b. sight_of (world_of a.now.trees) (if b then OfficeCaller else caller_among (lecturer_with (world_of a.now.trees) code) (student_with (world_of a.now.trees) code))) mine)) (there holds clean row)
+    IfOk-weaker c.office_sight.result _ _ (λ v is. is ∙ sym (ap (λ b. sight_of (world_of a.now.trees) (if b then OfficeCaller else caller_among (lecturer_with (world_of a.now.trees) code) (student_with (world_of a.now.trees) code))) mine)) (there holds clean row right)
+
+pub returns-then-eq-clause-mind : goal.returns-then-eq-clause-mind
+returns-then-eq-clause-mind g c holds clean on =
+    let a = state g.S.Store c.args.conn.now in
+    let b = state g.S.Store c.office_in.new.conn in
+    let d = state g.S.Store c.office_sight.new.conn in
+    let m = c.in_ok-office.ensures.same holds.own (clean_before b d _ c.office_sight.ensures.reads.crash clean) in
+    at_start a b d m (λ x. Remembers c.args.remembered.now (catalogue (world_of x.trees)) → Remembers c.office_sight.new.remembered (catalogue (world_of x.trees))) c.office_sight.ensures.mind holds clean

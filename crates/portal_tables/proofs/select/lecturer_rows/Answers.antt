@@ -1,11 +1,11 @@
 use Rattle.sqlite.specs.Held.{state}
 use Rattle.sqlite.proofs.StateLemmas.{survives_weaker}
-use Rattle.portal_tables.proofs.Queries.{if_ok}
+use Rattle.std.proofs.lemmas.Result.{IfOk-weaker}
 use Rattle.portal_tables.proofs.Shows.{lecturer_rows_plain, lecturer_rows_listed}
 use Rattle.portal_tables.proofs.select.lecturer_rows.Goals as goal
 
 pub returns-clause-rows : goal.returns-clause-rows
-returns-clause-rows g c own clean = if_ok _ _ c.read.result (λ v. lecturer_rows_listed (state g.S.Store c.args.conn.now) (state g.S.Store c.read.new.conn) own v.items) (c.read.ensures.rows clean)
+returns-clause-rows g c own clean = IfOk-weaker c.read.result _ _ (λ v. lecturer_rows_listed (state g.S.Store c.args.conn.now) (state g.S.Store c.read.new.conn) own v.items) (c.read.ensures.rows clean)
 
 pub returns-clause-same : goal.returns-clause-same
 returns-clause-same g c own clean = c.read.ensures.same (lecturer_rows_plain c.args.conn.now.schema own) clean

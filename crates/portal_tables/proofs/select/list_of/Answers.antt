@@ -1,11 +1,11 @@
 use Rattle.sqlite.specs.Held.{state}
 use Rattle.sqlite.proofs.StateLemmas.{survives_weaker}
-use Rattle.portal_tables.proofs.Queries.{if_ok}
+use Rattle.std.proofs.lemmas.Result.{IfOk-weaker}
 use Rattle.portal_tables.proofs.Shows.{list_of_plain, list_of_listed}
 use Rattle.portal_tables.proofs.select.list_of.Goals as goal
 
 pub returns-clause-rows : goal.returns-clause-rows
-returns-clause-rows g c own clean = if_ok _ _ c.read.result (λ v. list_of_listed (state g.S.Store c.args.conn.now) (state g.S.Store c.read.new.conn) c.args.student.now own v.items) (c.read.ensures.rows clean)
+returns-clause-rows g c own clean = IfOk-weaker c.read.result _ _ (λ v. list_of_listed (state g.S.Store c.args.conn.now) (state g.S.Store c.read.new.conn) c.args.student.now own v.items) (c.read.ensures.rows clean)
 
 pub returns-clause-same : goal.returns-clause-same
 returns-clause-same g c own clean = c.read.ensures.same (list_of_plain c.args.conn.now.schema own) clean

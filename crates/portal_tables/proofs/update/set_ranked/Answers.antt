@@ -1,9 +1,9 @@
 use Rattle.sqlite.specs.Held.{state}
-use Rattle.portal_tables.proofs.Queries.{on_ok}
+use Rattle.std.proofs.lemmas.Result.{on_ok_weaker}
 use Rattle.portal_tables.proofs.Statements.{lecturer_ranked}
 use Rattle.portal_tables.proofs.update.set_ranked.Goals as goal
 
 pub returns-clause-done : goal.returns-clause-done
 returns-clause-done g c clean =
-    on_ok _ _ c.write.result (lecturer_ranked (state g.S.Store c.args.tx.now.conn.now) (state g.S.Store c.write.new.tx.conn.now) c.args.lecturer.now)
+    on_ok_weaker c.write.result (lecturer_ranked (state g.S.Store c.args.tx.now.conn.now) (state g.S.Store c.write.new.tx.conn.now) c.args.lecturer.now)
     (c.write.ensures.done clean)

@@ -1,13 +1,7 @@
-use Rattle.std.proofs.Common.{◌≡◌, ℕ, List, ◌∙◌, refl}
-use Rattle.std.specs.Prelude.{Result, Ok, Err, IfOk, IfSome, Some, String, string_bytes}
-use Rattle.std.specs.declared.alloc.Global.{Global}
+use Rattle.std.proofs.Common.{refl}
+use Rattle.portal_core.proofs.Pieces.{said}
 use Rattle.portal_wire.specs.Text.{common_lines}
 use Rattle.portal_wire.proofs.replies.first_lines.Goals as goal
-
-said : {E : Type 0} (r : Result (String Global) E) (x y : List ℕ) → IfOk r (λ s. IfSome (Some x) (λ bs. string_bytes s ≡ bs)) → x ≡ y
-    → IfOk r (λ s. string_bytes s ≡ y)
-said (Ok s) x y e same = e ∙ same
-said (Err e) x y _ same = tt
 
 pub returns : goal.returns
 unfolding common_lines

@@ -1,13 +1,10 @@
-use Rattle.std.proofs.Common.{◌≡◌, Result, Ok, Err, OnOk, IsSortedByKey, rules}
+use Rattle.std.proofs.Common.{◌≡◌, IsSortedByKey, rules}
 use Rattle.std.specs.Ordering.{nat_cmp, is_lt}
 use Rattle.std.specs.Cmp.Lexicographic.{slice_cmp}
 use Rattle.std.proofs.lemmas.Cmp.{nat_list_cmp_total}
 use Rattle.std.proofs.lemmas.List.Sorted.{ranks_by, answers_always}
+use Rattle.std.proofs.lemmas.Result.{on_ok_weaker}
 use Rattle.spa_rows.proofs.order.sort_lines.Goals as goal
 
-on_ok_then : {X E : Type 0} (r : Result X E) (P Q : Type 0) → (P → Q) → OnOk r P → OnOk r Q
-on_ok_then (Ok x) P Q f h = f h
-on_ok_then (Err e) P Q f h = h
-
 pub returns-clause-sorted : goal.returns-clause-sorted
-returns-clause-sorted g c = on_ok_then c.sort_by.result _ (IsSortedByKey g.L.Line.key_of (slice_cmp nat_cmp) c.sort_by.new.self.items) (λ sorted. sorted (λ x y. is_lt (slice_cmp nat_cmp (g.L.Line.key_of x) (g.L.Line.key_of y))) (ranks_by nat_list_cmp_total g.L.Line.key_of) (answers_always _ _ _ (λ f a r k h. let same : r ≡ slice_cmp nat_cmp (g.L.Line.key_of a.0.now) (g.L.Line.key_of a.1.0.now) = search rules in search (rules, same)))) c.sort_by.ensures.sorted
+returns-clause-sorted g c = on_ok_weaker {Q = IsSortedByKey g.L.Line.key_of (slice_cmp nat_cmp) c.sort_by.new.self.items} c.sort_by.result (λ sorted. sorted (λ x y. is_lt (slice_cmp nat_cmp (g.L.Line.key_of x) (g.L.Line.key_of y))) (ranks_by nat_list_cmp_total g.L.Line.key_of) (answers_always _ _ _ (λ f a r k h. let same : r ≡ slice_cmp nat_cmp (g.L.Line.key_of a.0.now) (g.L.Line.key_of a.1.0.now) = search rules in search (rules, same)))) c.sort_by.ensures.sorted

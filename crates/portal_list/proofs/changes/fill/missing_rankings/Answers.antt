@@ -1,6 +1,7 @@
 use Rattle.std.proofs.Common.{◌∷◌, [], ◌++◌, map, take, ◌∙◌, ap, sym}
+use Rattle.std.proofs.lemmas.List.{map_push}
 use Rattle.portal_list.specs.Fill.{missing}
-use Rattle.portal_list.proofs.Steps.{grown, pushed}
+use Rattle.portal_list.proofs.Steps.{grown}
 use Rattle.portal_list.proofs.changes.fill.missing_rankings.Goals as goal
 
 pub loop-lecturer-preserved : goal.loop-lecturer-preserved
@@ -9,4 +10,4 @@ loop-lecturer-preserved c =
     let i = c.loop-lecturer.lecturer-index in
     c.in_ok-push.ensures.items
     ∙ (λ j. c.loop-lecturer.invariant j ++ c.in_ok-missing_ranking.ensures j ∷ [])
-    ∙ sym (ap (map given) (grown c.args.lecturers.now i c.lecturer-item.result c.loop-lecturer-test.true (sym c.lecturer-item.is)) ∙ pushed given (take i c.args.lecturers.now) c.lecturer-item.result)
+    ∙ sym (ap (map given) (grown c.args.lecturers.now i c.lecturer-item.result c.loop-lecturer-test.true (sym c.lecturer-item.is)) ∙ map_push given (take i c.args.lecturers.now) c.lecturer-item.result)

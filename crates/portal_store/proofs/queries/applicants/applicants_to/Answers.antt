@@ -3,7 +3,7 @@ use Rattle.sqlite.specs.declared.error.Error.{Error}
 use Rattle.sqlite.specs.Held.{state}
 use Rattle.portal_tables.specs.Changes.{ListsBy, has_text, columns}
 use Rattle.portal_tables.specs.Tables.{choice_tree}
-use Rattle.portal_tables.proofs.Queries.{if_ok}
+use Rattle.std.proofs.lemmas.Result.{IfOk-weaker}
 use Rattle.portal_store.proofs.InTurn.{reads_of, reads_more, reads_failed}
 use Rattle.portal_store.proofs.Applying.{applicants_are}
 use Rattle.portal_store.proofs.queries.applicants.applicants_to.Goals as goal
@@ -13,7 +13,7 @@ returns-clause-told g c holds clean lines =
     let db = (state g.S.Store c.args.conn.now).now in
     let h : ListsBy (1 ∷ []) (has_text 3 c.args.project.now) (columns (1 ∷ [])) (db.trees choice_tree) c.deref.result.now =
     subst₂ (λ key rows. ListsBy (1 ∷ []) (has_text 3 key) (columns (1 ∷ [])) (db.trees choice_tree) rows) c.as_bytes.ensures.bytes (sym c.deref.ensures.value) (c.in_ok-rows.ensures.rows holds.own clean) in
-    if_ok _ _ c.persons_from.result (λ v is. is ∙ applicants_are db holds c.args.project.now c.deref.result.now h c.args.lines.now lines) c.persons_from.ensures
+    IfOk-weaker c.persons_from.result _ _ (λ v is. is ∙ applicants_are db holds c.args.project.now c.deref.result.now h c.args.lines.now lines) c.persons_from.ensures
 
 pub returns-clause-reads : goal.returns-clause-reads
 returns-clause-reads g c =

@@ -1,6 +1,6 @@
 use Rattle.std.proofs.Common.{◌∙◌}
 use Rattle.sqlite.specs.Held.{state}
-use Rattle.portal_tables.proofs.Queries.{if_ok}
+use Rattle.std.proofs.lemmas.Result.{IfOk-weaker}
 use Rattle.portal_store.specs.World.{world_of}
 use Rattle.portal_store.proofs.InTurn.{reads_then, reads_more, reads_handed, clean_before}
 use Rattle.portal_store.proofs.Applying.{placed_are}
@@ -19,7 +19,7 @@ returns-clause-placed g c holds clean on phase =
     let b = state g.S.Store c.lines_in.new.conn in
     let d = state g.S.Store c.entries_in.new.conn in
     let before = clean_before b d _ c.in_ok-applicants.ensures.reads.crash clean in
-    if_ok _ _ c.told_with.result (λ t is. is ∙ placed_are (world_of a.now.trees) c.args.phase c.deref-2.result.now c.args.projects.now phase (c.deref-2.ensures.value ∙ c.in_ok-lines.ensures.lines holds before)) c.told_with.ensures.placed
+    IfOk-weaker c.told_with.result _ _ (λ t is. is ∙ placed_are (world_of a.now.trees) c.args.phase c.deref-2.result.now c.args.projects.now phase (c.deref-2.ensures.value ∙ c.in_ok-lines.ensures.lines holds before)) c.told_with.ensures.placed
 
 pub returns-clause-reads : goal.returns-clause-reads
 returns-clause-reads g c =

@@ -1,13 +1,13 @@
 use Rattle.sqlite.specs.declared.error.Error.{Error}
 use Rattle.sqlite.specs.Held.{state}
-use Rattle.portal_tables.proofs.Queries.{if_ok}
+use Rattle.std.proofs.lemmas.Result.{IfOk-weaker}
 use Rattle.portal_store.proofs.InTurn.{reads_of, reads_more, reads_failed}
 use Rattle.portal_store.proofs.Queried.{lecturer_found}
 use Rattle.portal_store.proofs.queries.caller.lecturer_in.Goals as goal
 
 pub returns-clause-found : goal.returns-clause-found
 returns-clause-found g c holds clean =
-    if_ok _ _ c.only.result (λ row told. lecturer_found (state g.S.Store c.args.conn.now).now holds c.args.code.now c.in_ok-rows.rows.items (c.in_ok-rows.ensures.rows holds.own clean) row told) c.only.ensures
+    IfOk-weaker c.only.result _ _ (λ row told. lecturer_found (state g.S.Store c.args.conn.now).now holds c.args.code.now c.in_ok-rows.rows.items (c.in_ok-rows.ensures.rows holds.own clean) row told) c.only.ensures
 
 pub returns-clause-reads : goal.returns-clause-reads
 returns-clause-reads g c =

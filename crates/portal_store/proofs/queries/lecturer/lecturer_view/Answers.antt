@@ -7,7 +7,7 @@ use Rattle.sqlite.specs.State.{HasCleanDisk, IsUnchanged}
 use Rattle.portal_core.specs.declared.rows.Listing.{Listing}
 use Rattle.portal_core.specs.Good.{Good}
 use Rattle.portal_core.specs.View.{catalogue, lecturer_sees}
-use Rattle.portal_tables.proofs.Queries.{if_ok}
+use Rattle.std.proofs.lemmas.Result.{IfOk-weaker}
 use Rattle.portal_store.specs.Kept.{Holds}
 use Rattle.portal_store.specs.World.{world_of}
 use Rattle.portal_store.specs.Queried.{lecturer_from, with_persons}
@@ -36,7 +36,7 @@ returns-clause-shows g c holds clean on phase shown good =
     → map with_persons told.applicants.items ≡ (lecturer_sees (world_of x.trees) (lecturer_from x.trees row)).applicants) m.0.now_is c.in_ok-told.ensures.applicants holds clean m.0.is_open phase listed good in
     let placed = subst (λ (x : Database). Holds x → HasCleanDisk d → IsTrue b.is_open → c.args.phase ≡ (world_of x.trees).phase → c.deref-2.result.now ≡ catalogue (world_of x.trees) → Good (world_of x.trees)
     → map with_persons told.placed.items ≡ (lecturer_sees (world_of x.trees) (lecturer_from x.trees row)).placed) m.0.now_is c.in_ok-told.ensures.placed holds clean m.0.is_open phase listed good in
-    if_ok _ _ c.put_together.result (λ v is. is ∙ lecturer_told (world_of a.now.trees) (lecturer_from a.now.trees row) c.args.phase _ _ _ _ phase shown applicants placed (c.in_ok-ranking.ensures.names holds.own before)) c.put_together.ensures
+    IfOk-weaker c.put_together.result _ _ (λ v is. is ∙ lecturer_told (world_of a.now.trees) (lecturer_from a.now.trees row) c.args.phase _ _ _ _ phase shown applicants placed (c.in_ok-ranking.ensures.names holds.own before)) c.put_together.ensures
 
 pub returns-clause-reads : goal.returns-clause-reads
 returns-clause-reads g c =

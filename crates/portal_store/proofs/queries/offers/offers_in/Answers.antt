@@ -2,7 +2,7 @@ use Rattle.std.proofs.Common.{◌∙◌, ap, map}
 use Rattle.sqlite.specs.Effect.{Database}
 use Rattle.sqlite.specs.Held.{state}
 use Rattle.sqlite.specs.State.{IsUnchanged}
-use Rattle.portal_tables.proofs.Queries.{if_ok}
+use Rattle.std.proofs.lemmas.Result.{IfOk-weaker}
 use Rattle.portal_store.specs.Shown.{shown_lecturer, shown_project, projects_shown}
 use Rattle.portal_store.proofs.InTurn.{reads_then, reads_more, reads_handed, clean_before, still_own}
 use Rattle.portal_store.proofs.Queried.{lecturers_told, projects_told}
@@ -22,7 +22,7 @@ returns-clause-lecturers g c holds clean on =
     let d = state g.S.Store c.project_roll.new.conn in
     let before = clean_before b d _ c.in_ok-projects.ensures.reads.crash clean in
     let shown = c.in_ok-lecturers.ensures.rows holds.own before in
-    if_ok _ _ c.offers_from.result (λ o is. is ∙ ap (map shown_lecturer) (c.deref.ensures.value ∙ shown) ∙ lecturers_told a.now.trees) c.offers_from.ensures.lecturers
+    IfOk-weaker c.offers_from.result _ _ (λ o is. is ∙ ap (map shown_lecturer) (c.deref.ensures.value ∙ shown) ∙ lecturers_told a.now.trees) c.offers_from.ensures.lecturers
 
 pub returns-clause-projects : goal.returns-clause-projects
 returns-clause-projects g c holds clean on =
@@ -32,7 +32,7 @@ returns-clause-projects g c holds clean on =
     let before = clean_before b d _ c.in_ok-projects.ensures.reads.crash clean in
     let m : IsUnchanged a b = c.in_ok-lecturers.ensures.reads.same holds.own before on in
     let shown = c.in_ok-projects.ensures.rows (still_own a b m holds.own) clean ∙ ap (λ (x : Database). projects_shown x.trees) m.0.now_is in
-    if_ok _ _ c.offers_from.result (λ o is. is ∙ ap (map shown_project) (c.deref-2.ensures.value ∙ shown) ∙ projects_told a.now.trees) c.offers_from.ensures.projects
+    IfOk-weaker c.offers_from.result _ _ (λ o is. is ∙ ap (map shown_project) (c.deref-2.ensures.value ∙ shown) ∙ projects_told a.now.trees) c.offers_from.ensures.projects
 
 pub returns-clause-reads : goal.returns-clause-reads
 returns-clause-reads g c =

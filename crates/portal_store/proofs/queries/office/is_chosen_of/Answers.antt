@@ -4,7 +4,7 @@ use Rattle.std.specs.List.{list_any}
 use Rattle.sqlite.specs.Held.{state}
 use Rattle.portal_core.specs.Words.{Key, is, has}
 use Rattle.portal_core.specs.World.{Student}
-use Rattle.portal_tables.proofs.Queries.{if_ok}
+use Rattle.std.proofs.lemmas.Result.{IfOk-weaker}
 use Rattle.portal_store.specs.World.{world_of}
 use Rattle.portal_store.specs.Shown.{first, shown_project}
 use Rattle.portal_store.proofs.InTurn.{reads_self}
@@ -18,7 +18,7 @@ returns-clause-told g c holds clean =
     let w = world_of (state g.S.Store c.args.conn.now).now.trees in
     let project = shown_project c.args.project.now in
     let own : is project.lecturer (first c.args.lecturer.now) ≡ true = search rules in
-    if_ok _ _ c.is_chosen.result
+    IfOk-weaker c.is_chosen.result _ _
     (λ yes told. told
     ∙ ap (λ (k : Key). list_any (λ (s : Student). has s.choice k) w.students) c.bytes_at-3.ensures
     ∙ sym (ap (λ b. b && list_any (λ (s : Student). has s.choice project.key) w.students) own))

@@ -2,7 +2,7 @@ use Rattle.std.proofs.Common.{◌≡◌, ◌∙◌, IfOk, subst}
 use Rattle.sqlite.specs.Effect.{Database}
 use Rattle.sqlite.specs.Held.{state}
 use Rattle.sqlite.specs.State.{HasCleanDisk, IsUnchanged}
-use Rattle.portal_tables.proofs.Queries.{if_ok}
+use Rattle.std.proofs.lemmas.Result.{IfOk-weaker}
 use Rattle.portal_store.specs.Kept.{Holds}
 use Rattle.portal_store.specs.Queried.{office_from}
 use Rattle.portal_store.proofs.InTurn.{reads_then, clean_before}
@@ -26,7 +26,7 @@ returns-clause-shows g c holds clean on office listed =
     let lecturers = c.in_ok-rolls.ensures.lecturers holds.own before on in
     let projects = c.in_ok-rolls.ensures.projects holds.own before on in
     let students = c.in_ok-rolls.ensures.students holds.own before on in
-    if_ok _ _ c.view_of_rolls.result (λ v is. is ∙ (λ i. office_from db phase code offers (lecturers i) (projects i) (students i)) ∙ office_told db phase code offers office listed) (there holds clean)
+    IfOk-weaker c.view_of_rolls.result _ _ (λ v is. is ∙ (λ i. office_from db phase code offers (lecturers i) (projects i) (students i)) ∙ office_told db phase code offers office listed) (there holds clean)
 
 pub returns-clause-reads : goal.returns-clause-reads
 returns-clause-reads g c =

@@ -2,7 +2,8 @@ use Rattle.std.proofs.Common.{◌≡◌, IsTrue, ap, sym, subst, ◌∙◌}
 use Rattle.sqlite.specs.State.{HasCleanDisk}
 use Rattle.sqlite.specs.Held.{Held, state}
 use Rattle.portal_tables.proofs.Runs.{clean_if_open}
-use Rattle.portal_tables.proofs.Queries.{if_ok}
+use Rattle.std.proofs.lemmas.Result.{}
+use Rattle.std.proofs.lemmas.Result.{IfOk-weaker}
 use Rattle.portal_core.specs.Good.{Good}
 use Rattle.portal_core.specs.View as seen
 use Rattle.portal_store.specs.World.{world_of}
@@ -40,5 +41,5 @@ returns-clause-shown g c =
     let right = c.self.invariant.shown (subst (λ s. IsCleanStore g.S.Store s) (sym c.self.view_is) (read_clean g.S.Store c.self.inside.conn c.view_with.new.conn c.self.inside.own c.args.self.now c.self.view_is c.self.invariant.kept c.view_with.ensures.idle c.in_ok-check_own.ensures (law g c.view_with.new.conn)
     c.view_with.result c.view_with.ensures.same c.view_with.ensures.err on)) in
     read_holds g.S.Store c.self.inside.conn c.view_with.new.conn c.self.inside.own c.args.self.now c.self.view_is c.self.invariant.kept c.view_with.ensures.idle c.in_ok-check_own.ensures (law g c.view_with.new.conn)
-    c.view_with.result c.view_with.ensures.same c.view_with.ensures.err _ (λ own clean holds. if_ok _ (λ view. Good (world_of (state g.S.Store c.self.inside.conn).now.trees) → view ≡ seen.view (world_of (state g.S.Store c.self.inside.conn).now.trees) code) c.view_with.result (λ view shows good. shows holds good right) (c.view_with.ensures.shows own clean)) on)
+    c.view_with.result c.view_with.ensures.same c.view_with.ensures.err _ (λ own clean holds. IfOk-weaker c.view_with.result _ (λ view. Good (world_of (state g.S.Store c.self.inside.conn).now.trees) → view ≡ seen.view (world_of (state g.S.Store c.self.inside.conn).now.trees) code) (λ view shows good. shows holds good right) (c.view_with.ensures.shows own clean)) on)
     (λ view shows on good. shows on (subst (λ s. Good (kept_world g.S.Store s)) (sym c.self.view_is) good) ∙ ap (λ s. seen.view (kept_world g.S.Store s) code) c.self.view_is)

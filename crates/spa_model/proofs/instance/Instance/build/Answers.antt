@@ -1,5 +1,5 @@
-use Rattle.std.proofs.Common.{IfOk, IfErr, OnOk, Result, Ok, Err}
-use Rattle.std.proofs.lemmas.Result.{IfOk-weaker, IfErr-weaker}
+use Rattle.std.proofs.Common.{IfOk, IfErr, OnOk}
+use Rattle.std.proofs.lemmas.Result.{IfOk-weaker, IfErr-weaker, on_ok_weaker}
 use Rattle.spa_rows.specs.Faults.{HasNoneBefore, IsRefusal}
 use Rattle.spa_rows.specs.declared.faults.InstanceFault.TheVariants.{NoSuchLecturer, Memory}
 use Rattle.spa_rows.proofs.Carry.{SameLines, none_before_carry, same_lines_sym}
@@ -31,12 +31,8 @@ returns-clause-err c =
     let told : IfErr c.instance_of.result (λ e. IsRefusal c.sort_rows.new.rows e.fault e.row) = rw (← c.sorted.view_is, ← c.deref.ensures.value, ← c.deref-2.ensures.value, ← c.deref-3.ensures.value) c.instance_of.ensures.err in
     IfErr-weaker c.instance_of.result (λ e. IsRefusal c.sort_rows.new.rows e.fault e.row) (λ e. IsRefusal c.args.rows e.fault e.row) (λ e. refusal_of_rows c.args.rows c.sort_rows.new.rows same c.in_ok-check_lines.ensures.ok e.fault e.row) told
 
-on_ok_then : {X E : Type 0} (r : Result X E) (P Q : Type 0) → (P → Q) → OnOk r P → OnOk r Q
-on_ok_then (Ok x) P Q f h = f h
-on_ok_then (Err e) P Q f h = h
-
 pub returns-clause-sound : goal.returns-clause-sound
 returns-clause-sound c =
     let same : SameLines c.args.rows c.sort_rows.new.rows = record { lecturers = c.sort_rows.ensures.lecturers; projects = c.sort_rows.ensures.projects; students = c.sort_rows.ensures.students } in
     let told : OnOk c.instance_of.result (HasNoneBefore c.sort_rows.new.rows Memory) = rw (← c.sorted.view_is, ← c.deref.ensures.value, ← c.deref-2.ensures.value, ← c.deref-3.ensures.value) c.instance_of.ensures.sound in
-    on_ok_then c.instance_of.result _ (HasNoneBefore c.args.rows Memory) (none_before_carry c.sort_rows.new.rows c.args.rows (same_lines_sym c.args.rows c.sort_rows.new.rows same) Memory) told
+    on_ok_weaker c.instance_of.result (none_before_carry c.sort_rows.new.rows c.args.rows (same_lines_sym c.args.rows c.sort_rows.new.rows same) Memory) told

@@ -1,5 +1,6 @@
-use Rattle.std.proofs.Common.{◌≡◌, inr, ℕ, ◌<◌, length, get_or, set, Some, None, refl, sym, ◌∙◌, ap, arith}
+use Rattle.std.proofs.Common.{◌≡◌, inr, ◌<◌, length, get_or, set, Some, None, refl, sym, ◌∙◌, ap, arith}
 use Rattle.std.proofs.lemmas.List.{get_or-set_same, get_or_read}
+use Rattle.std.proofs.lemmas.Option.{same_Some}
 use Rattle.spa_model.specs.Spa.{ranking_of, lecturer_of, project_of}
 use Rattle.spa_student.specs.Machine.{rank_of}
 use Rattle.spa_student.specs.Worst.{IsWorstWith}
@@ -18,9 +19,6 @@ leave-requires-clause-marks c =
     let below = rank_with_below i c.args.self.now c.requires.uncut (get_or (ranking_of i own) c.worst_with-rank.result 0) own worst.with_l in
     fallen_lecturer_marks i c.args.self.now c.requires.marks own c.worst_with-rank.result _ row (omega (arith, below, found)) refl
 
-some_of : (x y : ℕ) → Some x ≡ Some y → x ≡ y
-some_of x y e = cc
-
 pub leave-requires-clause-past : goal.leave-requires-clause-past
 leave-requires-clause-past c =
     let i = c.args.instance.now in
@@ -33,7 +31,7 @@ leave-requires-clause-past c =
     let known : get_or c.ranking.result.now c.worst_with-rank.result 0 < length c.args.self.now.projects.items = rw c.ranking.ensures (student_in_range i c.args.self.now.projects.items (get_or (ranking_of i own) c.worst_with-rank.result 0) with_l.0 with_l.1) in
     let read : project_of c.args.self.now.projects.items (get_or c.ranking.result.now c.worst_with-rank.result 0) ≡ Some c.in-Some.u = sym (get_or_read c.args.self.now.projects.items (get_or c.ranking.result.now c.worst_with-rank.result 0) c.index.result.now known c.index.ensures None) ∙ c.in-Some.is in
     let both : Some with_l.0 ≡ Some c.in-Some.u = sym with_l.1 ∙ (rw c.ranking.ensures at read) in
-    let same : with_l.0 ≡ c.in-Some.u = some_of with_l.0 c.in-Some.u both in
+    let same : with_l.0 ≡ c.in-Some.u = same_Some with_l.0 c.in-Some.u both in
     let offers : lecturer_of i c.in-Some.u ≡ own = ap (lecturer_of i) (sym same) ∙ with_l.2 in
     rw c.ranking.ensures (inr (rw offers (omega (arith, found, get_or-set_same c.args.self.now.lecturer_cuts.items own c.worst_with-rank.result 0 row))))
 

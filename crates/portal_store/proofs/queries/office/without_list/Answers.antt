@@ -1,0 +1,28 @@
+use Rattle.std.proofs.Common.{[], ◌∷◌, ◌∙◌, sym, subst}
+use Rattle.std.proofs.lemmas.Result.{IfOk-weaker}
+use Rattle.sqlite.specs.declared.error.Error.{Error}
+use Rattle.sqlite.specs.Held.{state}
+use Rattle.portal_tables.specs.Changes.{ListsBy, has_number, columns}
+use Rattle.portal_tables.specs.Tables.{choice_tree}
+use Rattle.portal_store.proofs.InTurn.{reads_of, reads_more, reads_failed}
+use Rattle.portal_store.proofs.OfficeSeen.{unlisted_are}
+use Rattle.portal_store.proofs.queries.office.without_list.Goals as goal
+
+pub returns-clause-told : goal.returns-clause-told
+returns-clause-told g c holds clean =
+    let db = (state g.S.Store c.args.conn.now).now in
+    let h : ListsBy (1 ∷ []) (has_number 2 1) (columns (1 ∷ [])) (db.trees choice_tree) c.deref.result.now =
+    subst (λ rows. ListsBy (1 ∷ []) (has_number 2 1) (columns (1 ∷ [])) (db.trees choice_tree) rows) (sym c.deref.ensures.value) (c.in_ok-listed.ensures.rows holds.own clean) in
+    IfOk-weaker c.keys_without.result _ _ (λ v is. is ∙ unlisted_are db holds c.deref.result.now h c.args.students.now) c.keys_without.ensures
+
+pub returns-clause-reads : goal.returns-clause-reads
+returns-clause-reads g c =
+    let a = state g.S.Store c.args.conn.now in
+    let b = state g.S.Store c.listed_students.new.conn in
+    reads_more {D = Error} c.in_ok-listed.listed c.keys_without.result a b (reads_of _ a b c.in_ok-listed.ensures.same c.in_ok-listed.ensures.err c.in_ok-listed.ensures.survives)
+
+pub returns-in_err-listed-clause-reads : goal.returns-in_err-listed-clause-reads
+returns-in_err-listed-clause-reads g c =
+    let a = state g.S.Store c.args.conn.now in
+    let b = state g.S.Store c.listed_students.new.conn in
+    reads_failed {U = Unit {0}} c.in_err-listed.field-0.0 c.from_residual.result a b c.from_residual.ensures.0 (reads_of _ a b c.in_err-listed.ensures.same c.in_err-listed.ensures.err c.in_err-listed.ensures.survives)
