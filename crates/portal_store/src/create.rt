@@ -1,6 +1,6 @@
 //! Makes the portal's tables.
 
-ghost use Rattle.std.specs.Prelude.{◌≡◌, ◌↔◌, true, false, IfOk, IfErr, IsTrue};
+ghost use Rattle.std.specs.Prelude.{◌≡◌, ◌↔◌, true, false, Err, IfOk, IfErr, IsTrue};
 ghost use Rattle.std.specs.List.{list_any};
 ghost use Rattle.sqlite.specs.State.{HasCleanDisk, Survives};
 ghost use Rattle.sqlite.specs.Held.{state};
@@ -131,12 +131,13 @@ impl<S: Alter> Store<S> {
 }
 
 impl Store<MemStore> {
-    /// The portal in memory: the empty world in setup, whose office has this code. `Exists` and `Store` do not come.
+    /// The portal in memory: the empty world in setup, whose office has this code. `Exists` does not come.
     pub fn create_memory(alloc: Global, office: Code) -> Result<Store<MemStore>, CreateFault>
         ensures own { IfOk result (λ s. IsTrue s.own) }
         ensures clean { IfOk result (λ s. IsCleanStore over_memory s) }
         ensures world { IfOk result (λ s. kept_world over_memory s ≡ first_world office) }
         ensures good { IfOk result (λ s. Good (kept_world over_memory s)) }
+        ensures empty { result ≡ Err CreateFault.Exists → ⊥ }
     {
         let Ok(conn) = Connection::open_in_memory(alloc) else {
             return Err(CreateFault::Memory);

@@ -79,6 +79,7 @@ impl<S: Alter> Store<S> {
         ensures clean { IsCleanStore S.Store self.new → IsCleanStore S.Store self.old }
         ensures code { IsCleanStore S.Store self.new → IfOk result (λ code. code ≡ (kept_world S.Store self.old).office) }
         ensures same { IsCleanStore S.Store self.new → kept_world S.Store self.new ≡ kept_world S.Store self.old }
+        ensures own { self.new.own ≡ self.old.own }
     {
         self.check_own()?;
         office_of(alloc, &mut self.conn)
