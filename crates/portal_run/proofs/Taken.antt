@@ -2,16 +2,12 @@
 use Rattle.std.proofs.Common.{◌≡◌, ◌∙◌, ◌<◌, ◌≤◌, ◌+◌, ◌++◌, ℕ, [], length, Option, Some, None, take, refl, sym, ap, subst, inl, inr, arith, length-append}
 use Rattle.std.specs.Prelude.{IfSome}
 use Rattle.std.specs.Io.KnownBytes.{Consumes, IsAtEnd}
-use Rattle.std.proofs.KnownBytes.{Consumes-nil, Consumes-trans}
+use Rattle.std.proofs.KnownBytes.{Consumes-trans}
 use Rattle.std.proofs.lemmas.Bool.{cases_lt}
 use Rattle.std.proofs.lemmas.List.{take_all, take-append-le, append-nil}
 use Rattle.portal_desk.specs.Devices.{TakesAtMost as TakesFew}
 use Rattle.portal_answer.specs.Told.{Text}
 use Rattle.portal_run.specs.Taken.{TakesAtMost, Adds}
-
--- nothing was taken
-pub none_taken : (n : ℕ) (k : Option Text) → TakesAtMost n k k
-none_taken n k = ([], omega arith, Consumes-nil k)
 
 -- what was taken first, and then
 pub more_taken : (n most : ℕ) (a b c : Option Text) (before : Text) → Consumes a b before → length before ≤ n → most + length before ≤ n → TakesAtMost most b c → TakesAtMost n a c

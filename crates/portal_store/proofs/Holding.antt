@@ -20,14 +20,7 @@ use Rattle.portal_store.specs.Kept.{Whole, Holds, Turned, Turns}
 use Rattle.portal_store.specs.Lists.{of_key, IsWhole}
 use Rattle.portal_store.specs.World.{world_of, number_of, phase_of, row_key, is_ranked, office_row, lecturer_of, project_row, student_of}
 
--- no table but this one is touched, by nothing and by two changes in turn
-pub keeps_same : (tree : ℕ) (db : Database) → Keeps tree db db
-keeps_same tree db = each own_trees
-  where
-    each : (trees : List ℕ) → AllByRecursion (λ t. t ≢ tree → db.trees t ≡ db.trees t) trees
-    each [] = tt
-    each (t ∷ trees) = (λ _. refl, each trees)
-
+-- no table but this one is touched by two changes in turn
 pub keeps_then : (tree : ℕ) (a b c : Database) → Keeps tree a b → Keeps tree b c → Keeps tree a c
 keeps_then tree a b c p q = each own_trees p q
   where
