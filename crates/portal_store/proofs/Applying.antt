@@ -1,11 +1,11 @@
 -- Applicants and placed students, of what queries show.
 use Rattle.std.proofs.Common.{◌≡◌, Bool, true, false, ◌&&◌, ◌||◌, List, [], ◌∷◌, map, filter, Option, refl, sym, ap, ap₂, subst, ◌∙◌}
-use Rattle.std.specs.Prelude.{if◌then◌else◌}
+use Rattle.std.specs.Prelude.{Vec, if◌then◌else◌, cond, IfSome, None, Some}
+use Rattle.std.specs.declared.alloc.Global.{Global}
 use Rattle.std.specs.List.{AllByRecursion, list_any}
 use Rattle.std.proofs.Math.Bool.{and_comm}
 use Rattle.std.proofs.lemmas.List.Sorted.{list_any-IsPermutation}
 use Rattle.sqlite.specs.Order.{Row, column, bytes}
-use Rattle.sqlite.specs.Tree.{Trees}
 use Rattle.sqlite.specs.Effect.{Database}
 use Rattle.sqlite_trees.proofs.ListLemmas.{filter-map, map-map}
 use Rattle.portal_core.specs.declared.phase.Phase.{Phase}
@@ -15,6 +15,8 @@ use Rattle.portal_core.specs.Sight.{LecturerSees}
 use Rattle.portal_core.specs.Words.{Key, is, has}
 use Rattle.portal_core.specs.World.{World, Lecturer, Student, project_key, projects_of, applicants_to, placed_at, is_at, is_from_ranking, is_published}
 use Rattle.portal_core.specs.View.{persons, catalogue, lecturer_sees}
+use Rattle.portal_core.specs.Good.{Good}
+use Rattle.portal_core.proofs.Keys.{is_same}
 use Rattle.portal_core.proofs.AllLaws.{all_weaker, any_map, filtered_any, is_sym, all_map}
 use Rattle.portal_core.proofs.Givers.{is_mapped}
 use Rattle.portal_core.proofs.Enrol.{open_phase}
@@ -24,17 +26,13 @@ use Rattle.portal_store.specs.declared.queries.applicants.Line.{Line}
 use Rattle.portal_store.specs.Kept.{Holds}
 use Rattle.portal_store.specs.Lists.{of_key, named_by, place_key, by_place, chosen}
 use Rattle.portal_store.specs.World.{world_of, row_key, student_of}
-use Rattle.portal_store.specs.Shown.{first, by_key, students_shown}
-use Rattle.portal_store.specs.Queried.{line_of, shown_line, applicants_at, applicants_told, placed_told}
+use Rattle.portal_store.specs.Shown.{first, by_key}
+use Rattle.portal_store.specs.Queried.{line_of, with_lines, lines_at, persons_in, placed_in, applicants_at, applicants_told, placed_told}
 use Rattle.portal_store.proofs.Listed.{permuted, for_each}
-use Rattle.portal_store.proofs.Loaded.{roll_columns, students_are}
-use Rattle.portal_store.proofs.Queried.{filter_alike}
+use Rattle.portal_store.proofs.Loaded.{students_are}
 use Rattle.portal_store.proofs.Shapes.{IsChoiceRow, has_text_of, choice_rows_formed}
-use Rattle.portal_store.proofs.Sorted.{permutes, map_alike}
-
-pub lines_told : (db : Trees) → map shown_line (students_shown db) ≡ map line_of (world_of db).students
-unfolding world_of
-lines_told db = map-map shown_line roll_columns (by_key (db student_tree)) ∙ sym (ap (map line_of) (students_are db) ∙ map-map line_of (student_of (db choice_tree)) (by_key (db student_tree)))
+use Rattle.portal_store.proofs.Sorted.{permutes, map_alike, map_twice}
+use Rattle.portal_store.proofs.Fine.{placed_listed}
 
 pub any_alike : {X : Type 0} (p q : X → Bool) (xs : List X) → AllByRecursion (λ x. p x ≡ q x) xs → list_any p xs ≡ list_any q xs
 any_alike p q [] all = refl
@@ -79,23 +77,48 @@ module _ (db : Database) (holds : Holds db) (p : Key) (shown : List Row) (lists 
 persons_of : (p : Line → Bool) (ss : List Student) → map (λ (l : Line). l.person) (filter p (map line_of ss)) ≡ persons (filter (λ s. p (line_of s)) ss)
 persons_of p ss = ap (map (λ (l : Line). l.person)) (filter-map p line_of ss) ∙ map-map (λ (l : Line). l.person) line_of (filter (λ s. p (line_of s)) ss)
 
-pub applicants_are : (db : Database) → Holds db → (p : Key) (shown : List Row) → ListsBy (1 ∷ []) (has_text 3 p) (columns (1 ∷ [])) (db.trees choice_tree) shown → (lines : List Line) → lines ≡ map line_of (world_of db.trees).students
-    → map (λ (l : Line). l.person) (filter (λ (l : Line). has (map first shown) l.person.key) lines) ≡ persons (applicants_to (world_of db.trees) p)
-applicants_are db holds p shown lists lines told =
-    let w = world_of db.trees in
-    ap (λ (ls : List Line). map (λ (l : Line). l.person) (filter (λ (l : Line). has (map first shown) l.person.key) ls)) told
-    ∙ persons_of (λ (l : Line). has (map first shown) l.person.key) w.students
-    ∙ ap persons (filter_alike (λ (s : Student). has (map first shown) s.row.key) (λ (s : Student). has s.choice p) w.students (choosers db holds p shown lists))
+-- told of the lines of applicants
+
+pub told_persons : (w : World) (entries : List (Key × Vec Line Global)) (keys : List Key) → map with_lines entries ≡ map (lines_at w) keys → map (λ e. persons_in (with_lines e)) entries ≡ map (applicants_at w) keys
+told_persons w entries keys told =
+    map_twice persons_in with_lines entries ∙ ap (map persons_in) told ∙ sym (map_twice persons_in (lines_at w) keys)
+    ∙ map_alike (λ k. persons_in (lines_at w k)) (applicants_at w) keys (λ k. ap (λ (ps : List Person). (k, ps)) (map-map (λ (l : Line). l.person) line_of (applicants_to w k)))
+
+-- who passes a test passes one before it, too
+filter_twice : (p q : Student → Bool) (ss : List Student) → AllByRecursion (λ s. p s ≡ true → q s ≡ true) ss → filter p (filter q ss) ≡ filter p ss
+filter_twice p q [] all = refl
+filter_twice p q (s ∷ ss) all =
+    (elim (p s) as (λ a. p s ≡ a → filter p (cond (q s) (s ∷ filter q ss) (filter q ss)) ≡ cond a (s ∷ filter p ss) (filter p ss)) [
+      | true ↦ λ e. ap (λ b. filter p (cond b (s ∷ filter q ss) (filter q ss))) (all.0 e) ∙ ap (λ b. cond b (s ∷ filter p (filter q ss)) (filter p (filter q ss))) e ∙ ap (λ l. s ∷ l) (filter_twice p q ss all.1)
+      | false ↦ λ e. elim (q s) as (λ b. filter p (cond b (s ∷ filter q ss) (filter q ss)) ≡ filter p ss) [
+        | true ↦ ap (λ b. cond b (s ∷ filter p (filter q ss)) (filter p (filter q ss))) e ∙ filter_twice p q ss all.1
+        | false ↦ filter_twice p q ss all.1
+      ]
+    ]) refl
+
+-- who is at a project has it on the list
+at_listed : (k : Key) (choice : List Key) (o : Option Key) → IfSome o (λ p. has choice p ≡ true) → is_at k o ≡ true → has choice k ≡ true
+at_listed k choice None on e = absurd (cc)
+at_listed k choice (Some p) on e = subst (λ x. has choice x ≡ true) (is_same p k e) on
+
+placed_by_lines : (w : World) → Good w → (k : Key) → map (λ (l : Line). l.person) (filter (λ (l : Line). is_at k l.placed) (map line_of (applicants_to w k))) ≡ persons (placed_at w k)
+placed_by_lines w good k =
+    persons_of (λ (l : Line). is_at k l.placed) (applicants_to w k)
+    ∙ ap persons (filter_twice (λ s. is_at k s.placed) (λ s. has s.choice k) w.students (all_weaker _ _ (λ s on. at_listed k s.choice s.placed on) w.students (placed_listed w good)))
+
+by_phase : (b : Bool) (f : Key → List Person) (keys : List Key) → (if b then map {B = Key × List Person} (λ k. (k, f k)) keys else map (λ k. (k, [])) keys) ≡ map {B = Key × List Person} (λ k. (k, if b then f k else [])) keys
+by_phase true f keys = refl
+by_phase false f keys = refl
+
+pub placed_are : (w : World) → Good w → (phase : Phase) (entries : List (Key × Vec Line Global)) (keys : List Key) → phase ≡ w.phase → map with_lines entries ≡ map (lines_at w) keys
+    → (if is_published phase then map (λ e. placed_in (with_lines e)) entries else map (λ k. (k, [])) keys) ≡ placed_told w keys
+placed_are w good phase entries keys at told =
+    let here : map (λ e. placed_in (with_lines e)) entries ≡ map (λ k. (k, persons (placed_at w k))) keys =
+    map_twice placed_in with_lines entries ∙ ap (map placed_in) told ∙ sym (map_twice placed_in (lines_at w) keys)
+    ∙ map_alike (λ k. placed_in (lines_at w k)) (λ k. (k, persons (placed_at w k))) keys (λ k. ap (λ (ps : List Person). (k, ps)) (placed_by_lines w good k)) in
+    ap₂ (λ (f : Phase) (l : List (Key × List Person)). if is_published f then l else map (λ k. (k, [])) keys) at here ∙ by_phase (is_published w.phase) (λ k. persons (placed_at w k)) keys
 
 -- what the phase shows
-
-pub placed_are : (w : World) (phase : Phase) (lines : List Line) (keys : List Key) → phase ≡ w.phase → lines ≡ map line_of w.students
-    → map (λ k. (k, if is_published phase then map (λ (l : Line). l.person) (filter (λ (l : Line). is_at k l.placed) lines) else [])) keys ≡ placed_told w keys
-placed_are w phase lines keys at told =
-    map_alike (λ k. (k, if is_published phase then map (λ (l : Line). l.person) (filter (λ (l : Line). is_at k l.placed) lines) else [])) (λ k. (k, if is_published w.phase then persons (placed_at w k) else [])) keys (λ k.
-    let here : map (λ (l : Line). l.person) (filter (λ (l : Line). is_at k l.placed) lines) ≡ persons (placed_at w k) =
-    ap (λ (ls : List Line). map (λ (l : Line). l.person) (filter (λ (l : Line). is_at k l.placed) ls)) told ∙ persons_of (λ (l : Line). is_at k l.placed) w.students in
-    ap₂ (λ (f : Phase) (list : List Person). (k, if is_published f then list else [])) at here)
 
 pub all_applicants : (w : World) (phase : Phase) (keys : List Key) → is_from_ranking phase ≡ true → phase ≡ w.phase → map (applicants_at w) keys ≡ applicants_told w keys
 all_applicants w phase keys closed at =

@@ -1,8 +1,10 @@
 -- Tables that stand for a good world are fine to read.
 use Rattle.std.proofs.Common.{◌≡◌, inl, inr, ℕ, suc, ◌<◌, ◌+◌, Bool, true, false, not, cond, ◌||◌, IfSome, Option, Some, None, option_map, List, [], ◌∷◌, map, filter, length, get_or, arith, refl, sym, ap, subst, ◌∙◌}
-use Rattle.std.specs.Prelude.{slice_index_or}
+use Rattle.std.specs.Prelude.{◌==◌, slice_index_or}
 use Rattle.std.specs.List.{AllByRecursion}
+use Rattle.std.proofs.Math.Bool.{or-true}
 use Rattle.std.proofs.lemmas.Bool.{cases_Bool}
+use Rattle.std.proofs.lemmas.Bool.Decides.{nat_tests}
 use Rattle.std.proofs.lemmas.List.{get_or-map}
 use Rattle.std.proofs.lemmas.List.Elements.{recursion_from_All}
 use Rattle.std.specs.Str.{bytes_eq}
@@ -10,7 +12,8 @@ use Rattle.sqlite.specs.Order.{Row, column, bytes}
 use Rattle.sqlite.specs.Tree.{Trees}
 use Rattle.spa_rows.specs.Form.{is_key}
 use Rattle.spa_model.specs.Pairs.{number_in}
-use Rattle.spa_model.specs.Spa.{IsStable}
+use Rattle.spa_model.specs.Spa.{IsStable, IsOn, place}
+use Rattle.spa_model.proofs.Numbers.{number_is}
 use Rattle.portal_core.specs.Form.{is_code}
 use Rattle.portal_core.specs.Good.{Good, IsLecturer, IsProject, IsStudent, IsChoice, IsRanking}
 use Rattle.portal_core.specs.Instance.{instance, matching_of, project_keys}
@@ -18,7 +21,7 @@ use Rattle.portal_core.specs.declared.rows.ProjectRow.{ProjectRow}
 use Rattle.portal_core.specs.Words.{Key, is, has, Rise}
 use Rattle.portal_core.specs.World.{World, Lecturer, Student, lecturer_key, project_key, student_key, applicants_of, is_published}
 use Rattle.portal_core.proofs.AllLaws.{all_weaker, all_map}
-use Rattle.portal_core.proofs.Keys.{is_same, all_unmap}
+use Rattle.portal_core.proofs.Keys.{is_same, is_own, all_unmap}
 use Rattle.portal_core.proofs.Only.{on_roll}
 use Rattle.portal_tables.specs.Tables.{lecturer_tree, project_tree, student_tree, choice_tree, ranking_tree}
 use Rattle.portal_store.specs.declared.load.Lists.TheVariants.{Choices, Rankings}
@@ -73,6 +76,34 @@ module _ (w : World) (good : Good w) where
   is_placed stable i d low (Some p) e =
       let here : get_or (matching_of w) i None ≡ Some (number_in (project_keys w) p) = get_or-map place_of w.students i d None low ∙ ap (option_map (number_in (project_keys w))) e in
       numbered (project_keys w) known_projects p (on_roll (project_keys w) w.students good.sound.choices i (number_in (project_keys w) p) (stable.matching.acceptable i (number_in (project_keys w) p) here))
+
+  -- a number on a list of known keys is that of a key on it
+  listed : (choice : List Key) (k : Key) → number_in (project_keys w) k < length (project_keys w) → IsOn (map (number_in (project_keys w)) choice) (number_in (project_keys w) k) → has choice k ≡ true
+  listed [] k low on = absurd (omega (arith, on))
+  listed (c ∷ cs) k low on =
+      (elim (number_in (project_keys w) c == number_in (project_keys w) k) as (λ b. (number_in (project_keys w) c == number_in (project_keys w) k) ≡ b
+      → cond b 0 (1 + place (map (number_in (project_keys w)) cs) (number_in (project_keys w) k)) < suc (length (map (number_in (project_keys w)) cs)) → has (c ∷ cs) k ≡ true) [
+        | true ↦ λ e f.
+            let same : number_in (project_keys w) c ≡ number_in (project_keys w) k = grind (arith, nat_tests) in
+            let key : c ≡ k = sym (number_is (project_keys w) c (subst (λ n. n < length (project_keys w)) (sym same) low)) ∙ ap (λ n. get_or (project_keys w) n []) same ∙ number_is (project_keys w) k low in
+            ap (λ b. b || has cs k) (subst (λ x. is k x ≡ true) (sym key) (is_own k))
+        | false ↦ λ e f. ap (λ b. is k c || b) (listed cs k low (omega arith)) ∙ or-true (is k c)
+      ]) refl on
+
+  is_listed : IsStable (instance w) (matching_of w) → (i : ℕ) (d : Student) → i < length w.students → (o : Option Key) → (get_or w.students i d).placed ≡ o → IfSome o (λ p. has (get_or w.students i d).choice p ≡ true)
+  is_listed stable i d low None e = tt
+  is_listed stable i d low (Some p) e =
+      let here : get_or (matching_of w) i None ≡ Some (number_in (project_keys w) p) = get_or-map place_of w.students i d None low ∙ ap (option_map (number_in (project_keys w))) e in
+      let on = stable.matching.acceptable i (number_in (project_keys w) p) here in
+      listed (get_or w.students i d).choice p (on_roll (project_keys w) w.students good.sound.choices i (number_in (project_keys w) p) on)
+      (subst (λ l. IsOn l (number_in (project_keys w) p)) (get_or-map (λ (s : Student). map (number_in (project_keys w)) s.choice) w.students i d [] low) on)
+
+  -- who is placed has the project on the list
+  pub placed_listed : AllByRecursion (λ s. IfSome s.placed (λ p. has s.choice p ≡ true)) w.students
+  placed_listed = elim (cases_Bool (is_published w.phase)) [
+    | inl so ↦ recursion_from_All (λ s. IfSome s.placed (λ p. has s.choice p ≡ true)) w.students (λ i d low. is_listed (good.stable so) i d low (get_or w.students i d).placed refl)
+    | inr other ↦ all_weaker (λ s. s.placed ≡ None) (λ s. IfSome s.placed (λ p. has s.choice p ≡ true)) (λ s e. subst (λ o. IfSome o (λ p. has s.choice p ≡ true)) (sym e) tt) w.students (good.sound.no_result_yet other)
+  ]
 
   pub placed_keys : AllByRecursion (λ s. IfSome s.placed IsKey) w.students
   placed_keys = elim (cases_Bool (is_published w.phase)) [

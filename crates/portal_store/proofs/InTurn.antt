@@ -79,6 +79,11 @@ pub named : {X E V : Type 0} (items : V → List X) (r : Result V E) (shown want
 named items (Ok v) shown wanted same up is = is ∙ same up
 named items (Err e) shown wanted same up is = tt
 
+-- two facts of one answer
+pub both : {V E : Type 0} (r : Result V E) (A B C : V → Type 0) → ((v : V) → A v → B v → C v) → IfOk r A → IfOk r B → IfOk r C
+both (Ok v) A B C more a b = more v a b
+both (Err e) A B C more a b = tt
+
 pub wholly : {V E : Type 0} (r : Result V E) (A B : Type 0) → (A → B) → IfOk r (λ _. A) → OnOk r B
 wholly (Ok v) A B more h = more h
 wholly (Err e) A B more h = tt

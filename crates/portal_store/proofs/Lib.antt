@@ -1,6 +1,7 @@
 pub mod Absent
 pub mod Adding
 pub mod Again
+pub mod Applying
 pub mod Asked
 pub mod Asking
 pub mod ChoiceTurns
@@ -12,13 +13,16 @@ pub mod First
 pub mod Holding
 pub mod InTurn
 pub mod Keeps
+pub mod Lined
 pub mod Listed
 pub mod Loaded
 pub mod OfficeRow
 pub mod OfficeSeen
+pub mod OneKey
 pub mod Parents
 pub mod Places
 pub mod Putting
+pub mod Queried
 pub mod RankTurns
 pub mod Read
 pub mod Remembered
@@ -27,5 +31,3 @@ pub mod RowsOnce
 pub mod Shapes
 pub mod Sorted
 pub mod Texts
-pub mod Queried
-pub mod Applying

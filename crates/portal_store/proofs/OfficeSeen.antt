@@ -68,16 +68,22 @@ on_roll db k =
     ∙ sym (list_any-IsPermutation (λ r. is k (row_key r)) roll (by_key roll) (permutes row_key roll))
     ∙ sym (is_mapped row_key roll k)
 
-pub some_chooser : (db : Database) → Holds db → (p : Key) (shown : List Row) → ListsBy (1 ∷ []) (has_text 3 p) (columns (1 ∷ [])) (db.trees choice_tree) shown
-    → not (is_empty shown) ≡ list_any (λ (s : Student). has s.choice p) (world_of db.trees).students
-some_chooser db holds p shown lists =
+-- who names the project is on the roll
+pub choosers_known : (db : Database) → Holds db → (p : Key) (shown : List Row) → ListsBy (1 ∷ []) (has_text 3 p) (columns (1 ∷ [])) (db.trees choice_tree) shown
+    → AllByRecursion (λ k. has (map student_key (world_of db.trees).students) k ≡ true) (map first shown)
+choosers_known db holds p shown lists =
     let w = world_of db.trees in
     let table = db.trees choice_tree in
     let On : Key → Type 0 = λ k. has (map student_key w.students) k ≡ true in
     let rows : AllByRecursion (λ r. On (row_key r)) table = all_weaker _ (λ r. On (row_key r)) (λ r known. on_roll db.trees (row_key r) ∙ known.0) table (choice_parents db holds.own holds.sound holds.apart.1.1.1.1.0) in
     let mapped : AllByRecursion (λ c. On (first c)) (map (columns (1 ∷ [])) (filter (has_text 3 p) table)) = all_map (λ c. On (first c)) (columns (1 ∷ [])) (filter (has_text 3 p) table) (all_filtered (λ r. On (row_key r)) (has_text 3 p) table rows) in
-    let keys : AllByRecursion On (map first shown) = all_map On first shown (all_permuted (λ c. On (first c)) _ shown (permuted _ _ _ table shown lists) mapped) in
-    ap not (sym (empty_map first shown)) ∙ sym (anyone (map first shown) w.students keys) ∙ any_alike _ _ w.students (choosers db holds p shown lists)
+    all_map On first shown (all_permuted (λ c. On (first c)) _ shown (permuted _ _ _ table shown lists) mapped)
+
+pub some_chooser : (db : Database) → Holds db → (p : Key) (shown : List Row) → ListsBy (1 ∷ []) (has_text 3 p) (columns (1 ∷ [])) (db.trees choice_tree) shown
+    → not (is_empty shown) ≡ list_any (λ (s : Student). has s.choice p) (world_of db.trees).students
+some_chooser db holds p shown lists =
+    let w = world_of db.trees in
+    ap not (sym (empty_map first shown)) ∙ sym (anyone (map first shown) w.students (choosers_known db holds p shown lists)) ∙ any_alike _ _ w.students (choosers db holds p shown lists)
 
 -- who has a list
 

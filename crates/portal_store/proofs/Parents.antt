@@ -28,7 +28,7 @@ use Rattle.portal_store.specs.World.{row_key}
 use Rattle.portal_store.specs.Lists.{of_key, named_by}
 use Rattle.portal_store.proofs.Shapes.{IsChoiceRow, IsRankingRow, choice_rows_formed, ranking_rows_formed, text_equals}
 
-told : (o : Ordering) → is_true (from_truth (Some (is_eq o))) ≡ is_eq o
+pub told : (o : Ordering) → is_true (from_truth (Some (is_eq o))) ≡ is_eq o
 told Less = refl
 told Equal = refl
 told Greater = refl

@@ -24,10 +24,11 @@ use Rattle.portal_tables.specs.Rows.{portal_row}
 use Rattle.sqlite_trees.specs.Objects.{number_in}
 use Rattle.portal_tables.specs.Tables.{portal_tree, lecturer_tree, project_tree, student_tree, choice_tree, ranking_tree}
 use Rattle.portal_tables.specs.Changes.{ListsBy, columns, has_text}
+use Rattle.portal_store.specs.declared.queries.applicants.Line.{Line}
 use Rattle.portal_store.specs.Kept.{Holds}
 use Rattle.portal_store.specs.World.{world_of, number_of, phase_of, row_key, lecturer_of, student_of}
 use Rattle.portal_store.specs.Shown.{by_key, shown_lecturer, shown_project, lecturers_shown, projects_shown}
-use Rattle.portal_store.specs.Queried.{as_list, lecturer_from, student_from, name_of, offered}
+use Rattle.portal_store.specs.Queried.{as_list, lecturer_from, student_from, name_of, offered, line_of, shown_line, line_at}
 use Rattle.portal_store.proofs.Listed.{permuted}
 use Rattle.portal_store.proofs.Holding.{phase_back}
 use Rattle.portal_store.proofs.Loaded.{lecturer_columns, roll_columns, lecturers_are, projects_are, students_are, some_alike}
@@ -100,6 +101,22 @@ module _ (db : Database) (holds : Holds db) where
       found (1 ∷ []) (has_text 3 code) roll_columns (student_of (db.trees choice_tree)) (student_from db.trees) (λ (s : Student). is s.row.code code) (λ r. refl) (db.trees student_tree) shown
       (all_weaker IsStudentRow (λ r. has_text 3 code r ≡ is (bytes (column r 3)) code) (student_agrees code) (db.trees student_tree) (student_rows_formed db holds.own holds.sound holds.apart.1.1.1.0)) lists o told
       ∙ ap (find (λ (s : Student). is s.row.code code)) (sym (students_are db.trees))
+
+  student_own : (key : Key) (r : Row) → IsStudentRow r → has_text 1 key r ≡ is (row_key r) key
+  student_own key r x = has_text_of 1 key r x.key (ap (λ s. column s 1) x.is) ∙ ap (λ s. is (bytes (column s 1)) key) (sym x.is)
+
+  student_keyed : (key : Key) (shown : List Row) → ListsBy (1 ∷ []) (has_text 1 key) (columns (1 ∷ 2 ∷ 3 ∷ 4 ∷ [])) (db.trees student_tree) shown → (o : Option Row) → as_list o ≡ shown
+      → option_map (student_from db.trees) o ≡ find (λ (s : Student). is s.row.key key) (world_of db.trees).students
+  unfolding world_of
+  student_keyed key shown lists o told =
+      found (1 ∷ []) (has_text 1 key) roll_columns (student_of (db.trees choice_tree)) (student_from db.trees) (λ (s : Student). is s.row.key key) (λ r. refl) (db.trees student_tree) shown
+      (all_weaker IsStudentRow (λ r. has_text 1 key r ≡ is (row_key r) key) (student_own key) (db.trees student_tree) (student_rows_formed db holds.own holds.sound holds.apart.1.1.1.0)) lists o told
+      ∙ ap (find (λ (s : Student). is s.row.key key)) (sym (students_are db.trees))
+
+  -- the only row of a key tells the line of its student
+  pub line_told : (key : Key) (shown : List Row) → ListsBy (1 ∷ []) (has_text 1 key) (columns (1 ∷ 2 ∷ 3 ∷ 4 ∷ [])) (db.trees student_tree) shown → (l : Line) (c : Row) → shown ≡ c ∷ [] → l ≡ shown_line c
+      → Some l ≡ line_at (world_of db.trees) key
+  line_told key shown lists l c only is = ap Some is ∙ ap (option_map line_of) (student_keyed key shown lists (Some c) (sym only))
 
 -- the rolls that are shown are those of the world
 

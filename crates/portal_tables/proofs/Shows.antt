@@ -202,6 +202,19 @@ student_by_code_plain = known_plain _ _ _ _ _ _ student_by_code_is
 pub student_by_code_listed : (old new : State) (key : List ℕ) → IsOwn old.now.schema → (rows : List Row) → Shown student_by_code (Text key ∷ []) old new rows → ListsBy (1 ∷ []) (has_text 3 key) (columns (1 ∷ 2 ∷ 3 ∷ 4 ∷ [])) (old.now.trees 6) rows
 student_by_code_listed old new key own rows h = subst (λ p. ListsBy (1 ∷ []) p (columns (1 ∷ 2 ∷ 3 ∷ 4 ∷ [])) (old.now.trees 6) rows) (same_key 3 key) (listed_own _ _ _ _ _ _ student_by_code_is (Text key ∷ []) old new rows own h)
 
+abbrev pub student_by_key : List ℕ
+student_by_key = codes "SELECT key, name, code, assigned FROM student WHERE key = ?1 ORDER BY key"
+
+student_by_key_is : Reads student_by_key 6 (1 ∷ []) (has_key 1) (col 1 1 ∷ col 1 2 ∷ col 1 3 ∷ col 1 4 ∷ []) (codes "key" ∷ codes "name" ∷ codes "code" ∷ codes "assigned" ∷ [])
+unfolding understood everything
+student_by_key_is = record { command = λ checks more. refl; plain = λ checks more. (refl, refl); unlisted = λ checks more. refl }
+
+pub student_by_key_plain : (s : Schema) → IsOwn s → IsPlain (understood s student_by_key)
+student_by_key_plain = known_plain _ _ _ _ _ _ student_by_key_is
+
+pub student_by_key_listed : (old new : State) (key : List ℕ) → IsOwn old.now.schema → (rows : List Row) → Shown student_by_key (Text key ∷ []) old new rows → ListsBy (1 ∷ []) (has_text 1 key) (columns (1 ∷ 2 ∷ 3 ∷ 4 ∷ [])) (old.now.trees 6) rows
+student_by_key_listed old new key own rows h = subst (λ p. ListsBy (1 ∷ []) p (columns (1 ∷ 2 ∷ 3 ∷ 4 ∷ [])) (old.now.trees 6) rows) (same_key 1 key) (listed_own _ _ _ _ _ _ student_by_key_is (Text key ∷ []) old new rows own h)
+
 abbrev pub numbers_of_portal : List ℕ
 numbers_of_portal = codes "SELECT rowid FROM portal ORDER BY rowid"
 

@@ -220,3 +220,19 @@ pub fn student_by_code<S: Alter>(conn: &mut Connection<S>, code: &[u8]) -> Resul
         &[ValueRef::Text(code)],
     )
 }
+
+/// The students with a key, with the columns of `student_rows`.
+pub fn student_by_key<S: Alter>(conn: &mut Connection<S>, key: &[u8]) -> Result<Vec<Row>, Error>
+    ensures rows { IsOwn conn.old.schema → HasCleanDisk (state S.Store conn.new) → IfOk result (λ rows. ListsBy (1 ∷ []) (has_text 1 key.now) (columns (1 ∷ 2 ∷ 3 ∷ 4 ∷ [])) ((state S.Store conn.old).now.trees student_tree) rows.items) }
+    ensures same { IsOwn conn.old.schema → HasCleanDisk (state S.Store conn.new) → OnOk result (IsUnchanged (state S.Store conn.old) (state S.Store conn.new)) }
+    ensures err { IsOwn conn.old.schema → HasCleanDisk (state S.Store conn.new) → OnErr result (Leaves (state S.Store conn.old) (state S.Store conn.new)) }
+    ensures mode { conn.old.in_transaction ≡ false → conn.new.in_transaction ≡ false }
+    ensures crash { IsOwn conn.old.schema → Survives (state S.Store conn.old) (state S.Store conn.new) (λ _. ⊥) }
+    ensures survives { Survives (state S.Store conn.old) (state S.Store conn.new) (λ _. IsOwn conn.old.schema → ⊥) }
+{
+    read(
+        conn,
+        "SELECT key, name, code, assigned FROM student WHERE key = ?1 ORDER BY key",
+        &[ValueRef::Text(key)],
+    )
+}

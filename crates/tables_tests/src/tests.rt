@@ -10,7 +10,8 @@ use portal_tables::own::is_own;
 use portal_tables::remove::{clear_choices, clear_rankings};
 use portal_tables::select::{
     choice_rows, choosers_of, lecturer_by_code, lecturer_rows, list_of, listed_students,
-    portal_rows, project_rows, ranking_of, ranking_rows, student_by_code, student_rows,
+    portal_rows, project_rows, ranking_of, ranking_rows, student_by_code, student_by_key,
+    student_rows,
 };
 use portal_tables::update::{set_assigned, set_phase, set_ranked};
 use sqlite::types::ValueRef;
@@ -191,6 +192,8 @@ fn rows_are_found(rt: HostRuntime) {
         "S2 Bea /",
     );
     shows(&rt, student_by_code(&mut conn, b"lee-code-1"), 2, "");
+    shows(&rt, student_by_key(&mut conn, b"S2"), 2, "S2 Bea /");
+    shows(&rt, student_by_key(&mut conn, b"L1"), 2, "");
 }
 
 #[test]

@@ -1,28 +1,26 @@
 //! Applicants and placed students of a lecturer's projects.
 
-ghost use Rattle.std.specs.Prelude.{◌≡◌, [], false, IfOk, IsTrue, if◌then◌else◌, map, filter};
-ghost use Rattle.std.specs.Cmp.Lexicographic.{slice_cmp};
-ghost use Rattle.std.specs.Ordering.{nat_cmp};
+ghost use Rattle.std.specs.Prelude.{◌≡◌, [], ◌∷◌, false, IfOk, IsTrue, Some, if◌then◌else◌, map, filter};
+ghost use Rattle.sqlite.specs.Order.{Row as Cells};
 ghost use Rattle.sqlite.specs.State.{HasCleanDisk};
 ghost use Rattle.sqlite.specs.Held.{state};
-ghost use Rattle.portal_core.specs.Words.{has, Rise};
+ghost use Rattle.portal_core.specs.Words.{Rise};
+ghost use Rattle.portal_core.specs.Good.{Good};
 ghost use Rattle.portal_core.specs.World.{is_at, is_from_ranking, is_published, applicants_to};
-ghost use Rattle.portal_core.specs.View.{persons};
 ghost use Rattle.portal_store.specs.World.{world_of};
 ghost use Rattle.portal_store.specs.Kept.{Holds};
 ghost use Rattle.portal_store.specs.Reading.{Reads};
 ghost use Rattle.portal_store.specs.Shown.{first};
-ghost use Rattle.portal_store.specs.Queried.{line_of, shown_line, with_persons, applicants_at, applicants_told, placed_told};
+ghost use Rattle.portal_store.specs.Queried.{line_of, shown_line, line_at, with_lines, lines_at, with_persons, persons_in, placed_in, applicants_at, applicants_told, placed_told};
 
 use super::student::person_at;
-use crate::decode::{FromCells, assigned_at, bytes_at, decoded, do_rise};
-use crate::load::{LoadFault, student_roll};
+use crate::decode::{FromCells, assigned_at, bytes_at, do_rise};
+use crate::load::LoadFault;
 use portal_core::{Person, Phase};
-use portal_tables::select::choosers_of;
+use portal_tables::select::{choosers_of, student_by_key};
 use spa_rows::Key;
 use sqlite::{Alter, Connection, Row};
 use std::alloc::{AllocError, Global};
-use std::cmp::Ordering;
 
 /// What a lecturer may be told of a student.
 #[derive(Drop)]
@@ -45,14 +43,104 @@ impl FromCells for Line {
     }
 }
 
-/// The students by key.
-fn lines_in<S: Alter>(alloc: Global, conn: &mut Connection<S>) -> Result<Vec<Line>, LoadFault>
-    ensures lines { Holds (state S.Store conn.old).now → HasCleanDisk (state S.Store conn.new) → IfOk result (λ v. v.items ≡ map line_of (world_of (state S.Store conn.old).now.trees).students) }
+/// The line of a student, of the only row.
+fn line_from(alloc: Global, rows: &[Row]) -> Result<Line, LoadFault>
+    ensures { IfOk result (λ l. (c : Cells) × (rows.now ≡ c ∷ []) × (l ≡ shown_line c)) }
+{
+    match rows {
+        [row] => Line::from_cells(alloc, row),
+        _ => Err(LoadFault::Damaged),
+    }
+}
+
+/// The line of the student with the key.
+fn line_in<S: Alter>(alloc: Global, conn: &mut Connection<S>, key: &[u8]) -> Result<Line, LoadFault>
+    ensures told { Holds (state S.Store conn.old).now → HasCleanDisk (state S.Store conn.new) → IfOk result (λ l. Some l ≡ line_at (world_of (state S.Store conn.old).now.trees) key.now) }
     ensures reads { Reads result (state S.Store conn.old) (state S.Store conn.new) }
     ensures mode { conn.old.in_transaction ≡ false → conn.new.in_transaction ≡ false }
 {
-    let rows = student_roll(conn)?;
-    decoded(alloc, &rows)
+    let rows = student_by_key(conn, key)?;
+    line_from(alloc, &rows)
+}
+
+/// The lines of the students with whose keys the rows begin.
+fn lines_from<S: Alter>(
+    alloc: Global,
+    conn: &mut Connection<S>,
+    rows: &[Row],
+) -> Result<Vec<Line>, LoadFault>
+    ensures told { Holds (state S.Store conn.old).now → HasCleanDisk (state S.Store conn.new) → IsTrue (state S.Store conn.old).is_open → IfOk result (λ v. map Some v.items ≡ map (λ c. line_at (world_of (state S.Store conn.old).now.trees) (first c)) rows.now) }
+    ensures reads { Reads result (state S.Store conn.old) (state S.Store conn.new) }
+    ensures mode { conn.old.in_transaction ≡ false → conn.new.in_transaction ≡ false }
+{
+    let mut lines = Vec::new(alloc);
+    for row in rows {
+        lines.push(line_in(alloc, conn, bytes_at(row, 0))?)?;
+    }
+    Ok(lines)
+}
+
+/// The same, where the keys of the rows rise.
+fn rising_lines<S: Alter>(
+    alloc: Global,
+    conn: &mut Connection<S>,
+    rows: &[Row],
+) -> Result<Vec<Line>, LoadFault>
+    ensures rise { IfOk result (λ v. Rise (map first rows.now)) }
+    ensures told { Holds (state S.Store conn.old).now → HasCleanDisk (state S.Store conn.new) → IsTrue (state S.Store conn.old).is_open → IfOk result (λ v. map Some v.items ≡ map (λ c. line_at (world_of (state S.Store conn.old).now.trees) (first c)) rows.now) }
+    ensures reads { Reads result (state S.Store conn.old) (state S.Store conn.new) }
+    ensures mode { conn.old.in_transaction ≡ false → conn.new.in_transaction ≡ false }
+{
+    if !do_rise(rows) {
+        return Err(LoadFault::Damaged);
+    }
+    lines_from(alloc, conn, rows)
+}
+
+/// The lines of the students whose list holds the project.
+fn lines_to<S: Alter>(
+    alloc: Global,
+    conn: &mut Connection<S>,
+    project: &Key,
+) -> Result<Vec<Line>, LoadFault>
+    ensures told { Holds (state S.Store conn.old).now → HasCleanDisk (state S.Store conn.new) → IsTrue (state S.Store conn.old).is_open → IfOk result (λ v. v.items ≡ map line_of (applicants_to (world_of (state S.Store conn.old).now.trees) project.now)) }
+    ensures reads { Reads result (state S.Store conn.old) (state S.Store conn.new) }
+    ensures mode { conn.old.in_transaction ≡ false → conn.new.in_transaction ≡ false }
+{
+    let rows = choosers_of(conn, project.as_bytes())?;
+    rising_lines(alloc, conn, &rows)
+}
+
+/// The project with the lines of its applicants.
+fn entry_in<S: Alter>(
+    alloc: Global,
+    conn: &mut Connection<S>,
+    project: &Key,
+) -> Result<(Key, Vec<Line>), LoadFault>
+    ensures told { Holds (state S.Store conn.old).now → HasCleanDisk (state S.Store conn.new) → IsTrue (state S.Store conn.old).is_open → IfOk result (λ e. with_lines e ≡ lines_at (world_of (state S.Store conn.old).now.trees) project.now) }
+    ensures reads { Reads result (state S.Store conn.old) (state S.Store conn.new) }
+    ensures mode { conn.old.in_transaction ≡ false → conn.new.in_transaction ≡ false }
+{
+    let key = project.copy(alloc)?;
+    let lines = lines_to(alloc, conn, project)?;
+    Ok((key, lines))
+}
+
+/// Each project with the lines of its applicants.
+fn entries_in<S: Alter>(
+    alloc: Global,
+    conn: &mut Connection<S>,
+    projects: &[Key],
+) -> Result<Vec<(Key, Vec<Line>)>, LoadFault>
+    ensures told { Holds (state S.Store conn.old).now → HasCleanDisk (state S.Store conn.new) → IsTrue (state S.Store conn.old).is_open → IfOk result (λ v. map with_lines v.items ≡ map (lines_at (world_of (state S.Store conn.old).now.trees)) projects.now) }
+    ensures reads { Reads result (state S.Store conn.old) (state S.Store conn.new) }
+    ensures mode { conn.old.in_transaction ≡ false → conn.new.in_transaction ≡ false }
+{
+    let mut entries = Vec::new(alloc);
+    for project in projects {
+        entries.push(entry_in(alloc, conn, project)?)?;
+    }
+    Ok(entries)
 }
 
 fn person_of(alloc: Global, person: &Person) -> Result<Person, AllocError>
@@ -64,92 +152,38 @@ fn person_of(alloc: Global, person: &Person) -> Result<Person, AllocError>
     })
 }
 
-/// Whether a row begins with the key, among rows whose keys rise.
-pub(super) fn is_named(rows: &[Row], key: &[u8]) -> bool
-    requires { Rise (map first rows.now) }
-    ensures { result ≡ has (map first rows.now) key.now }
+/// The persons of the lines.
+fn persons_of(alloc: Global, lines: &[Line]) -> Result<Vec<Person>, AllocError>
+    ensures { IfOk result (λ v. v.items ≡ map (λ l. l.person) lines.now) }
 {
-    match rows.binary_search_by(
-        |row: &Row| -> Ordering
-            ensures { result ≡ slice_cmp nat_cmp (first row.now) key.entry.now }
-        { bytes_at(row, 0).cmp(key) },
-    ) {
-        Ok(_) => true,
-        Err(_) => false,
-    }
-}
-
-/// The students with whose keys the rows begin, whose keys rise.
-fn persons_among(alloc: Global, lines: &[Line], rows: &[Row]) -> Result<Vec<Person>, AllocError>
-    requires { Rise (map first rows.now) }
-    ensures { IfOk result (λ v. v.items ≡ map (λ l. l.person) (filter (λ l. has (map first rows.now) l.person.key) lines.now)) }
-{
-    let mut found = Vec::new(alloc);
+    let mut found = Vec::with_capacity(alloc, lines.len())?;
     for line in lines {
-        if is_named(rows, line.person.key.as_bytes()) {
-            found.push(person_of(alloc, &line.person)?)?;
-        }
+        found.push(person_of(alloc, &line.person)?)?;
     }
     Ok(found)
 }
 
-/// The students with whose keys the rows begin.
-fn persons_from(alloc: Global, lines: &[Line], rows: &[Row]) -> Result<Vec<Person>, LoadFault>
-    ensures { IfOk result (λ v. v.items ≡ map (λ l. l.person) (filter (λ l. has (map first rows.now) l.person.key) lines.now)) }
-{
-    if !do_rise(rows) {
-        return Err(LoadFault::Damaged);
-    }
-    Ok(persons_among(alloc, lines, rows)?)
-}
-
-/// The students whose list holds the project.
-fn applicants_to<S: Alter>(
-    alloc: Global,
-    conn: &mut Connection<S>,
-    lines: &[Line],
-    project: &Key,
-) -> Result<Vec<Person>, LoadFault>
-    ensures told { Holds (state S.Store conn.old).now → HasCleanDisk (state S.Store conn.new) → lines.now ≡ map line_of (world_of (state S.Store conn.old).now.trees).students → IfOk result (λ v. v.items ≡ persons (applicants_to (world_of (state S.Store conn.old).now.trees) project.now)) }
-    ensures reads { Reads result (state S.Store conn.old) (state S.Store conn.new) }
-    ensures mode { conn.old.in_transaction ≡ false → conn.new.in_transaction ≡ false }
-{
-    let rows = choosers_of(conn, project.as_bytes())?;
-    persons_from(alloc, lines, &rows)
-}
-
 /// The project with its applicants.
-fn entry_in<S: Alter>(
-    alloc: Global,
-    conn: &mut Connection<S>,
-    lines: &[Line],
-    project: &Key,
-) -> Result<(Key, Vec<Person>), LoadFault>
-    ensures told { Holds (state S.Store conn.old).now → HasCleanDisk (state S.Store conn.new) → lines.now ≡ map line_of (world_of (state S.Store conn.old).now.trees).students → IfOk result (λ e. with_persons e ≡ applicants_at (world_of (state S.Store conn.old).now.trees) project.now) }
-    ensures reads { Reads result (state S.Store conn.old) (state S.Store conn.new) }
-    ensures mode { conn.old.in_transaction ≡ false → conn.new.in_transaction ≡ false }
+fn applicants_of(alloc: Global, entry: &(Key, Vec<Line>)) -> Result<(Key, Vec<Person>), AllocError>
+    ensures { IfOk result (λ e. with_persons e ≡ persons_in (with_lines entry.now)) }
 {
-    let key = project.copy(alloc)?;
-    let persons = applicants_to(alloc, conn, lines, project)?;
+    let key = entry.0.copy(alloc)?;
+    let persons = persons_of(alloc, &entry.1)?;
     Ok((key, persons))
 }
 
 /// Each project with its applicants.
-fn entries_in<S: Alter>(
+fn with_applicants(
     alloc: Global,
-    conn: &mut Connection<S>,
-    lines: &[Line],
-    projects: &[Key],
-) -> Result<Vec<(Key, Vec<Person>)>, LoadFault>
-    ensures told { Holds (state S.Store conn.old).now → HasCleanDisk (state S.Store conn.new) → IsTrue (state S.Store conn.old).is_open → lines.now ≡ map line_of (world_of (state S.Store conn.old).now.trees).students → IfOk result (λ v. map with_persons v.items ≡ map (applicants_at (world_of (state S.Store conn.old).now.trees)) projects.now) }
-    ensures reads { Reads result (state S.Store conn.old) (state S.Store conn.new) }
-    ensures mode { conn.old.in_transaction ≡ false → conn.new.in_transaction ≡ false }
+    entries: &[(Key, Vec<Line>)],
+) -> Result<Vec<(Key, Vec<Person>)>, AllocError>
+    ensures { IfOk result (λ v. map with_persons v.items ≡ map (λ e. persons_in (with_lines e)) entries.now) }
 {
-    let mut entries = Vec::new(alloc);
-    for project in projects {
-        entries.push(entry_in(alloc, conn, lines, project)?)?;
+    let mut told = Vec::with_capacity(alloc, entries.len())?;
+    for entry in entries {
+        told.push(applicants_of(alloc, entry)?)?;
     }
-    Ok(entries)
+    Ok(told)
 }
 
 /// Each project with nobody.
@@ -173,7 +207,7 @@ fn is_placed_at(placed: &Option<Key>, project: &Key) -> bool
     }
 }
 
-/// The students whom the result places at the project.
+/// The students on the lines whom the result places at the project.
 fn placed_at(alloc: Global, lines: &[Line], project: &Key) -> Result<Vec<Person>, AllocError>
     ensures { IfOk result (λ v. v.items ≡ map (λ l. l.person) (filter (λ l. is_at project.now l.placed) lines.now)) }
 {
@@ -186,20 +220,27 @@ fn placed_at(alloc: Global, lines: &[Line], project: &Key) -> Result<Vec<Person>
     Ok(found)
 }
 
-/// Each project with the students whom the result places at it.
+/// The project with those of its applicants whom the result places at it.
+fn placed_of(alloc: Global, entry: &(Key, Vec<Line>)) -> Result<(Key, Vec<Person>), AllocError>
+    ensures { IfOk result (λ e. with_persons e ≡ placed_in (with_lines entry.now)) }
+{
+    let key = entry.0.copy(alloc)?;
+    let persons = placed_at(alloc, &entry.1, &entry.0)?;
+    Ok((key, persons))
+}
+
+/// Each project with those of its applicants whom the result places at it.
 fn with_placed(
     alloc: Global,
-    lines: &[Line],
-    projects: &[Key],
+    entries: &[(Key, Vec<Line>)],
 ) -> Result<Vec<(Key, Vec<Person>)>, AllocError>
-    ensures { IfOk result (λ v. map with_persons v.items ≡ map (λ k. (k, map (λ l. l.person) (filter (λ l. is_at k l.placed) lines.now))) projects.now) }
+    ensures { IfOk result (λ v. map with_persons v.items ≡ map (λ e. placed_in (with_lines e)) entries.now) }
 {
-    let mut entries = Vec::with_capacity(alloc, projects.len())?;
-    for project in projects {
-        let persons = placed_at(alloc, lines, project)?;
-        entries.push((project.copy(alloc)?, persons))?;
+    let mut told = Vec::with_capacity(alloc, entries.len())?;
+    for entry in entries {
+        told.push(placed_of(alloc, entry)?)?;
     }
-    Ok(entries)
+    Ok(told)
 }
 
 /// What is told of a lecturer's projects.
@@ -224,15 +265,15 @@ fn nothing_told(alloc: Global, projects: &[Key]) -> Result<Told, LoadFault>
 fn told_with(
     alloc: Global,
     phase: Phase,
-    lines: &[Line],
     projects: &[Key],
-    applicants: Vec<(Key, Vec<Person>)>,
+    entries: &[(Key, Vec<Line>)],
 ) -> Result<Told, LoadFault>
-    ensures applicants { IfOk result (λ t. t.applicants ≡ applicants) }
-    ensures placed { IfOk result (λ t. map with_persons t.placed.items ≡ map (λ k. (k, if is_published phase then map (λ l. l.person) (filter (λ l. is_at k l.placed) lines.now) else [])) projects.now) }
+    ensures applicants { IfOk result (λ t. map with_persons t.applicants.items ≡ map (λ e. persons_in (with_lines e)) entries.now) }
+    ensures placed { IfOk result (λ t. map with_persons t.placed.items ≡ (if is_published phase then map (λ e. placed_in (with_lines e)) entries.now else map (λ k. (k, [])) projects.now)) }
 {
+    let applicants = with_applicants(alloc, entries)?;
     let placed = match phase {
-        Phase::Published => with_placed(alloc, lines, projects)?,
+        Phase::Published => with_placed(alloc, entries)?,
         Phase::Setup | Phase::Choosing | Phase::Ranking => with_nobody(alloc, projects)?,
     };
     Ok(Told { applicants, placed })
@@ -246,13 +287,12 @@ fn told_from_ranking<S: Alter>(
     projects: &[Key],
 ) -> Result<Told, LoadFault>
     ensures applicants { Holds (state S.Store conn.old).now → HasCleanDisk (state S.Store conn.new) → IsTrue (state S.Store conn.old).is_open → IfOk result (λ t. map with_persons t.applicants.items ≡ map (applicants_at (world_of (state S.Store conn.old).now.trees)) projects.now) }
-    ensures placed { Holds (state S.Store conn.old).now → HasCleanDisk (state S.Store conn.new) → IsTrue (state S.Store conn.old).is_open → phase ≡ (world_of (state S.Store conn.old).now.trees).phase → IfOk result (λ t. map with_persons t.placed.items ≡ placed_told (world_of (state S.Store conn.old).now.trees) projects.now) }
+    ensures placed { Holds (state S.Store conn.old).now → HasCleanDisk (state S.Store conn.new) → IsTrue (state S.Store conn.old).is_open → phase ≡ (world_of (state S.Store conn.old).now.trees).phase → Good (world_of (state S.Store conn.old).now.trees) → IfOk result (λ t. map with_persons t.placed.items ≡ placed_told (world_of (state S.Store conn.old).now.trees) projects.now) }
     ensures reads { Reads result (state S.Store conn.old) (state S.Store conn.new) }
     ensures mode { conn.old.in_transaction ≡ false → conn.new.in_transaction ≡ false }
 {
-    let lines = lines_in(alloc, conn)?;
-    let applicants = entries_in(alloc, conn, &lines, projects)?;
-    told_with(alloc, phase, &lines, projects, applicants)
+    let entries = entries_in(alloc, conn, projects)?;
+    told_with(alloc, phase, projects, &entries)
 }
 
 /// Whether the students' lists are closed.
@@ -273,7 +313,7 @@ pub(super) fn told_in<S: Alter>(
     projects: &[Key],
 ) -> Result<Told, LoadFault>
     ensures applicants { Holds (state S.Store conn.old).now → HasCleanDisk (state S.Store conn.new) → IsTrue (state S.Store conn.old).is_open → phase ≡ (world_of (state S.Store conn.old).now.trees).phase → IfOk result (λ t. map with_persons t.applicants.items ≡ applicants_told (world_of (state S.Store conn.old).now.trees) projects.now) }
-    ensures placed { Holds (state S.Store conn.old).now → HasCleanDisk (state S.Store conn.new) → IsTrue (state S.Store conn.old).is_open → phase ≡ (world_of (state S.Store conn.old).now.trees).phase → IfOk result (λ t. map with_persons t.placed.items ≡ placed_told (world_of (state S.Store conn.old).now.trees) projects.now) }
+    ensures placed { Holds (state S.Store conn.old).now → HasCleanDisk (state S.Store conn.new) → IsTrue (state S.Store conn.old).is_open → phase ≡ (world_of (state S.Store conn.old).now.trees).phase → Good (world_of (state S.Store conn.old).now.trees) → IfOk result (λ t. map with_persons t.placed.items ≡ placed_told (world_of (state S.Store conn.old).now.trees) projects.now) }
     ensures reads { Reads result (state S.Store conn.old) (state S.Store conn.new) }
     ensures mode { conn.old.in_transaction ≡ false → conn.new.in_transaction ≡ false }
 {

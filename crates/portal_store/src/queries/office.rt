@@ -2,6 +2,8 @@
 
 ghost use Rattle.std.specs.Prelude.{◌≡◌, ◌∷◌, [], pos, ◌&&◌, false, IfOk, IsTrue, if◌then◌else◌, not, map, filter};
 ghost use Rattle.std.specs.List.{list_any, filter_map};
+ghost use Rattle.std.specs.Cmp.Lexicographic.{slice_cmp};
+ghost use Rattle.std.specs.Ordering.{nat_cmp};
 ghost use Rattle.sqlite.specs.State.{HasCleanDisk};
 ghost use Rattle.sqlite.specs.Held.{state};
 ghost use Rattle.portal_core.specs.Words.{is, has, Rise};
@@ -16,7 +18,7 @@ ghost use Rattle.portal_store.specs.Reading.{Reads};
 ghost use Rattle.portal_store.specs.Shown.{first, shown_lecturer, shown_project, shown_student, shown_pair};
 ghost use Rattle.portal_store.specs.Queried.{unlisted, waiting_key, office_from};
 
-use super::applicants::{are_closed, is_named};
+use super::applicants::are_closed;
 use crate::decode::{Office, bytes_at, do_rise, key_at, number_at};
 use crate::load::{LoadFault, Rolls, parts_of, rolls_in};
 use portal_core::{Listing, OfficeView, Phase};
@@ -24,7 +26,23 @@ use portal_tables::select::{choosers_of, listed_students};
 use spa_rows::Key;
 use sqlite::{Alter, Connection, Row};
 use std::alloc::Global;
+use std::cmp::Ordering;
 use std::rc::Rc;
+
+/// Whether a row begins with the key, among rows whose keys rise.
+fn is_named(rows: &[Row], key: &[u8]) -> bool
+    requires { Rise (map first rows.now) }
+    ensures { result ≡ has (map first rows.now) key.now }
+{
+    match rows.binary_search_by(
+        |row: &Row| -> Ordering
+            ensures { result ≡ slice_cmp nat_cmp (first row.now) key.entry.now }
+        { bytes_at(row, 0).cmp(key) },
+    ) {
+        Ok(_) => true,
+        Err(_) => false,
+    }
+}
 
 /// The keys that students' rows begin with, but for those of the listed, whose keys rise.
 fn keys_but(alloc: Global, students: &[Row], listed: &[Row]) -> Result<Vec<Key>, LoadFault>

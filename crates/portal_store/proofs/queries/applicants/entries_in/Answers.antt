@@ -1,11 +1,11 @@
-use Rattle.std.proofs.Common.{◌≡◌, arith, subst, map}
+use Rattle.std.proofs.Common.{◌≡◌, arith, subst, IsTrue}
 use Rattle.std.proofs.lemmas.Grind.{common_steps}
 use Rattle.sqlite.specs.Effect.{Database}
 use Rattle.sqlite.specs.State.{HasCleanDisk, IsUnchanged}
 use Rattle.sqlite.specs.Held.{state}
 use Rattle.portal_store.specs.Kept.{Holds}
 use Rattle.portal_store.specs.World.{world_of}
-use Rattle.portal_store.specs.Queried.{with_persons, applicants_at, line_of}
+use Rattle.portal_store.specs.Queried.{with_lines, lines_at}
 use Rattle.portal_store.proofs.InTurn.{reads_then, reads_more, reads_handed, clean_before}
 use Rattle.portal_store.proofs.queries.applicants.entries_in.Goals as goal
 
@@ -30,12 +30,12 @@ loop-project-preserved g c =
     let d = state g.S.Store c.entry_in.new.conn in
     let inv = c.loop-project.invariant in
     let project = c.project-item.result in (
-      λ holds clean on lines.
+      λ holds clean on.
           let back = clean_before b d _ c.in_ok-entry_in.ensures.reads.crash clean in
           let m : IsUnchanged a b = inv.1.same holds.own back on in
-          let before = inv.0 holds back on lines in
-          let there = subst (λ (x : Database). Holds x → HasCleanDisk d → c.args.lines.now ≡ map line_of (world_of x.trees).students → with_persons c.in_ok-entry_in.field-0 ≡ applicants_at (world_of x.trees) project) m.0.now_is c.in_ok-entry_in.ensures.told in
-          let here = there holds clean lines in
+          let before = inv.0 holds back on in
+          let there = subst (λ (x : Database). Holds x → HasCleanDisk d → IsTrue b.is_open → with_lines c.in_ok-entry_in.field-0 ≡ lines_at (world_of x.trees) project) m.0.now_is c.in_ok-entry_in.ensures.told in
+          let here = there holds clean m.0.is_open in
           grind (arith, common_steps, before, here),
       reads_more c.in_ok-entry_in.field-0 _ a d (reads_then c.loop-project.entries _ a b d inv.1 c.in_ok-entry_in.ensures.reads),
       λ idle. c.in_ok-entry_in.ensures.mode (inv.2 idle),

@@ -17,6 +17,6 @@ returns-clause-applicants g c holds clean on phase =
     IfOk-weaker c.nothing_told.result _ _ (λ t is. is ∙ no_applicants (world_of (state g.S.Store c.args.conn.now).now.trees) c.args.phase c.args.projects.now ajar phase) c.nothing_told.ensures.applicants
 
 pub returns-clause-placed : goal.returns-clause-placed
-returns-clause-placed g c holds clean on phase =
+returns-clause-placed g c holds clean on phase good =
     let ajar : is_from_ranking c.args.phase ≡ false = search rules in
     IfOk-weaker c.nothing_told.result _ _ (λ t is. is ∙ none_placed (world_of (state g.S.Store c.args.conn.now).now.trees) c.args.phase c.args.projects.now ajar phase) c.nothing_told.ensures.placed

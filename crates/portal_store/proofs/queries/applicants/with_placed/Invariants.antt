@@ -1,8 +1,6 @@
 use Rattle.std.proofs.Common.{◌≡◌, map, take}
-use Rattle.std.specs.Prelude.{filter}
-use Rattle.portal_core.specs.World.{is_at}
-use Rattle.portal_store.specs.Queried.{with_persons}
+use Rattle.portal_store.specs.Queried.{with_lines, with_persons, placed_in}
 use Rattle.portal_store.proofs.queries.applicants.with_placed.Given as goal
 
-abbrev pub invariant-loop-project : goal.invariant-loop-project
-invariant-loop-project l = map with_persons l.entries.items ≡ map (λ k. (k, map (λ x. x.person) (filter (λ x. is_at k x.placed) l.lines))) (take l.project-index l.projects)
+abbrev pub invariant-loop-entry : goal.invariant-loop-entry
+invariant-loop-entry l = map with_persons l.told.items ≡ map (λ e. placed_in (with_lines e)) (take l.entry-index l.entries)

@@ -23,4 +23,4 @@ returns-clause-placed g c holds clean on phase shown good =
     let db = (state g.S.Store c.args.conn.now).now.trees in
     let row = c.args.row.now in
     let own = c.deref.ensures.value ∙ c.in_ok-own.ensures ∙ ap (λ (ps : List Listing). map (λ p. p.key) (filter (λ p. is p.lecturer (first row)) ps)) shown ∙ own_listed (world_of db) (first row) good in
-    IfOk-weaker c.told_in.result _ _ (λ t is. is ∙ own_placed (world_of db) (lecturer_from db row) c.deref.result.now own) (c.told_in.ensures.placed holds clean on phase)
+    IfOk-weaker c.told_in.result _ _ (λ t is. is ∙ own_placed (world_of db) (lecturer_from db row) c.deref.result.now own) (c.told_in.ensures.placed holds clean on phase good)

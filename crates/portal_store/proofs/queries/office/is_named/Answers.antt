@@ -8,7 +8,7 @@ use Rattle.spa_model.proofs.Numbers.{sorted_rows}
 use Rattle.portal_list.proofs.Rising.{pairs_rise}
 use Rattle.portal_list.proofs.KeyRows.{known_at, known_nowhere}
 use Rattle.portal_store.specs.Shown.{first}
-use Rattle.portal_store.proofs.queries.applicants.is_named.Goals as goal
+use Rattle.portal_store.proofs.queries.office.is_named.Goals as goal
 
 pub returns-in-Ok : goal.returns-in-Ok
 returns-in-Ok c =
