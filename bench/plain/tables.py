@@ -9,5 +9,5 @@ CREATE TABLE student (key TEXT NOT NULL PRIMARY KEY, name TEXT NOT NULL, code TE
 CREATE TABLE choice (student TEXT NOT NULL REFERENCES student (key), place INTEGER NOT NULL, project TEXT NOT NULL REFERENCES project (key),
   PRIMARY KEY (student, place), UNIQUE (project, student)) STRICT;
 CREATE TABLE ranking (lecturer TEXT NOT NULL REFERENCES lecturer (key), place INTEGER NOT NULL, student TEXT NOT NULL REFERENCES student (key),
-  PRIMARY KEY (lecturer, place), UNIQUE (lecturer, student)) STRICT;
+  PRIMARY KEY (lecturer, place), UNIQUE (student, lecturer)) STRICT;
 """

@@ -15,6 +15,7 @@ pub mod Steps
 mod Runs
 pub mod Once
 pub mod Whole
+pub mod Renewed
 pub mod Reorder
 mod Taken
 mod FirstBad
@@ -26,5 +27,5 @@ pub mod Play
 pub mod Only
 pub mod Published
 pub mod Scan
-pub mod Givers
 pub mod Pieces
+pub mod Tables

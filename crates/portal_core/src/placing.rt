@@ -1,43 +1,63 @@
 //! The result, as the office reads it.
 
-ghost use Rattle.std.specs.Prelude.{◌≡◌, option_map};
-ghost use Rattle.std.specs.List.{find};
-ghost use Rattle.portal_core.specs.Words.{is};
-ghost use Rattle.portal_core.specs.Change.{place_in};
+ghost use Rattle.std.specs.Prelude.{◌≡◌, IfOk, option_map};
+ghost use Rattle.portal_core.specs.Bodies.{is_assigned};
 ghost use Rattle.portal_core.specs.Sheets as sheet;
 
+use crate::keyed::{row_at, rows_by_key};
 use crate::rows::{ProjectRow, StudentRow};
 use crate::view::OfficeView;
 use spa_rows::Key;
+use std::alloc::{AllocError, Global};
+use std::collections::HashMap;
+use std::marker::Model;
 
-/// The pair of the student.
-fn pair_of<'v>(pairs: &'v [(Key, Key)], student: &Key) -> Option<&'v (Key, Key)>
-    ensures { option_map (λ pair. pair.now) result ≡ find (λ pair. is pair.0 student.now) pairs.now }
-{
-    pairs.iter().find(|pair| pair.0 == *student)
+/// The result, to be asked for each student's project. Keys can be made that its tables tell apart one by one; a
+/// search then looks at each row once at most.
+#[derive(Drop)]
+pub struct Placings<'a> {
+    view: &'a OfficeView,
+    pairs: HashMap<&'a [u8], &'a (Key, Key)>,
+    projects: HashMap<&'a [u8], &'a ProjectRow>,
 }
 
-/// The project that the pairs give to the student.
-fn place_of<'v>(pairs: &'v [(Key, Key)], student: &Key) -> Option<&'v Key>
-    ensures { option_map (λ key. key.now) result ≡ place_in pairs.now student.now }
-{
-    let (_, project) = pair_of(pairs, student)?;
-    Some(project)
+impl<'a> Model for Placings<'a> {
+    ghost use Rattle.portal_core.specs.Sight.{OfficeSees};
+    ghost use Rattle.portal_core.specs.Tables.{HasPlacings};
+
+    ghost Value = { OfficeSees };
+
+    ghost view = { λ p. p.view.now };
+
+    ghost invariant = { λ p. HasPlacings p.view.now p.pairs p.projects };
 }
 
-/// The project with this key.
-fn project_with<'v>(projects: &'v [ProjectRow], key: &Key) -> Option<&'v ProjectRow>
-    ensures { option_map (λ row. row.now) result ≡ find (λ row. is row.key key.now) projects.now }
-{
-    projects.iter().find(|row| row.key == *key)
-}
+impl<'a> Placings<'a> {
+    /// The result that the office sees.
+    pub fn of(alloc: Global, view: &'a OfficeView) -> Result<Placings<'a>, AllocError>
+        ensures { IfOk result (λ placings. placings ≡ view.now) }
+    {
+        let pairs = rows_by_key(alloc, &view.pairs)?;
+        let projects = rows_by_key(alloc, &view.projects)?;
+        Ok(Placings {
+            view,
+            pairs,
+            projects,
+        })
+    }
 
-impl OfficeView {
+    /// Whether the result gives the student a project.
+    pub fn is_placed(&self, student: &StudentRow) -> bool
+        ensures { result ≡ is_assigned self.now.pairs student.now.key }
+    {
+        row_at(&self.pairs, student.key.as_bytes()).is_some()
+    }
+
     /// The project that the result gives to the student.
-    pub fn project_of(&self, student: &StudentRow) -> Option<&ProjectRow>
+    pub fn project_of(&self, student: &StudentRow) -> Option<&'a ProjectRow>
         ensures { option_map (λ row. row.now) result ≡ sheet.project_of self.now student.now }
     {
-        let key = place_of(&self.pairs, &student.key)?;
-        project_with(&self.projects, key)
+        let (_, project) = row_at(&self.pairs, student.key.as_bytes())?;
+        row_at(&self.projects, project.as_bytes())
     }
 }

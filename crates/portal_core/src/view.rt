@@ -56,9 +56,9 @@ impl Model for LecturerView {
 pub struct OfficeView {
     pub phase: Phase,
     pub office_code: Code,
-    pub lecturers: Vec<LecturerRow>,
-    pub projects: Vec<ProjectRow>,
-    pub students: Vec<StudentRow>,
+    pub lecturers: Rc<Vec<LecturerRow>>,
+    pub projects: Rc<Vec<ProjectRow>>,
+    pub students: Rc<Vec<StudentRow>>,
     pub catalogue: Rc<Vec<Listing>>,
     pub without_list: Vec<Key>,
     pub still_to_rank: Vec<Key>,
@@ -73,9 +73,9 @@ impl Model for OfficeView {
     ghost view = { λ v. record {
       phase = v.phase;
       office_code = v.office_code;
-      lecturers = v.lecturers.items;
-      projects = v.projects.items;
-      students = v.students.items;
+      lecturers = v.lecturers.value.items;
+      projects = v.projects.value.items;
+      students = v.students.value.items;
       catalogue = v.catalogue.value.items;
       without_list = v.without_list.items;
       still_to_rank = v.still_to_rank.items;

@@ -12,7 +12,6 @@ pub mod Fitting
 pub mod Apart
 pub mod Pigeons
 pub mod Steps
-pub mod Ranked
 pub mod Parted
 pub mod Fresh
 pub mod Shared

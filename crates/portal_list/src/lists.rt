@@ -209,6 +209,24 @@ fn is_ranked(
     }
 }
 
+/// Whether the lecturer's ranking is one of the applicants, who are looked for only where that matters.
+fn ranking_fits(
+    alloc: Global,
+    asked: bool,
+    projects: &[ProjectRow],
+    students: &[StudentEntry],
+    lecturer: &LecturerEntry,
+) -> Result<bool, AllocError>
+    requires { Rise (map student_key students.now) }
+    ensures { IfOk result (λ yes. IsTrue yes ↔ IsRanked asked (applicant_keys projects.now students.now lecturer.now.row.key) lecturer.now.ranking) }
+{
+    if !asked && lecturer.ranking.is_none() {
+        return Ok(true);
+    }
+    let applicants = applicants(alloc, projects, students, &lecturer.row.key)?;
+    is_ranked(alloc, asked, &applicants, &lecturer.ranking)
+}
+
 fn rankings_fit(
     alloc: Global,
     asked: bool,
@@ -220,8 +238,7 @@ fn rankings_fit(
     ensures { IfOk result (λ yes. IsTrue yes ↔ AllByRecursion (λ l. IsRanked asked (applicant_keys projects.now students.now l.row.key) l.ranking) lecturers.now) }
 {
     for lecturer in lecturers {
-        let applicants = applicants(alloc, projects, students, &lecturer.row.key)?;
-        if !is_ranked(alloc, asked, &applicants, &lecturer.ranking)? {
+        if !ranking_fits(alloc, asked, projects, students, lecturer)? {
             return Ok(false);
         }
     }

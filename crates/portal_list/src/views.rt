@@ -10,13 +10,13 @@ mod by_project;
 mod catalogue;
 mod office;
 
-use crate::copies::{keys_of, person_of, project_rows_of};
+use crate::copies::{keys_of, person_of};
 use crate::entries::{LecturerEntry, StudentEntry};
 use crate::keeper::ListKeeper;
 use by_project::{applicants_by_project, placed_by_project};
 pub(crate) use catalogue::catalogue_of;
 pub(crate) use office::waiting;
-use office::{lecturer_rows, pairs_of, still_to_rank, student_rows, without_list};
+use office::{lecturer_rows, pairs_of, project_rows, still_to_rank, student_rows, without_list};
 use portal_core::{LecturerView, OfficeView, Phase, StudentView};
 use spa_rows::Key;
 use std::alloc::{AllocError, Global};
@@ -149,7 +149,7 @@ pub(crate) fn office_view(alloc: Global, keeper: &ListKeeper) -> Result<OfficeVi
         phase: keeper.phase,
         office_code: keeper.office.copy(alloc)?,
         lecturers: lecturer_rows(alloc, &keeper.lecturers)?,
-        projects: project_rows_of(alloc, &keeper.projects)?,
+        projects: project_rows(alloc, &keeper.projects)?,
         students: student_rows(alloc, &keeper.students)?,
         catalogue: keeper.catalogue(alloc)?,
         without_list: without_list(alloc, &keeper.students)?,

@@ -5,7 +5,7 @@ ghost use Rattle.std.specs.List.{flat_map};
 ghost use Rattle.portal_core.specs.Sheets as sheet;
 
 use crate::lines::{assigned_line, placed_line, project_line, unplaced_line};
-use portal_core::{OfficeView, StudentRow};
+use portal_core::{OfficeView, Placings, StudentRow};
 use spa_rows::Key;
 use std::alloc::{AllocError, Global};
 
@@ -19,12 +19,12 @@ fn students_at(pairs: &[(Key, Key)], project: &Key) -> usize
 /// The line of a student.
 fn student_line(
     alloc: Global,
-    view: &OfficeView,
+    placings: &Placings,
     student: &StudentRow,
 ) -> Result<String, AllocError>
-    ensures { IfOk result (λ line. string_bytes line ≡ sheet.student_line view.now student.now) }
+    ensures { IfOk result (λ line. string_bytes line ≡ sheet.student_line placings.now student.now) }
 {
-    match view.project_of(student) {
+    match placings.project_of(student) {
         Some(project) => placed_line(alloc, &student.key, project),
         None => unplaced_line(alloc, &student.key),
     }
@@ -34,8 +34,9 @@ fn student_line(
 fn put_students(text: &mut Vec<u8>, alloc: Global, view: &OfficeView) -> Result<(), AllocError>
     ensures { OnOk result (text.new.items ≡ text.old.items ++ flat_map (sheet.student_line view.now) view.now.students) }
 {
-    for student in &view.students {
-        let line = student_line(alloc, view, student)?;
+    let placings = Placings::of(alloc, view)?;
+    for student in view.students.iter() {
+        let line = student_line(alloc, &placings, student)?;
         text.extend_from_slice(line.as_bytes())?;
     }
     Ok(())
@@ -45,7 +46,7 @@ fn put_students(text: &mut Vec<u8>, alloc: Global, view: &OfficeView) -> Result<
 fn put_projects(text: &mut Vec<u8>, alloc: Global, view: &OfficeView) -> Result<(), AllocError>
     ensures { OnOk result (text.new.items ≡ text.old.items ++ flat_map (sheet.project_line view.now) view.now.projects) }
 {
-    for project in &view.projects {
+    for project in view.projects.iter() {
         let students = students_at(&view.pairs, &project.key);
         let line = project_line(alloc, project, students)?;
         text.extend_from_slice(line.as_bytes())?;

@@ -5,7 +5,7 @@ ghost use Rattle.portal_core.specs.Sheets as sheet;
 ghost use Rattle.portal_rolls.specs.Written.{Holds};
 
 use csv::Writer;
-use portal_core::{OfficeView, StudentRow};
+use portal_core::{OfficeView, Placings, StudentRow};
 use std::alloc::{AllocError, Global};
 
 /// Writes one record of five fields.
@@ -21,15 +21,15 @@ fn put_record(writer: &mut Writer<Vec<u8>>, fields: &[&[u8]; 5]) -> Result<(), A
 /// Writes the record of a student.
 fn put_student(
     writer: &mut Writer<Vec<u8>>,
-    view: &OfficeView,
+    placings: &Placings,
     student: &StudentRow,
 ) -> Result<(), AllocError>
     ensures { OnOk result ((text : List ℕ) → Holds writer.old text
-        → Holds writer.new (text ++ sheet.csv_record (sheet.student_fields view.now student.now))) }
+        → Holds writer.new (text ++ sheet.csv_record (sheet.student_fields placings.now student.now))) }
 {
     let key = student.key.as_bytes();
     let name = student.name.as_bytes();
-    match view.project_of(student) {
+    match placings.project_of(student) {
         Some(project) => {
             let title = project.title.as_bytes();
             put_record(
@@ -61,13 +61,14 @@ fn text_of(writer: Writer<Vec<u8>>) -> Result<Vec<u8>, AllocError>
 pub fn write_allocation(alloc: Global, view: &OfficeView) -> Result<Vec<u8>, AllocError>
     ensures { IfOk result (λ text. text.items ≡ sheet.csv_text view.now) }
 {
+    let placings = Placings::of(alloc, view)?;
     let mut writer = Writer::from_writer(Vec::new(alloc));
     put_record(
         &mut writer,
         &[b"student", b"name", b"project", b"title", b"lecturer"],
     )?;
-    for student in &view.students {
-        put_student(&mut writer, view, student)?;
+    for student in view.students.iter() {
+        put_student(&mut writer, &placings, student)?;
     }
     text_of(writer)
 }

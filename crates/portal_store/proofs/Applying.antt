@@ -18,7 +18,6 @@ use Rattle.portal_core.specs.View.{persons, catalogue, lecturer_sees}
 use Rattle.portal_core.specs.Good.{Good}
 use Rattle.portal_core.proofs.Keys.{is_same}
 use Rattle.portal_core.proofs.AllLaws.{all_weaker, any_map, filtered_any, is_sym, all_map}
-use Rattle.portal_core.proofs.Givers.{is_mapped}
 use Rattle.portal_core.proofs.Enrol.{open_phase}
 use Rattle.portal_tables.specs.Tables.{student_tree, choice_tree}
 use Rattle.portal_tables.specs.Changes.{ListsBy, columns, has_text}
@@ -42,7 +41,7 @@ any_alike p q (x ∷ xs) all = ap₂ (λ a b. a || b) all.0 (any_alike p q xs al
 pub named_where : (t : Row → Bool) (table shown : List Row) → ListsBy (1 ∷ []) t (columns (1 ∷ [])) table shown → (k : Key) → has (map first shown) k ≡ list_any (λ r. t r && is k (row_key r)) table
 named_where t table shown lists k =
     let f : Row → Row = columns (1 ∷ []) in
-    is_mapped first shown k
+    any_map (is k) first shown
     ∙ sym (list_any-IsPermutation (λ c. is k (first c)) (map f (filter t table)) shown (permuted _ _ _ table shown lists))
     ∙ any_map (λ c. is k (first c)) f (filter t table)
     ∙ filtered_any (λ r. is k (row_key r)) t table
@@ -63,7 +62,7 @@ module _ (db : Database) (holds : Holds db) (p : Key) (shown : List Row) (lists 
   chooser : (k : Key) → has (map first shown) k ≡ has (chosen table k) p
   chooser k =
       let right : has (chosen table k) p ≡ list_any (λ r. has_text 1 k r && is p (named_by r)) table =
-      is_mapped named_by (by_place (of_key k table)) p
+      any_map (is p) named_by (by_place (of_key k table))
       ∙ sym (list_any-IsPermutation (λ r. is p (named_by r)) (of_key k table) (by_place (of_key k table)) (permutes place_key (of_key k table)))
       ∙ filtered_any (λ r. is p (named_by r)) (has_text 1 k) table in
       named_where (has_text 3 p) table shown lists k ∙ any_alike _ _ table (all_weaker IsChoiceRow _ (alike k) table (choice_rows_formed db holds.own holds.sound holds.apart.1.1.1.1.0)) ∙ sym right

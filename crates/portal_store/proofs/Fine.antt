@@ -20,7 +20,7 @@ use Rattle.portal_core.specs.Instance.{instance, matching_of, project_keys}
 use Rattle.portal_core.specs.declared.rows.ProjectRow.{ProjectRow}
 use Rattle.portal_core.specs.Words.{Key, is, has, Rise}
 use Rattle.portal_core.specs.World.{World, Lecturer, Student, lecturer_key, project_key, student_key, applicants_of, is_published}
-use Rattle.portal_core.proofs.AllLaws.{all_weaker, all_map}
+use Rattle.portal_core.proofs.AllLaws.{all_weaker, all_map, all_both}
 use Rattle.portal_core.proofs.Keys.{is_same, is_own, all_unmap}
 use Rattle.portal_core.proofs.Only.{on_roll}
 use Rattle.portal_tables.specs.Tables.{lecturer_tree, project_tree, student_tree, choice_tree, ranking_tree}
@@ -30,7 +30,7 @@ use Rattle.portal_store.specs.Lists.{of_key, chosen, list_of, IsWhole}
 use Rattle.portal_store.specs.Kept.{Stands}
 use Rattle.portal_store.specs.Shown.{shown_lecturer, shown_project, shown_student, HasPlace, by_key, IsFine, AreFine, RollsRise, lecturers_shown, projects_shown, students_shown}
 use Rattle.portal_store.proofs.Loaded.{lecturer_columns, roll_columns, lecturers_are, projects_are, students_are}
-use Rattle.portal_store.proofs.Sorted.{all_permuted, permutes}
+use Rattle.portal_store.proofs.Sorted.{all_permuted, all_two, permutes}
 use Rattle.sqlite_trees.proofs.ListLemmas.{map-map}
 
 abbrev IsKey : Key → Type 0
@@ -55,10 +55,6 @@ numbered (x ∷ xs) all k low =
 pub all_filtered : {X : Type 0} (P : X → Type 0) (p : X → Bool) (xs : List X) → AllByRecursion P xs → AllByRecursion P (filter p xs)
 all_filtered P p [] all = tt
 all_filtered P p (x ∷ xs) all = elim (p x) as (λ b. AllByRecursion P (cond b (x ∷ filter p xs) (filter p xs))) [ true ↦ (all.0, all_filtered P p xs all.1) | false ↦ all_filtered P p xs all.1 ]
-
-all_two : {X : Type 0} (P Q R : X → Type 0) → ((x : X) → P x → Q x → R x) → (xs : List X) → AllByRecursion P xs → AllByRecursion Q xs → AllByRecursion R xs
-all_two P Q R f [] p q = tt
-all_two P Q R f (x ∷ xs) p q = (f x p.0 q.0, all_two P Q R f xs p.1 q.1)
 
 -- in a good world whatever is told of a student is a key
 module _ (w : World) (good : Good w) where
@@ -183,9 +179,9 @@ module _ (db : Trees) (stands : Stands db) where
         student_forms = all_map (λ c. IsStudent (shown_student c)) roll_columns S students;
         places = all_map HasPlace roll_columns S (of_students (λ s. IfSome s.placed IsKey) (placed_keys w good));
         choices = all_map (IsFine Choices db) roll_columns S (all_two (λ r. IsStudent (student_row r) × AllByRecursion IsKey (chosen (db choice_tree) (row_key r))) (λ r. IsWhole (of_key (row_key r) (db choice_tree))) (λ r. IsFine Choices db (roll_columns r)) fine_choice S
-            (all_two (λ r. IsStudent (student_row r)) (λ r. AllByRecursion IsKey (chosen (db choice_tree) (row_key r))) _ (λ r p q. (p, q)) S students choices) whole_choices);
+            (all_both (λ r. IsStudent (student_row r)) (λ r. AllByRecursion IsKey (chosen (db choice_tree) (row_key r))) S students choices) whole_choices);
         rankings = all_map (IsFine Rankings db) lecturer_columns L (all_two (λ r. IsLecturer (lecturer_row r) × IfSome (lecturer_of (db ranking_tree) r).ranking (AllByRecursion IsKey))
             (λ r. IsWhole (of_key (row_key r) (db ranking_tree)) × (is_ranked r ≡ false → of_key (row_key r) (db ranking_tree) ≡ [])) (λ r. IsFine Rankings db (lecturer_columns r)) fine_ranking L
-            (all_two (λ r. IsLecturer (lecturer_row r)) (λ r. IfSome (lecturer_of (db ranking_tree) r).ranking (AllByRecursion IsKey)) _ (λ r p q. (p, q)) L lecturers rankings)
-            (all_two (λ r. IsWhole (of_key (row_key r) (db ranking_tree))) (λ r. is_ranked r ≡ false → of_key (row_key r) (db ranking_tree) ≡ []) _ (λ r p q. (p, q)) L whole_rankings ranked));
+            (all_both (λ r. IsLecturer (lecturer_row r)) (λ r. IfSome (lecturer_of (db ranking_tree) r).ranking (AllByRecursion IsKey)) L lecturers rankings)
+            (all_both (λ r. IsWhole (of_key (row_key r) (db ranking_tree))) (λ r. is_ranked r ≡ false → of_key (row_key r) (db ranking_tree) ≡ []) L whole_rankings ranked));
       }

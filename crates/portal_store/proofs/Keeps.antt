@@ -1,9 +1,5 @@
 -- What a change that was committed, or left all as it was, is to the store: whatever the change.
-use Rattle.std.proofs.Common.{inl, inr, ◌≡◌, Bool, IsTrue, Ok, Err, Result, Option, IfOk, OnOk, OnErr, false, sym, ap, subst, ◌∙◌}
-use Rattle.std.specs.Prelude.{Vec}
-use Rattle.std.specs.declared.alloc.Global.{Global}
-use Rattle.std.specs.declared.rc.Rc.{Rc}
-use Rattle.portal_core.specs.declared.rows.Listing.{Listing}
+use Rattle.std.proofs.Common.{inl, inr, ◌≡◌, Bool, IsTrue, Ok, Err, Result, IfOk, OnOk, OnErr, false, sym, ap, subst, ◌∙◌}
 use Rattle.sqlite.specs.Effect.{Database}
 use Rattle.sqlite.specs.State.{HasCleanDisk, IsUnchanged, Survives}
 use Rattle.sqlite.specs.Tree.{Trees}
@@ -12,10 +8,10 @@ use Rattle.sqlite.specs.Held.{Held, state}
 use Rattle.portal_core.specs.Change.{Change, changed}
 use Rattle.portal_core.specs.World.{World}
 use Rattle.portal_core.specs.Good.{Good}
-use Rattle.portal_core.specs.View.{catalogue}
 use Rattle.portal_tables.specs.Tables.{portal_tree}
 use Rattle.portal_tables.specs.Own.{IsOwn}
 use Rattle.portal_tables.specs.Steps.{Commits, Stays, Leaves, IsAfter}
+use Rattle.portal_store.specs.declared.mind.Mind.{Mind}
 use Rattle.portal_store.specs.World.{world_of}
 use Rattle.portal_store.specs.Kept.{HasOffice, Holds, Turned, Turns, Seen, IsKept, IsCleanStore, kept_world, Remembers}
 use Rattle.portal_store.specs.Crash.{IsLeft}
@@ -110,16 +106,18 @@ module _
     same_by (Ok v) same = tt
     same_by (Err e) same = λ on. ap (λ (d : Database). world_of d.trees) (same on.0 on.1).1
 
-    shown_by : (m n : Option (Rc (Vec Listing Global) Global)) → (IsCleanStore g seen → Remembers m (catalogue (kept_world g seen))) → ((w : World) → Remembers m (catalogue w) → Remembers n (catalogue w))
-        → ((w : World) → Remembers m (catalogue w) → Remembers n (catalogue (changed w change))) → (r : Result V E) → (IsTrue own → IsTrue (state g new).is_open → OnOk r (Commits (Turns change) (state g old) (state g new)))
-        → (IsTrue own → IsTrue (state g new).is_open → OnErr r (Stays (state g old) (state g new))) → IsCleanStore g (record { conn = new; own = own }) → Remembers n (catalogue (world_of (state g new).now.trees))
-    shown_by m n was at_err at_ok (Ok v) did same on = subst (λ w. Remembers n (catalogue w)) (sym (turned on.0 (did on.0 on.1)).world) (at_ok (kept_world g seen) (was (clean_by (Ok v) did same on)))
-    shown_by m n was at_err at_ok (Err e) did same on = subst (λ w. Remembers n (catalogue w)) (sym (same_by (Err e) same on)) (at_err (kept_world g seen) (was (clean_by (Err e) did same on)))
+    shown_by : (m n : Mind) → (IsCleanStore g seen → Remembers m (kept_world g seen)) → (r : Result V E)
+        → OnOk r ((w : World) → Remembers m w → Remembers n (changed w change)) → OnErr r (n ≡ m)
+        → (IsTrue own → IsTrue (state g new).is_open → OnOk r (Commits (Turns change) (state g old) (state g new)))
+        → (IsTrue own → IsTrue (state g new).is_open → OnErr r (Stays (state g old) (state g new))) → IsCleanStore g (record { conn = new; own = own }) → Remembers n (world_of (state g new).now.trees)
+    shown_by m n was (Ok v) follows stayed did same on = subst (Remembers n) (sym (turned on.0 (did on.0 on.1)).world) (follows (kept_world g seen) (was (clean_by (Ok v) did same on)))
+    shown_by m n was (Err e) follows stayed did same on =
+        subst (λ k. Remembers k (world_of (state g new).now.trees)) (sym stayed) (subst (Remembers m) (sym (same_by (Err e) same on)) (was (clean_by (Err e) did same on)))
 
-    -- what is remembered of the catalogue is right before the change and after it
-    pub change_shown : (m n : Option (Rc (Vec Listing Global) Global)) → (IsCleanStore g seen → Remembers m (catalogue (kept_world g seen))) → ((w : World) → Remembers m (catalogue w) → Remembers n (catalogue w))
-        → ((w : World) → Remembers m (catalogue w) → Remembers n (catalogue (changed w change))) → IsCleanStore g (record { conn = new; own = own }) → Remembers n (catalogue (world_of (state g new).now.trees))
-    change_shown m n was at_err at_ok = shown_by m n was at_err at_ok r done stays
+    -- what is remembered is right: after a change that was made what follows, and otherwise what it was
+    pub change_shown : (m n : Mind) → (IsCleanStore g seen → Remembers m (kept_world g seen)) → OnOk r ((w : World) → Remembers m w → Remembers n (changed w change)) → OnErr r (n ≡ m)
+        → IsCleanStore g (record { conn = new; own = own }) → Remembers n (world_of (state g new).now.trees)
+    change_shown m n was follows stayed = shown_by m n was r follows stayed done stays
 
     pub change_keeps : IsKept g (record { conn = new; own = own })
     change_keeps = kept_by r done stays
@@ -174,12 +172,12 @@ module _
   pub read_same : IsCleanStore g (record { conn = new; own = own }) → world_of (state g new).now.trees ≡ kept_world g before
   read_same on = ap (λ (d : Database). world_of d.trees) (rest on.0 on.1).1 ∙ ap (λ s. kept_world g s) is
 
-  -- what is remembered of the catalogue stays right
-  pub read_shown : (m n : Option (Rc (Vec Listing Global) Global)) → (IsCleanStore g (record { conn = old; own = own }) → Remembers m (catalogue (world_of (state g old).now.trees))) → KeepsInMind m n (state g old) (state g new)
-      → IsCleanStore g (record { conn = new; own = own }) → Remembers n (catalogue (world_of (state g new).now.trees))
+  -- what is remembered stays right
+  pub read_shown : (m n : Mind) → (IsCleanStore g (record { conn = old; own = own }) → Remembers m (world_of (state g old).now.trees)) → KeepsInMind m n (state g old) (state g new)
+      → IsCleanStore g (record { conn = new; own = own }) → Remembers n (world_of (state g new).now.trees)
   read_shown m n was mind on =
       let same = rest on.0 on.1 in
-      subst (λ (d : Database). Remembers n (catalogue (world_of d.trees))) (sym same.1) (mind (kept.ready on.0 same.0).holds (law on.1) same.0 (was (on.0, same.0)))
+      subst (λ (d : Database). Remembers n (world_of d.trees)) (sym same.1) (mind (kept.ready on.0 same.0).holds (law on.1) same.0 (was (on.0, same.0)))
 
   -- what is known where a call may rely on what is kept
   pub read_holds : (P : Type 0) → (IsOwn old.schema → HasCleanDisk (state g new) → Holds (state g old).now → P) → IsCleanStore g (record { conn = new; own = own }) → P

@@ -2,6 +2,7 @@
 use Rattle.std.proofs.Common.{◌≡◌, inl, inr, Bool, true, false, cond, ◌||◌, Some, option_map, List, [], ◌∷◌, map, filter, refl, sym, ap, subst, ◌∙◌}
 use Rattle.std.specs.List.{AllByRecursion, find, filter_map}
 use Rattle.std.proofs.lemmas.Bool.{cases_Bool}
+use Rattle.std.proofs.lemmas.List.{map-id}
 use Rattle.sqlite.specs.Order.{Row}
 use Rattle.sqlite.specs.Effect.{Database}
 use Rattle.sqlite_rules.specs.Lists.{Has}
@@ -20,11 +21,7 @@ use Rattle.portal_store.specs.Queried.{line_of, line_at}
 use Rattle.portal_store.proofs.Applying.{choosers}
 use Rattle.portal_store.proofs.OfficeSeen.{choosers_known}
 use Rattle.portal_store.proofs.OneKey.{students_rise}
-use Rattle.portal_store.proofs.Sorted.{at, one_order, map_alike_on, map_twice}
-
-same_map : (ks : List Key) → map (λ (k : Key). k) ks ≡ ks
-same_map [] = refl
-same_map (k ∷ ks) = ap (λ l. k ∷ l) (same_map ks)
+use Rattle.portal_store.proofs.Sorted.{at, has_of, one_order, map_alike_on, map_twice}
 
 some_back : (ls : List Line) → filter_map (λ o. o) (map Some ls) ≡ ls
 some_back [] = refl
@@ -34,11 +31,6 @@ some_back (l ∷ ls) = ap (λ r. l ∷ r) (some_back ls)
 there : (ks : List Key) (k : Key) → has ks k ≡ true → Has ks k
 there [] k h = absurd (cc)
 there (x ∷ ks) k h = elim (cases_Bool (is k x)) [ inl same ↦ inl (is_same k x same) | inr other ↦ inr (there ks k (ap (λ b. b || has ks k) (sym other) ∙ h)) ]
-
-back : (ks : List Key) (k : Key) → Has ks k → has ks k ≡ true
-back [] k h = absurd h
-back (x ∷ ks) k (inl e) = ap (λ b. b || has ks k) (subst (λ y. is k y ≡ true) e (is_own k))
-back (x ∷ ks) k (inr h) = elim (is k x) as (λ b. (b || has ks k) ≡ true) [ true ↦ refl | false ↦ back ks k h ]
 
 -- of students some pass, those whose keys are among these
 module _ (ks : List Key) (q : Student → Bool) where
@@ -91,8 +83,8 @@ lines_are db holds p shown lists lines up told =
     let rise : Rise (map student_key w.students) = students_rise db holds in
     let agree : AllByRecursion (Agree (map first shown) q) w.students = choosers db holds p shown lists in
     let keys : map first shown ≡ map student_key mine =
-    one_order (λ (k : Key). k) (map first shown) (map student_key mine) (subst Rise (sym (same_map (map first shown))) up) (subst Rise (sym (same_map (map student_key mine))) (rise_kept student_key q w.students rise))
-    (λ k h. kept (map first shown) q w.students k agree (at (λ k. has (map student_key w.students) k ≡ true) (map first shown) k (choosers_known db holds p shown lists) h) (back (map first shown) k h))
+    one_order (λ (k : Key). k) (map first shown) (map student_key mine) (subst Rise (sym (map-id (map first shown))) up) (subst Rise (sym (map-id (map student_key mine))) (rise_kept student_key q w.students rise))
+    (λ k h. kept (map first shown) q w.students k agree (at (λ k. has (map student_key w.students) k ≡ true) (map first shown) k (choosers_known db holds p shown lists) h) (has_of (map first shown) k h))
     (λ k h. there (map first shown) k (at (λ k. has (map first shown) k ≡ true) (map student_key mine) k (all_map (λ k. has (map first shown) k ≡ true) student_key mine (passed (map first shown) q w.students agree)) h)) in
     let each : map (λ (s : Student). line_at w s.row.key) mine ≡ map (λ (s : Student). Some (line_of s)) mine =
     map_alike_on _ _ mine (λ s h. ap (λ o. option_map line_of o) (found_own w.students rise s (has_kept q w.students s h))) in

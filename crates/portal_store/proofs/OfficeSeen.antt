@@ -15,10 +15,9 @@ use Rattle.sqlite_trees.specs.Objects.{number_in}
 use Rattle.portal_core.specs.declared.phase.Phase.{Phase}
 use Rattle.portal_core.specs.declared.rows.Listing.{Listing}
 use Rattle.portal_core.specs.Words.{Key, is, has, is_empty}
-use Rattle.portal_core.specs.World.{Lecturer, Student, student_key, is_still_to_rank, is_from_ranking, is_published}
+use Rattle.portal_core.specs.World.{World, Lecturer, Student, student_key, is_still_to_rank, is_from_ranking, is_published}
 use Rattle.portal_core.specs.View.{catalogue, office_sees}
-use Rattle.portal_core.proofs.AllLaws.{all_weaker, any_nowhere, is_sym, all_map, filtered_any}
-use Rattle.portal_core.proofs.Givers.{is_mapped}
+use Rattle.portal_core.proofs.AllLaws.{all_weaker, any_nowhere, is_sym, all_map, filtered_any, any_map}
 use Rattle.portal_core.proofs.Kept.{empty_map}
 use Rattle.portal_list.specs.Rows.{Rows, rows_of}
 use Rattle.portal_list.specs.Shown.{is_wanted, is_waiting}
@@ -55,7 +54,7 @@ some_more f g (x ∷ xs) more h = elim (cases_Bool (f x)) [
 anyone : (ks : List Key) (ss : List Student) → AllByRecursion (λ k. has (map student_key ss) k ≡ true) ks → list_any (λ s. has ks s.row.key) ss ≡ not (is_empty ks)
 anyone [] ss all = any_nowhere ss
 anyone (k ∷ ks) ss all =
-    some_more (λ (s : Student). is k s.row.key) (λ s. is s.row.key k || has ks s.row.key) ss (λ s e. ap (λ b. b || has ks s.row.key) (is_sym s.row.key k ∙ e)) (sym (is_mapped student_key ss k) ∙ all.0)
+    some_more (λ (s : Student). is k s.row.key) (λ s. is s.row.key k || has ks s.row.key) ss (λ s e. ap (λ b. b || has ks s.row.key) (is_sym s.row.key k ∙ e)) (sym (any_map (is k) student_key ss) ∙ all.0)
 
 -- who has a row is in the world
 on_roll : (db : Trees) (k : Key) → has (map student_key (world_of db).students) k ≡ has (map row_key (db student_tree)) k
@@ -64,26 +63,28 @@ on_roll db k =
     let roll = db student_tree in
     ap (λ ss. has (map student_key ss) k) (students_are db)
     ∙ ap (λ ks. has ks k) (map-map student_key (student_of (db choice_tree)) (by_key roll))
-    ∙ is_mapped row_key (by_key roll) k
+    ∙ any_map (is k) row_key (by_key roll)
     ∙ sym (list_any-IsPermutation (λ r. is k (row_key r)) roll (by_key roll) (permutes row_key roll))
-    ∙ sym (is_mapped row_key roll k)
+    ∙ sym (any_map (is k) row_key roll)
 
--- who names the project is on the roll
-pub choosers_known : (db : Database) → Holds db → (p : Key) (shown : List Row) → ListsBy (1 ∷ []) (has_text 3 p) (columns (1 ∷ [])) (db.trees choice_tree) shown
-    → AllByRecursion (λ k. has (map student_key (world_of db.trees).students) k ≡ true) (map first shown)
-choosers_known db holds p shown lists =
-    let w = world_of db.trees in
-    let table = db.trees choice_tree in
-    let On : Key → Type 0 = λ k. has (map student_key w.students) k ≡ true in
-    let rows : AllByRecursion (λ r. On (row_key r)) table = all_weaker _ (λ r. On (row_key r)) (λ r known. on_roll db.trees (row_key r) ∙ known.0) table (choice_parents db holds.own holds.sound holds.apart.1.1.1.1.0) in
-    let mapped : AllByRecursion (λ c. On (first c)) (map (columns (1 ∷ [])) (filter (has_text 3 p) table)) = all_map (λ c. On (first c)) (columns (1 ∷ [])) (filter (has_text 3 p) table) (all_filtered (λ r. On (row_key r)) (has_text 3 p) table rows) in
-    all_map On first shown (all_permuted (λ c. On (first c)) _ shown (permuted _ _ _ table shown lists) mapped)
+module _ (db : Database) (holds : Holds db) (p : Key) (shown : List Row) (lists : ListsBy (1 ∷ []) (has_text 3 p) (columns (1 ∷ [])) (db.trees choice_tree) shown) where
+  abbrev named : World
+  named = world_of db.trees
 
-pub some_chooser : (db : Database) → Holds db → (p : Key) (shown : List Row) → ListsBy (1 ∷ []) (has_text 3 p) (columns (1 ∷ [])) (db.trees choice_tree) shown
-    → not (is_empty shown) ≡ list_any (λ (s : Student). has s.choice p) (world_of db.trees).students
-some_chooser db holds p shown lists =
-    let w = world_of db.trees in
-    ap not (sym (empty_map first shown)) ∙ sym (anyone (map first shown) w.students (choosers_known db holds p shown lists)) ∙ any_alike _ _ w.students (choosers db holds p shown lists)
+  abbrev IsKnown : Key → Type 0
+  IsKnown k = has (map student_key named.students) k ≡ true
+
+  -- who names the project is on the roll
+  pub choosers_known : AllByRecursion IsKnown (map first shown)
+  choosers_known =
+      let table = db.trees choice_tree in
+      let rows : AllByRecursion (λ r. IsKnown (row_key r)) table = all_weaker _ (λ r. IsKnown (row_key r)) (λ r known. on_roll db.trees (row_key r) ∙ known.0) table (choice_parents db holds.own holds.sound holds.apart.1.1.1.1.0) in
+      let mapped : AllByRecursion (λ c. IsKnown (first c)) (map (columns (1 ∷ [])) (filter (has_text 3 p) table)) =
+      all_map (λ c. IsKnown (first c)) (columns (1 ∷ [])) (filter (has_text 3 p) table) (all_filtered (λ r. IsKnown (row_key r)) (has_text 3 p) table rows) in
+      all_map IsKnown first shown (all_permuted (λ c. IsKnown (first c)) _ shown (permuted _ _ _ table shown lists) mapped)
+
+  pub some_chooser : not (is_empty shown) ≡ list_any (λ (s : Student). has s.choice p) named.students
+  some_chooser = ap not (sym (empty_map first shown)) ∙ sym (anyone (map first shown) named.students choosers_known) ∙ any_alike _ _ named.students (choosers db holds p shown lists)
 
 -- who has a list
 

@@ -27,6 +27,7 @@ use Rattle.portal_tables.proofs.Weak.{portal_with, with_checks, IsWith, own_is}
 use Rattle.portal_store.specs.World.{row_key}
 use Rattle.portal_store.specs.Lists.{of_key, named_by}
 use Rattle.portal_store.proofs.Shapes.{IsChoiceRow, IsRankingRow, choice_rows_formed, ranking_rows_formed, text_equals}
+use Rattle.portal_store.proofs.Sorted.{all_two}
 
 pub told : (o : Ordering) → is_true (from_truth (Some (is_eq o))) ≡ is_eq o
 told Less = refl
@@ -83,10 +84,6 @@ on_roll (r ∷ roll) k h = elim (cases_Bool (equal Binary (column r 1) (Words k)
   | inr is_not ↦ ap (λ b. is k (row_key r) || b) (on_roll roll k (ap (λ b. (b && true) || Found roll k) (sym is_not) ∙ h)) ∙ or-true (is k (row_key r))
 ]
 
-all_then : (P Q R : Row → Type 0) (rows : List Row) → ((r : Row) → P r → Q r → R r) → AllByRecursion P rows → AllByRecursion Q rows → AllByRecursion R rows
-all_then P Q R [] h p q = tt
-all_then P Q R (r ∷ rows) h p q = (h r p.0 q.0, all_then P Q R rows h p.1 q.1)
-
 module _ (db : Database) (own : IsOwn db.schema) (sound : IsDatabase db) where
   foreign : (w : IsWith db.schema) → Keeps ForeignKey (portal_with w.checks w.terms) db.trees
   foreign w = subst (λ s. Keeps ForeignKey s db.trees) w.is (sound.obeys.rules ForeignKey)
@@ -95,27 +92,27 @@ module _ (db : Database) (own : IsOwn db.schema) (sound : IsDatabase db) where
   pub choice_parents : IsApart (db.trees choice_tree) → AllByRecursion (λ r. OnRoll (db.trees student_tree) (row_key r) × OnRoll (db.trees project_tree) (named_by r)) (db.trees choice_tree)
   choice_parents apart =
       let w = own_is db.schema own in
-      all_then IsChoiceRow (λ r. passes ForeignKey (portal_with w.checks w.terms) db.trees (with_checks w.checks w.terms (choice 9)) r ≡ true)
-      (λ r. OnRoll (db.trees student_tree) (row_key r) × OnRoll (db.trees project_tree) (named_by r)) (db.trees choice_tree)
+      all_two IsChoiceRow (λ r. passes ForeignKey (portal_with w.checks w.terms) db.trees (with_checks w.checks w.terms (choice 9)) r ≡ true)
+      (λ r. OnRoll (db.trees student_tree) (row_key r) × OnRoll (db.trees project_tree) (named_by r))
       (λ r f pass.
       let two = choice_found w.checks w.terms db.trees r f.number f.student f.place f.project f.is pass in (
         subst (λ x. OnRoll (db.trees student_tree) (row_key x)) (sym f.is) (on_roll (db.trees student_tree) f.student two.0),
         subst (λ x. OnRoll (db.trees project_tree) (named_by x)) (sym f.is) (on_roll (db.trees project_tree) f.project two.1),
       ))
-      (choice_rows_formed db own sound apart) (foreign w).1.1.1.1.0
+      (db.trees choice_tree) (choice_rows_formed db own sound apart) (foreign w).1.1.1.1.0
 
   -- each row of a ranking has its lecturer on the roll, and its student
   pub ranking_parents : IsApart (db.trees ranking_tree) → AllByRecursion (λ r. OnRoll (db.trees lecturer_tree) (row_key r) × OnRoll (db.trees student_tree) (named_by r)) (db.trees ranking_tree)
   ranking_parents apart =
       let w = own_is db.schema own in
-      all_then IsRankingRow (λ r. passes ForeignKey (portal_with w.checks w.terms) db.trees (with_checks w.checks w.terms (ranking 12)) r ≡ true)
-      (λ r. OnRoll (db.trees lecturer_tree) (row_key r) × OnRoll (db.trees student_tree) (named_by r)) (db.trees ranking_tree)
+      all_two IsRankingRow (λ r. passes ForeignKey (portal_with w.checks w.terms) db.trees (with_checks w.checks w.terms (ranking 12)) r ≡ true)
+      (λ r. OnRoll (db.trees lecturer_tree) (row_key r) × OnRoll (db.trees student_tree) (named_by r))
       (λ r f pass.
       let two = ranking_found w.checks w.terms db.trees r f.number f.lecturer f.place f.student f.is pass in (
         subst (λ x. OnRoll (db.trees lecturer_tree) (row_key x)) (sym f.is) (on_roll (db.trees lecturer_tree) f.lecturer two.0),
         subst (λ x. OnRoll (db.trees student_tree) (named_by x)) (sym f.is) (on_roll (db.trees student_tree) f.student two.1),
       ))
-      (ranking_rows_formed db own sound apart) (foreign w).1.1.1.1.1.0
+      (db.trees ranking_tree) (ranking_rows_formed db own sound apart) (foreign w).1.1.1.1.1.0
 
 -- who is not on the roll has no row
 pub none_of : (Q : Row → Type 0) (roll : List Row) (k : Key) (rows : List Row) → AllByRecursion (λ r. OnRoll roll (row_key r) × Q r) rows → has (map row_key roll) k ≡ false → of_key k rows ≡ []

@@ -13,8 +13,6 @@ use Rattle.sqlite.specs.State.{State}
 use Rattle.portal_tables.specs.Steps.{Made}
 use Rattle.portal_store.specs.Going.{GoesOn}
 use Rattle.std.proofs.lemmas.Map.Keys.{IsDistinct-IsPermutation}
-use Rattle.std.proofs.Math.Bool.{or-true}
-use Rattle.sqlite_rules.specs.Lists.{Has}
 use Rattle.sqlite_trees.specs.Objects.{number_in}
 use Rattle.portal_core.specs.declared.phase.Phase.TheVariants.{Published}
 use Rattle.portal_core.specs.Words.{Key, is, has, Rise, put_all}
@@ -33,8 +31,8 @@ use Rattle.portal_store.specs.Kept.{HasOffice, Holds}
 use Rattle.portal_store.specs.Lists.{of_key, IsWhole}
 use Rattle.portal_store.specs.World.{world_of, phase_of, row_key, is_ranked, lecturer_of, project_row, student_of, text_or_none}
 use Rattle.portal_store.specs.Placing.{ShowsRoll, PlacesRow, PlacesShown, TurnsShown}
-use Rattle.portal_store.proofs.Sorted.{all_permuted, distinct_if_rise, put_same, put_all_map, map_twice, map_alike, map_alike_on, at, all_has}
-use Rattle.portal_store.proofs.Shapes.{IsStudentRow, student_rows_formed, has_text_of}
+use Rattle.portal_store.proofs.Sorted.{all_permuted, distinct_if_rise, put_same, put_all_map, map_twice, map_alike, map_alike_on, at, all_has, has_of}
+use Rattle.portal_store.proofs.Shapes.{IsStudentRow, student_rows_formed, student_test}
 use Rattle.portal_store.proofs.Holding.{phase_turned, keeps_then}
 use Rattle.portal_store.proofs.Ending.{goes_then, goes_more}
 
@@ -63,12 +61,9 @@ record TheRow (k : Key) (rows : List Row) : Type 0 where
   pub last : Row
   pub one : filter (has_text 1 k) rows ≡ (Int number ∷ Words k ∷ Words name ∷ Words code ∷ last) ∷ []
 
-has_key : (k : Key) (r : Row) → IsStudentRow r → has_text 1 k r ≡ is (row_key r) k
-has_key k r f = has_text_of 1 k r f.key (ap (λ x. column x 1) f.is) ∙ ap (λ x. is (row_key x) k) (sym f.is)
-
 no_row : (k : Key) (rows : List Row) → AllByRecursion IsStudentRow rows → AllByRecursion (λ l. is k l ≡ false) (map row_key rows) → filter (has_text 1 k) rows ≡ []
 no_row k [] f d = refl
-no_row k (r ∷ rows) f d = ap (λ b. cond b (r ∷ filter (has_text 1 k) rows) (filter (has_text 1 k) rows)) (has_key k r f.0 ∙ is_sym (row_key r) k ∙ d.0) ∙ no_row k rows f.1 d.1
+no_row k (r ∷ rows) f d = ap (λ b. cond b (r ∷ filter (has_text 1 k) rows) (filter (has_text 1 k) rows)) (student_test k r f.0 ∙ is_sym (row_key r) k ∙ d.0) ∙ no_row k rows f.1 d.1
 
 the_row : (k : Key) (rows : List Row) → AllByRecursion IsStudentRow rows → IsDistinct is (map row_key rows) → has (map row_key rows) k ≡ true → TheRow k rows
 unfolding IsDistinct
@@ -83,7 +78,7 @@ the_row k (r ∷ rows) f d h = elim (cases_Bool (is k (row_key r))) [
         name = f.0.name;
         code = f.0.code;
         last = f.0.last;
-        one = ap (λ b. cond b (r ∷ filter (has_text 1 k) rows) (filter (has_text 1 k) rows)) (has_key k r f.0 ∙ is_sym (row_key r) k ∙ same)
+        one = ap (λ b. cond b (r ∷ filter (has_text 1 k) rows) (filter (has_text 1 k) rows)) (student_test k r f.0 ∙ is_sym (row_key r) k ∙ same)
             ∙ ap₂ (λ x l. x ∷ l) (f.0.is ∙ ap (λ l. Int f.0.number ∷ Words l ∷ Words f.0.name ∷ Words f.0.code ∷ f.0.last) (sym own)) none;
       }
   | inr other ↦
@@ -93,7 +88,7 @@ the_row k (r ∷ rows) f d h = elim (cases_Bool (is k (row_key r))) [
         name = rest.name;
         code = rest.code;
         last = rest.last;
-        one = ap (λ b. cond b (r ∷ filter (has_text 1 k) rows) (filter (has_text 1 k) rows)) (has_key k r f.0 ∙ is_sym (row_key r) k ∙ other) ∙ rest.one;
+        one = ap (λ b. cond b (r ∷ filter (has_text 1 k) rows) (filter (has_text 1 k) rows)) (student_test k r f.0 ∙ is_sym (row_key r) k ∙ other) ∙ rest.one;
       }
 ]
 
@@ -110,7 +105,7 @@ others_stay pairs k choices (r ∷ rows) f = elim (cases_Bool (has_text 1 k r)) 
       ap (map (λ r. place_one pairs k (student_of choices r))) (ap (λ b. cond b (r ∷ left) left) e) ∙ others_stay pairs k choices rows f.1 ∙ sym (ap (map (student_of choices)) (ap (λ b. cond b (r ∷ left) left) e))
   | inr stays ↦ let e : not (has_text 1 k r) ≡ true = ap not stays in
       ap (map (λ r. place_one pairs k (student_of choices r))) (ap (λ b. cond b (r ∷ left) left) e)
-      ∙ ap₂ (λ a b. a ∷ b) (ap (λ b. cond b (with_place pairs (student_of choices r)) (student_of choices r)) (sym (has_key k r f.0) ∙ stays)) (others_stay pairs k choices rows f.1)
+      ∙ ap₂ (λ a b. a ∷ b) (ap (λ b. cond b (with_place pairs (student_of choices r)) (student_of choices r)) (sym (student_test k r f.0) ∙ stays)) (others_stay pairs k choices rows f.1)
       ∙ sym (ap (map (student_of choices)) (ap (λ b. cond b (r ∷ left) left) e))
 ]
   where
@@ -232,11 +227,6 @@ shown_rows shown db h =
     let pair : Row → Row × Row = λ r. (columns (1 ∷ []) r, show r) in
     let there : map first (map pair (filter every (db.trees student_tree))) ≡ map show (db.trees student_tree) = sym (map_twice first pair (filter every (db.trees student_tree))) ∙ ap (map show) (filter_all (db.trees student_tree)) in
     subst₂ IsPermutation there (sym h.is) (IsPermutation-map first _ h.keyed h.same)
-
-has_of : (ks : List Key) (k : Key) → Has ks k → has ks k ≡ true
-has_of [] k h = absurd h
-has_of (l ∷ ks) k (inl e) = ap (λ b. b || has ks k) (subst (λ m. is k m ≡ true) e (is_own k))
-has_of (l ∷ ks) k (inr h) = ap (λ b. is k l || b) (has_of ks k h) ∙ or-true (is k l)
 
 each_there : (ks : List Key) → AllByRecursion (λ k. has ks k ≡ true) ks
 each_there ks = all_has (λ k. has ks k ≡ true) ks (has_of ks)

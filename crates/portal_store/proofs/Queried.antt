@@ -32,7 +32,7 @@ use Rattle.portal_store.specs.Queried.{as_list, lecturer_from, student_from, nam
 use Rattle.portal_store.proofs.Listed.{permuted}
 use Rattle.portal_store.proofs.Holding.{phase_back}
 use Rattle.portal_store.proofs.Loaded.{lecturer_columns, roll_columns, lecturers_are, projects_are, students_are, some_alike}
-use Rattle.portal_store.proofs.Shapes.{IsLecturerRow, IsStudentRow, has_text_of, lecturer_rows_formed, student_rows_formed}
+use Rattle.portal_store.proofs.Shapes.{IsLecturerRow, IsStudentRow, has_text_of, student_test, lecturer_rows_formed, student_rows_formed}
 use Rattle.portal_store.proofs.Sorted.{permutes, map_alike, map_twice}
 
 -- the first that passes is the only one that passes
@@ -102,15 +102,12 @@ module _ (db : Database) (holds : Holds db) where
       (all_weaker IsStudentRow (λ r. has_text 3 code r ≡ is (bytes (column r 3)) code) (student_agrees code) (db.trees student_tree) (student_rows_formed db holds.own holds.sound holds.apart.1.1.1.0)) lists o told
       ∙ ap (find (λ (s : Student). is s.row.code code)) (sym (students_are db.trees))
 
-  student_own : (key : Key) (r : Row) → IsStudentRow r → has_text 1 key r ≡ is (row_key r) key
-  student_own key r x = has_text_of 1 key r x.key (ap (λ s. column s 1) x.is) ∙ ap (λ s. is (bytes (column s 1)) key) (sym x.is)
-
   student_keyed : (key : Key) (shown : List Row) → ListsBy (1 ∷ []) (has_text 1 key) (columns (1 ∷ 2 ∷ 3 ∷ 4 ∷ [])) (db.trees student_tree) shown → (o : Option Row) → as_list o ≡ shown
       → option_map (student_from db.trees) o ≡ find (λ (s : Student). is s.row.key key) (world_of db.trees).students
   unfolding world_of
   student_keyed key shown lists o told =
       found (1 ∷ []) (has_text 1 key) roll_columns (student_of (db.trees choice_tree)) (student_from db.trees) (λ (s : Student). is s.row.key key) (λ r. refl) (db.trees student_tree) shown
-      (all_weaker IsStudentRow (λ r. has_text 1 key r ≡ is (row_key r) key) (student_own key) (db.trees student_tree) (student_rows_formed db holds.own holds.sound holds.apart.1.1.1.0)) lists o told
+      (all_weaker IsStudentRow (λ r. has_text 1 key r ≡ is (row_key r) key) (student_test key) (db.trees student_tree) (student_rows_formed db holds.own holds.sound holds.apart.1.1.1.0)) lists o told
       ∙ ap (find (λ (s : Student). is s.row.key key)) (sym (students_are db.trees))
 
   -- the only row of a key tells the line of its student

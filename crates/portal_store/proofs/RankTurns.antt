@@ -29,7 +29,7 @@ use Rattle.portal_store.specs.World.{world_of, phase_of, row_key, student_of, le
 use Rattle.portal_store.specs.Kept.{HasOffice, Whole, Holds}
 use Rattle.portal_store.specs.Putting.{HasPut, PutsList, TurnsThere}
 use Rattle.portal_store.proofs.Listed.{all_map_on}
-use Rattle.portal_store.proofs.Sorted.{put_all_map, put_same, distinct_if_rise, map_twice, all_permuted}
+use Rattle.portal_store.proofs.Sorted.{put_all_map, put_same, distinct_if_rise, map_twice, all_permuted, all_two}
 use Rattle.portal_store.proofs.Shapes.{IsLecturerRow, lecturer_rows_formed, has_text_of}
 use Rattle.portal_store.proofs.ChoiceTurns.{chosen_is, whole_at}
 
@@ -95,10 +95,6 @@ others_apart k (r ∷ table) all = go (has_text 1 k r) refl (others_apart k tabl
 
 pub same_key : (k : Key) (list : List Key) (l : Lecturer) → lecturer_key (with_ranking k list l) ≡ lecturer_key l
 same_key k list l = elim (is l.row.key k) as (λ b. lecturer_key (cond b (record l { ranking = Some list }) l) ≡ lecturer_key l) [ true ↦ refl | false ↦ refl ]
-
-all_both_on : {X : Type 0} (P Q R : X → Type 0) (xs : List X) → ((x : X) → P x → Q x → R x) → AllByRecursion P xs → AllByRecursion Q xs → AllByRecursion R xs
-all_both_on P Q R [] h p q = tt
-all_both_on P Q R (x ∷ xs) h p q = (h x p.0 q.0, all_both_on P Q R xs h p.1 q.1)
 
 -- the lists of an owner are whole; an owner with no ranking has no row of one
 abbrev WholeIn : List Row → Row → Type 0
@@ -203,7 +199,7 @@ module _ (k : Key) (list : List Key) (first mid now : Database) (put : HasPut ra
       let whole = λ (r : Row) (h : WholeIn (first.trees 12) r). whole_at ranking_tree k list first mid put (row_key r) h in
       let all_new : AllByRecursion (WholeIn (mid.trees 12)) (after ∷ rest) = (whole before all_old.0, all_weaker _ _ whole rest all_old.1) in
       let ranked_new : AllByRecursion (NoneUnranked (mid.trees 12)) (after ∷ rest) =
-      (λ e. absurd (cc), all_both_on (λ r. is (row_key r) k ≡ false) _ _ rest (λ r other h e. put.others (row_key r) other ∙ h e) apart_rest ranked_old.1) in
+      (λ e. absurd (cc), all_two (λ r. is (row_key r) k ≡ false) _ _ (λ r other h e. put.others (row_key r) other ∙ h e) rest apart_rest ranked_old.1) in
       record {
         choices = subst (λ rows. AllByRecursion (WholeIn rows) (now.trees 6)) (sym choices) (subst (AllByRecursion (WholeIn (first.trees 9))) (sym students) was.choices);
         rankings = subst (λ rows. AllByRecursion (WholeIn rows) (now.trees 1)) (sym rankings) (all_permuted _ (after ∷ rest) (now.trees 1) new_rows all_new);

@@ -23,6 +23,7 @@ use Rattle.portal_tables.specs.Own.{IsOwn}
 use Rattle.portal_tables.specs.Changes.{IsApart, has_text}
 use Rattle.portal_tables.specs.Rows.{lecturer_cells, choice_cells, ranking_cells}
 use Rattle.portal_tables.proofs.Weak.{portal_with, IsWith, own_is}
+use Rattle.portal_store.specs.World.{row_key}
 
 -- a test of a text
 pub text_equals : (s t : Key) → is_eq (value_cmp (Words s) (Words t)) ≡ is s t
@@ -76,6 +77,10 @@ pub record IsStudentRow (r : Row) : Type 0 where
   pub is : r ≡ Int number ∷ Words key ∷ Words name ∷ Words code ∷ last
   pub few : (last ≡ []) ⊎ ((v : Value) × (last ≡ v ∷ []))
   pub assigned : IsNullOrText (column r 4)
+
+-- the test of a student's key
+pub student_test : (k : Key) (r : Row) → IsStudentRow r → has_text 1 k r ≡ is (row_key r) k
+student_test k r f = has_text_of 1 k r f.key (ap (λ x. column x 1) f.is) ∙ ap (λ x. is (row_key x) k) (sym f.is)
 
 pub record IsChoiceRow (r : Row) : Type 0 where
   pub number : ℤ

@@ -1,5 +1,5 @@
 -- Rows put by their keys are the one order of them in which the keys rise.
-use Rattle.std.proofs.Common.{◌≡◌, inl, inr, true, false, cond, List, [], ◌∷◌, ◌++◌, map, refl, sym, ap, ap₂, subst, ◌∙◌}
+use Rattle.std.proofs.Common.{◌≡◌, inl, inr, true, false, ◌||◌, cond, List, [], ◌∷◌, ◌++◌, map, refl, sym, ap, ap₂, subst, ◌∙◌}
 use Rattle.std.proofs.lemmas.List.{append-nil}
 use Rattle.std.specs.List.{AllByRecursion, IsDistinct}
 use Rattle.std.specs.List.Sorted.{IsPermutation}
@@ -7,8 +7,8 @@ use Rattle.std.proofs.lemmas.List.Sorted.{IsPermutation-refl, IsPermutation-tran
 use Rattle.std.proofs.lemmas.List.Elements.{All-from_recursion, recursion_from_All}
 use Rattle.std.proofs.lemmas.Map.Keys.{IsDistinct-IsPermutation}
 use Rattle.sqlite_rules.specs.Lists.{Has}
-use Rattle.portal_core.specs.Words.{Key, is, is_before, Rise, AreDistinct, put, put_all}
-use Rattle.portal_core.proofs.Keys.{not_before_itself}
+use Rattle.portal_core.specs.Words.{Key, is, has, is_before, Rise, AreDistinct, put, put_all}
+use Rattle.portal_core.proofs.Keys.{is_own, not_before_itself}
 use Rattle.portal_core.proofs.AllLaws.{is_sym, none_is}
 use Rattle.portal_core.proofs.Puts.{before_trans, after_other}
 use Rattle.portal_core.proofs.Fills.{before_other}
@@ -65,8 +65,19 @@ module _ {X : Type 0} where
   pub all_permuted : (P : X → Type 0) (xs ys : List X) → IsPermutation xs ys → AllByRecursion P xs → AllByRecursion P ys
   all_permuted P xs ys same all = recursion_from_All P ys (All-permutation P xs ys same (All-from_recursion P xs all))
 
+  -- of two facts of each row a third
+  pub all_two : (P Q R : X → Type 0) → ((x : X) → P x → Q x → R x) → (xs : List X) → AllByRecursion P xs → AllByRecursion Q xs → AllByRecursion R xs
+  all_two P Q R f [] p q = tt
+  all_two P Q R f (x ∷ xs) p q = (f x p.0 q.0, all_two P Q R f xs p.1 q.1)
+
   pub has_permuted : (xs ys : List X) → IsPermutation xs ys → (x : X) → Has xs x → Has ys x
   has_permuted xs ys same x h = at (λ z. Has ys z) xs x (all_permuted (λ z. Has ys z) ys xs (IsPermutation-sym xs ys same) (within ys ys (λ z k. k))) h
+
+-- a key that is a member passes the test of it
+pub has_of : (ks : List Key) (k : Key) → Has ks k → has ks k ≡ true
+has_of [] k h = absurd h
+has_of (l ∷ ks) k (inl e) = ap (λ b. b || has ks k) (subst (λ m. is k m ≡ true) e (is_own k))
+has_of (l ∷ ks) k (inr h) = elim (is k l) as (λ b. (b || has ks k) ≡ true) [ true ↦ refl | false ↦ has_of ks k h ]
 
 module _ {X : Type 0} (key : X → Key) where
   -- putting rows loses none and makes none

@@ -1,9 +1,7 @@
 -- What a store keeps true between two calls, and what a change of the world is to the tables.
-use Rattle.std.specs.Prelude.{Vec, ◌≡◌, pos, Bool, false, List, [], ◌∷◌, Option, IfSome, IsTrue, refl}
+use Rattle.std.specs.Prelude.{◌≡◌, pos, Bool, false, List, [], ◌∷◌, IfSome, IsTrue, refl}
 use Rattle.std.specs.Coded.{Coded, code_by, coded×, coded_bool}
 use Rattle.std.specs.List.{AllByRecursion}
-use Rattle.std.specs.declared.alloc.Global.{Global}
-use Rattle.std.specs.declared.rc.Rc.{Rc}
 use Rattle.sqlite.specs.Order.{Row}
 use Rattle.sqlite.specs.Tree.{Trees}
 use Rattle.sqlite.specs.Effect.{Database, IsDatabase}
@@ -11,16 +9,16 @@ use Rattle.sqlite.specs.State.{State}
 use Rattle.sqlite.specs.Store.{Ghosts}
 use Rattle.sqlite.specs.Held.{Held, held_code, state}
 use Rattle.portal_core.specs.declared.phase.Phase.{Phase}
-use Rattle.portal_core.specs.declared.rows.Listing.{Listing}
 use Rattle.portal_core.specs.Words.{Key}
 use Rattle.portal_core.specs.World.{World}
 use Rattle.portal_core.specs.Change.{Change, changed}
 use Rattle.portal_core.specs.Good.{Good}
-use Rattle.portal_core.specs.View.{catalogue}
+use Rattle.portal_core.specs.View.{catalogue, office_sees}
 use Rattle.portal_tables.specs.Tables.{portal_tree, lecturer_tree, student_tree, choice_tree, ranking_tree, own_trees}
 use Rattle.portal_tables.specs.Own.{IsOwn}
 use Rattle.portal_tables.specs.Changes.{IsApart}
 use Rattle.portal_tables.specs.Rows.{portal_row}
+use Rattle.portal_store.specs.declared.mind.Mind.{Mind}
 use Rattle.portal_store.specs.Lists.{of_key, IsWhole}
 use Rattle.portal_store.specs.World.{world_of, number_of, row_key, is_ranked}
 
@@ -83,11 +81,12 @@ IsCleanStore g s = IsTrue s.own × IsTrue (state g s.conn).is_open
 abbrev pub kept_world : {S : Type 0} → Ghosts S → Seen S → World
 kept_world g s = world_of (state g s.conn).now.trees
 
--- this catalogue is remembered, or none
-abbrev pub Remembers : Option (Rc (Vec Listing Global) Global) → List Listing → Type 0
-Remembers remembered shown = IfSome remembered (λ shared. shared.value.items ≡ shown)
+-- what is remembered, if anything is, is what this world shows
+pub record Remembers (mind : Mind) (world : World) : Type 0 where
+  pub offers : IfSome mind.catalogue (λ shared. shared.value.items ≡ catalogue world)
+  pub office : IfSome mind.office (λ view. view ≡ office_sees world)
 
--- a store between two calls; the catalogue that it remembers, if it does, is that of its world
-pub record IsAtRest {S : Type 0} (g : Ghosts S) (s : Seen S) (remembered : Option (Rc (Vec Listing Global) Global)) : Type 0 where
+-- a store between two calls; what it remembers is of its world
+pub record IsAtRest {S : Type 0} (g : Ghosts S) (s : Seen S) (mind : Mind) : Type 0 where
   pub kept : IsKept g s
-  pub shown : IsCleanStore g s → Remembers remembered (catalogue (kept_world g s))
+  pub shown : IsCleanStore g s → Remembers mind (kept_world g s)

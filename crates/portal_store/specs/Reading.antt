@@ -1,12 +1,9 @@
 -- How a reading of several queries ends.
-use Rattle.std.specs.Prelude.{Vec, Option, IsTrue, Result, OnOk, OnErr}
-use Rattle.std.specs.declared.alloc.Global.{Global}
-use Rattle.std.specs.declared.rc.Rc.{Rc}
+use Rattle.std.specs.Prelude.{IsTrue, Result, OnOk, OnErr}
 use Rattle.sqlite.specs.State.{State, HasCleanDisk, IsUnchanged, Survives}
-use Rattle.portal_core.specs.declared.rows.Listing.{Listing}
-use Rattle.portal_core.specs.View.{catalogue}
 use Rattle.portal_tables.specs.Own.{IsOwn}
 use Rattle.portal_tables.specs.Steps.{Leaves}
+use Rattle.portal_store.specs.declared.mind.Mind.{Mind}
 use Rattle.portal_store.specs.Kept.{Holds, Remembers}
 use Rattle.portal_store.specs.World.{world_of}
 
@@ -16,7 +13,6 @@ pub record Reads {V E : Type 0} (result : Result V E) (old new : State) : Type 0
   pub err : IsOwn old.now.schema → HasCleanDisk new → IsTrue old.is_open → OnErr result (Leaves old new)
   pub crash : Survives old new (λ _. IsOwn old.now.schema → IsTrue old.is_open → ⊥)
 
--- what was remembered of the catalogue before was right, so what is remembered after is
-abbrev pub KeepsInMind : Option (Rc (Vec Listing Global) Global) → Option (Rc (Vec Listing Global) Global) → State → State → Type 0
-KeepsInMind before after old new =
-    Holds old.now → HasCleanDisk new → IsTrue old.is_open → Remembers before (catalogue (world_of old.now.trees)) → Remembers after (catalogue (world_of old.now.trees))
+-- what was remembered before was right, so what is remembered after is
+abbrev pub KeepsInMind : Mind → Mind → State → State → Type 0
+KeepsInMind before after old new = Holds old.now → HasCleanDisk new → IsTrue old.is_open → Remembers before (world_of old.now.trees) → Remembers after (world_of old.now.trees)

@@ -3,36 +3,19 @@
 ghost use Rattle.std.specs.Prelude.{◌≡◌, false, OnOk, OnErr, IsTrue};
 ghost use Rattle.sqlite.specs.State.{HasCleanDisk, Survives};
 ghost use Rattle.sqlite.specs.Held.{state};
-ghost use Rattle.portal_core.specs.World.{World};
-ghost use Rattle.portal_core.specs.Change.{changed};
 ghost use Rattle.portal_core.specs.Meaning.{meant};
-ghost use Rattle.portal_core.specs.View.{catalogue};
 ghost use Rattle.portal_tables.specs.Own.{IsOwn};
 ghost use Rattle.portal_tables.specs.Steps.{Commits, IsAfter, LeavesOnly, Stays};
-ghost use Rattle.portal_store.specs.Kept.{Remembers, Turns};
+ghost use Rattle.portal_store.specs.Kept.{Turns};
 
 use crate::fill::fill_rankings;
 use crate::lists::{replace_choice, replace_ranking};
 use crate::phase::set_phase;
 use crate::placing::publish;
 use crate::rolls::{add_lecturers, add_projects, add_students};
-use portal_core::{Change, KeepFault, Listing};
+use portal_core::{Change, KeepFault};
 use sqlite::{Alter, Connection};
 use std::alloc::Global;
-use std::rc::Rc;
-
-/// Forgets the catalogue where the change is one of a roll that it shows.
-pub(crate) fn forget_changed(remembered: &mut Option<Rc<Vec<Listing>>>, change: &Change)
-    ensures before { (w : World) → Remembers remembered.old (catalogue w) → Remembers remembered.new (catalogue w) }
-    ensures after { (w : World) → Remembers remembered.old (catalogue w) → Remembers remembered.new (catalogue (changed w (meant change.now))) }
-{
-    match change {
-        Change::Lecturers(_) | Change::Projects(_) => *remembered = None,
-        Change::Ranking { .. } => {}
-        Change::Fill => {}
-        Change::Choices { .. } | Change::Students(_) | Change::Phase(_) | Change::Result(_) => {}
-    }
-}
 
 /// Makes the change and commits it, or leaves all as it was.
 pub(crate) fn make<S: Alter>(

@@ -14,7 +14,7 @@ ghost use Rattle.portal_tables.specs.Steps.{Commits, IsAfter, LeavesOnly};
 ghost use Rattle.portal_store.specs.Kept.{IsCleanStore, kept_world, Turns};
 ghost use Rattle.portal_store.specs.Crash.{IsLeft};
 
-use crate::change::{forget_changed, make};
+use crate::change::make;
 use crate::instance::instance_in;
 use crate::office::office_of;
 use crate::queries::view_with;
@@ -50,8 +50,9 @@ impl<S: Alter> Store<S> {
         ensures left { IsCleanStore S.Store self.old → HasCleanDisk (state S.Store self.new.conn) → (db : Trees) → (state S.Store self.new.conn).may_leave db → IsLeft (meant change.now) (state S.Store self.old.conn).now db }
     {
         self.check_own()?;
-        forget_changed(&mut self.catalogue, change);
-        make(alloc, &mut self.conn, change)
+        let made = make(alloc, &mut self.conn, change);
+        self.mind.follow(change, &made);
+        made
     }
 
     /// The instance of the world of the tables, where that is good.
@@ -71,7 +72,7 @@ impl<S: Alter> Store<S> {
         ensures same { IsCleanStore S.Store self.new → kept_world S.Store self.new ≡ kept_world S.Store self.old }
     {
         self.check_own()?;
-        view_with(alloc, &mut self.conn, &mut self.catalogue, code)
+        view_with(alloc, &mut self.conn, &mut self.mind, code)
     }
 
     /// The code of the office. `Store` comes for an error of the connection, and where there is no row of the office.

@@ -17,6 +17,7 @@ ghost use Rattle.portal_store.specs.Kept.{Stands, IsCleanStore, kept_world};
 ghost use Rattle.portal_store.specs.Asked.{Asks, Refutes, Admits};
 
 use crate::fault::{load_open_fault_of, open_fault_of, table_fault_of};
+use crate::mind::Mind;
 use crate::sound::load_keeper;
 use crate::store::{NotOpened, OpenFault, Store};
 use portal_list::ListKeeper;
@@ -226,7 +227,7 @@ impl<S: Alter> Store<S> {
             conn,
             own,
             pattern,
-            catalogue: None,
+            mind: Mind::empty(),
         })
     }
 }

@@ -25,14 +25,14 @@ mod student;
 use crate::decode::Office;
 use crate::fault::keep_fault_of;
 use crate::load::{LoadFault, office_in};
+use crate::mind::{Mind, office_view_of};
 use caller::{lecturer_in, student_in};
 use lecturer::lecturer_view;
 use offers::shared_catalogue;
 use office::office_view;
-use portal_core::{KeepFault, Listing, Phase, View};
+use portal_core::{KeepFault, OfficeView, Phase, View};
 use sqlite::{Alter, Connection};
 use std::alloc::{AllocError, Global};
-use std::rc::Rc;
 use student::student_view;
 
 impl From<AllocError> for LoadFault {
@@ -45,34 +45,54 @@ impl From<AllocError> for LoadFault {
     }
 }
 
-/// What the office sees whose row this is.
+/// What the office sees whose row this is, read of the tables with the catalogue.
+fn office_read<S: Alter>(
+    alloc: Global,
+    conn: &mut Connection<S>,
+    remembered: &mut Mind,
+    office: Office,
+) -> Result<OfficeView, LoadFault>
+    ensures shows { Holds (state S.Store conn.old).now → HasCleanDisk (state S.Store conn.new) → IsTrue (state S.Store conn.old).is_open → (state S.Store conn.old).now.trees portal_tree ≡ portal_row (pos 1) (pos (number_of office.phase)) office.code ∷ [] → Remembers remembered.old (world_of (state S.Store conn.old).now.trees) → IfOk result (λ view. view ≡ seen.office_sees (world_of (state S.Store conn.old).now.trees)) }
+    ensures mind { KeepsInMind remembered.old remembered.new (state S.Store conn.old) (state S.Store conn.new) }
+    ensures reads { Reads result (state S.Store conn.old) (state S.Store conn.new) }
+    ensures mode { conn.old.in_transaction ≡ false → conn.new.in_transaction ≡ false }
+{
+    let catalogue = shared_catalogue(alloc, conn, remembered)?;
+    office_view(alloc, conn, office, catalogue)
+}
+
+/// What the office sees whose row this is, remembered from then on.
 fn office_sight<S: Alter>(
     alloc: Global,
     conn: &mut Connection<S>,
-    remembered: &mut Option<Rc<Vec<Listing>>>,
+    remembered: &mut Mind,
     office: Office,
 ) -> Result<View, LoadFault>
     requires idle { conn.old.in_transaction ≡ false }
     ensures idle { conn.new.in_transaction ≡ false }
-    ensures shows { Holds (state S.Store conn.old).now → HasCleanDisk (state S.Store conn.new) → IsTrue (state S.Store conn.old).is_open → (state S.Store conn.old).now.trees portal_tree ≡ portal_row (pos 1) (pos (number_of office.phase)) office.code ∷ [] → Remembers remembered.old (seen.catalogue (world_of (state S.Store conn.old).now.trees)) → IfOk result (λ view. view ≡ sight_of (world_of (state S.Store conn.old).now.trees) OfficeCaller) }
-    ensures mind { KeepsInMind remembered.old remembered.new (state S.Store conn.old) (state S.Store conn.new) }
+    ensures shows { Holds (state S.Store conn.old).now → HasCleanDisk (state S.Store conn.new) → IsTrue (state S.Store conn.old).is_open → (state S.Store conn.old).now.trees portal_tree ≡ portal_row (pos 1) (pos (number_of office.phase)) office.code ∷ [] → Remembers remembered.old (world_of (state S.Store conn.old).now.trees) → IfOk result (λ view. view ≡ sight_of (world_of (state S.Store conn.old).now.trees) OfficeCaller) }
+    ensures mind { (state S.Store conn.old).now.trees portal_tree ≡ portal_row (pos 1) (pos (number_of office.phase)) office.code ∷ [] → KeepsInMind remembered.old remembered.new (state S.Store conn.old) (state S.Store conn.new) }
     ensures reads { Reads result (state S.Store conn.old) (state S.Store conn.new) }
 {
-    let catalogue = shared_catalogue(alloc, conn, remembered)?;
-    Ok(View::Office(office_view(alloc, conn, office, catalogue)?))
+    if let Some(view) = &remembered.office {
+        return Ok(View::Office(office_view_of(alloc, view)?));
+    }
+    let view = office_read(alloc, conn, remembered, office)?;
+    remembered.office = Some(office_view_of(alloc, &view)?);
+    Ok(View::Office(view))
 }
 
 /// What the student with the code sees, if there is one.
 fn student_sight<S: Alter>(
     alloc: Global,
     conn: &mut Connection<S>,
-    remembered: &mut Option<Rc<Vec<Listing>>>,
+    remembered: &mut Mind,
     phase: Phase,
     code: &[u8],
 ) -> Result<View, LoadFault>
     requires idle { conn.old.in_transaction ≡ false }
     ensures idle { conn.new.in_transaction ≡ false }
-    ensures shows { Holds (state S.Store conn.old).now → HasCleanDisk (state S.Store conn.new) → IsTrue (state S.Store conn.old).is_open → phase ≡ (world_of (state S.Store conn.old).now.trees).phase → Remembers remembered.old (seen.catalogue (world_of (state S.Store conn.old).now.trees)) → IfOk result (λ view. view ≡ sight_of (world_of (state S.Store conn.old).now.trees) (caller_among None (student_with (world_of (state S.Store conn.old).now.trees) code.now))) }
+    ensures shows { Holds (state S.Store conn.old).now → HasCleanDisk (state S.Store conn.new) → IsTrue (state S.Store conn.old).is_open → phase ≡ (world_of (state S.Store conn.old).now.trees).phase → Remembers remembered.old (world_of (state S.Store conn.old).now.trees) → IfOk result (λ view. view ≡ sight_of (world_of (state S.Store conn.old).now.trees) (caller_among None (student_with (world_of (state S.Store conn.old).now.trees) code.now))) }
     ensures mind { KeepsInMind remembered.old remembered.new (state S.Store conn.old) (state S.Store conn.new) }
     ensures reads { Reads result (state S.Store conn.old) (state S.Store conn.new) }
 {
@@ -87,13 +107,13 @@ fn student_sight<S: Alter>(
 fn person_sight<S: Alter>(
     alloc: Global,
     conn: &mut Connection<S>,
-    remembered: &mut Option<Rc<Vec<Listing>>>,
+    remembered: &mut Mind,
     phase: Phase,
     code: &[u8],
 ) -> Result<View, LoadFault>
     requires idle { conn.old.in_transaction ≡ false }
     ensures idle { conn.new.in_transaction ≡ false }
-    ensures shows { Holds (state S.Store conn.old).now → HasCleanDisk (state S.Store conn.new) → IsTrue (state S.Store conn.old).is_open → phase ≡ (world_of (state S.Store conn.old).now.trees).phase → is (world_of (state S.Store conn.old).now.trees).office code.now ≡ false → Good (world_of (state S.Store conn.old).now.trees) → Remembers remembered.old (seen.catalogue (world_of (state S.Store conn.old).now.trees)) → IfOk result (λ view. view ≡ seen.view (world_of (state S.Store conn.old).now.trees) code.now) }
+    ensures shows { Holds (state S.Store conn.old).now → HasCleanDisk (state S.Store conn.new) → IsTrue (state S.Store conn.old).is_open → phase ≡ (world_of (state S.Store conn.old).now.trees).phase → is (world_of (state S.Store conn.old).now.trees).office code.now ≡ false → Good (world_of (state S.Store conn.old).now.trees) → Remembers remembered.old (world_of (state S.Store conn.old).now.trees) → IfOk result (λ view. view ≡ seen.view (world_of (state S.Store conn.old).now.trees) code.now) }
     ensures mind { KeepsInMind remembered.old remembered.new (state S.Store conn.old) (state S.Store conn.new) }
     ensures reads { Reads result (state S.Store conn.old) (state S.Store conn.new) }
 {
@@ -108,12 +128,12 @@ fn person_sight<S: Alter>(
 fn sight<S: Alter>(
     alloc: Global,
     conn: &mut Connection<S>,
-    remembered: &mut Option<Rc<Vec<Listing>>>,
+    remembered: &mut Mind,
     code: &[u8],
 ) -> Result<View, LoadFault>
     requires idle { conn.old.in_transaction ≡ false }
     ensures idle { conn.new.in_transaction ≡ false }
-    ensures shows { Holds (state S.Store conn.old).now → HasCleanDisk (state S.Store conn.new) → Good (world_of (state S.Store conn.old).now.trees) → Remembers remembered.old (seen.catalogue (world_of (state S.Store conn.old).now.trees)) → IfOk result (λ view. view ≡ seen.view (world_of (state S.Store conn.old).now.trees) code.now) }
+    ensures shows { Holds (state S.Store conn.old).now → HasCleanDisk (state S.Store conn.new) → Good (world_of (state S.Store conn.old).now.trees) → Remembers remembered.old (world_of (state S.Store conn.old).now.trees) → IfOk result (λ view. view ≡ seen.view (world_of (state S.Store conn.old).now.trees) code.now) }
     ensures mind { KeepsInMind remembered.old remembered.new (state S.Store conn.old) (state S.Store conn.new) }
     ensures same { IsOwn conn.old.schema → HasCleanDisk (state S.Store conn.new) → OnOk result (IsUnchanged (state S.Store conn.old) (state S.Store conn.new)) }
     ensures err { IsOwn conn.old.schema → HasCleanDisk (state S.Store conn.new) → OnErr result (Leaves (state S.Store conn.old) (state S.Store conn.new)) }
@@ -125,16 +145,16 @@ fn sight<S: Alter>(
     person_sight(alloc, conn, remembered, office.phase, code)
 }
 
-/// What the caller with the code sees, with the catalogue that is remembered, or is from now on.
+/// What the caller with the code sees, with what is remembered, or is from now on.
 pub(crate) fn view_with<S: Alter>(
     alloc: Global,
     conn: &mut Connection<S>,
-    remembered: &mut Option<Rc<Vec<Listing>>>,
+    remembered: &mut Mind,
     code: &[u8],
 ) -> Result<View, KeepFault>
     requires idle { conn.old.in_transaction ≡ false }
     ensures idle { conn.new.in_transaction ≡ false }
-    ensures shows { IsOwn conn.old.schema → HasCleanDisk (state S.Store conn.new) → IfOk result (λ view. Holds (state S.Store conn.old).now → Good (world_of (state S.Store conn.old).now.trees) → Remembers remembered.old (seen.catalogue (world_of (state S.Store conn.old).now.trees)) → view ≡ seen.view (world_of (state S.Store conn.old).now.trees) code.now) }
+    ensures shows { IsOwn conn.old.schema → HasCleanDisk (state S.Store conn.new) → IfOk result (λ view. Holds (state S.Store conn.old).now → Good (world_of (state S.Store conn.old).now.trees) → Remembers remembered.old (world_of (state S.Store conn.old).now.trees) → view ≡ seen.view (world_of (state S.Store conn.old).now.trees) code.now) }
     ensures mind { KeepsInMind remembered.old remembered.new (state S.Store conn.old) (state S.Store conn.new) }
     ensures same { IsOwn conn.old.schema → HasCleanDisk (state S.Store conn.new) → OnOk result (IsUnchanged (state S.Store conn.old) (state S.Store conn.new)) }
     ensures err { IsOwn conn.old.schema → HasCleanDisk (state S.Store conn.new) → OnErr result (Leaves (state S.Store conn.old) (state S.Store conn.new)) }
@@ -162,6 +182,6 @@ pub fn view<S: Alter>(
     ensures same { IsOwn conn.old.schema → HasCleanDisk (state S.Store conn.new) → OnOk result (IsUnchanged (state S.Store conn.old) (state S.Store conn.new)) }
     ensures err { IsOwn conn.old.schema → HasCleanDisk (state S.Store conn.new) → OnErr result (Leaves (state S.Store conn.old) (state S.Store conn.new)) }
 {
-    let mut remembered = None;
+    let mut remembered = Mind::empty();
     view_with(alloc, conn, &mut remembered, code)
 }

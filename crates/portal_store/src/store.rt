@@ -2,11 +2,10 @@
 
 ghost use Rattle.std.specs.Prelude.{◌≡◌, false};
 
-use portal_core::Listing;
+use crate::mind::Mind;
 use portal_tables::own::Pattern;
 use sqlite::{Alter, Connection};
 use std::marker::Model;
-use std::rc::Rc;
 
 /// The portal in a database.
 #[derive(Drop)]
@@ -16,8 +15,8 @@ pub struct Store<S: Alter> {
     pub(crate) own: bool,
     /// What the portal's own tables are.
     pub(crate) pattern: Pattern,
-    /// The catalogue, once it was asked for.
-    pub(crate) catalogue: Option<Rc<Vec<Listing>>>,
+    /// What was shown of the world, until that is changed.
+    pub(crate) mind: Mind,
 }
 
 impl<S: Alter> Model for Store<S> {
@@ -29,7 +28,7 @@ impl<S: Alter> Model for Store<S> {
 
     ghost view = { λ s. record { conn = s.conn; own = s.own } };
 
-    ghost invariant = { λ s. IsAtRest S.Store (record { conn = s.conn; own = s.own }) s.catalogue };
+    ghost invariant = { λ s. IsAtRest S.Store (record { conn = s.conn; own = s.own }) s.mind };
 }
 
 /// Why there is no store, and the connection that was handed in.
@@ -74,7 +73,7 @@ impl<S: Alter> Store<S> {
             conn,
             own: _,
             pattern: _,
-            catalogue: _,
+            mind: _,
         } = self;
         conn
     }

@@ -106,13 +106,13 @@ choice tree = table_of (codes "choice") tree
 
 abbrev pub ranking_text : List ℕ
 ranking_text = codes "CREATE TABLE ranking (lecturer TEXT NOT NULL REFERENCES lecturer (key), place INTEGER NOT NULL, "
-    ++ codes "student TEXT NOT NULL REFERENCES student (key), PRIMARY KEY (lecturer, place), UNIQUE (lecturer, "
-    ++ codes "student)) STRICT"
+    ++ codes "student TEXT NOT NULL REFERENCES student (key), PRIMARY KEY (lecturer, place), UNIQUE (student, "
+    ++ codes "lecturer)) STRICT"
 
 abbrev pub ranking : ℕ → Table
 ranking tree = table_of (codes "ranking") tree
     (column_of (codes "lecturer") Text true ∷ column_of (codes "place") Integer true ∷ column_of (codes "student") Text true ∷ [])
-    None (1 ∷ 2 ∷ []) ((1 ∷ 2 ∷ []) ∷ (1 ∷ 3 ∷ []) ∷ []) (plain ∷ plain ∷ []) [] (refers_to 1 (codes "lecturer") ∷ refers_to 3 (codes "student") ∷ [])
+    None (1 ∷ 2 ∷ []) ((1 ∷ 2 ∷ []) ∷ (3 ∷ 1 ∷ []) ∷ []) (plain ∷ plain ∷ []) [] (refers_to 1 (codes "lecturer") ∷ refers_to 3 (codes "student") ∷ [])
 
 abbrev pub no_schema : Schema
 no_schema = record { tables = []; indexes = []; views = [] }
@@ -134,7 +134,7 @@ portal_schema = record {
   indexes = index_of 2 (codes "lecturer_1") 1 (1 ∷ []) ∷ index_of 3 (codes "lecturer_2") 1 (3 ∷ []) ∷ index_of 5 (codes "project_1") 4 (1 ∷ [])
       ∷ index_of 7 (codes "student_1") 6 (1 ∷ []) ∷ index_of 8 (codes "student_2") 6 (3 ∷ [])
       ∷ index_of 10 (codes "choice_1") 9 (1 ∷ 2 ∷ []) ∷ index_of 11 (codes "choice_2") 9 (3 ∷ 1 ∷ [])
-      ∷ index_of 13 (codes "ranking_1") 12 (1 ∷ 2 ∷ []) ∷ index_of 14 (codes "ranking_2") 12 (1 ∷ 3 ∷ []) ∷ [];
+      ∷ index_of 13 (codes "ranking_1") 12 (1 ∷ 2 ∷ []) ∷ index_of 14 (codes "ranking_2") 12 (3 ∷ 1 ∷ []) ∷ [];
   views = [];
 }
 

@@ -55,7 +55,7 @@ fn make_last<S: Alter>(tx: &mut Transaction<'_, S>) -> Result<(), Error>
     )?;
     write(
         tx,
-        "CREATE TABLE ranking (lecturer TEXT NOT NULL REFERENCES lecturer (key), place INTEGER NOT NULL, student TEXT NOT NULL REFERENCES student (key), PRIMARY KEY (lecturer, place), UNIQUE (lecturer, student)) STRICT",
+        "CREATE TABLE ranking (lecturer TEXT NOT NULL REFERENCES lecturer (key), place INTEGER NOT NULL, student TEXT NOT NULL REFERENCES student (key), PRIMARY KEY (lecturer, place), UNIQUE (student, lecturer)) STRICT",
         &[],
     )?;
     Ok(())

@@ -1,6 +1,6 @@
 //! The office's calls.
 
-ghost use Rattle.std.specs.Prelude.{◌≡◌, ◌∷◌, [], length, map, codes, if◌then◌else◌, IfOk};
+ghost use Rattle.std.specs.Prelude.{◌≡◌, ◌∷◌, [], length, map, filter, not, codes, if◌then◌else◌, IfOk};
 ghost use Rattle.serde_json.specs.View as json;
 ghost use Rattle.serde_json.specs.Data.{string};
 ghost use Rattle.portal_core.specs.Words.{Key, is_empty};
@@ -24,6 +24,8 @@ use crate::deciding::replies::{
 use crate::deciding::rolls::{Added, Roll, RollFault, take_rows};
 use crate::decision::{Act, Change, Decision, Reply, Sheet};
 use crate::phase::Phase;
+use crate::placing::Placings;
+use crate::rows::StudentRow;
 use crate::view::OfficeView;
 use serde_json::{Map, Value, json, put};
 use spa_rows::Key;
@@ -36,24 +38,29 @@ fn me_body(alloc: Global, view: &OfficeView) -> Result<Value, AllocError>
     json!(in alloc; {"phase": view.phase.word(), "role": "office"})
 }
 
-/// Whether the pairs give the student a project.
-fn is_assigned(pairs: &[(Key, Key)], student: &Key) -> bool
-    ensures { result ≡ shown.is_assigned pairs.now student.now }
+/// Those of the students who have no project in the result.
+fn unplaced_values(
+    alloc: Global,
+    placings: &Placings,
+    students: &[StudentRow],
+) -> Result<Vec<Value>, AllocError>
+    ensures { IfOk result (λ values. map json.view values.items ≡ map string (map (λ s. s.key) (filter (λ s. not (shown.is_assigned placings.now.pairs s.key)) students.now))) }
 {
-    pairs.iter().any(|pair| pair.0 == *student)
+    let mut values = Vec::new(alloc);
+    for student in students {
+        if !placings.is_placed(student) {
+            values.push(key_value(alloc, &student.key)?)?;
+        }
+    }
+    Ok(values)
 }
 
 /// The students who have no project in the result.
 fn unassigned_values(alloc: Global, view: &OfficeView) -> Result<Vec<Value>, AllocError>
     ensures { IfOk result (λ values. map json.view values.items ≡ map string (shown.unassigned view.now)) }
 {
-    let mut values = Vec::new(alloc);
-    for student in &view.students {
-        if !is_assigned(&view.pairs, &student.key) {
-            values.push(key_value(alloc, &student.key)?)?;
-        }
-    }
-    Ok(values)
+    let placings = Placings::of(alloc, view)?;
+    unplaced_values(alloc, &placings, &view.students)
 }
 
 /// What the status has in each phase.

@@ -5,36 +5,50 @@ ghost use Rattle.std.specs.List.{list_any};
 ghost use Rattle.portal_core.specs.Words.{has, is_empty};
 ghost use Rattle.portal_list.specs.Shown.{is_wanted, is_waiting, pairs_in};
 
-use crate::copies::{holds, lecturer_row_of, student_row_of};
+use crate::copies::{holds, lecturer_row_of, project_rows_of, student_row_of};
 use crate::entries::{LecturerEntry, StudentEntry};
 use portal_core::{LecturerRow, ProjectRow, StudentRow};
 use spa_rows::Key;
 use std::alloc::{AllocError, Global};
+use std::rc::Rc;
 
+/// The roll of lecturers.
 pub(super) fn lecturer_rows(
     alloc: Global,
     lecturers: &[LecturerEntry],
-) -> Result<Vec<LecturerRow>, AllocError>
-    ensures { IfOk result (λ v. v.items ≡ map (λ l. l.row) lecturers.now) }
+) -> Result<Rc<Vec<LecturerRow>>, AllocError>
+    ensures { IfOk result (λ shared. shared.value.items ≡ map (λ l. l.row) lecturers.now) }
 {
     let mut rows = Vec::with_capacity(alloc, lecturers.len())?;
     for lecturer in lecturers {
         rows.push(lecturer_row_of(alloc, &lecturer.row)?)?;
     }
-    Ok(rows)
+    Ok(Rc::new(alloc, rows)?)
 }
 
+/// The roll of projects.
+pub(super) fn project_rows(
+    alloc: Global,
+    projects: &[ProjectRow],
+) -> Result<Rc<Vec<ProjectRow>>, AllocError>
+    ensures { IfOk result (λ shared. shared.value.items ≡ projects.now) }
+{
+    let rows = project_rows_of(alloc, projects)?;
+    Ok(Rc::new(alloc, rows)?)
+}
+
+/// The roll of students.
 pub(super) fn student_rows(
     alloc: Global,
     students: &[StudentEntry],
-) -> Result<Vec<StudentRow>, AllocError>
-    ensures { IfOk result (λ v. v.items ≡ map (λ s. s.row) students.now) }
+) -> Result<Rc<Vec<StudentRow>>, AllocError>
+    ensures { IfOk result (λ shared. shared.value.items ≡ map (λ s. s.row) students.now) }
 {
     let mut rows = Vec::with_capacity(alloc, students.len())?;
     for student in students {
         rows.push(student_row_of(alloc, &student.row)?)?;
     }
-    Ok(rows)
+    Ok(Rc::new(alloc, rows)?)
 }
 
 /// The students whose list is empty.

@@ -13,6 +13,7 @@ ghost use Rattle.portal_store.specs.Queried.{name_of, offered};
 
 use crate::decode::decoded;
 use crate::load::{LoadFault, lecturer_roll, project_roll};
+use crate::mind::Mind;
 use portal_core::{LecturerRow, Listing, Name, ProjectRow};
 use spa_rows::Key;
 use sqlite::{Alter, Connection, Row};
@@ -128,17 +129,17 @@ fn catalogue_in<S: Alter>(
 pub(super) fn shared_catalogue<S: Alter>(
     alloc: Global,
     conn: &mut Connection<S>,
-    remembered: &mut Option<Rc<Vec<Listing>>>,
+    remembered: &mut Mind,
 ) -> Result<Rc<Vec<Listing>>, LoadFault>
-    ensures shows { Holds (state S.Store conn.old).now → HasCleanDisk (state S.Store conn.new) → IsTrue (state S.Store conn.old).is_open → Remembers remembered.old (catalogue (world_of (state S.Store conn.old).now.trees)) → IfOk result (λ shared. shared.value.items ≡ catalogue (world_of (state S.Store conn.old).now.trees)) }
+    ensures shows { Holds (state S.Store conn.old).now → HasCleanDisk (state S.Store conn.new) → IsTrue (state S.Store conn.old).is_open → Remembers remembered.old (world_of (state S.Store conn.old).now.trees) → IfOk result (λ shared. shared.value.items ≡ catalogue (world_of (state S.Store conn.old).now.trees)) }
     ensures mind { KeepsInMind remembered.old remembered.new (state S.Store conn.old) (state S.Store conn.new) }
     ensures reads { Reads result (state S.Store conn.old) (state S.Store conn.new) }
     ensures mode { conn.old.in_transaction ≡ false → conn.new.in_transaction ≡ false }
 {
-    if let Some(shared) = remembered {
+    if let Some(shared) = &remembered.catalogue {
         return Ok(shared.clone()?);
     }
     let shared = catalogue_in(alloc, conn)?;
-    *remembered = Some(shared.clone()?);
+    remembered.catalogue = Some(shared.clone()?);
     Ok(shared)
 }

@@ -208,9 +208,9 @@ fn put_together(
     Ok(OfficeView {
         phase: office.phase,
         office_code: office.code,
-        lecturers: parts.lecturers,
-        projects: parts.projects,
-        students: parts.students,
+        lecturers: Rc::new(alloc, parts.lecturers)?,
+        projects: Rc::new(alloc, parts.projects)?,
+        students: Rc::new(alloc, parts.students)?,
         catalogue,
         without_list,
         still_to_rank,

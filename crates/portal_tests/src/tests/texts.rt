@@ -23,6 +23,11 @@ fn pairs(rt: &(impl Abort + AllocGlobal)) -> Vec<(Key, Key)> {
     pairs
 }
 
+/// Rows that a view shares.
+fn shared<X: Drop>(rt: &(impl Abort + AllocGlobal), rows: Vec<X>) -> Rc<Vec<X>> {
+    Rc::new(rt.alloc(), rows).expect(rt, "memory")
+}
+
 /// What the office sees of the worked world in published.
 fn worked(rt: &(impl Abort + AllocGlobal)) -> OfficeView {
     let alloc = rt.alloc();
@@ -35,10 +40,10 @@ fn worked(rt: &(impl Abort + AllocGlobal)) -> OfficeView {
     OfficeView {
         phase: Phase::Published,
         office_code: Code::parse(alloc, b"office-code-0").expect(rt, "a code"),
-        lecturers: read_lecturers(alloc, lecturers).expect(rt, "a roll"),
-        projects: read_projects(alloc, projects).expect(rt, "a roll"),
-        students: read_students(alloc, students).expect(rt, "a roll"),
-        catalogue: Rc::new(alloc, Vec::new(alloc)).expect(rt, "memory"),
+        lecturers: shared(rt, read_lecturers(alloc, lecturers).expect(rt, "a roll")),
+        projects: shared(rt, read_projects(alloc, projects).expect(rt, "a roll")),
+        students: shared(rt, read_students(alloc, students).expect(rt, "a roll")),
+        catalogue: shared(rt, Vec::new(alloc)),
         without_list,
         still_to_rank: Vec::new(alloc),
         pairs: pairs(rt),

@@ -706,6 +706,126 @@ const NO_APPLICANT: &[Step] = &[
     ),
 ];
 
+/// The office asks again and again while a student puts a list and takes it back.
+const WATCHED_LISTS: &[Step] = &[
+    (
+        "GET",
+        "/status",
+        OFFICE,
+        "",
+        "200 OK",
+        r#"{"lecturers":2,"phase":"choosing","projects":3,"still_to_rank":[],"students":3,"without_list":["S3"]}"#,
+    ),
+    (
+        "PUT",
+        "/choices",
+        CYR,
+        r#"{"projects":["P3"]}"#,
+        "200 OK",
+        r#"{"projects":["P3"]}"#,
+    ),
+    (
+        "GET",
+        "/status",
+        OFFICE,
+        "",
+        "200 OK",
+        r#"{"lecturers":2,"phase":"choosing","projects":3,"still_to_rank":[],"students":3,"without_list":[]}"#,
+    ),
+    (
+        "PUT",
+        "/choices",
+        CYR,
+        r#"{"projects":[]}"#,
+        "200 OK",
+        r#"{"projects":[]}"#,
+    ),
+    (
+        "GET",
+        "/status",
+        OFFICE,
+        "",
+        "200 OK",
+        r#"{"lecturers":2,"phase":"choosing","projects":3,"still_to_rank":[],"students":3,"without_list":["S3"]}"#,
+    ),
+    (
+        "PUT",
+        "/choices",
+        ANN,
+        r#"{"projects":["P1","P2"]}"#,
+        "200 OK",
+        r#"{"projects":["P1","P2"]}"#,
+    ),
+    (
+        "GET",
+        "/status",
+        OFFICE,
+        "",
+        "200 OK",
+        r#"{"lecturers":2,"phase":"choosing","projects":3,"still_to_rank":[],"students":3,"without_list":["S3"]}"#,
+    ),
+];
+
+/// The office asks again and again while lecturers rank, and fills the rest.
+const WATCHED_RANKINGS: &[Step] = &[
+    (
+        "GET",
+        "/status",
+        OFFICE,
+        "",
+        "200 OK",
+        r#"{"lecturers":2,"phase":"ranking","projects":3,"still_to_rank":["L1","L2"],"students":3,"without_list":["S3"]}"#,
+    ),
+    (
+        "PUT",
+        "/ranking",
+        MOE,
+        r#"{"students":["S2"]}"#,
+        "200 OK",
+        r#"{"students":["S2"]}"#,
+    ),
+    (
+        "GET",
+        "/status",
+        OFFICE,
+        "",
+        "200 OK",
+        r#"{"lecturers":2,"phase":"ranking","projects":3,"still_to_rank":["L1"],"students":3,"without_list":["S3"]}"#,
+    ),
+    (
+        "PUT",
+        "/ranking",
+        MOE,
+        r#"{"students":["S2"]}"#,
+        "200 OK",
+        r#"{"students":["S2"]}"#,
+    ),
+    (
+        "GET",
+        "/status",
+        OFFICE,
+        "",
+        "200 OK",
+        r#"{"lecturers":2,"phase":"ranking","projects":3,"still_to_rank":["L1"],"students":3,"without_list":["S3"]}"#,
+    ),
+    (
+        "POST",
+        "/ranking/fill",
+        OFFICE,
+        "{}",
+        "200 OK",
+        r#"{"filled":["L1"]}"#,
+    ),
+    (
+        "GET",
+        "/status",
+        OFFICE,
+        "",
+        "200 OK",
+        r#"{"lecturers":2,"phase":"ranking","projects":3,"still_to_rank":[],"students":3,"without_list":["S3"]}"#,
+    ),
+];
+
 #[test]
 fn the_worked_year(rt: HostRuntime) {
     play_both(
@@ -722,6 +842,14 @@ fn the_worked_year(rt: HostRuntime) {
             PUBLISHED,
             REFUSED,
         ],
+    );
+}
+
+#[test]
+fn the_office_sees_each_change(rt: HostRuntime) {
+    play_both(
+        &rt,
+        &[ROLLS, LISTS, WATCHED_LISTS, TO_RANKING, WATCHED_RANKINGS],
     );
 }
 

@@ -4,7 +4,7 @@ use Rattle.sqlite.specs.Effect.{Database}
 use Rattle.sqlite.specs.Held.{state}
 use Rattle.sqlite.specs.State.{HasCleanDisk, IsUnchanged}
 use Rattle.portal_core.specs.Good.{Good}
-use Rattle.portal_core.specs.View.{catalogue, view, sight_of, caller_among, lecturer_with, student_with, OfficeCaller}
+use Rattle.portal_core.specs.View.{view, sight_of, caller_among, lecturer_with, student_with, OfficeCaller}
 use Rattle.portal_core.specs.Words.{is}
 use Rattle.portal_tables.specs.Tables.{portal_tree}
 use Rattle.portal_tables.specs.Rows.{portal_row}
@@ -25,7 +25,7 @@ returns-clause-shows g c holds clean good right =
     let m : IsUnchanged a b = c.in_ok-office.ensures.same holds.own before in
     let code = c.args.code.now in
     let phase = c.in_ok-office.office.phase in
-    let there = subst (λ (x : Database). Holds x → HasCleanDisk d → IsTrue b.is_open → phase ≡ (world_of x.trees).phase → is (world_of x.trees).office code ≡ false → Good (world_of x.trees) → Remembers c.args.remembered.now (catalogue (world_of x.trees)) → IfOk c.person_sight.result (λ v. v ≡ view (world_of x.trees) code)) m.0.now_is c.person_sight.ensures.shows in
+    let there = subst (λ (x : Database). Holds x → HasCleanDisk d → IsTrue b.is_open → phase ≡ (world_of x.trees).phase → is (world_of x.trees).office code ≡ false → Good (world_of x.trees) → Remembers c.args.remembered.now (world_of x.trees) → IfOk c.person_sight.result (λ v. v ≡ view (world_of x.trees) code)) m.0.now_is c.person_sight.ensures.shows in
     let row = c.in_ok-office.ensures.row holds.own holds.sound before in
     let other : is c.in_ok-office.office.code code ≡ false = search rules in
     there holds clean m.0.is_open (phase_told a.now.trees phase _ row) (subst (λ k. is k code ≡ false) (code_told a.now.trees phase _ row) other) good right
@@ -36,7 +36,7 @@ returns-clause-mind g c holds clean on =
     let b = state g.S.Store c.office_in.new.conn in
     let d = state g.S.Store c.person_sight.new.conn in
     let m = c.in_ok-office.ensures.same holds.own (clean_before b d _ c.person_sight.ensures.reads.crash clean) in
-    at_start a b d m (λ x. Remembers c.args.remembered.now (catalogue (world_of x.trees)) → Remembers c.person_sight.new.remembered (catalogue (world_of x.trees))) c.person_sight.ensures.mind holds clean
+    at_start a b d m (λ x. Remembers c.args.remembered.now (world_of x.trees) → Remembers c.person_sight.new.remembered (world_of x.trees)) c.person_sight.ensures.mind holds clean
 
 pub returns-then-eq-clause-shows : goal.returns-then-eq-clause-shows
 returns-then-eq-clause-shows g c holds clean good right =
@@ -48,7 +48,7 @@ returns-then-eq-clause-shows g c holds clean good right =
     let code = c.args.code.now in
     let office = c.in_ok-office.office in
     let row = c.in_ok-office.ensures.row holds.own holds.sound before in
-    let there = subst (λ (x : Database). Holds x → HasCleanDisk d → x.trees portal_tree ≡ portal_row (pos 1) (pos (number_of office.phase)) office.code ∷ [] → Remembers c.args.remembered.now (catalogue (world_of x.trees)) → IfOk c.office_sight.result (λ v. v ≡ sight_of (world_of x.trees) OfficeCaller)) m.0.now_is
+    let there = subst (λ (x : Database). Holds x → HasCleanDisk d → x.trees portal_tree ≡ portal_row (pos 1) (pos (number_of office.phase)) office.code ∷ [] → Remembers c.args.remembered.now (world_of x.trees) → IfOk c.office_sight.result (λ v. v ≡ sight_of (world_of x.trees) OfficeCaller)) m.0.now_is
     (λ holds clean. c.office_sight.ensures.shows holds clean m.0.is_open) in
     let own : is office.code code ≡ true = search rules in
     let mine : is (world_of a.now.trees).office code ≡ true = subst (λ k. is k code ≡ true) (code_told a.now.trees office.phase _ row) own in
@@ -59,5 +59,8 @@ returns-then-eq-clause-mind g c holds clean on =
     let a = state g.S.Store c.args.conn.now in
     let b = state g.S.Store c.office_in.new.conn in
     let d = state g.S.Store c.office_sight.new.conn in
-    let m = c.in_ok-office.ensures.same holds.own (clean_before b d _ c.office_sight.ensures.reads.crash clean) in
-    at_start a b d m (λ x. Remembers c.args.remembered.now (catalogue (world_of x.trees)) → Remembers c.office_sight.new.remembered (catalogue (world_of x.trees))) c.office_sight.ensures.mind holds clean
+    let before = clean_before b d _ c.office_sight.ensures.reads.crash clean in
+    let m = c.in_ok-office.ensures.same holds.own before in
+    let office = c.in_ok-office.office in
+    at_start a b d m (λ x. x.trees portal_tree ≡ portal_row (pos 1) (pos (number_of office.phase)) office.code ∷ [] → Remembers c.args.remembered.now (world_of x.trees) → Remembers c.office_sight.new.remembered (world_of x.trees))
+    (λ holds clean on row. c.office_sight.ensures.mind row holds clean on) holds clean (c.in_ok-office.ensures.row holds.own holds.sound before)

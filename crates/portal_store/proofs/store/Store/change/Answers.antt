@@ -12,28 +12,28 @@ law g h = clean_if_open (state g.S.Store h).is_clean (state g.S.Store h).is_open
 
 pub invariant_of-self : goal.invariant_of-self
 invariant_of-self g c = record {
-  kept = change_keeps g.S.Store (meant c.args.change.now) c.self.inside.conn c.make.new.conn c.self.inside.own c.args.self.now c.self.view_is c.self.invariant.kept c.make.ensures.idle c.in_ok-check_own.ensures (law g c.make.new.conn) c.requires.good c.requires.leaves_good
-      c.make.result c.make.ensures.ok c.make.ensures.err;
-  shown = change_shown g.S.Store (meant c.args.change.now) c.self.inside.conn c.make.new.conn c.self.inside.own c.args.self.now c.self.view_is c.self.invariant.kept c.make.ensures.idle c.in_ok-check_own.ensures (law g c.make.new.conn) c.requires.good c.requires.leaves_good
-      c.make.result c.make.ensures.ok c.make.ensures.err c.self.inside.catalogue c.forget_changed.new.remembered c.self.invariant.shown c.forget_changed.ensures.before c.forget_changed.ensures.after;
+  kept = change_keeps g.S.Store (meant c.args.change.now) c.self.inside.conn c.make-made.new.conn c.self.inside.own c.args.self.now c.self.view_is c.self.invariant.kept c.make-made.ensures.idle c.in_ok-check_own.ensures (law g c.make-made.new.conn) c.requires.good c.requires.leaves_good
+      c.make-made.result c.make-made.ensures.ok c.make-made.ensures.err;
+  shown = change_shown g.S.Store (meant c.args.change.now) c.self.inside.conn c.make-made.new.conn c.self.inside.own c.args.self.now c.self.view_is c.self.invariant.kept c.make-made.ensures.idle c.in_ok-check_own.ensures (law g c.make-made.new.conn) c.requires.good c.requires.leaves_good
+      c.make-made.result c.make-made.ensures.ok c.make-made.ensures.err c.self.inside.mind c.follow.new.self c.self.invariant.shown c.follow.ensures.made c.follow.ensures.not_made;
 }
 
 pub returns-clause-clean : goal.returns-clause-clean
 returns-clause-clean g c =
-    change_clean g.S.Store (meant c.args.change.now) c.self.inside.conn c.make.new.conn c.self.inside.own c.args.self.now c.self.view_is c.self.invariant.kept c.make.ensures.idle c.in_ok-check_own.ensures (law g c.make.new.conn) c.requires.good c.requires.leaves_good
-    c.make.result c.make.ensures.ok c.make.ensures.err
+    change_clean g.S.Store (meant c.args.change.now) c.self.inside.conn c.make-made.new.conn c.self.inside.own c.args.self.now c.self.view_is c.self.invariant.kept c.make-made.ensures.idle c.in_ok-check_own.ensures (law g c.make-made.new.conn) c.requires.good c.requires.leaves_good
+    c.make-made.result c.make-made.ensures.ok c.make-made.ensures.err
 
 pub returns-clause-made : goal.returns-clause-made
 returns-clause-made g c =
-    change_made g.S.Store (meant c.args.change.now) c.self.inside.conn c.make.new.conn c.self.inside.own c.args.self.now c.self.view_is c.self.invariant.kept c.make.ensures.idle c.in_ok-check_own.ensures (law g c.make.new.conn) c.requires.good c.requires.leaves_good
-    c.make.result c.make.ensures.ok c.make.ensures.err
+    change_made g.S.Store (meant c.args.change.now) c.self.inside.conn c.make-made.new.conn c.self.inside.own c.args.self.now c.self.view_is c.self.invariant.kept c.make-made.ensures.idle c.in_ok-check_own.ensures (law g c.make-made.new.conn) c.requires.good c.requires.leaves_good
+    c.make-made.result c.make-made.ensures.ok c.make-made.ensures.err
 
 pub returns-clause-same : goal.returns-clause-same
 returns-clause-same g c =
-    change_same g.S.Store (meant c.args.change.now) c.self.inside.conn c.make.new.conn c.self.inside.own c.args.self.now c.self.view_is c.self.invariant.kept c.make.ensures.idle c.in_ok-check_own.ensures (law g c.make.new.conn) c.requires.good c.requires.leaves_good
-    c.make.result c.make.ensures.ok c.make.ensures.err
+    change_same g.S.Store (meant c.args.change.now) c.self.inside.conn c.make-made.new.conn c.self.inside.own c.args.self.now c.self.view_is c.self.invariant.kept c.make-made.ensures.idle c.in_ok-check_own.ensures (law g c.make-made.new.conn) c.requires.good c.requires.leaves_good
+    c.make-made.result c.make-made.ensures.ok c.make-made.ensures.err
 
 pub returns-clause-left : goal.returns-clause-left
 returns-clause-left g c =
-    change_left g.S.Store (meant c.args.change.now) c.self.inside.conn c.make.new.conn c.self.inside.own c.args.self.now c.self.view_is c.self.invariant.kept c.make.ensures.idle c.in_ok-check_own.ensures (law g c.make.new.conn) c.requires.good c.requires.leaves_good
-    (g.met.S.Store.settled c.self.inside.conn.store) c.make.ensures.crash
+    change_left g.S.Store (meant c.args.change.now) c.self.inside.conn c.make-made.new.conn c.self.inside.own c.args.self.now c.self.view_is c.self.invariant.kept c.make-made.ensures.idle c.in_ok-check_own.ensures (law g c.make-made.new.conn) c.requires.good c.requires.leaves_good
+    (g.met.S.Store.settled c.self.inside.conn.store) c.make-made.ensures.crash

@@ -17,7 +17,7 @@ invariant_of-self g c = record {
   kept = read_keeps g.S.Store c.self.inside.conn c.instance_in.new.conn c.self.inside.own c.args.self.now c.self.view_is c.self.invariant.kept c.instance_in.ensures.idle c.in_ok-check_own.ensures (law g c.instance_in.new.conn)
       c.instance_in.result c.instance_in.ensures.same c.instance_in.ensures.err;
   shown = read_shown g.S.Store c.self.inside.conn c.instance_in.new.conn c.self.inside.own c.args.self.now c.self.view_is c.self.invariant.kept c.instance_in.ensures.idle c.in_ok-check_own.ensures (law g c.instance_in.new.conn)
-      c.instance_in.result c.instance_in.ensures.same c.instance_in.ensures.err c.self.inside.catalogue c.self.inside.catalogue c.self.invariant.shown (λ _ _ _ told. told);
+      c.instance_in.result c.instance_in.ensures.same c.instance_in.ensures.err c.self.inside.mind c.self.inside.mind c.self.invariant.shown (λ _ _ _ told. told);
 }
 
 pub returns-clause-clean : goal.returns-clause-clean

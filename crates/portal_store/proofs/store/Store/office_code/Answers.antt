@@ -16,7 +16,7 @@ invariant_of-self g c = record {
   kept = read_keeps g.S.Store c.self.inside.conn c.office_of.new.conn c.self.inside.own c.args.self.now c.self.view_is c.self.invariant.kept c.office_of.ensures.idle c.in_ok-check_own.ensures (law g c.office_of.new.conn)
       c.office_of.result c.office_of.ensures.same c.office_of.ensures.err;
   shown = read_shown g.S.Store c.self.inside.conn c.office_of.new.conn c.self.inside.own c.args.self.now c.self.view_is c.self.invariant.kept c.office_of.ensures.idle c.in_ok-check_own.ensures (law g c.office_of.new.conn)
-      c.office_of.result c.office_of.ensures.same c.office_of.ensures.err c.self.inside.catalogue c.self.inside.catalogue c.self.invariant.shown (λ _ _ _ told. told);
+      c.office_of.result c.office_of.ensures.same c.office_of.ensures.err c.self.inside.mind c.self.inside.mind c.self.invariant.shown (λ _ _ _ told. told);
 }
 
 pub returns-clause-clean : goal.returns-clause-clean

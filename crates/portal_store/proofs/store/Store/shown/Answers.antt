@@ -20,7 +20,7 @@ invariant_of-self g c = record {
   kept = read_keeps g.S.Store c.self.inside.conn c.view_with.new.conn c.self.inside.own c.args.self.now c.self.view_is c.self.invariant.kept c.view_with.ensures.idle c.in_ok-check_own.ensures (law g c.view_with.new.conn)
       c.view_with.result c.view_with.ensures.same c.view_with.ensures.err;
   shown = read_shown g.S.Store c.self.inside.conn c.view_with.new.conn c.self.inside.own c.args.self.now c.self.view_is c.self.invariant.kept c.view_with.ensures.idle c.in_ok-check_own.ensures (law g c.view_with.new.conn)
-      c.view_with.result c.view_with.ensures.same c.view_with.ensures.err c.self.inside.catalogue c.view_with.new.remembered c.self.invariant.shown c.view_with.ensures.mind;
+      c.view_with.result c.view_with.ensures.same c.view_with.ensures.err c.self.inside.mind c.view_with.new.remembered c.self.invariant.shown c.view_with.ensures.mind;
 }
 
 pub returns-clause-clean : goal.returns-clause-clean

@@ -1,0 +1,131 @@
+-- A table after one more text or row was put in.
+use Rattle.std.proofs.Common.{◌≡◌, ℕ, ◌+◌, ◌<◌, Bool, true, false, cond, List, [], ◌∷◌, ◌++◌, map, reverse, length, take, get_or, Bor, Option, Some, None, refl, sym, ◌∙◌, ap, subst, append_assoc, append-nil, add-one}
+use Rattle.std.proofs.Math.Bool.{or-true, or-false, or_assoc}
+use Rattle.std.proofs.Math.Seq.{take-suc, take-length}
+use Rattle.std.proofs.lemmas.List.{map-append, reverse-append}
+use Rattle.std.proofs.lemmas.List.Folds.{list_any_more}
+use Rattle.std.specs.Prelude.{◌||◌, not, is_some, option_map, IfSome}
+use Rattle.std.specs.List.{list_any, find}
+use Rattle.std.specs.HashMap as hash
+use Rattle.std.specs.HashMap.{HashMap}
+use Rattle.std.specs.HashSet as set
+use Rattle.std.specs.HashSet.{HashSet}
+use Rattle.spa_rows.specs.Index.{text_eq}
+use Rattle.portal_core.specs.Words.{Key, is, has}
+use Rattle.portal_core.specs.declared.rows.Person.{Person}
+use Rattle.portal_core.specs.declared.rows.ProjectRow.{ProjectRow}
+use Rattle.portal_core.specs.declared.rows.StudentRow.{StudentRow}
+use Rattle.portal_core.specs.Sight.{OfficeSees}
+use Rattle.portal_core.specs.Sheets.{project_with, project_of}
+use Rattle.portal_core.specs.Tables.{HasTexts, HasRows, HasKeys, HasPlacings}
+use Rattle.portal_core.proofs.Keys.{is_same}
+use Rattle.portal_core.proofs.AllLaws.{any_alike, is_sym, or_swap}
+
+any_between : {X : Type 0} (p : X → Bool) (front : List X) (x : X) (rest : List X) → list_any p (front ++ x ∷ rest) ≡ (p x || list_any p (front ++ rest))
+any_between p [] x rest = refl
+any_between p (y ∷ ys) x rest = ap (λ b. p y || b) (any_between p ys x rest) ∙ or_swap (p y) (p x) (list_any p (ys ++ rest))
+
+either : (b c : Bool) → cond b true c ≡ (b || c)
+either true c = refl
+either false c = refl
+
+pub text_put : {S : Type 0} (front rest : List Key) (s t : HashSet (Bor Key) S) (k : Bor Key) (x : Key) → set.Updates text_eq s t k true → k.now ≡ x → HasTexts (front ++ rest) s → HasTexts (front ++ x ∷ rest) t
+text_put front rest s t k x updates is_x was = λ q.
+    updates.0 q ∙ either (is k.now q.now) (set.contains text_eq s q)
+    ∙ ap (λ b. b || set.contains text_eq s q) (is_sym k.now q.now ∙ ap (is q.now) is_x)
+    ∙ ap (λ b. is q.now x || b) (was q)
+    ∙ sym (any_between (is q.now) front x rest)
+
+pub text_push : {S : Type 0} (texts : List Key) (s t : HashSet (Bor Key) S) (k : Bor Key) (x : Key) → set.Updates text_eq s t k true → k.now ≡ x → HasTexts texts s → HasTexts (texts ++ x ∷ []) t
+text_push texts s t k x updates is_x was = text_put texts [] s t k x updates is_x (subst (λ ts. HasTexts ts s) (sym (append-nil texts)) was)
+
+found : {X : Type 0} (b : Bool) (v : Bor X) (o : Option (Bor X)) → option_map (λ row. row.now) (cond b (Some v) o) ≡ cond b (Some v.now) (option_map (λ row. row.now) o)
+found true v o = refl
+found false v o = refl
+
+pub row_put : {X S : Type 0} (key : X → Key) (rows : List X) (s t : HashMap (Bor Key) (Bor X) S) (k : Bor Key) (v : Bor X) → hash.Updates text_eq s t k (Some v) → k.now ≡ key v.now → HasRows key rows s → HasRows key (v.now ∷ rows) t
+row_put key rows s t k v updates is_key was = λ q.
+    ap (option_map (λ row. row.now)) (updates.0 q) ∙ found (is k.now q.now) v (hash.get text_eq s q)
+    ∙ ap (λ x. cond (is x q.now) (Some v.now) (option_map (λ row. row.now) (hash.get text_eq s q))) is_key
+    ∙ ap (λ o. cond (is (key v.now) q.now) (Some v.now) o) (was q)
+
+-- the text of the next row was put in
+module _ {X : Type 0} (xs : List X) (text : X → Key) where
+  taken : (i : ℕ) (x : X) → i < length xs → x ≡ get_or xs i x → map text (take (i + 1) xs) ≡ map text (take i xs) ++ text x ∷ []
+  taken i x low e =
+      ap (λ n. map text (take n xs)) (add-one i) ∙ ap (map text) (take-suc xs i x low)
+      ∙ ap (λ y. map text (take i xs ++ y ∷ [])) (sym e) ∙ map-append text (take i xs) (x ∷ [])
+
+  pub text_more : {S : Type 0} (given : List Key) (s t : HashSet (Bor Key) S) (k : Bor Key) (i : ℕ) (x : X) → set.Updates text_eq s t k true → k.now ≡ text x → i < length xs → x ≡ get_or xs i x
+      → HasTexts (given ++ map text (take i xs)) s → HasTexts (given ++ map text (take (i + 1) xs)) t
+  text_more given s t k i x updates is_text low e was =
+      subst (λ ts. HasTexts ts t) (append_assoc given (map text (take i xs)) (text x ∷ []) ∙ ap (λ ts. given ++ ts) (sym (taken i x low e)))
+      (text_push (given ++ map text (take i xs)) s t k (text x) updates is_text was)
+
+  -- the texts of all rows are in
+  pub text_all : {S : Type 0} (s : HashSet (Bor Key) S) (i : ℕ) → i ≡ length xs → HasTexts (map text (take i xs)) s → HasTexts (map text xs) s
+  text_all s i end was = subst (λ ys. HasTexts (map text ys) s) (ap (λ n. take n xs) end ∙ take-length xs) was
+
+-- one more row before those that were seen
+pub before_seen : {X : Type 0} (seen : List (Bor X)) (row : Bor X) → row.now ∷ reverse (map (λ r. r.now) seen) ≡ reverse (map (λ r. r.now) (seen ++ row ∷ []))
+before_seen seen row = sym (ap reverse (map-append (λ r. r.now) seen (row ∷ [])) ∙ reverse-append (map (λ r. r.now) seen) (row.now ∷ []))
+
+-- the pair of a student and its project were found
+pub project_found : {S T : Type 0} (v : OfficeSees) (s : StudentRow) (pairs : HashMap (Bor Key) (Bor (Key × Key)) S) (projects : HashMap (Bor Key) (Bor ProjectRow) T) → HasPlacings v pairs projects
+    → (q : Bor Key) → q.now ≡ s.key → (pair : Bor (Key × Key)) → hash.get text_eq pairs q ≡ Some pair → (k : Bor Key) → k.now ≡ pair.now.1 → option_map (λ row. row.now) (hash.get text_eq projects k) ≡ project_of v s
+project_found v s pairs projects has_all q is_student pair got k is_project =
+    let pair_found : find (λ x. is x.0 s.key) v.pairs ≡ Some pair.now = ap (λ key. find (λ x. is x.0 key) v.pairs) (sym is_student) ∙ sym (has_all.0 q) ∙ ap (option_map (λ row. row.now)) got in
+    has_all.1 k ∙ ap (λ key. find (λ p. is p.key key) v.projects) is_project ∙ sym (ap (λ o. project_with v.projects (option_map (λ x. x.1) o)) pair_found)
+
+-- whether a row has the key
+some_found : {X : Type 0} (p : X → Bool) (xs : List X) → is_some (find p xs) ≡ list_any p xs
+some_found p [] = refl
+some_found p (x ∷ xs) = elim (p x) as (λ b. is_some (cond b (Some x) (find p xs)) ≡ (b || list_any p xs)) [
+  | true ↦ refl
+  | false ↦ some_found p xs
+]
+
+some_mapped : {X Y : Type 0} (f : X → Y) (o : Option X) → is_some o ≡ is_some (option_map f o)
+some_mapped f None = refl
+some_mapped f (Some x) = refl
+
+pub is_there : {X S : Type 0} (key : X → Key) (rows : List X) (table : HashMap (Bor Key) (Bor X) S) → HasRows key rows table → (q : Bor Key) (k : Key) → q.now ≡ k → is_some (hash.get text_eq table q) ≡ list_any (λ x. is (key x) k) rows
+is_there key rows table has_all q k is_key =
+    some_mapped (λ row. row.now) (hash.get text_eq table q) ∙ ap is_some (has_all q) ∙ some_found (λ x. is (key x) q.now) rows ∙ ap (λ text. list_any (λ x. is (key x) text) rows) is_key
+
+-- the key of one more text was put in
+known_put : {S : Type 0} (known : Key → Bool) (s t : HashMap (Bor Key) (Bor Key) S) (k v : Bor Key) (x : Key) → hash.Updates text_eq s t k (Some v) → k.now ≡ x → v.now ≡ x → HasKeys known s → HasKeys (λ q. known q || is x q) t
+known_put known s t k v x updates is_x is_v was = λ q. go q (is k.now q.now) refl
+  where
+    go : (q : Bor Key) (b : Bool) → is k.now q.now ≡ b → (is_some (hash.get text_eq t q) ≡ (known q.now || is x q.now)) × IfSome (hash.get text_eq t q) (λ key. key.now ≡ q.now)
+    go q true e =
+        let now : hash.get text_eq t q ≡ Some v = updates.0 q ∙ ap (λ b. cond b (Some v) (hash.get text_eq s q)) e in
+        let here : is x q.now ≡ true = ap (λ y. is y q.now) (sym is_x) ∙ e in
+        (ap is_some now ∙ sym (ap (λ b. known q.now || b) here ∙ or-true (known q.now)), subst (λ o. IfSome o (λ key. key.now ≡ q.now)) (sym now) (is_v ∙ is_same x q.now here))
+    go q false e =
+        let now : hash.get text_eq t q ≡ hash.get text_eq s q = updates.0 q ∙ ap (λ b. cond b (Some v) (hash.get text_eq s q)) e in
+        let other : is x q.now ≡ false = ap (λ y. is y q.now) (sym is_x) ∙ e in
+        (ap is_some now ∙ (was q).0 ∙ sym (ap (λ b. known q.now || b) other ∙ or-false (known q.now)), subst (λ o. IfSome o (λ key. key.now ≡ q.now)) (sym now) (was q).1)
+
+-- the same texts are known
+pub known_alike : {S : Type 0} (f g : Key → Bool) (t : HashMap (Bor Key) (Bor Key) S) → ((k : Key) → f k ≡ g k) → HasKeys f t → HasKeys g t
+known_alike f g t alike was = λ q. ((was q).0 ∙ alike q.now, (was q).1)
+
+-- whom a table of texts leaves out
+pub left_out : {S : Type 0} (ks : List Key) (table : HashSet (Bor Key) S) → HasTexts ks table → (persons : List Person) → list_any (λ s. not (set.contains_by (λ k. is s.key k.now) table)) persons ≡ list_any (λ s. not (has ks s.key)) persons
+left_out ks table texts persons = any_alike _ _ (λ s. ap not (texts (record { ref_ptr = (0, 0); now = s.key }))) persons
+
+-- the key of the next person was put in
+module _ {S : Type 0} (known : Key → Bool) (persons : List Person) where
+  abbrev KnownTo : ℕ → HashMap (Bor Key) (Bor Key) S → Type 0
+  KnownTo n table = HasKeys (λ k. known k || list_any (λ s. is s.key k) (take n persons)) table
+
+  pub person_more : (s t : HashMap (Bor Key) (Bor Key) S) (k v : Bor Key) (i : ℕ) (x : Person) → hash.Updates text_eq s t k (Some v) → k.now ≡ x.key → v.now ≡ x.key → i < length persons → x ≡ get_or persons i x → KnownTo i s → KnownTo (i + 1) t
+  person_more s t k v i x updates is_x is_v low e was =
+      known_alike _ _ t
+      (λ q. or_assoc (known q) (list_any (λ p. is p.key q) (take i persons)) (is x.key q)
+      ∙ ap (λ b. known q || b) (ap (λ (y : Person). list_any (λ p. is p.key q) (take i persons) || is y.key q) e ∙ sym (list_any_more (λ p. is p.key q) persons i x low)))
+      (known_put (λ q. known q || list_any (λ p. is p.key q) (take i persons)) s t k v x.key updates is_x is_v was)
+
+  pub person_all : (s : HashMap (Bor Key) (Bor Key) S) (i : ℕ) → i ≡ length persons → KnownTo i s → HasKeys (λ k. known k || list_any (λ p. is p.key k) persons) s
+  person_all s i end was = known_alike _ _ s (λ q. ap (λ (ps : List Person). known q || list_any (λ p. is p.key q) ps) (ap (λ n. take n persons) end ∙ take-length persons)) was

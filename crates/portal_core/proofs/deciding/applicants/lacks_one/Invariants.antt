@@ -1,0 +1,7 @@
+use Rattle.std.proofs.Common.{◌≡◌, false, take}
+use Rattle.portal_core.specs.Faults.{lacks_one}
+use Rattle.portal_core.specs.Meaning.{by_project}
+use Rattle.portal_core.proofs.deciding.applicants.lacks_one.Given as goal
+
+abbrev pub invariant-loop-persons : goal.invariant-loop-persons
+invariant-loop-persons l = lacks_one (by_project (take l.persons-index l.applicants)) l.keys ≡ false

@@ -1,0 +1,7 @@
+use Rattle.std.proofs.Common.{map, take}
+use Rattle.portal_core.specs.Tables.{HasTexts}
+use Rattle.portal_core.proofs.deciding.applicants.texts_of.Given as goal
+
+-- the texts so far are there
+abbrev pub invariant-loop-key : goal.invariant-loop-key
+invariant-loop-key l = HasTexts (map (λ k. k) (take l.key-index l.keys)) l.texts

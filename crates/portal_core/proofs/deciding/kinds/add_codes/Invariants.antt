@@ -1,0 +1,8 @@
+use Rattle.std.proofs.Common.{List, ◌++◌, map, take}
+use Rattle.portal_core.specs.Words.{Key}
+use Rattle.portal_core.specs.Tables.{HasTexts}
+use Rattle.portal_core.proofs.deciding.kinds.add_codes.Given as goal
+
+-- the codes so far are there
+abbrev pub invariant-loop-row : goal.invariant-loop-row
+invariant-loop-row g l = (given : List Key) → HasTexts given l.initial.codes → HasTexts (given ++ map g.X.Caller.code_of (take l.row-index l.rows)) l.codes

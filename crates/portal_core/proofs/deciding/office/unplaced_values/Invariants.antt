@@ -1,0 +1,10 @@
+use Rattle.std.proofs.Common.{◌≡◌, map, take}
+use Rattle.std.specs.Prelude.{filter, not}
+use Rattle.serde_json.specs.View.{view as data_of}
+use Rattle.serde_json.specs.Data.{string}
+use Rattle.portal_core.specs.Bodies.{is_assigned}
+use Rattle.portal_core.proofs.deciding.office.unplaced_values.Given as goal
+
+-- the students so far who have no project
+abbrev pub invariant-loop-student : goal.invariant-loop-student
+invariant-loop-student l = map data_of l.values.items ≡ map string (map (λ s. s.key) (filter (λ s. not (is_assigned l.placings.pairs s.key)) (take l.student-index l.students)))

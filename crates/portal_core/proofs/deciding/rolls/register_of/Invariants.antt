@@ -1,0 +1,10 @@
+use Rattle.std.proofs.Common.{map, reverse}
+use Rattle.portal_core.specs.Tables.{HasRows, HasTexts}
+use Rattle.portal_core.proofs.deciding.rolls.register_of.Given as goal
+
+-- the rows from the last one on are there
+abbrev pub invariant-loop-old : goal.invariant-loop-old
+invariant-loop-old g l = record {
+  rows : HasRows (g.R.Roll.rules l.roll).key (reverse (map (λ row. row.now) l.yielded)) l.register.rows;
+  texts : HasTexts (g.R.Roll.texts_beside l.roll (reverse (map (λ row. row.now) l.yielded))) l.register.texts;
+}

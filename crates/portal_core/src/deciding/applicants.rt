@@ -1,0 +1,113 @@
+//! The applicants of a lecturer, as a ranking is checked against them.
+
+ghost use Rattle.std.specs.Prelude.{◌≡◌, ◌||◌, Bool, true, false, not, OnOk, IfOk, IfSome, IfNone};
+ghost use Rattle.std.specs.List.{list_any};
+ghost use Rattle.std.specs.HashSet.{contains_by};
+ghost use Rattle.portal_core.specs.Words as words;
+ghost use Rattle.portal_core.specs.Words.{is};
+ghost use Rattle.portal_core.specs.Faults as fault;
+ghost use Rattle.portal_core.specs.Faults.{is_applicant};
+ghost use Rattle.portal_core.specs.Meaning.{by_project};
+ghost use Rattle.portal_core.specs.Tables.{HasKeys, HasTexts};
+
+use crate::rows::Person;
+use spa_rows::Key;
+use std::alloc::{AllocError, Global};
+use std::collections::{HashMap, HashSet};
+use std::marker::Model;
+
+/// The applicants to each project of a lecturer, and their keys by their texts.
+#[derive(Drop)]
+pub(crate) struct Applicants<'a> {
+    projects: &'a [(Key, Vec<Person>)],
+    keys: HashMap<&'a [u8], &'a Key>,
+}
+
+impl<'a> Model for Applicants<'a> {
+    ghost use Rattle.std.specs.Prelude.{List};
+    ghost use Rattle.portal_core.specs.declared.rows.Person.{Person};
+    ghost use Rattle.portal_core.specs.Words as words;
+    ghost use Rattle.portal_core.specs.Faults.{is_applicant};
+    ghost use Rattle.portal_core.specs.Meaning.{by_project};
+    ghost use Rattle.portal_core.specs.Tables.{HasKeys};
+
+    ghost Value = { List (words.Key × List Person) };
+
+    ghost view = { λ a. by_project a.projects.now };
+
+    ghost invariant = { λ a. HasKeys (is_applicant (by_project a.projects.now)) a.keys };
+}
+
+/// Adds the keys of these persons.
+fn add_persons<'a>(
+    keys: &mut HashMap<&'a [u8], &'a Key>,
+    persons: &'a [Person],
+) -> Result<(), AllocError>
+    ensures { OnOk result ((known : words.Key → Bool) → HasKeys known keys.old → HasKeys (λ k. known k || list_any (λ s. is s.key k) persons.now) keys.new) }
+{
+    for person in persons {
+        keys.insert(person.key.as_bytes(), &person.key)?;
+    }
+    Ok(())
+}
+
+/// Whether some person is not among these.
+fn leaves_out(keys: &HashSet<&[u8]>, persons: &[Person]) -> bool
+    ensures { result ≡ list_any (λ s. not (contains_by (λ k. is s.key k.now) keys.now)) persons.now }
+{
+    persons
+        .iter()
+        .any(|person| !keys.contains(&person.key.as_bytes()))
+}
+
+impl<'a> Applicants<'a> {
+    /// The applicants to these projects.
+    pub(crate) fn of(
+        alloc: Global,
+        projects: &'a [(Key, Vec<Person>)],
+    ) -> Result<Applicants<'a>, AllocError>
+        ensures { IfOk result (λ applicants. applicants ≡ by_project projects.now) }
+    {
+        let mut keys = HashMap::new(alloc);
+        for (_, persons) in projects {
+            add_persons(&mut keys, persons)?;
+        }
+        Ok(Applicants { projects, keys })
+    }
+
+    /// The key of the applicant with this text, to whichever project.
+    pub(crate) fn find(&self, text: &[u8]) -> Option<&'a Key>
+        ensures some { IfSome result (λ key. (key.now ≡ text.now) × (is_applicant self.now text.now ≡ true)) }
+        ensures none { IfNone result (is_applicant self.now text.now ≡ false) }
+    {
+        self.keys.get(&text).copied()
+    }
+}
+
+/// The texts of these keys.
+fn texts_of<'a>(alloc: Global, keys: &'a [Key]) -> Result<HashSet<&'a [u8]>, AllocError>
+    ensures { IfOk result (HasTexts keys.now) }
+{
+    let mut texts = HashSet::with_capacity(alloc, keys.len())?;
+    for key in keys {
+        texts.insert(key.as_bytes())?;
+    }
+    Ok(texts)
+}
+
+/// Whether some applicant is not among the keys.
+pub(crate) fn lacks_one(
+    alloc: Global,
+    applicants: &[(Key, Vec<Person>)],
+    keys: &[Key],
+) -> Result<bool, AllocError>
+    ensures { IfOk result (λ lacks. lacks ≡ fault.lacks_one (by_project applicants.now) keys.now) }
+{
+    let texts = texts_of(alloc, keys)?;
+    for (_, persons) in applicants {
+        if leaves_out(&texts, persons) {
+            return Ok(true);
+        }
+    }
+    Ok(false)
+}

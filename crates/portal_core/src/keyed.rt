@@ -1,0 +1,60 @@
+//! Rows that are found by their keys.
+
+ghost use Rattle.std.specs.Prelude.{◌≡◌, IfOk};
+ghost use Rattle.std.specs.HashMap.{get};
+ghost use Rattle.spa_rows.specs.Index.{text_eq};
+ghost use Rattle.portal_core.specs.Words as words;
+ghost use Rattle.portal_core.specs.Tables.{HasRows};
+
+use crate::rows::ProjectRow;
+use spa_rows::Key;
+use std::alloc::{AllocError, Global};
+use std::collections::HashMap;
+
+/// A row that is found by a key.
+pub(crate) trait Keyed {
+    /// The key.
+    ghost key_of: { Self → words.Key };
+
+    /// The key.
+    fn key(&self) -> &Key
+        ensures { result.now ≡ key_of self.now };
+}
+
+impl Keyed for ProjectRow {
+    ghost key_of = { λ row. row.key };
+
+    fn key(&self) -> &Key {
+        &self.key
+    }
+}
+
+/// A pair of the result, by its student.
+impl Keyed for (Key, Key) {
+    ghost key_of = { λ pair. pair.0 };
+
+    fn key(&self) -> &Key {
+        &self.0
+    }
+}
+
+/// The rows by their keys; where a key stands twice, the first row.
+pub(crate) fn rows_by_key<'a, X: Keyed>(
+    alloc: Global,
+    rows: &'a [X],
+) -> Result<HashMap<&'a [u8], &'a X>, AllocError>
+    ensures { IfOk result (HasRows X.key_of rows.now) }
+{
+    let mut table = HashMap::with_capacity(alloc, rows.len())?;
+    for row in rows.iter().rev() {
+        table.insert(row.key().as_bytes(), row)?;
+    }
+    Ok(table)
+}
+
+/// The row with this key.
+pub(crate) fn row_at<'a, X>(table: &HashMap<&'a [u8], &'a X>, key: &[u8]) -> Option<&'a X>
+    ensures { result ≡ get text_eq table.now key.entry }
+{
+    table.get(&key).copied()
+}
