@@ -1,11 +1,10 @@
 -- What the office sees after a list or a ranking was put.
-use Rattle.std.proofs.Common.{◌≡◌, Bool, true, false, cond, List, [], ◌∷◌, refl, sym, ◌∙◌, ap, subst}
+use Rattle.std.proofs.Common.{◌≡◌, Bool, true, false, cond, List, [], ◌∷◌, refl, sym, ◌∙◌, ap}
 use Rattle.std.specs.Prelude.{map, filter, Some, not, ◌&&◌, is_none}
 use Rattle.portal_core.specs.Words.{Key, is, is_empty}
 use Rattle.portal_core.specs.World as rows
 use Rattle.portal_core.specs.World.{World, is_still_to_rank, applicants_of, is_from_ranking, is_published, pairs_of}
 use Rattle.portal_core.specs.Change.{Choices, Ranks, changed, with_choice, with_ranking}
-use Rattle.portal_core.specs.declared.phase.Phase.{Phase}
 use Rattle.portal_core.specs.declared.phase.Phase.TheVariants.{Choosing, Ranking}
 use Rattle.portal_core.specs.declared.rows.LecturerRow.{LecturerRow}
 use Rattle.portal_core.specs.View.{office_sees, catalogue}
@@ -14,8 +13,7 @@ use Rattle.portal_core.proofs.AllLaws.{map_same}
 
 -- Where a change keeps the keys, and takes those from the chosen whose key has not the mark: their keys, without these.
 module _ {X : Type 0} (key : X → Key) (chosen : X → Bool) (change : X → X) (keeps : Key → Bool) (same : (x : X) → key (change x) ≡ key x)
-  (one : (x : X) → chosen (change x) ≡ (chosen x && keeps (key x))) where
-
+    (one : (x : X) → chosen (change x) ≡ (chosen x && keeps (key x))) where
   mapped : (b : Bool) (x : X) (xs : List X) → map key (cond b (x ∷ xs) xs) ≡ cond b (key x ∷ map key xs) (map key xs)
   mapped true x xs = refl
   mapped false x xs = refl
@@ -66,7 +64,7 @@ choosing_seen w k (p ∷ ps) e some =
       catalogue = catalogue w;
       without_list = chosen_after (λ s. s.row.key) (λ s. is_empty s.choice) (with_choice k (p ∷ ps)) (λ x. not (is x k)) (λ s. ap (λ r. r.key) (choice_row k (p ∷ ps) s)) (listed k p ps) w.students i;
       still_to_rank = ((λ j. cond (is_from_ranking (e j)) (map (λ (l : rows.Lecturer). l.row.key) (filter (is_still_to_rank to) w.lecturers)) [])
-      ∙ sym (λ j. cond (is_from_ranking (e j)) (map (λ (l : rows.Lecturer). l.row.key) (filter (is_still_to_rank w) w.lecturers)) [])) i;
+          ∙ sym (λ j. cond (is_from_ranking (e j)) (map (λ (l : rows.Lecturer). l.row.key) (filter (is_still_to_rank w) w.lecturers)) [])) i;
       pairs = ((λ j. cond (is_published (e j)) (pairs_of to) []) ∙ sym (λ j. cond (is_published (e j)) (pairs_of w) [])) i;
     }
 
@@ -85,7 +83,7 @@ ranking_seen w k list e =
       catalogue = catalogue_ranked w k list i;
       without_list = map (λ s. s.row.key) (filter (λ s. is_empty s.choice) w.students);
       still_to_rank = ((λ j. cond (is_from_ranking (e j)) (own (filter (is_still_to_rank to) to.lecturers)) [])
-      ∙ chosen_after (λ l. l.row.key) (is_still_to_rank w) (with_ranking k list) (λ x. not (is x k)) (λ l. ap (λ r. r.key) (ranking_row k list l)) (still w k list) w.lecturers
-      ∙ sym (λ j. filter (λ x. not (is x k)) (cond (is_from_ranking (e j)) (own (filter (is_still_to_rank w) w.lecturers)) []))) i;
+          ∙ chosen_after (λ l. l.row.key) (is_still_to_rank w) (with_ranking k list) (λ x. not (is x k)) (λ l. ap (λ r. r.key) (ranking_row k list l)) (still w k list) w.lecturers
+          ∙ sym (λ j. filter (λ x. not (is x k)) (cond (is_from_ranking (e j)) (own (filter (is_still_to_rank w) w.lecturers)) []))) i;
       pairs = ((λ j. cond (is_published (e j)) (pairs_of to) []) ∙ sym (λ j. cond (is_published (e j)) (pairs_of w) [])) i;
     }

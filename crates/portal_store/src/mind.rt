@@ -43,7 +43,8 @@ impl Mind {
             Change::Lecturers(_) | Change::Projects(_) => self.catalogue = None,
             Change::Ranking { .. } => {}
             Change::Fill => {}
-            Change::Choices { .. } | Change::Students(_) | Change::Phase(_) | Change::Result(_) => {}
+            Change::Choices { .. } | Change::Students(_) | Change::Phase(_) | Change::Result(_) =>
+                {}
         }
     }
 

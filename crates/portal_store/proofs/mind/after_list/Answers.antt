@@ -1,11 +1,8 @@
-use Rattle.std.proofs.Common.{rules, ◌≡◌, ◌∙◌, ap, sym, refl, filter, not, Bool, false, List, [], ◌∷◌, length}
+use Rattle.std.proofs.Common.{rules, ◌≡◌, ◌∙◌, ap, sym, refl, filter, not, false, List, [], ◌∷◌, length}
 use Rattle.std.specs.Bool.{◌==◌}
 use Rattle.portal_core.specs.Words.{Key, is, is_empty}
-use Rattle.portal_core.specs.World.{World}
 use Rattle.portal_core.specs.Sight.{OfficeSees}
-use Rattle.portal_core.specs.Change.{Choices, changed}
 use Rattle.portal_core.specs.declared.phase.Phase.TheVariants.{Choosing}
-use Rattle.portal_core.specs.View.{office_sees}
 use Rattle.portal_core.proofs.Renewed.{choosing_seen}
 use Rattle.portal_store.proofs.mind.after_list.Goals as goal
 

@@ -1,9 +1,7 @@
 use Rattle.std.proofs.Common.{rules, ◌≡◌, ◌∙◌, ap, sym, filter, not}
 use Rattle.portal_core.specs.Words.{is}
-use Rattle.portal_core.specs.World.{World}
 use Rattle.portal_core.specs.Sight.{OfficeSees}
 use Rattle.portal_core.specs.declared.phase.Phase.TheVariants.{Ranking}
-use Rattle.portal_core.specs.View.{office_sees}
 use Rattle.portal_core.proofs.Renewed.{ranking_seen}
 use Rattle.portal_store.proofs.mind.after_ranking.Goals as goal
 
