@@ -13,13 +13,14 @@ use Rattle.portal_core.proofs.Keys.{is_own}
 use Rattle.portal_tables.specs.Tables.{lecturer_tree, ranking_tree}
 use Rattle.portal_tables.specs.Changes.{ListsBy, columns, has_text}
 use Rattle.portal_list.proofs.Replaced.{ranking_elsewhere}
-use Rattle.portal_store.specs.World.{world_of, row_key, lecturer_of}
+use Rattle.portal_tables.specs.Rolls.{row_key}
+use Rattle.portal_store.specs.World.{world_of, lecturer_of}
 use Rattle.portal_store.specs.Kept.{Turns}
 use Rattle.portal_store.specs.Putting.{TurnsThere}
-use Rattle.portal_store.proofs.Sorted.{put_all_map, map_twice}
+use Rattle.portal_tables.proofs.Sorted.{put_all_map, map_twice}
 use Rattle.portal_store.proofs.Shapes.{IsLecturerRow, lecturer_rows_formed}
 use Rattle.portal_store.proofs.Parents.{text_there}
-use Rattle.portal_store.proofs.Listed.{all_map_on}
+use Rattle.portal_tables.proofs.Listed.{all_map_on}
 use Rattle.portal_store.proofs.RankTurns.{key_test, same_key}
 
 -- a query shows as many rows as pass

@@ -1,13 +1,14 @@
 -- New rows of a roll: what a loop of INSERTs leaves of the tables, and what that is to the world.
-use Rattle.std.proofs.Common.{◌≡◌, ℕ, ◌+◌, ◌<◌, pos, false, ◌||◌, List, [], ◌∷◌, ◌++◌, None, map, drop, take, get_or, length, refl, sym, ap, ap₂, subst, subst₂, ◌∙◌}
-use Rattle.std.proofs.lemmas.List.{map-append, take_more, append_assoc}
+use Rattle.std.proofs.Common.{◌≡◌, ℕ, pos, false, ◌||◌, List, [], ◌∷◌, ◌++◌, None, map, drop, refl, sym, ap, ap₂, subst, subst₂, ◌∙◌}
+use Rattle.std.proofs.lemmas.List.{map-append}
 use Rattle.std.specs.List.{AllByRecursion, IsDistinct}
 use Rattle.std.specs.List.Sorted.{IsPermutation}
-use Rattle.std.proofs.lemmas.List.Sorted.{IsPermutation-trans, IsPermutation-sym, IsPermutation-cons, IsPermutation-middle, IsPermutation-append_right, IsPermutation-map}
+use Rattle.std.proofs.lemmas.List.Sorted.{IsPermutation-refl, IsPermutation-trans, IsPermutation-sym, IsPermutation-middle, IsPermutation-append_right, IsPermutation-map}
 use Rattle.std.specs.Prelude.{slice_index_or}
 use Rattle.sqlite.specs.declared.types.Value.TheVariants.{Null, Int}
 use Rattle.sqlite.specs.Order.{Row, column, bytes}
 use Rattle.sqlite.specs.Edit.{next_rowid}
+use Rattle.sqlite.specs.Tree.{put_row}
 use Rattle.sqlite.specs.Effect.{Database, IsDatabase}
 use Rattle.sqlite_trees.specs.Objects.{number_in}
 use Rattle.portal_core.specs.declared.rows.LecturerRow.{LecturerRow}
@@ -19,26 +20,26 @@ use Rattle.portal_core.specs.Change.{changed, Lecturers, Projects, Students, new
 use Rattle.portal_core.specs.Good.{Good}
 use Rattle.portal_tables.specs.Tables.{portal_tree, lecturer_tree, project_tree, student_tree, choice_tree, ranking_tree}
 use Rattle.portal_tables.specs.Own.{IsOwn}
-use Rattle.portal_tables.specs.Changes.{IsApart, Puts, Keeps}
+use Rattle.portal_tables.specs.Changes.{IsApart, Puts, Keeps, with_rows, AreNew}
 use Rattle.portal_tables.specs.Rows.{Adds, lecturer_cells, project_cells, student_cells}
 use Rattle.portal_tables.proofs.Keeping.{puts_apart}
+use Rattle.portal_tables.proofs.Writes.{unnumbered}
 use Rattle.portal_tables.proofs.Lists.{put_splits}
-use Rattle.portal_store.specs.Kept.{HasOffice, Holds, Turned, Turns}
-use Rattle.portal_store.specs.Lists.{of_key, IsWhole, list_of}
-use Rattle.portal_store.specs.World.{world_of, phase_of, row_key, is_ranked, lecturer_of, project_row, student_of}
-use Rattle.portal_store.proofs.Sorted.{permutes, permutes_more, more_put, rise_distinct, all_permuted, distinct_permuted, map_twice, map_alike}
-use Rattle.portal_store.proofs.Listed.{all_map_on}
+use Rattle.portal_tables.specs.Office.{HasOffice}
+use Rattle.portal_store.specs.Kept.{Holds, Turned, Turns}
+use Rattle.portal_tables.specs.Lists.{of_key, IsWhole, list_of}
+use Rattle.portal_tables.specs.Rolls.{row_key}
+use Rattle.portal_store.specs.World.{world_of, phase_of, is_ranked, lecturer_of, project_row, student_of}
+use Rattle.portal_tables.proofs.Sorted.{permutes, permutes_more, more_put, rise_distinct, all_permuted, distinct_permuted, map_twice, map_alike}
+use Rattle.portal_tables.proofs.Listed.{all_map_on}
 use Rattle.portal_store.proofs.Parents.{none_of, choice_parents, ranking_parents}
-use Rattle.portal_store.proofs.Holding.{whole_same, keeps_then}
+use Rattle.portal_store.proofs.Holding.{whole_same}
 use Rattle.portal_core.proofs.Keys.{all_unmap}
 use Rattle.portal_core.proofs.AllLaws.{all_map, all_append}
 
 -- a row without its number
 abbrev pub bare : Row → Row
 bare r = Null ∷ drop 1 r
-
-abbrev pub unnumbered : Row → Row
-unnumbered cells = Null ∷ cells
 
 -- rows with these cells have come to the table, and nothing else has changed
 pub record Added (tree : ℕ) (cells : List Row) (old new : Database) : Type 0 where
@@ -48,40 +49,28 @@ pub record Added (tree : ℕ) (cells : List Row) (old new : Database) : Type 0 w
   pub others : Keeps tree old new
   pub sound : IsDatabase old → IsDatabase new
 
-abbrev pub AddsAll : ℕ → List Row → Database → Database → Type 0
-AddsAll tree cells old new = IsOwn old.schema → Added tree cells old new
+rows_permute : (table cells : List Row) → AreNew table cells → IsPermutation (map unnumbered cells ++ map bare table) (map bare (with_rows table cells))
+rows_permute table [] new = IsPermutation-refl (map bare table)
+rows_permute table (c ∷ cells) new =
+    let row : Row = Int (next_rowid table) ∷ c in
+    let split = put_splits row table new.0 in
+    let one : IsPermutation (row ∷ table) (put_row row table) =
+    subst₂ IsPermutation (ap (λ l. row ∷ l) (sym split.2)) (sym split.3) (IsPermutation-sym _ _ (IsPermutation-middle split.0 row split.1)) in
+    let front = map unnumbered cells in
+    let moved : IsPermutation (unnumbered c ∷ (front ++ map bare table)) (front ++ unnumbered c ∷ map bare table) =
+    IsPermutation-sym _ _ (IsPermutation-middle front (unnumbered c) (map bare table)) in
+    let put : IsPermutation (front ++ unnumbered c ∷ map bare table) (front ++ map bare (put_row row table)) =
+    IsPermutation-append_right front _ _ (IsPermutation-map bare (row ∷ table) (put_row row table) one) in
+    IsPermutation-trans _ _ _ moved (IsPermutation-trans _ _ _ put (rows_permute (put_row row table) cells new.1))
 
-put_permutes : (tree : ℕ) (cells : Row) (old new : Database) → Puts tree cells old new → IsPermutation (unnumbered cells ∷ map bare (old.trees tree)) (map bare (new.trees tree))
-put_permutes tree cells old new put =
-    let row : Row = Int (next_rowid (old.trees tree)) ∷ cells in
-    let split = put_splits row (old.trees tree) put.free in
-    let one : IsPermutation (row ∷ old.trees tree) (new.trees tree) = subst₂ IsPermutation (ap (λ l. row ∷ l) (sym split.2)) (sym (put.rows ∙ split.3)) (IsPermutation-sym _ _ (IsPermutation-middle split.0 row split.1)) in
-    IsPermutation-map bare (row ∷ old.trees tree) (new.trees tree) one
-
-pub added_more : (tree : ℕ) (done : List Row) (cells : Row) (old mid new : Database) → AddsAll tree done old mid → Adds tree cells mid new → AddsAll tree (done ++ cells ∷ []) old new
-added_more tree done cells old mid new was adds own =
-    let a = was own in
-    let put = adds (subst IsOwn (sym a.schema_is) own) in
-    let c = unnumbered cells in
-    let front = map unnumbered done in
-    let back = map bare (old.trees tree) in
-    let moved : IsPermutation (front ++ c ∷ back) (c ∷ (front ++ back)) = IsPermutation-middle front c back in
-    let all : IsPermutation (front ++ c ∷ back) (map bare (new.trees tree)) = IsPermutation-trans _ _ _ moved (IsPermutation-trans _ _ _ (IsPermutation-cons c _ _ a.rows) (put_permutes tree cells mid new put)) in
-    record {
-      schema_is = put.schema_is ∙ a.schema_is;
-      rows = subst (λ l. IsPermutation l (map bare (new.trees tree))) (sym (ap (λ l. l ++ back) (map-append unnumbered done (cells ∷ [])) ∙ append_assoc front (c ∷ []) back)) all;
-      apart = λ h. puts_apart tree cells mid new put (a.apart h);
-      others = keeps_then tree old mid new a.others put.others;
-      sound = λ _. put.sound;
-    }
-
--- a loop's step: the row at i is put
-pub added_next : {X : Type 0} (tree : ℕ) (cells_of : X → Row) (rows : List X) (i : ℕ) (x : X) (cells : Row) (old mid new : Database) → i < length rows → x ≡ get_or rows i x → cells ≡ cells_of x
-    → AddsAll tree (map cells_of (take i rows)) old mid → Adds tree cells mid new → AddsAll tree (map cells_of (take (i + 1) rows)) old new
-added_next tree cells_of rows i x cells old mid new within is that was adds =
-    let more : map cells_of (take i rows) ++ cells ∷ [] ≡ map cells_of (take (i + 1) rows) =
-    sym (ap (map cells_of) (take_more rows i x within) ∙ map-append cells_of (take i rows) (get_or rows i x ∷ []) ∙ ap (λ z. map cells_of (take i rows) ++ z ∷ []) (ap cells_of (sym is) ∙ sym that)) in
-    subst (λ l. AddsAll tree l old new) more (added_more tree (map cells_of (take i rows)) cells old mid new was adds)
+pub added_of : (tree : ℕ) (cells : List Row) (old new : Database) → Puts tree cells old new → Added tree cells old new
+added_of tree cells old new put = record {
+  schema_is = put.schema_is;
+  rows = subst (λ t. IsPermutation (map unnumbered cells ++ map bare (old.trees tree)) (map bare t)) (sym put.rows) (rows_permute (old.trees tree) cells put.free);
+  apart = puts_apart tree cells old new put;
+  others = put.others;
+  sound = put.sound;
+}
 
 -- what is read of a row does not depend on its number
 key_bare : (r : Row) → row_key (bare r) ≡ row_key r
@@ -225,8 +214,8 @@ module _ (rows : List LecturerRow) (old new : Database) (was : Holds old) (bette
       none_yet [] h = tt
       none_yet (r ∷ rs) h = (λ _. h.0, none_yet rs h.1)
 
-pub lecturers_turn : (rows : List LecturerRow) (old new : Database) → AddsAll lecturer_tree (map lecturer_new rows) old new → Turns (Lecturers rows) old new
-lecturers_turn rows old new adds was good better = lecturers_turned rows old new was better (adds was.own)
+pub lecturers_turn : (rows : List LecturerRow) (old new : Database) → Adds lecturer_tree (map lecturer_new rows) old new → Turns (Lecturers rows) old new
+lecturers_turn rows old new adds was good better = lecturers_turned rows old new was better (added_of _ _ old new (adds was.own))
 
 module _ (rows : List ProjectRow) (old new : Database) (was : Holds old) (better : Good (changed (world_of old.trees) (Projects rows))) (a : Added project_tree (map project_new rows) old new) where
   projects_up : Rise (map project_key (put_all project_key rows (put_all project_key (map project_row (old.trees project_tree)) [])))
@@ -274,8 +263,8 @@ module _ (rows : List ProjectRow) (old new : Database) (was : Holds old) (better
       map_itself [] = refl
       map_itself (r ∷ rs) = ap (λ l. r ∷ l) (map_itself rs)
 
-pub projects_turn : (rows : List ProjectRow) (old new : Database) → AddsAll project_tree (map project_new rows) old new → Turns (Projects rows) old new
-projects_turn rows old new adds was good better = projects_turned rows old new was better (adds was.own)
+pub projects_turn : (rows : List ProjectRow) (old new : Database) → Adds project_tree (map project_new rows) old new → Turns (Projects rows) old new
+projects_turn rows old new adds was good better = projects_turned rows old new was better (added_of _ _ old new (adds was.own))
 
 module _ (rows : List StudentRow) (old new : Database) (was : Holds old) (better : Good (changed (world_of old.trees) (Students rows))) (a : Added student_tree (map student_new rows) old new) where
   students_up : Rise (map student_key (put_all student_key (map new_student rows) (put_all student_key (map (student_of (old.trees choice_tree)) (old.trees student_tree)) [])))
@@ -343,5 +332,5 @@ module _ (rows : List StudentRow) (old new : Database) (was : Holds old) (better
       whole_yet [] h = tt
       whole_yet (r ∷ rs) h = (subst IsWhole (sym h.0) tt, whole_yet rs h.1)
 
-pub students_turn : (rows : List StudentRow) (old new : Database) → AddsAll student_tree (map student_new rows) old new → Turns (Students rows) old new
-students_turn rows old new adds was good better = students_turned rows old new was better (adds was.own)
+pub students_turn : (rows : List StudentRow) (old new : Database) → Adds student_tree (map student_new rows) old new → Turns (Students rows) old new
+students_turn rows old new adds was good better = students_turned rows old new was better (added_of _ _ old new (adds was.own))

@@ -23,14 +23,15 @@ use Rattle.portal_tables.specs.Tables.{student_tree, choice_tree}
 use Rattle.portal_tables.specs.Changes.{ListsBy, columns, has_text}
 use Rattle.portal_store.specs.declared.queries.applicants.Line.{Line}
 use Rattle.portal_store.specs.Kept.{Holds}
-use Rattle.portal_store.specs.Lists.{of_key, named_by, place_key, by_place, chosen}
-use Rattle.portal_store.specs.World.{world_of, row_key, student_of}
-use Rattle.portal_store.specs.Shown.{first, by_key}
+use Rattle.portal_tables.specs.Lists.{of_key, named_by, place_key, by_place, chosen}
+use Rattle.portal_tables.specs.Rolls.{row_key, by_key}
+use Rattle.portal_store.specs.World.{world_of, student_of}
+use Rattle.portal_tables.specs.Shown.{first}
 use Rattle.portal_store.specs.Queried.{line_of, with_lines, lines_at, persons_in, placed_in, applicants_at, applicants_told, placed_told}
-use Rattle.portal_store.proofs.Listed.{permuted, for_each}
+use Rattle.portal_tables.proofs.Listed.{permuted, for_each}
 use Rattle.portal_store.proofs.Loaded.{students_are}
 use Rattle.portal_store.proofs.Shapes.{IsChoiceRow, has_text_of, choice_rows_formed}
-use Rattle.portal_store.proofs.Sorted.{permutes, map_alike, map_twice}
+use Rattle.portal_tables.proofs.Sorted.{permutes, map_alike, map_twice}
 use Rattle.portal_store.proofs.Fine.{placed_listed}
 
 pub any_alike : {X : Type 0} (p q : X → Bool) (xs : List X) → AllByRecursion (λ x. p x ≡ q x) xs → list_any p xs ≡ list_any q xs

@@ -19,9 +19,10 @@ use Rattle.portal_tables.specs.Rows.{portal_row}
 use Rattle.portal_tables.specs.Steps.{Leaves}
 use Rattle.std.proofs.lemmas.Result.{on_ok_weaker, on_err_weaker}
 use Rattle.portal_core.specs.Words.{Key}
-use Rattle.portal_store.specs.World.{number_of, world_of}
-use Rattle.portal_store.specs.Kept.{HasOffice, Holds, IsKept}
-use Rattle.portal_store.proofs.InTurn.{unchanged_then, then_leaves}
+use Rattle.portal_tables.specs.Office.{number_of, HasOffice}
+use Rattle.portal_store.specs.World.{world_of}
+use Rattle.portal_store.specs.Kept.{Holds, IsKept}
+use Rattle.portal_tables.proofs.InTurn.{unchanged_then, then_leaves}
 use Rattle.portal_store.specs.Asked.{Asks, Refutes, Admits}
 use Rattle.portal_store.specs.declared.store.OpenFault.{OpenFault}
 use Rattle.portal_store.specs.declared.store.OpenFault.TheVariants.{NotPortal, OtherVersion, Damaged, Store, Memory}

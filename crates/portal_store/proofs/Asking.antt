@@ -1,5 +1,5 @@
 -- A query before a change: what the change is, begun where the query began.
-use Rattle.std.proofs.Common.{◌≡◌, inl, IsTrue, refl, sym, subst, ◌∙◌, arith}
+use Rattle.std.proofs.Common.{◌≡◌, IsTrue, sym, subst, ◌∙◌, arith}
 use Rattle.sqlite.specs.Effect.{Database}
 use Rattle.sqlite.specs.State.{State, HasCleanDisk, IsUnchanged, Survives}
 use Rattle.sqlite.proofs.StateLemmas.{survives_then}
@@ -10,16 +10,6 @@ abbrev pub IsSettled : State → Type 0
 IsSettled s = IsTrue s.is_open → s.now ≡ s.committed
 
 -- nothing was done
-pub survives_same : (s : State) → Survives s s (λ _. ⊥)
-survives_same s = record {
-  clean = omega arith;
-  shield = λ on. on;
-  counts = omega arith;
-  limit = refl;
-  closes = λ _ on. inl on;
-  crash = λ _ db may. inl may;
-}
-
 module _ (old mid new : State) (C D : Database → Database → Type 0) (more : HasCleanDisk mid → (after : Database) → C old.now after → D old.now after) where
   pub commits_asked : HasCleanDisk mid → IsUnchanged old mid → Commits C mid new → Commits D old new
   commits_asked clean same done = record {

@@ -14,13 +14,15 @@ use Rattle.portal_core.proofs.AllLaws.{all_weaker}
 use Rattle.portal_tables.specs.Own.{IsOwn}
 use Rattle.portal_tables.specs.Tables.{choice_tree}
 use Rattle.portal_tables.specs.Changes.{IsApart}
-use Rattle.portal_tables.specs.Steps.{Made}
-use Rattle.portal_tables.proofs.Runs.{made_more}
-use Rattle.portal_store.specs.Lists.{of_key, list_of, chosen, IsWhole}
-use Rattle.portal_store.specs.World.{world_of, phase_of, row_key, student_of, lecturer_of, project_row, is_ranked}
-use Rattle.portal_store.specs.Kept.{HasOffice, Whole, Holds, Turns}
+use Rattle.portal_tables.specs.Steps.{GoesOn}
+use Rattle.portal_tables.proofs.Runs.{goes_more}
+use Rattle.portal_tables.specs.Lists.{of_key, list_of, chosen, IsWhole}
+use Rattle.portal_store.specs.World.{world_of, phase_of, student_of, lecturer_of, project_row, is_ranked}
+use Rattle.portal_tables.specs.Rolls.{row_key}
+use Rattle.portal_tables.specs.Office.{HasOffice}
+use Rattle.portal_store.specs.Kept.{Whole, Holds, Turns}
 use Rattle.portal_store.specs.Putting.{HasPut, PutsList}
-use Rattle.portal_store.proofs.Sorted.{put_all_map, map_alike, map_twice}
+use Rattle.portal_tables.proofs.Sorted.{put_all_map, map_alike, map_twice}
 use Rattle.portal_store.proofs.Putting.{list_is, whole_is}
 
 -- in either table of lists
@@ -110,5 +112,5 @@ choice_turns k list first now puts holds good then =
     let put = puts holds.own holds.apart.1.1.1.1.0 in
     record { holds = choice_holds k list first now put holds; world = choice_world k list first now put }
 
-pub choice_made : (k : Key) (list : List Key) (old new : State) → Made (PutsList choice_tree k list) old new → Made (Turns (Choices k list)) old new
-choice_made k list old new h = made_more _ _ old new h (choice_turns k list old.now new.now)
+pub choice_made : (k : Key) (list : List Key) (old new : State) → GoesOn (PutsList choice_tree k list) old new → GoesOn (Turns (Choices k list)) old new
+choice_made k list old new h = goes_more _ _ old new h (choice_turns k list old.now new.now)

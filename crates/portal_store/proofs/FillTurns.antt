@@ -11,13 +11,13 @@ use Rattle.portal_core.specs.Change.{changed, Ranks, Fill}
 use Rattle.portal_core.specs.Good.{Sound}
 use Rattle.portal_list.specs.Fill.{fills}
 use Rattle.portal_tables.specs.Tables.{lecturer_tree, ranking_tree}
-use Rattle.portal_tables.specs.Steps.{Made}
-use Rattle.portal_store.specs.World.{world_of, row_key, lecturer_of}
+use Rattle.portal_store.specs.World.{world_of, lecturer_of}
+use Rattle.portal_tables.specs.Rolls.{row_key}
 use Rattle.portal_store.specs.Kept.{Holds, Turns}
-use Rattle.portal_store.specs.Going.{GoesOn}
+use Rattle.portal_tables.specs.Steps.{GoesOn}
 use Rattle.portal_store.specs.Putting.{ranked, TurnsAll, TurnsThere}
-use Rattle.portal_store.proofs.Ending.{goes_then}
-use Rattle.portal_store.proofs.Sorted.{permutes, map_twice}
+use Rattle.portal_tables.proofs.Runs.{goes_both}
+use Rattle.portal_tables.proofs.Sorted.{permutes, map_twice}
 use Rattle.portal_store.proofs.Filled.{ranked_more, keys_still, all_filled, fills_there}
 
 -- who is in the world has a row
@@ -55,11 +55,11 @@ all_go_on fs f first mid now was turns holds up there =
 -- the loop's step
 pub rankings_go_on : {X : Type 0} (show : X → Key × List Key) (xs : List X) (i : ℕ) (x : X) (old mid new : State) → i < length xs → x ≡ get_or xs i x
     → GoesOn (TurnsAll (map show (take i xs))) old mid
-    → Made (TurnsThere (show x).0 (show x).1) mid new → GoesOn (TurnsAll (map show (take (i + 1) xs))) old new
+    → GoesOn (TurnsThere (show x).0 (show x).1) mid new → GoesOn (TurnsAll (map show (take (i + 1) xs))) old new
 rankings_go_on show xs i x old mid new within at was step =
     let more : map show (take i xs) ++ show x ∷ [] ≡ map show (take (i + 1) xs) =
     sym (ap (map show) (take_more xs i x within) ∙ map-append show (take i xs) (get_or xs i x ∷ []) ∙ ap (λ y. map show (take i xs) ++ show y ∷ []) (sym at)) in
-    subst (λ l. GoesOn (TurnsAll l) old new) more (goes_then _ _ _ old mid new was step (all_go_on (map show (take i xs)) (show x) old.now mid.now new.now))
+    subst (λ l. GoesOn (TurnsAll l) old new) more (goes_both _ _ _ old mid new was step (all_go_on (map show (take i xs)) (show x) old.now mid.now new.now))
 
 pub fill_turns : (fs : List (Key × List Key)) (first now : Database) → (Holds first → Sound (world_of first.trees) → fs ≡ fills (world_of first.trees))
     → TurnsAll fs first now → Turns Fill first now

@@ -11,7 +11,7 @@ use Rattle.portal_core.proofs.AllLaws.{is_sym, map_same}
 use Rattle.portal_list.specs.Fill.{fills}
 use Rattle.portal_list.proofs.Replaced.{ranking_elsewhere, ranking_here}
 use Rattle.portal_store.specs.Putting.{ranked}
-use Rattle.portal_store.proofs.Sorted.{map_twice, map_alike_on, rise_distinct}
+use Rattle.portal_tables.proofs.Sorted.{map_twice, map_alike_on, rise_distinct}
 use Rattle.portal_store.proofs.RankTurns.{same_key}
 
 -- one ranking more

@@ -1,5 +1,5 @@
 -- What the store keeps of its tables, where some of them are as they were.
-use Rattle.std.proofs.Common.{◌≡◌, ◌≢◌, ℕ, pos, false, List, [], ◌∷◌, map, refl, sym, ap, subst, subst₂, ◌∙◌}
+use Rattle.std.proofs.Common.{◌≡◌, pos, false, [], map, refl, sym, ap, subst, subst₂, ◌∙◌}
 use Rattle.std.specs.List.{AllByRecursion}
 use Rattle.std.specs.Prelude.{slice_index_or}
 use Rattle.sqlite.specs.Order.{column, bytes}
@@ -11,23 +11,16 @@ use Rattle.portal_core.specs.declared.phase.Phase.TheVariants.{Setup, Choosing, 
 use Rattle.portal_core.specs.Words.{put_all}
 use Rattle.portal_core.specs.World.{lecturer_key, project_key, student_key}
 use Rattle.portal_core.specs.Change.{To}
-use Rattle.portal_tables.specs.Tables.{portal_tree, lecturer_tree, project_tree, student_tree, choice_tree, ranking_tree, own_trees}
+use Rattle.portal_tables.specs.Tables.{portal_tree, lecturer_tree, project_tree, student_tree, choice_tree, ranking_tree}
 use Rattle.portal_tables.specs.Own.{IsOwn}
-use Rattle.portal_tables.specs.Changes.{IsApart, Keeps}
+use Rattle.portal_tables.specs.Changes.{IsApart}
 use Rattle.portal_tables.specs.Rows.{MovesTo, portal_row}
 use Rattle.portal_tables.proofs.Keeping.{apart_one}
 use Rattle.portal_store.specs.Kept.{Whole, Holds, Turned, Turns}
-use Rattle.portal_store.specs.Lists.{of_key, IsWhole}
-use Rattle.portal_store.specs.World.{world_of, number_of, phase_of, row_key, is_ranked, office_row, lecturer_of, project_row, student_of}
-
--- no table but this one is touched by two changes in turn
-pub keeps_then : (tree : ℕ) (a b c : Database) → Keeps tree a b → Keeps tree b c → Keeps tree a c
-keeps_then tree a b c p q = each own_trees p q
-  where
-    each : (trees : List ℕ) → AllByRecursion (λ t. t ≢ tree → b.trees t ≡ a.trees t) trees → AllByRecursion (λ t. t ≢ tree → c.trees t ≡ b.trees t) trees
-        → AllByRecursion (λ t. t ≢ tree → c.trees t ≡ a.trees t) trees
-    each [] p q = tt
-    each (t ∷ trees) p q = (λ other. q.0 other ∙ p.0 other, each trees p.1 q.1)
+use Rattle.portal_tables.specs.Lists.{of_key, IsWhole}
+use Rattle.portal_tables.specs.Office.{number_of}
+use Rattle.portal_tables.specs.Rolls.{row_key}
+use Rattle.portal_store.specs.World.{world_of, phase_of, is_ranked, office_row, lecturer_of, project_row, student_of}
 
 -- the lists are whole where the four tables are as they were
 pub whole_same : (old new : Trees) → new lecturer_tree ≡ old lecturer_tree → new student_tree ≡ old student_tree → new choice_tree ≡ old choice_tree → new ranking_tree ≡ old ranking_tree → Whole old → Whole new

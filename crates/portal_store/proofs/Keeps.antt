@@ -13,7 +13,8 @@ use Rattle.portal_tables.specs.Own.{IsOwn}
 use Rattle.portal_tables.specs.Steps.{Commits, Stays, Leaves, IsAfter}
 use Rattle.portal_store.specs.declared.mind.Mind.{Mind}
 use Rattle.portal_store.specs.World.{world_of}
-use Rattle.portal_store.specs.Kept.{HasOffice, Holds, Turned, Turns, Seen, IsKept, IsCleanStore, kept_world, Remembers}
+use Rattle.portal_tables.specs.Office.{HasOffice}
+use Rattle.portal_store.specs.Kept.{Holds, Turned, Turns, Seen, IsKept, IsCleanStore, kept_world, Remembers}
 use Rattle.portal_store.specs.Crash.{IsLeft}
 use Rattle.portal_store.specs.Reading.{KeepsInMind}
 

@@ -1,6 +1,7 @@
 pub mod Absent
 pub mod Adding
 pub mod Again
+pub mod AllRead
 pub mod Applying
 pub mod Asked
 pub mod Asking
@@ -11,14 +12,13 @@ pub mod Filled
 pub mod Fine
 pub mod First
 pub mod Holding
-pub mod InTurn
 pub mod Keeps
 pub mod Lined
-pub mod Listed
 pub mod Loaded
-pub mod OfficeRow
 pub mod OfficeSeen
 pub mod OneKey
+pub mod Owned
+pub mod Owners
 pub mod Parents
 pub mod Places
 pub mod Putting
@@ -26,8 +26,6 @@ pub mod Queried
 pub mod RankTurns
 pub mod Read
 pub mod Remembered
-pub mod RollRows
 pub mod RowsOnce
+pub mod Runs
 pub mod Shapes
-pub mod Sorted
-pub mod Texts

@@ -16,12 +16,12 @@ use Rattle.portal_tables.specs.Changes.{ListsBy, columns, has_text}
 use Rattle.portal_store.specs.declared.queries.applicants.Line.{Line}
 use Rattle.portal_store.specs.Kept.{Holds}
 use Rattle.portal_store.specs.World.{world_of}
-use Rattle.portal_store.specs.Shown.{first}
+use Rattle.portal_tables.specs.Shown.{first}
 use Rattle.portal_store.specs.Queried.{line_of, line_at}
 use Rattle.portal_store.proofs.Applying.{choosers}
 use Rattle.portal_store.proofs.OfficeSeen.{choosers_known}
 use Rattle.portal_store.proofs.OneKey.{students_rise}
-use Rattle.portal_store.proofs.Sorted.{at, has_of, one_order, map_alike_on, map_twice}
+use Rattle.portal_tables.proofs.Sorted.{at, has_of, one_order, map_alike_on, map_twice}
 
 some_back : (ls : List Line) → filter_map (λ o. o) (map Some ls) ≡ ls
 some_back [] = refl

@@ -16,14 +16,17 @@ use Rattle.portal_list.specs.Rows.{Rows, rows_of}
 use Rattle.portal_tables.specs.Tables.{portal_tree, lecturer_tree, project_tree, student_tree, choice_tree, ranking_tree}
 use Rattle.portal_tables.specs.Rows.{portal_row}
 use Rattle.portal_tables.specs.Changes.{columns}
-use Rattle.portal_store.specs.declared.load.Lists.TheVariants.{Choices, Rankings}
-use Rattle.portal_store.specs.declared.load.LoadFault.{LoadFault}
-use Rattle.portal_store.specs.World.{world_of, number_of, phase_of, row_key, is_ranked, lecturer_of, project_row, student_of}
-use Rattle.portal_store.specs.Lists.{of_key, chosen, IsWhole}
+use Rattle.portal_store.specs.declared.entries.Lists.TheVariants.{Choices, Rankings}
+use Rattle.portal_tables.specs.declared.fault.LoadFault.{LoadFault}
+use Rattle.portal_tables.specs.Office.{number_of}
+use Rattle.portal_tables.specs.Rolls.{row_key, by_key, lecturers_shown, projects_shown, students_shown}
+use Rattle.portal_store.specs.World.{world_of, phase_of, is_ranked, lecturer_of, project_row, student_of}
+use Rattle.portal_tables.specs.Lists.{of_key, chosen, IsWhole}
 use Rattle.portal_store.specs.Kept.{Whole}
 use Rattle.portal_store.specs.Loads.{Loads}
-use Rattle.portal_store.specs.Shown.{shown_lecturer, shown_project, shown_student, shown_pair, by_key, entry, IsRead, AreRead, rows_from, lecturers_shown, projects_shown, students_shown}
-use Rattle.portal_store.proofs.Sorted.{all_permuted, permutes, put_all_map}
+use Rattle.portal_tables.specs.Shown.{shown_lecturer, shown_project, shown_student, shown_pair}
+use Rattle.portal_store.specs.Shown.{entry, IsRead, AreRead, rows_from}
+use Rattle.portal_tables.proofs.Sorted.{all_permuted, permutes, put_all_map}
 use Rattle.portal_store.proofs.Holding.{phase_back}
 
 pub some_mapped : {X Y Z : Type 0} (f : Y → Option Z) (g : X → Y) (xs : List X) → filter_map f (map g xs) ≡ filter_map (λ x. f (g x)) xs

@@ -28,16 +28,19 @@ use Rattle.portal_tables.specs.Rows.{portal_row}
 use Rattle.portal_tables.proofs.Lists.{eq_self}
 use Rattle.portal_tables.specs.Changes.{ListsBy, columns, has_text, has_number}
 use Rattle.portal_store.specs.Kept.{Holds}
-use Rattle.portal_store.specs.World.{world_of, number_of, row_key, is_ranked, lecturer_of, student_of}
-use Rattle.portal_store.specs.Lists.{chosen, of_key, place_of, place_key, named_by, by_place, CountUp, IsWhole}
-use Rattle.portal_store.specs.Shown.{first, by_key, shown_project, rows_from, lecturers_shown, projects_shown, students_shown}
+use Rattle.portal_tables.specs.Office.{number_of}
+use Rattle.portal_tables.specs.Rolls.{row_key, by_key, lecturers_shown, projects_shown, students_shown}
+use Rattle.portal_store.specs.World.{world_of, is_ranked, lecturer_of, student_of}
+use Rattle.portal_tables.specs.Lists.{chosen, of_key, place_of, place_key, named_by, by_place, CountUp, IsWhole}
+use Rattle.portal_tables.specs.Shown.{first, shown_project}
+use Rattle.portal_store.specs.Shown.{rows_from}
 use Rattle.portal_store.specs.Queried.{unlisted, waiting_key, office_from}
 use Rattle.portal_store.proofs.Applying.{any_alike, choosers, named_where}
 use Rattle.portal_store.proofs.Fine.{all_filtered}
-use Rattle.portal_store.proofs.Listed.{permuted, for_each}
+use Rattle.portal_tables.proofs.Listed.{permuted, for_each}
 use Rattle.portal_store.proofs.Loaded.{lecturer_columns, some_mapped, lecturers_are, students_are, rows_are, roll_columns}
 use Rattle.portal_store.proofs.Parents.{choice_parents, none_of}
-use Rattle.portal_store.proofs.Sorted.{permutes, all_permuted}
+use Rattle.portal_tables.proofs.Sorted.{permutes, all_permuted}
 use Rattle.portal_store.proofs.Queried.{filter_alike}
 use Rattle.portal_store.proofs.Shapes.{IsChoiceRow, choice_rows_formed, has_text_of}
 

@@ -24,12 +24,12 @@ use Rattle.portal_tables.specs.Tables.{student_tree, choice_tree, student}
 use Rattle.portal_tables.specs.Changes.{IsApart}
 use Rattle.portal_tables.proofs.Weak.{portal_with, with_checks, own_is}
 use Rattle.portal_store.specs.Kept.{Holds}
-use Rattle.portal_store.specs.World.{world_of, row_key, student_of}
-use Rattle.portal_store.specs.Shown.{by_key}
+use Rattle.portal_tables.specs.Rolls.{row_key, by_key}
+use Rattle.portal_store.specs.World.{world_of, student_of}
 use Rattle.portal_store.proofs.Loaded.{students_are}
 use Rattle.portal_store.proofs.Parents.{told}
 use Rattle.portal_store.proofs.Shapes.{IsStudentRow, student_rows_formed, text_equals}
-use Rattle.portal_store.proofs.Sorted.{rise_put_all}
+use Rattle.portal_tables.proofs.Sorted.{rise_put_all}
 
 told_not : (o : Ordering) → is_true (from_truth (Some (is_ne o))) ≡ not (is_eq o)
 told_not Less = refl

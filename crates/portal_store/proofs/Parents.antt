@@ -24,10 +24,10 @@ use Rattle.portal_tables.specs.Changes.{IsApart, has_text}
 use Rattle.sqlite_tied.specs.Compute.{everything}
 use Rattle.portal_tables.specs.Rows.{choice_cells, ranking_cells}
 use Rattle.portal_tables.proofs.Weak.{portal_with, with_checks, IsWith, own_is}
-use Rattle.portal_store.specs.World.{row_key}
-use Rattle.portal_store.specs.Lists.{of_key, named_by}
+use Rattle.portal_tables.specs.Rolls.{row_key}
+use Rattle.portal_tables.specs.Lists.{of_key, named_by}
 use Rattle.portal_store.proofs.Shapes.{IsChoiceRow, IsRankingRow, choice_rows_formed, ranking_rows_formed, text_equals}
-use Rattle.portal_store.proofs.Sorted.{all_two}
+use Rattle.portal_tables.proofs.Sorted.{all_two}
 
 pub told : (o : Ordering) → is_true (from_truth (Some (is_eq o))) ≡ is_eq o
 told Less = refl
@@ -55,10 +55,10 @@ equals_key (Blob b) t e = absurd (cc)
 pub text_there : (at : ℕ) (t : Key) (r : Row) → has_text at t r ≡ true → column r at ≡ Words t
 text_there at t r e = equals_key (column r at) t e
 
-abbrev OnRoll : List Row → Key → Type 0
+abbrev pub OnRoll : List Row → Key → Type 0
 OnRoll roll k = has (map row_key roll) k ≡ true
 
-abbrev Found : List Row → Key → Bool
+abbrev pub Found : List Row → Key → Bool
 Found roll k = list_any (λ parent. equal Binary (column parent 1) (Words k) && true) roll
 
 choice_found : (checks terms : _) (db : Trees) (r : Row) (n : _) (s : Key) (p : _) (q : Key) → r ≡ Int n ∷ choice_cells s p q
@@ -75,7 +75,7 @@ ranking_found checks terms db r n l p s is h =
     let parts = and_parts (Found (db 1) l) (Found (db 6) s && true) (subst (λ x. passes ForeignKey (portal_with checks terms) db (with_checks checks terms (ranking 12)) x ≡ true) is h) in
     (parts.0, (and_parts (Found (db 6) s) true parts.1).0)
 
-on_roll : (roll : List Row) (k : Key) → Found roll k ≡ true → OnRoll roll k
+pub on_roll : (roll : List Row) (k : Key) → Found roll k ≡ true → OnRoll roll k
 on_roll [] k h = absurd (cc)
 on_roll (r ∷ roll) k h = elim (cases_Bool (equal Binary (column r 1) (Words k))) [
   | inl is_so ↦ let e = equals_key (column r 1) k (equals_text (column r 1) k is_so) in
@@ -85,7 +85,7 @@ on_roll (r ∷ roll) k h = elim (cases_Bool (equal Binary (column r 1) (Words k)
 ]
 
 module _ (db : Database) (own : IsOwn db.schema) (sound : IsDatabase db) where
-  foreign : (w : IsWith db.schema) → Keeps ForeignKey (portal_with w.checks w.terms) db.trees
+  pub foreign : (w : IsWith db.schema) → Keeps ForeignKey (portal_with w.checks w.terms) db.trees
   foreign w = subst (λ s. Keeps ForeignKey s db.trees) w.is (sound.obeys.rules ForeignKey)
 
   -- each row of a list has its student on the roll, and its project

@@ -1,11 +1,11 @@
--- A list that is put row by row.
-use Rattle.std.proofs.Common.{◌≡◌, ℕ, ◌+◌, ◌<◌, pos, List, [], ◌∷◌, ◌++◌, Bool, true, false, not, ◌&&◌, cond, map, filter, length, refl, sym, ap, subst, ◌∙◌, arith, get_or, take, suc, zero-add}
+-- A list that is put, whole, in place of another.
+use Rattle.std.proofs.Common.{◌≡◌, ℕ, ◌+◌, ◌<◌, pos, List, [], ◌∷◌, ◌++◌, Bool, true, false, not, ◌&&◌, cond, map, filter, length, refl, sym, ap, ap₂, subst, ◌∙◌, arith, get_or, take, suc, zero-add}
 use Rattle.std.specs.List.{AllByRecursion}
 use Rattle.std.specs.List.Sorted.{IsPermutation}
-use Rattle.std.proofs.lemmas.List.{map-append, take_more, length-take-le}
+use Rattle.std.proofs.lemmas.List.{map-append, append-nil, append_assoc, length_push, take_more, length-take-le}
 use Rattle.sqlite.specs.State.{State}
-use Rattle.portal_tables.specs.Steps.{Made}
-use Rattle.portal_tables.proofs.Runs.{made_then, made_more}
+use Rattle.portal_tables.specs.Steps.{Made, GoesOn}
+use Rattle.portal_tables.proofs.Runs.{made_goes, goes_both}
 use Rattle.std.proofs.Math.Bool.{and-false}
 use Rattle.std.proofs.lemmas.List.Elements.{filter-append}
 use Rattle.std.proofs.lemmas.List.Sorted.{IsPermutation-refl, IsPermutation-trans, IsPermutation-sym, IsPermutation-cons, IsPermutation-middle, IsPermutation-to_front}
@@ -15,21 +15,22 @@ use Rattle.std.specs.declared.cmp.Ordering.TheVariants.{Less, Equal, Greater}
 use Rattle.sqlite.specs.declared.types.Value.{Value}
 use Rattle.sqlite.specs.declared.types.Value.TheVariants.{Int, Text as Words}
 use Rattle.sqlite.specs.Order.{Row, value_cmp, column}
-use Rattle.sqlite.specs.Edit.{next_rowid}
+use Rattle.sqlite.specs.Edit.{next_rowid, is_taken}
+use Rattle.sqlite.specs.Tree.{put_row}
 use Rattle.sqlite.specs.Effect.{Database}
 use Rattle.sqlite_value.proofs.OrderLemmas.{value_cmp_total}
 use Rattle.portal_core.specs.Words.{Key, is, is_before, Rise}
 use Rattle.portal_core.proofs.AllLaws.{is_sym}
 use Rattle.portal_tables.specs.Own.{IsOwn}
-use Rattle.portal_tables.specs.Changes.{has_text}
+use Rattle.portal_tables.specs.Changes.{has_text, with_rows, AreNew}
 use Rattle.portal_tables.specs.Rows.{Adds, Clears, choice_cells}
 use Rattle.portal_tables.proofs.Keeping.{puts_apart, drops_apart}
 use Rattle.portal_tables.proofs.Lists.{filter_same, filter-filter, put_splits, eq_self}
-use Rattle.portal_store.specs.Lists.{of_key, place_key, by_place, list_of, CountUp, IsWhole}
-use Rattle.portal_store.specs.Putting.{numbered, placed, PutsList}
-use Rattle.portal_store.proofs.Holding.{keeps_then}
-use Rattle.portal_store.proofs.Listed.{less_is}
-use Rattle.portal_store.proofs.Sorted.{in_order, put_all_map, map_twice}
+use Rattle.portal_tables.specs.Lists.{of_key, place_key, by_place, list_of, CountUp, IsWhole}
+use Rattle.portal_store.specs.Putting.{numbered, placed, list_cells, PutsList}
+use Rattle.portal_tables.proofs.Keeping.{keeps_then}
+use Rattle.portal_tables.proofs.Listed.{less_is}
+use Rattle.portal_tables.proofs.Sorted.{in_order, put_all_map, map_twice}
 use Rattle.portal_store.proofs.Shapes.{text_equals}
 
 equal_of : (o : Ordering) → is_eq o ≡ true → o ≡ Equal
@@ -59,7 +60,7 @@ none_left s (r ∷ rows) = go (has_text 1 s r) refl (none_left s rows)
     go false e h = rw e h
 
 -- once the owner's rows are gone nothing is put
-pub put_begun : (tree : ℕ) (owner : Key) (first now : Database) → Clears tree owner first now → PutsList tree owner [] first now
+put_begun : (tree : ℕ) (owner : Key) (first now : Database) → Clears tree owner first now → PutsList tree owner [] first now
 put_begun tree owner first now cleared own apart =
     let drops = cleared own apart in
     record {
@@ -95,33 +96,75 @@ more_places front back new done k e was =
     subst (λ l. IsPermutation l (numbered 1 (done ++ k ∷ []))) (sym split) (subst (λ l. IsPermutation (map placed front ++ p ∷ map placed back) l) (sym (numbered_more 1 done k))
     (IsPermutation-trans _ _ _ (IsPermutation-middle (map placed front) p (map placed back)) (IsPermutation-trans _ _ _ (IsPermutation-cons p _ _ before) ahead)))
 
+-- the owner's rows of a table are the places of a list, and those of the others are as they were
+record Listed (owner : Key) (list : List Key) (first now : List Row) : Type 0 where
+  pub others : (key : Key) → is key owner ≡ false → of_key key now ≡ of_key key first
+  pub places : IsPermutation (map placed (of_key owner now)) (numbered 1 list)
+
 -- one row more
-pub put_goes_on : (tree : ℕ) (owner k : Key) (done : List Key) (first mid now : Database) → PutsList tree owner done first mid
-    → Adds tree (choice_cells owner (pos (length done + 1)) k) mid now
-    → PutsList tree owner (done ++ k ∷ []) first now
-put_goes_on tree owner k done first mid now puts adds own apart =
-    let was = puts own apart in
-    let put = adds (subst IsOwn (sym was.schema_is) own) in
-    let new : Row = Int (next_rowid (mid.trees tree)) ∷ choice_cells owner (pos (length done + 1)) k in
-    let split = put_splits new (mid.trees tree) put.free in
+listed_more : (owner k : Key) (done : List Key) (n : ℕ) (first mid : List Row) → n ≡ length done + 1 → Listed owner done first mid
+    → is_taken mid (Int (next_rowid mid) ∷ choice_cells owner (pos n) k) ≡ false
+    → Listed owner (done ++ k ∷ []) first (put_row (Int (next_rowid mid) ∷ choice_cells owner (pos n) k) mid)
+listed_more owner k done n first mid at was free =
+    let new : Row = Int (next_rowid mid) ∷ choice_cells owner (pos n) k in
+    let split = put_splits new mid free in
     let front = split.0 in
     let back = split.1 in
-    let rows : now.trees tree ≡ front ++ new ∷ back = put.rows ∙ split.3 in
-    let mine : of_key owner (now.trees tree) ≡ of_key owner front ++ new ∷ of_key owner back =
-    ap (of_key owner) rows ∙ split_key owner front back new true (eq_self (Words owner)) in
-    let before : of_key owner (mid.trees tree) ≡ of_key owner front ++ of_key owner back =
+    let mine : of_key owner (put_row new mid) ≡ of_key owner front ++ new ∷ of_key owner back =
+    ap (of_key owner) split.3 ∙ split_key owner front back new true (eq_self (Words owner)) in
+    let before : of_key owner mid ≡ of_key owner front ++ of_key owner back =
     ap (of_key owner) split.2 ∙ filter-append (has_text 1 owner) front back in
     record {
-      schema_is = put.schema_is ∙ was.schema_is;
-      sound = put.sound;
-      apart = puts_apart tree _ mid now put was.apart;
-      tables = keeps_then tree first mid now was.tables put.others;
       others = λ key other.
-          ap (of_key key) rows ∙ split_key key front back new false (text_equals owner key ∙ is_sym owner key ∙ other) ∙ sym (filter-append (has_text 1 key) front back)
+          ap (of_key key) split.3 ∙ split_key key front back new false (text_equals owner key ∙ is_sym owner key ∙ other) ∙ sym (filter-append (has_text 1 key) front back)
           ∙ sym (ap (of_key key) split.2) ∙ was.others key other;
       places = subst (λ l. IsPermutation (map placed l) (numbered 1 (done ++ k ∷ []))) (sym mine)
-          (more_places (of_key owner front) (of_key owner back) new done k refl (subst (λ l. IsPermutation (map placed l) (numbered 1 done)) before was.places));
+          (more_places (of_key owner front) (of_key owner back) new done k (ap (λ m. (m, k)) at) (subst (λ l. IsPermutation (map placed l) (numbered 1 done)) before was.places));
     }
+
+-- and all the rows of a list
+listed_all : (owner : Key) (done ks : List Key) (n : ℕ) (first mid : List Row) → n ≡ length done + 1 → Listed owner done first mid
+    → AreNew mid (map (λ p. choice_cells owner (pos p.0) p.1) (numbered n ks))
+    → Listed owner (done ++ ks) first (with_rows mid (map (λ p. choice_cells owner (pos p.0) p.1) (numbered n ks)))
+listed_all owner done [] n first mid at was new = subst (λ l. Listed owner l first mid) (sym (append-nil done)) was
+listed_all owner done (k ∷ ks) n first mid at was new =
+    let row : Row = Int (next_rowid mid) ∷ choice_cells owner (pos n) k in
+    let rest = map (λ (p : ℕ × Key). choice_cells owner (pos p.0) p.1) (numbered (n + 1) ks) in
+    subst (λ l. Listed owner l first (with_rows (put_row row mid) rest)) (append_assoc done (k ∷ []) ks)
+    (listed_all owner (done ++ k ∷ []) ks (n + 1) first (put_row row mid) (ap (λ m. m + 1) (at ∙ sym (length_push done k)))
+    (listed_more owner k done n first mid at was new.0) new.1)
+
+-- where the owner's rows are gone, the rows of a list put it
+put_whole : (tree : ℕ) (owner : Key) (list : List Key) (first mid now : Database) → PutsList tree owner [] first mid → Adds tree (list_cells owner list) mid now
+    → PutsList tree owner list first now
+put_whole tree owner list first mid now puts adds own apart =
+    let was = puts own apart in
+    let put = adds (subst IsOwn (sym was.schema_is) own) in
+    let listed = listed_all owner [] list 1 (first.trees tree) (mid.trees tree) refl (record { others = was.others; places = was.places }) put.free in
+    record {
+      schema_is = put.schema_is ∙ was.schema_is;
+      sound = put.sound was.sound;
+      apart = puts_apart tree _ mid now put was.apart;
+      tables = keeps_then tree first mid now was.tables put.others;
+      others = λ key other. ap (of_key key) put.rows ∙ listed.others key other;
+      places = subst (λ t. IsPermutation (map placed (of_key owner t)) (numbered 1 list)) (sym put.rows) listed.places;
+    }
+
+-- a list that is written row by row
+pub cells_more : (owner : Key) (done : List Key) (k : Key) → list_cells owner (done ++ k ∷ []) ≡ list_cells owner done ++ choice_cells owner (pos (length done + 1)) k ∷ []
+cells_more owner done k =
+    ap (map (λ (p : ℕ × Key). choice_cells owner (pos p.0) p.1)) (numbered_more 1 done k)
+    ∙ map-append (λ (p : ℕ × Key). choice_cells owner (pos p.0) p.1) (numbered 1 done) ((length done + 1, k) ∷ [])
+
+-- the loop's turn: the row of the place at i is written
+pub cells_next : {X : Type 0} (cells_of : X → Row) (rows : List X) (x : X) (owner k : Key) (keys : List Key) (i place : ℕ) → place ≡ i → i < length keys → k ≡ get_or keys i k
+    → cells_of x ≡ choice_cells owner (pos (place + 1)) k
+    → map cells_of rows ≡ list_cells owner (take i keys) → map cells_of (rows ++ x ∷ []) ≡ list_cells owner (take (i + 1) keys)
+cells_next cells_of rows x owner k keys i place at within is cell was =
+    let at_end : place + 1 ≡ length (take i keys) + 1 = omega (arith, at, length-take-le i keys (omega (arith, within))) in
+    let more : take i keys ++ k ∷ [] ≡ take (i + 1) keys = sym (take_more keys i k within ∙ ap (λ y. take i keys ++ y ∷ []) (sym is)) in
+    map-append cells_of rows (x ∷ []) ∙ ap₂ (λ l c. l ++ c ∷ []) was (cell ∙ ap (λ n. choice_cells owner (pos n) k) at_end)
+    ∙ sym (cells_more owner (take i keys) k) ∙ ap (list_cells owner) more
 
 abbrev pair_key : ℕ × Key → Key
 pair_key p = p.0 ∷ []
@@ -154,14 +197,7 @@ module _ (rows : List Row) (list : List Key) (same : IsPermutation (map placed r
   whole_is = subst (CountUp 1) (sym (map_twice (λ (p : ℕ × Key). p.0) placed (by_place rows) ∙ ap (map (λ (p : ℕ × Key). p.0)) in_place)) (count_up 1 list)
 
 -- the same, of steps of a transaction
-pub made_begun : (tree : ℕ) (owner : Key) (old new : State) → Made (Clears tree owner) old new → Made (PutsList tree owner []) old new
-made_begun tree owner old new h = made_more _ _ old new h (put_begun tree owner old.now new.now)
-
-pub made_on : (tree : ℕ) (owner k : Key) (keys : List Key) (i place : ℕ) (old mid new : State) → place ≡ i → i < length keys → k ≡ get_or keys i k
-    → Made (PutsList tree owner (take i keys)) old mid
-    → Made (Adds tree (choice_cells owner (pos (place + 1)) k)) mid new → Made (PutsList tree owner (take (i + 1) keys)) old new
-made_on tree owner k keys i place old mid new at within is was step =
-    let at_end : place + 1 ≡ length (take i keys) + 1 = omega (arith, at, length-take-le i keys (omega (arith, within))) in
-    let more : take i keys ++ k ∷ [] ≡ take (i + 1) keys = sym (take_more keys i k within ∙ ap (λ x. take i keys ++ x ∷ []) (sym is)) in
-    subst (λ l. Made (PutsList tree owner l) old new) more
-    (made_then _ _ _ old mid new was (subst (λ n. Made (Adds tree (choice_cells owner (pos n) k)) mid new) at_end step) (put_goes_on tree owner k (take i keys) old.now mid.now new.now))
+pub list_put : (tree : ℕ) (owner : Key) (list : List Key) (old mid new : State) → Made (Clears tree owner) old mid → GoesOn (Adds tree (list_cells owner list)) mid new
+    → GoesOn (PutsList tree owner list) old new
+list_put tree owner list old mid new cleared added =
+    goes_both _ _ _ old mid new (made_goes _ old mid cleared) added (λ c a. put_whole tree owner list old.now mid.now new.now (put_begun tree owner old.now mid.now c) a)

@@ -20,16 +20,18 @@ use Rattle.portal_tables.specs.Tables.{lecturer_tree, ranking_tree}
 use Rattle.portal_tables.specs.Changes.{IsApart, Sets, has_text}
 use Rattle.portal_tables.specs.Rows as rows
 use Rattle.portal_tables.specs.Rows.{lecturer_cells}
-use Rattle.portal_tables.specs.Steps.{Made}
+use Rattle.portal_tables.specs.Steps.{Made, GoesOn}
 use Rattle.portal_tables.proofs.Lists.{put_splits}
 use Rattle.portal_tables.proofs.Keeping.{sets_apart}
-use Rattle.portal_tables.proofs.Runs.{made_then}
-use Rattle.portal_store.specs.Lists.{of_key, chosen, IsWhole}
-use Rattle.portal_store.specs.World.{world_of, phase_of, row_key, student_of, lecturer_of, lecturer_row, project_row, is_ranked}
-use Rattle.portal_store.specs.Kept.{HasOffice, Whole, Holds}
+use Rattle.portal_tables.proofs.Runs.{goes_then}
+use Rattle.portal_tables.specs.Lists.{of_key, chosen, IsWhole}
+use Rattle.portal_store.specs.World.{world_of, phase_of, student_of, lecturer_of, lecturer_row, project_row, is_ranked}
+use Rattle.portal_tables.specs.Rolls.{row_key}
+use Rattle.portal_tables.specs.Office.{HasOffice}
+use Rattle.portal_store.specs.Kept.{Whole, Holds}
 use Rattle.portal_store.specs.Putting.{HasPut, PutsList, TurnsThere}
-use Rattle.portal_store.proofs.Listed.{all_map_on}
-use Rattle.portal_store.proofs.Sorted.{put_all_map, put_same, distinct_if_rise, map_twice, all_permuted, all_two}
+use Rattle.portal_tables.proofs.Listed.{all_map_on}
+use Rattle.portal_tables.proofs.Sorted.{put_all_map, put_same, distinct_if_rise, map_twice, all_permuted, all_two}
 use Rattle.portal_store.proofs.Shapes.{IsLecturerRow, lecturer_rows_formed, has_text_of}
 use Rattle.portal_store.proofs.ChoiceTurns.{chosen_is, whole_at}
 
@@ -250,6 +252,6 @@ rank_turns k list first mid now puts ranks there holds up =
       world = rank_world k list first mid now put f.number f.name f.code f.capacity f.ranked was set formed up;
     }
 
-pub rank_made : (k : Key) (list : List Key) (old mid new : State) → Made (PutsList ranking_tree k list) old mid → Made (rows.Ranks k) mid new
-    → Made (TurnsThere k list) old new
-rank_made k list old mid new p q = made_then _ _ _ old mid new p q (rank_turns k list old.now mid.now new.now)
+pub rank_made : (k : Key) (list : List Key) (old mid new : State) → GoesOn (PutsList ranking_tree k list) old mid → Made (rows.Ranks k) mid new
+    → GoesOn (TurnsThere k list) old new
+rank_made k list old mid new p q = goes_then _ _ _ old mid new p q (rank_turns k list old.now mid.now new.now)

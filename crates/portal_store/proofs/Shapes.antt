@@ -23,7 +23,7 @@ use Rattle.portal_tables.specs.Own.{IsOwn}
 use Rattle.portal_tables.specs.Changes.{IsApart, has_text}
 use Rattle.portal_tables.specs.Rows.{lecturer_cells, choice_cells, ranking_cells}
 use Rattle.portal_tables.proofs.Weak.{portal_with, IsWith, own_is}
-use Rattle.portal_store.specs.World.{row_key}
+use Rattle.portal_tables.specs.Rolls.{row_key}
 
 -- a test of a text
 pub text_equals : (s t : Key) → is_eq (value_cmp (Words s) (Words t)) ≡ is s t

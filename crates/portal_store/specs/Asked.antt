@@ -7,7 +7,8 @@ use Rattle.portal_tables.specs.Tables.{portal_tree, own_trees}
 use Rattle.portal_tables.specs.Own.{IsOwn}
 use Rattle.portal_tables.specs.Changes.{IsApart}
 use Rattle.portal_tables.specs.Steps.{Leaves}
-use Rattle.portal_store.specs.Kept.{HasOffice, Stands}
+use Rattle.portal_tables.specs.Office.{HasOffice}
+use Rattle.portal_store.specs.Kept.{Stands}
 use Rattle.portal_store.specs.declared.store.OpenFault.{OpenFault}
 use Rattle.portal_store.specs.declared.store.OpenFault.TheVariants.{NotPortal, OtherVersion, Damaged, Store, Memory}
 

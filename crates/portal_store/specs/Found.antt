@@ -4,7 +4,8 @@ use Rattle.sqlite.specs.Tree.{Trees}
 use Rattle.portal_core.specs.World.{World}
 use Rattle.portal_tables.specs.Tables.{portal_tree}
 use Rattle.portal_store.specs.World.{world_of}
-use Rattle.portal_store.specs.Kept.{HasOffice, Whole}
+use Rattle.portal_tables.specs.Office.{HasOffice}
+use Rattle.portal_store.specs.Kept.{Whole}
 
 pub record Finds (db : Trees) (w : World) : Type 0 where
   pub office : HasOffice (db portal_tree)

@@ -1,15 +1,12 @@
 -- What a store keeps true between two calls, and what a change of the world is to the tables.
-use Rattle.std.specs.Prelude.{◌≡◌, pos, Bool, false, List, [], ◌∷◌, IfSome, IsTrue, refl}
+use Rattle.std.specs.Prelude.{◌≡◌, Bool, false, [], IfSome, IsTrue, refl}
 use Rattle.std.specs.Coded.{Coded, code_by, coded×, coded_bool}
 use Rattle.std.specs.List.{AllByRecursion}
-use Rattle.sqlite.specs.Order.{Row}
 use Rattle.sqlite.specs.Tree.{Trees}
 use Rattle.sqlite.specs.Effect.{Database, IsDatabase}
 use Rattle.sqlite.specs.State.{State}
 use Rattle.sqlite.specs.Store.{Ghosts}
 use Rattle.sqlite.specs.Held.{Held, held_code, state}
-use Rattle.portal_core.specs.declared.phase.Phase.{Phase}
-use Rattle.portal_core.specs.Words.{Key}
 use Rattle.portal_core.specs.World.{World}
 use Rattle.portal_core.specs.Change.{Change, changed}
 use Rattle.portal_core.specs.Good.{Good}
@@ -17,16 +14,11 @@ use Rattle.portal_core.specs.View.{catalogue, office_sees}
 use Rattle.portal_tables.specs.Tables.{portal_tree, lecturer_tree, student_tree, choice_tree, ranking_tree, own_trees}
 use Rattle.portal_tables.specs.Own.{IsOwn}
 use Rattle.portal_tables.specs.Changes.{IsApart}
-use Rattle.portal_tables.specs.Rows.{portal_row}
 use Rattle.portal_store.specs.declared.mind.Mind.{Mind}
-use Rattle.portal_store.specs.Lists.{of_key, IsWhole}
-use Rattle.portal_store.specs.World.{world_of, number_of, row_key, is_ranked}
-
--- the one row of `portal`, of version 1
-pub record HasOffice (rows : List Row) : Type 0 where
-  pub phase : Phase
-  pub office : Key
-  pub is : rows ≡ portal_row (pos 1) (pos (number_of phase)) office ∷ []
+use Rattle.portal_tables.specs.Lists.{of_key, IsWhole}
+use Rattle.portal_tables.specs.Office.{HasOffice}
+use Rattle.portal_tables.specs.Rolls.{row_key}
+use Rattle.portal_store.specs.World.{world_of, is_ranked}
 
 -- no list has a gap, and who has no ranking has no row of one
 pub record Whole (db : Trees) : Type 0 where

@@ -1,14 +1,13 @@
 pub mod Asked
 pub mod Crash
 pub mod Found
-pub mod Going
 pub mod Kept
-pub mod Lists
 pub mod Loads
 pub mod Made
 pub mod Placing
 pub mod Putting
 pub mod Reading
+pub mod Runs
 pub mod Shown
 pub mod World
 pub mod Queried

@@ -4,7 +4,8 @@ use Rattle.sqlite.specs.Tree.{Trees}
 use Rattle.portal_list.specs.Rows.{Rows, rows_of}
 use Rattle.portal_tables.specs.Tables.{portal_tree}
 use Rattle.portal_store.specs.World.{world_of}
-use Rattle.portal_store.specs.Kept.{HasOffice, Whole}
+use Rattle.portal_tables.specs.Office.{HasOffice}
+use Rattle.portal_store.specs.Kept.{Whole}
 
 -- these are the rows of the world that the tables stand for
 pub record Loads (db : Trees) (rows : Rows) : Type 0 where

@@ -1,5 +1,5 @@
 -- What putting a list into its table does: the rows of its owner are the places from 1, and no other row is touched.
-use Rattle.std.specs.Prelude.{◌≡◌, ℕ, ◌+◌, true, false, List, [], ◌∷◌, map}
+use Rattle.std.specs.Prelude.{◌≡◌, ℕ, ◌+◌, pos, true, false, List, [], ◌∷◌, map}
 use Rattle.std.specs.List.{AllByRecursion}
 use Rattle.std.specs.List.Sorted.{IsPermutation}
 use Rattle.sqlite.specs.Order.{Row}
@@ -10,14 +10,20 @@ use Rattle.portal_core.specs.Change.{Ranks, changed}
 use Rattle.portal_tables.specs.Tables.{lecturer_tree}
 use Rattle.portal_tables.specs.Own.{IsOwn}
 use Rattle.portal_tables.specs.Changes.{IsApart, Keeps}
-use Rattle.portal_store.specs.Lists.{of_key, place_of, named_by}
-use Rattle.portal_store.specs.World.{world_of, row_key}
+use Rattle.portal_tables.specs.Rows.{choice_cells}
+use Rattle.portal_tables.specs.Lists.{of_key, place_of, named_by}
+use Rattle.portal_store.specs.World.{world_of}
+use Rattle.portal_tables.specs.Rolls.{row_key}
 use Rattle.portal_store.specs.Kept.{Holds, Turned}
 
 -- the places from n, each beside what stands there
 abbrev pub numbered : ℕ → List Key → List (ℕ × Key)
 numbered n [] = []
 numbered n (k ∷ ks) = (n, k) ∷ numbered (n + 1) ks
+
+-- the cells of the rows of a list, in either table of lists
+abbrev pub list_cells : Key → List Key → List Row
+list_cells owner list = map (λ p. choice_cells owner (pos p.0) p.1) (numbered 1 list)
 
 abbrev pub placed : Row → ℕ × Key
 placed r = (place_of r, named_by r)

@@ -17,9 +17,9 @@ use Rattle.portal_core.specs.World.{World, Lecturer, Student, applicants_to, pla
 use Rattle.portal_list.specs.Shown.{is_wanted}
 use Rattle.portal_tables.specs.Tables.{choice_tree, ranking_tree}
 use Rattle.portal_store.specs.declared.queries.applicants.Line.{Line}
-use Rattle.portal_store.specs.Lists.{chosen}
-use Rattle.portal_store.specs.Shown.{first, shown_lecturer, shown_project, shown_student, shown_pair}
-use Rattle.portal_store.specs.World.{world_of, text_or_none}
+use Rattle.portal_tables.specs.Lists.{chosen}
+use Rattle.portal_tables.specs.Shown.{first, shown_lecturer, shown_project, shown_student, shown_pair, text_or_none}
+use Rattle.portal_store.specs.World.{world_of}
 
 -- one thing or none, as a list
 abbrev pub as_list : {X : Type 0} → Option X → List X

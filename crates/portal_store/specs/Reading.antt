@@ -1,17 +1,9 @@
--- How a reading of several queries ends.
-use Rattle.std.specs.Prelude.{IsTrue, Result, OnOk, OnErr}
-use Rattle.sqlite.specs.State.{State, HasCleanDisk, IsUnchanged, Survives}
-use Rattle.portal_tables.specs.Own.{IsOwn}
-use Rattle.portal_tables.specs.Steps.{Leaves}
+-- What is remembered while the tables are read.
+use Rattle.std.specs.Prelude.{IsTrue}
+use Rattle.sqlite.specs.State.{State, HasCleanDisk}
 use Rattle.portal_store.specs.declared.mind.Mind.{Mind}
 use Rattle.portal_store.specs.Kept.{Holds, Remembers}
 use Rattle.portal_store.specs.World.{world_of}
-
--- With an answer nothing is changed, and with an error nothing or the open transaction is undone. A crash leaves what it left before.
-pub record Reads {V E : Type 0} (result : Result V E) (old new : State) : Type 0 where
-  pub same : IsOwn old.now.schema → HasCleanDisk new → IsTrue old.is_open → OnOk result (IsUnchanged old new)
-  pub err : IsOwn old.now.schema → HasCleanDisk new → IsTrue old.is_open → OnErr result (Leaves old new)
-  pub crash : Survives old new (λ _. IsOwn old.now.schema → IsTrue old.is_open → ⊥)
 
 -- what was remembered before was right, so what is remembered after is
 abbrev pub KeepsInMind : Mind → Mind → State → State → Type 0

@@ -1,64 +1,20 @@
--- What the rows that a query shows are decoded to.
-use Rattle.std.specs.Prelude.{Vec, ◌≡◌, ℕ, pos, true, false, Bool, ◌==◌, if◌then◌else◌, List, [], ◌∷◌, Option, Some, None, option_map, map, IfSome}
+-- The rows of a world, of the rolls that queries show and the lists in the tables.
+use Rattle.std.specs.Prelude.{Vec, ◌≡◌, ℕ, true, false, Bool, ◌==◌, if◌then◌else◌, List, [], Option, Some, None, map}
 use Rattle.std.specs.List.{AllByRecursion, filter_map}
 use Rattle.std.specs.declared.alloc.Global.{Global}
-use Rattle.sqlite.specs.declared.types.Value.TheVariants.{Int, Text as Words}
-use Rattle.sqlite.specs.Order.{Row, column, bytes}
+use Rattle.sqlite.specs.Order.{Row, column}
 use Rattle.sqlite.specs.Tree.{Trees}
 use Rattle.sqlite_trees.specs.Objects.{number_in}
 use Rattle.spa_rows.specs.Form.{is_key}
 use Rattle.portal_core.specs.Good.{IsLecturer, IsProject, IsStudent}
-use Rattle.portal_core.specs.Words.{Key, Rise, put_all}
+use Rattle.portal_core.specs.Words.{Key}
 use Rattle.portal_core.specs.declared.phase.Phase.{Phase}
-use Rattle.portal_core.specs.declared.rows.LecturerRow.{LecturerRow}
-use Rattle.portal_core.specs.declared.rows.ProjectRow.{ProjectRow}
-use Rattle.portal_core.specs.declared.rows.StudentRow.{StudentRow}
 use Rattle.portal_list.specs.Rows.{Rows}
-use Rattle.portal_tables.specs.Tables.{lecturer_tree, project_tree, student_tree, choice_tree, ranking_tree}
-use Rattle.portal_tables.specs.Changes.{columns}
-use Rattle.portal_store.specs.declared.load.Lists.{Lists}
-use Rattle.portal_store.specs.declared.load.Lists.TheVariants.{Choices, Rankings}
-use Rattle.portal_store.specs.Lists.{IsWhole, chosen, of_key}
-use Rattle.portal_store.specs.World.{number_of, row_key, text_or_none}
-
--- the key that a shown row begins with
-abbrev pub first : Row → Key
-first c = bytes (column c 0)
-
-abbrev pub shown_lecturer : Row → LecturerRow
-shown_lecturer c = record { key = first c; name = bytes (column c 1); code = bytes (column c 2); capacity = number_in (column c 3) }
-
-abbrev pub shown_project : Row → ProjectRow
-shown_project c = record { key = first c; lecturer = bytes (column c 1); title = bytes (column c 2); capacity = number_in (column c 3) }
-
-abbrev pub shown_student : Row → StudentRow
-shown_student c = record { key = first c; name = bytes (column c 1); code = bytes (column c 2) }
-
--- the pair of the result that a student's row tells
-abbrev pub shown_pair : Row → Option (Key × Key)
-shown_pair c = option_map (λ p. (first c, p)) (text_or_none (column c 3))
-
--- the place and the key that a row of a list shows
-abbrev pub shown_place : Row → ℕ
-shown_place c = number_in (column c 0)
-
-abbrev pub shown_name : Row → Key
-shown_name c = bytes (column c 1)
-
--- what is assigned has the form of a key
-abbrev pub HasPlace : Row → Type 0
-HasPlace c = IfSome (text_or_none (column c 3)) (λ p. is_key p ≡ true)
-
--- the row of `portal`, as it is shown
-pub record IsOffice (phase : Phase) (code : Key) (row : Row) : Type 0 where
-  pub id : column row 0 ≡ Int (pos 1)
-  pub version : column row 1 ≡ Int (pos 1)
-  pub phase_is : column row 2 ≡ Int (pos (number_of phase))
-  pub code_is : column row 3 ≡ Words code
-
--- the rows of a table by rising key
-abbrev pub by_key : List Row → List Row
-by_key table = put_all row_key table []
+use Rattle.portal_tables.specs.Tables.{choice_tree, ranking_tree}
+use Rattle.portal_tables.specs.Shown.{first, shown_lecturer, shown_project, shown_student, shown_pair, HasPlace}
+use Rattle.portal_store.specs.declared.entries.Lists.{Lists}
+use Rattle.portal_store.specs.declared.entries.Lists.TheVariants.{Choices, Rankings}
+use Rattle.portal_tables.specs.Lists.{IsWhole, chosen, of_key}
 
 abbrev pub tree_of : Lists → ℕ
 tree_of Choices = choice_tree
@@ -115,19 +71,3 @@ pub record AreFine (db : Trees) (lecturers projects students : List Row) : Type 
   pub places : AllByRecursion HasPlace students
   pub choices : AllByRecursion (IsFine Choices db) students
   pub rankings : AllByRecursion (IsFine Rankings db) lecturers
-
--- the rolls as they are shown: the columns of each row behind its number, by rising key
-abbrev pub lecturers_shown : Trees → List Row
-lecturers_shown db = map (columns (1 ∷ 2 ∷ 3 ∷ 4 ∷ 5 ∷ [])) (by_key (db lecturer_tree))
-
-abbrev pub projects_shown : Trees → List Row
-projects_shown db = map (columns (1 ∷ 2 ∷ 3 ∷ 4 ∷ [])) (by_key (db project_tree))
-
-abbrev pub students_shown : Trees → List Row
-students_shown db = map (columns (1 ∷ 2 ∷ 3 ∷ 4 ∷ [])) (by_key (db student_tree))
-
--- the keys of each roll rise
-pub record RollsRise (db : Trees) : Type 0 where
-  pub lecturers_rise : Rise (map row_key (by_key (db lecturer_tree)))
-  pub projects_rise : Rise (map row_key (by_key (db project_tree)))
-  pub students_rise : Rise (map row_key (by_key (db student_tree)))

@@ -1,7 +1,5 @@
 -- The world that the six tables stand for.
-use Rattle.std.specs.Prelude.{ℕ, Bool, if◌then◌else◌, ◌==◌, List, [], map, slice_index_or, Option, Some, None}
-use Rattle.sqlite.specs.declared.types.Value.{Value}
-use Rattle.sqlite.specs.declared.types.Value.TheVariants.{Null, Int, Real, Blob, Text as Words}
+use Rattle.std.specs.Prelude.{ℕ, Bool, if◌then◌else◌, ◌==◌, List, [], map, slice_index_or, Some, None}
 use Rattle.sqlite.specs.Order.{Row, column, bytes}
 use Rattle.sqlite.specs.Tree.{Trees}
 use Rattle.sqlite_trees.specs.Objects.{number_in}
@@ -10,30 +8,15 @@ use Rattle.portal_core.specs.declared.phase.Phase.TheVariants.{Setup, Choosing, 
 use Rattle.portal_core.specs.declared.rows.LecturerRow.{LecturerRow}
 use Rattle.portal_core.specs.declared.rows.ProjectRow.{ProjectRow}
 use Rattle.portal_core.specs.declared.rows.StudentRow.{StudentRow}
-use Rattle.portal_core.specs.Words.{Key, put_all}
+use Rattle.portal_core.specs.Words.{put_all}
 use Rattle.portal_core.specs.World.{World, Lecturer, Student, lecturer_key, project_key, student_key}
 use Rattle.portal_tables.specs.Tables.{portal_tree, lecturer_tree, project_tree, student_tree, choice_tree, ranking_tree}
-use Rattle.portal_store.specs.Lists.{chosen}
-
-abbrev pub number_of : Phase → ℕ
-number_of Setup = 0
-number_of Choosing = 1
-number_of Ranking = 2
-number_of Published = 3
+use Rattle.portal_tables.specs.Lists.{chosen}
+use Rattle.portal_tables.specs.Rolls.{row_key}
+use Rattle.portal_tables.specs.Shown.{text_or_none}
 
 abbrev pub phase_of : ℕ → Phase
 phase_of n = if n == 1 then Choosing else (if n == 2 then Ranking else (if n == 3 then Published else Setup))
-
--- the text in a cell, if it is not NULL
-abbrev pub text_or_none : Value → Option Key
-text_or_none Null = None
-text_or_none (Int n) = Some []
-text_or_none (Real x) = Some []
-text_or_none (Blob b) = Some []
-text_or_none (Words t) = Some t
-
-abbrev pub row_key : Row → Key
-row_key r = bytes (column r 1)
 
 abbrev pub lecturer_row : Row → LecturerRow
 lecturer_row r = record { key = row_key r; name = bytes (column r 2); code = bytes (column r 3); capacity = number_in (column r 4) }

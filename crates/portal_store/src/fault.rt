@@ -5,10 +5,10 @@ ghost use Rattle.sqlite.specs.Tree.{Trees};
 ghost use Rattle.portal_store.specs.Kept.{Stands};
 ghost use Rattle.portal_store.specs.Asked.{Refutes};
 
-use crate::load::LoadFault;
 use crate::store::{CreateFault, OpenFault};
 use portal_core::KeepFault;
 use portal_list::RowsFault;
+use portal_tables::fault::LoadFault;
 use sqlite::{Error, ErrorCode};
 
 /// Want of memory, or a fault of the store.

@@ -12,23 +12,24 @@ ghost use Rattle.portal_core.specs.Change.{Fill};
 ghost use Rattle.portal_list.specs.Rows.{rows_of};
 ghost use Rattle.portal_list.specs.Fill.{fills};
 ghost use Rattle.portal_tables.specs.Own.{IsOwn};
-ghost use Rattle.portal_tables.specs.Steps.{Commits, IsAfter, Leaves, LeavesOnly, Stays};
+ghost use Rattle.portal_tables.specs.Steps.{GoesOn, Commits, IsAfter, Leaves, LeavesOnly, Stays};
 ghost use Rattle.portal_store.specs.Kept.{Turns};
 ghost use Rattle.portal_store.specs.World.{world_of};
-ghost use Rattle.portal_store.specs.Going.{GoesOn};
 ghost use Rattle.portal_store.specs.Putting.{TurnsAll};
 
 use crate::fault::{fault_of, keep_fault_of, load_fault_of};
 use crate::lists::put_ranking;
-use crate::load::{LoadFault, load};
+use crate::load::load;
 use portal_core::KeepFault;
 use portal_list::{WorldRows, fills_of_rows};
+use portal_tables::fault::LoadFault;
 use spa_rows::Key;
 use sqlite::{Alter, Connection, Error, Transaction};
 use std::alloc::Global;
 
 /// Puts each of these rankings.
 fn put_rankings<S: Alter>(
+    alloc: Global,
     tx: &mut Transaction<'_, S>,
     rankings: &[(Key, Vec<Key>)],
 ) -> Result<(), Error>
@@ -39,13 +40,14 @@ fn put_rankings<S: Alter>(
     ensures survives { Survives (state S.Store tx.old.conn.now) (state S.Store tx.new.conn.now) (λ _. ⊥) }
 {
     'rows: for ranking in rankings {
-        put_ranking(tx, &ranking.0, &ranking.1)?;
+        put_ranking(alloc, tx, &ranking.0, &ranking.1)?;
     }
     Ok(())
 }
 
 /// Puts these rankings in a transaction.
 fn turn_rankings<S: Alter>(
+    alloc: Global,
     conn: &mut Connection<S>,
     rankings: &[(Key, Vec<Key>)],
 ) -> Result<(), Error>
@@ -59,7 +61,7 @@ fn turn_rankings<S: Alter>(
 {
     let _idle = conn.is_autocommit();
     let mut tx = conn.transaction();
-    put_rankings(&mut tx, rankings)?;
+    put_rankings(alloc, &mut tx, rankings)?;
     tx.commit()?;
     Ok(())
 }
@@ -127,7 +129,7 @@ pub(crate) fn fill_rankings<S: Alter>(
         Ok(rankings) => rankings,
         Err(fault) => return Err(fault),
     };
-    if let Err(error) = turn_rankings(conn, &rankings) {
+    if let Err(error) = turn_rankings(alloc, conn, &rankings) {
         return Err(fault_of(error));
     }
     Ok(())

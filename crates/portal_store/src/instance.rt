@@ -11,9 +11,10 @@ ghost use Rattle.portal_tables.specs.Steps.{Leaves};
 ghost use Rattle.portal_store.specs.World.{world_of};
 
 use crate::fault::{keep_fault_of, load_fault_of};
-use crate::load::{LoadFault, load};
+use crate::load::load;
 use portal_core::KeepFault;
 use portal_list::instance_of_rows;
+use portal_tables::fault::LoadFault;
 use spa_model::Instance;
 use sqlite::{Alter, Connection};
 use std::alloc::Global;

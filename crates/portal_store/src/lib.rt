@@ -3,7 +3,7 @@
 
 mod change;
 mod create;
-mod decode;
+mod entries;
 mod fault;
 mod fill;
 mod instance;

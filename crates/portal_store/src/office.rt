@@ -8,7 +8,7 @@ ghost use Rattle.portal_tables.specs.Own.{IsOwn};
 ghost use Rattle.portal_tables.specs.Tables.{portal_tree};
 ghost use Rattle.portal_tables.specs.Steps.{Leaves};
 ghost use Rattle.portal_store.specs.World.{world_of};
-ghost use Rattle.portal_store.specs.Kept.{HasOffice};
+ghost use Rattle.portal_tables.specs.Office.{HasOffice};
 
 use crate::fault::fault_of;
 use portal_core::{Code, CodeFault, KeepFault};

@@ -7,7 +7,7 @@ ghost use Rattle.portal_core.specs.Change.{To};
 ghost use Rattle.portal_tables.specs.Own.{IsOwn};
 ghost use Rattle.portal_tables.specs.Steps.{Made, Commits, IsAfter, LeavesOnly, Stays};
 ghost use Rattle.portal_store.specs.Kept.{Turns};
-ghost use Rattle.portal_store.specs.World.{number_of};
+ghost use Rattle.portal_tables.specs.Office.{number_of};
 
 use crate::fault::fault_of;
 use portal_core::{KeepFault, Phase};

@@ -7,7 +7,7 @@ ghost use Rattle.portal_core.specs.Change.{Places, place_in};
 ghost use Rattle.portal_tables.specs.Own.{IsOwn};
 ghost use Rattle.portal_tables.specs.Steps.{Commits, IsAfter, LeavesOnly, Stays};
 ghost use Rattle.portal_store.specs.Kept.{Turns};
-ghost use Rattle.portal_store.specs.Going.{GoesOn};
+ghost use Rattle.portal_tables.specs.Steps.{GoesOn};
 ghost use Rattle.portal_store.specs.Placing.{PlacesRow, PlacesShown, TurnsShown};
 
 use crate::fault::fault_of;

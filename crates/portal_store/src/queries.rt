@@ -11,9 +11,11 @@ ghost use Rattle.portal_tables.specs.Own.{IsOwn};
 ghost use Rattle.portal_tables.specs.Tables.{portal_tree};
 ghost use Rattle.portal_tables.specs.Rows.{portal_row};
 ghost use Rattle.portal_tables.specs.Steps.{Leaves};
-ghost use Rattle.portal_store.specs.World.{world_of, number_of};
+ghost use Rattle.portal_tables.specs.Office.{number_of};
+ghost use Rattle.portal_store.specs.World.{world_of};
 ghost use Rattle.portal_store.specs.Kept.{Holds, Remembers};
-ghost use Rattle.portal_store.specs.Reading.{Reads, KeepsInMind};
+ghost use Rattle.portal_tables.specs.Reading.{Reads};
+ghost use Rattle.portal_store.specs.Reading.{KeepsInMind};
 
 mod applicants;
 mod caller;
@@ -22,28 +24,18 @@ mod offers;
 mod office;
 mod student;
 
-use crate::decode::Office;
 use crate::fault::keep_fault_of;
-use crate::load::{LoadFault, office_in};
 use crate::mind::{Mind, office_view_of};
 use caller::{lecturer_in, student_in};
 use lecturer::lecturer_view;
 use offers::shared_catalogue;
 use office::office_view;
 use portal_core::{KeepFault, OfficeView, Phase, View};
+use portal_tables::fault::LoadFault;
+use portal_tables::office::{Office, office_in};
 use sqlite::{Alter, Connection};
-use std::alloc::{AllocError, Global};
+use std::alloc::Global;
 use student::student_view;
-
-impl From<AllocError> for LoadFault {
-    ghost use Rattle.portal_store.specs.declared.load.LoadFault.TheVariants.{Memory};
-
-    ghost from_gives = { λ _ fault. fault ≡ Memory };
-
-    fn from(_: AllocError) -> LoadFault {
-        LoadFault::Memory
-    }
-}
 
 /// What the office sees whose row this is, read of the tables with the catalogue.
 fn office_read<S: Alter>(

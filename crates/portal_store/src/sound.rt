@@ -11,8 +11,9 @@ ghost use Rattle.portal_store.specs.Kept.{Stands};
 ghost use Rattle.portal_store.specs.Found.{Finds};
 
 use crate::fault::load_fault_of;
-use crate::load::{LoadFault, load};
+use crate::load::load;
 use portal_list::ListKeeper;
+use portal_tables::fault::LoadFault;
 use sqlite::{Alter, Connection};
 use std::alloc::Global;
 

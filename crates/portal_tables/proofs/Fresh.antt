@@ -1,13 +1,10 @@
 -- The tables as they are made, with the row of the office.
-use Rattle.std.proofs.Common.{ℕ, pos, List, ◌∷◌, refl, ap, ◌∙◌}
+use Rattle.std.proofs.Common.{ℕ, pos, List, [], ◌∷◌, refl, ap, ◌∙◌}
 use Rattle.std.specs.List.{AllByRecursion}
-use Rattle.sqlite.specs.declared.types.Value.TheVariants.{Int}
-use Rattle.sqlite.specs.Edit.{next_rowid}
-use Rattle.sqlite.specs.Tree.{put_row}
 use Rattle.sqlite.specs.Effect.{Database}
 use Rattle.sqlite.specs.State.{State}
 use Rattle.portal_tables.specs.Tables.{portal_tree, own_trees}
-use Rattle.portal_tables.specs.Changes.{IsApart}
+use Rattle.portal_tables.specs.Changes.{IsApart, with_rows}
 use Rattle.portal_tables.specs.Rows.{Adds, portal_cells, portal_row}
 use Rattle.portal_tables.specs.Making.{Makes, Creates, IsFresh}
 use Rattle.portal_tables.specs.Steps.{Made}
@@ -15,20 +12,20 @@ use Rattle.portal_tables.proofs.Keeping.{apart_one, apart_none}
 use Rattle.portal_tables.proofs.Owned.{own_made}
 use Rattle.portal_tables.proofs.Runs.{made_then}
 
-pub fresh_made : (a b c : State) (office : List ℕ) → Made Makes a b → Made (Adds portal_tree (portal_cells (pos 1) (pos 0) office)) b c → Made (Creates office) a c
-fresh_made a b c office p q = made_then Makes (Adds portal_tree (portal_cells (pos 1) (pos 0) office)) (Creates office) a b c p q (λ make add has.
+pub fresh_made : (a b c : State) (office : List ℕ) → Made Makes a b → Made (Adds portal_tree (portal_cells (pos 1) (pos 0) office ∷ [])) b c → Made (Creates office) a c
+fresh_made a b c office p q = made_then Makes (Adds portal_tree (portal_cells (pos 1) (pos 0) office ∷ [])) (Creates office) a b c p q (λ make add has.
     let there = make has in
     let none = there.empty in
     let put = add (own_made b.now.schema there.schema_is) in
     let others = put.others in
     record {
       schema_is = put.schema_is ∙ there.schema_is;
-      row = put.rows ∙ ap (λ rows. put_row (Int (next_rowid rows) ∷ portal_cells (pos 1) (pos 0) office) rows) none.0;
+      row = put.rows ∙ ap (λ rows. with_rows rows (portal_cells (pos 1) (pos 0) office ∷ [])) none.0;
       others = (
         λ o. others.0 o ∙ none.0,
         (λ o. others.1.0 o ∙ none.1.0, (λ o. others.1.1.0 o ∙ none.1.1.0, (λ o. others.1.1.1.0 o ∙ none.1.1.1.0, (λ o. others.1.1.1.1.0 o ∙ none.1.1.1.1.0, (λ o. others.1.1.1.1.1.0 o ∙ none.1.1.1.1.1.0, tt))))),
       );
-      sound = put.sound;
+      sound = put.sound there.sound;
     })
 
 -- there each row has a number of its own

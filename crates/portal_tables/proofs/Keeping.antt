@@ -1,17 +1,21 @@
 -- What each change leaves of what a store knows between two calls: the tables are its own, and rows have numbers of their own.
-use Rattle.std.proofs.Common.{◌≡◌, ℕ, ℤ, List, [], ◌∷◌, Bool, false, refl, sym, ap, subst, ◌∙◌}
+use Rattle.std.proofs.Common.{◌≡◌, ◌≢◌, ℕ, ℤ, ◌+◌, ◌<◌, List, [], ◌∷◌, ◌++◌, map, take, get_or, length, Bool, false, refl, sym, ap, subst, ◌∙◌}
 use Rattle.std.specs.List.{AllByRecursion}
 use Rattle.std.specs.Ordering.{is_eq, match_ordering}
 use Rattle.std.specs.declared.cmp.Ordering.{Ordering}
 use Rattle.std.specs.declared.cmp.Ordering.TheVariants.{Less, Equal, Greater}
 use Rattle.std.proofs.lemmas.Bool.{or_parts}
+use Rattle.std.proofs.lemmas.List.{map-append, take_more}
 use Rattle.sqlite.specs.declared.types.Value.TheVariants.{Int}
 use Rattle.sqlite.specs.Order.{Row, value_cmp}
 use Rattle.sqlite.specs.Edit.{next_rowid, is_taken, id_in}
 use Rattle.sqlite.specs.Tree.{put_row, rowid}
 use Rattle.sqlite.specs.Effect.{Database}
 use Rattle.sqlite_trees.proofs.TreeLemmas.{all-put_row}
-use Rattle.portal_tables.specs.Changes.{Puts, Drops, Sets, IsApart}
+use Rattle.portal_tables.specs.Changes.{Puts, Drops, Sets, IsApart, Keeps, with_rows, AreNew}
+use Rattle.portal_tables.specs.Tables.{own_trees}
+use Rattle.portal_tables.specs.Own.{IsOwn}
+use Rattle.portal_tables.specs.Rows.{Adds}
 use Rattle.portal_tables.proofs.Lists.{apart_filter, eq_flips}
 
 pub apart_put : (new : Row) (rows : List Row) (n : _) → rowid new ≡ Int n → IsApart rows → is_taken rows new ≡ false → IsApart (put_row new rows)
@@ -30,8 +34,67 @@ apart_put new (r ∷ rows) n is apart free = go (apart_put new rows n is apart.2
     go rest Equal e = absurd (let e : is_eq Equal ≡ false = ap is_eq (sym e) ∙ both.0 in cc)
     go rest Greater e = (is ∙ ap Int (sym (ap id_in is)), none (r ∷ rows) free, apart)
 
-pub puts_apart : (tree : ℕ) (cells : Row) (old new : Database) → Puts tree cells old new → IsApart (old.trees tree) → IsApart (new.trees tree)
-puts_apart tree cells old new h apart = subst IsApart (sym h.rows) (apart_put _ (old.trees tree) (next_rowid (old.trees tree)) refl apart h.free)
+rows_apart : (table cells : List Row) → AreNew table cells → IsApart table → IsApart (with_rows table cells)
+rows_apart table [] new apart = apart
+rows_apart table (c ∷ cells) new apart =
+    rows_apart (put_row (Int (next_rowid table) ∷ c) table) cells new.1 (apart_put _ table (next_rowid table) refl apart new.0)
+
+pub puts_apart : (tree : ℕ) (cells : List Row) (old new : Database) → Puts tree cells old new → IsApart (old.trees tree) → IsApart (new.trees tree)
+puts_apart tree cells old new h apart = subst IsApart (sym h.rows) (rows_apart (old.trees tree) cells h.free apart)
+
+-- no table but this one is touched by two changes in turn
+pub keeps_then : (tree : ℕ) (a b c : Database) → Keeps tree a b → Keeps tree b c → Keeps tree a c
+keeps_then tree a b c p q = each own_trees p q
+  where
+    each : (trees : List ℕ) → AllByRecursion (λ t. t ≢ tree → b.trees t ≡ a.trees t) trees → AllByRecursion (λ t. t ≢ tree → c.trees t ≡ b.trees t) trees
+        → AllByRecursion (λ t. t ≢ tree → c.trees t ≡ a.trees t) trees
+    each [] p q = tt
+    each (t ∷ trees) p q = (λ other. q.0 other ∙ p.0 other, each trees p.1 q.1)
+
+-- no row comes
+puts_none : (tree : ℕ) (db : Database) → Puts tree [] db db
+puts_none tree db = record { schema_is = refl; free = tt; rows = refl; others = each own_trees; sound = λ h. h }
+  where
+    each : (trees : List ℕ) → AllByRecursion (λ t. t ≢ tree → db.trees t ≡ db.trees t) trees
+    each [] = tt
+    each (t ∷ trees) = (λ _. refl, each trees)
+
+pub adds_none : (tree : ℕ) (db : Database) → Adds tree [] db db
+adds_none tree db own = puts_none tree db
+
+rows_then : (table cells more : List Row) → with_rows table (cells ++ more) ≡ with_rows (with_rows table cells) more
+rows_then table [] more = refl
+rows_then table (c ∷ cells) more = rows_then (put_row (Int (next_rowid table) ∷ c) table) cells more
+
+new_then : (table cells more : List Row) → AreNew table cells → AreNew (with_rows table cells) more → AreNew table (cells ++ more)
+new_then table [] more p q = q
+new_then table (c ∷ cells) more p q = (p.0, new_then (put_row (Int (next_rowid table) ∷ c) table) cells more p.1 q)
+
+-- rows come, and then more
+pub adds_then : (tree : ℕ) (cells more : List Row) (a b c : Database) → Adds tree cells a b → Adds tree more b c → Adds tree (cells ++ more) a c
+adds_then tree cells more a b c adds later own =
+    let p = adds own in
+    let q = later (subst IsOwn (sym p.schema_is) own) in
+    record {
+      schema_is = q.schema_is ∙ p.schema_is;
+      free = new_then (a.trees tree) cells more p.free (subst (λ t. AreNew t more) p.rows q.free);
+      rows = q.rows ∙ ap (λ t. with_rows t more) p.rows ∙ sym (rows_then (a.trees tree) cells more);
+      others = keeps_then tree a b c p.others q.others;
+      sound = λ h. q.sound (p.sound h);
+    }
+
+-- a loop's turn: the row at i comes
+pub adds_next : {X : Type 0} (tree : ℕ) (cells_of : X → Row) (rows : List X) (i : ℕ) (x : X) (a b c : Database) → i < length rows → x ≡ get_or rows i x
+    → Adds tree (map cells_of (take i rows)) a b → Adds tree (cells_of x ∷ []) b c → Adds tree (map cells_of (take (i + 1) rows)) a c
+adds_next tree cells_of rows i x a b c within is was adds =
+    let more : map cells_of (take i rows) ++ cells_of x ∷ [] ≡ map cells_of (take (i + 1) rows) =
+    sym (ap (map cells_of) (take_more rows i x within) ∙ map-append cells_of (take i rows) (get_or rows i x ∷ []) ∙ ap (λ z. map cells_of (take i rows) ++ z ∷ []) (ap cells_of (sym is))) in
+    subst (λ l. Adds tree l a c) more (adds_then tree (map cells_of (take i rows)) (cells_of x ∷ []) a b c was adds)
+
+-- the same of a run of rows
+pub adds_run : {X : Type 0} (tree : ℕ) (cells_of : X → Row) (rows run : List X) (a b c : Database) → Adds tree (map cells_of rows) a b → Adds tree (map cells_of run) b c
+    → Adds tree (map cells_of (rows ++ run)) a c
+adds_run tree cells_of rows run a b c was adds = subst (λ l. Adds tree l a c) (sym (map-append cells_of rows run)) (adds_then tree (map cells_of rows) (map cells_of run) a b c was adds)
 
 pub drops_apart : (tree : ℕ) (p : Row → Bool) (old new : Database) → Drops tree p old new → IsApart (old.trees tree) → IsApart (new.trees tree)
 drops_apart tree p old new h apart = subst IsApart (sym h.rows) (apart_filter _ _ apart)

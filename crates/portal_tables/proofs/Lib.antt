@@ -9,7 +9,15 @@ pub mod Making
 pub mod Queries
 pub mod Rises
 pub mod Statements
+pub mod Eights
 pub mod Shows
 pub mod Keeping
 pub mod Owned
 pub mod Fresh
+pub mod Adjacent
+pub mod InTurn
+pub mod Listed
+pub mod OfficeRow
+pub mod RollRows
+pub mod Sorted
+pub mod Texts

@@ -9,7 +9,7 @@ use Rattle.sqlite.specs.View.{doubt}
 use Rattle.sqlite_trees.proofs.Doubt.{no_doubt}
 use Rattle.sqlite.proofs.StateLemmas.{survives_then}
 use Rattle.sqlite.proofs.Callers.{survives_begin}
-use Rattle.portal_tables.specs.Steps.{Made, IsAfter}
+use Rattle.portal_tables.specs.Steps.{Made, GoesOn, IsAfter}
 
 -- a step after another
 pub made_then : (A B C : Database → Database → Type 0) (old mid new : State) → Made A old mid → Made B mid new → (A old.now mid.now → B mid.now new.now → C old.now new.now) → Made C old new
@@ -22,8 +22,28 @@ made_then A B C old mid new a b joined = record {
 pub made_more : (A B : Database → Database → Type 0) (old new : State) → Made A old new → (A old.now new.now → B old.now new.now) → Made B old new
 made_more A B old new a more = record { shown = a.shown; changed = more a.changed }
 
+-- a step is one of those that may be none
+pub made_goes : (C : Database → Database → Type 0) (old new : State) → Made C old new → GoesOn C old new
+made_goes C old new made = record { mode = λ _. made.shown.mode; changed = made.changed }
+
+-- no step, a step after others, and what was made is so much more
+pub goes_nowhere : (C : Database → Database → Type 0) (s : State) → C s.now s.now → GoesOn C s s
+goes_nowhere C s same = record { mode = λ on. on; changed = same }
+
+pub goes_then : (A B C : Database → Database → Type 0) (old mid new : State) → GoesOn A old mid → Made B mid new → (A old.now mid.now → B mid.now new.now → C old.now new.now) → GoesOn C old new
+goes_then A B C old mid new a b joined = record { mode = λ _. b.shown.mode; changed = joined a.changed b.changed }
+
+pub goes_both : (A B C : Database → Database → Type 0) (old mid new : State) → GoesOn A old mid → GoesOn B mid new → (A old.now mid.now → B mid.now new.now → C old.now new.now) → GoesOn C old new
+goes_both A B C old mid new a b joined = record { mode = λ on. b.mode (a.mode on); changed = joined a.changed b.changed }
+
+pub goes_more : (A B : Database → Database → Type 0) (old new : State) → GoesOn A old new → (A old.now new.now → B old.now new.now) → GoesOn B old new
+goes_more A B old new a more = record { mode = a.mode; changed = more a.changed }
+
 pub kept_same : (s : State) → KeepsCommit s s
 kept_same s = record { was_open = λ on. on; committed = λ on. refl }
+
+pub survives_same : (s : State) → Survives s s (λ _. ⊥)
+survives_same s = record { clean = omega arith; shield = λ h. h; counts = omega arith; limit = refl; closes = λ clean on. inl on; crash = λ clean db h. inl h }
 
 pub kept_then : (a b c : State) → KeepsCommit a b → KeepsCommit b c → KeepsCommit a c
 kept_then a b c p q = record { was_open = λ on. p.was_open (q.was_open on); committed = λ on. q.committed on ∙ p.committed (q.was_open on) }

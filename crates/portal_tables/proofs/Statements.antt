@@ -1,8 +1,9 @@
 -- The texts that write, and what each does to its table, whatever the checks are.
-use Rattle.std.proofs.Common.{◌≡◌, ℕ, ℤ, pos, Option, Some, None, List, [], ◌∷◌, filter, codes, true, refl, sym, ap, subst, subst₂, ◌∙◌}
+use Rattle.std.proofs.Common.{◌≡◌, ℕ, ℤ, pos, Option, Some, None, List, [], ◌∷◌, filter, codes, length, ◌==◌, true, false, refl, sym, ap, subst, subst₂, ◌∙◌}
 use Rattle.sqlite.specs.declared.types.Value.TheVariants.{Null, Int, Text}
 use Rattle.sqlite.specs.Collation.TheVariants.{Binary}
 use Rattle.sqlite.specs.Order.{Row, column}
+use Rattle.sqlite.specs.Table.{Table}
 use Rattle.sqlite.specs.Term.{Term, lit, col, op2}
 use Rattle.sqlite_sql.specs.declared.ops.BinaryOp.TheVariants.{Compare}
 use Rattle.sqlite_sql.specs.declared.ops.CompareOp.TheVariants.{Eq}
@@ -18,6 +19,10 @@ use Rattle.portal_tables.specs.Steps.{Ran, Made}
 use Rattle.portal_tables.specs.Rows.{portal_cells, lecturer_cells, project_cells, student_cells, choice_cells, ranking_cells, Adds, Clears, MovesTo, Ranks, Assigns, portal_row, text_or_null}
 use Rattle.portal_tables.proofs.Weak.{portal_with, own_is}
 use Rattle.portal_tables.proofs.Query.{one_table, passes, shown_as}
+use Rattle.std.specs.List.{flat_map, filter_map}
+use Rattle.sqlite_rules.specs.Action.{works, work_by, deed_for, pairs}
+use Rattle.sqlite_schema.specs.Rules.{parent_key}
+use Rattle.sqlite_schema.specs.declared.schema.Keys.TheVariants.{Enforced}
 use Rattle.sqlite.specs.Cast.{cast_row}
 use Rattle.sqlite.specs.Values.{bound_value}
 use Rattle.portal_tables.proofs.Tests.{param, has_key, same_key, same_key_of, equals_int}
@@ -44,6 +49,13 @@ pub record Updates (sql : List ℕ) (at tree : ℕ) (tests project : List Term) 
   pub command : (checks more : ℕ → List Term) → command_of (understood (portal_with checks more) sql) ≡ Update at (record { lets = []; body = one_table tree tests (col 1 0 ∷ project) })
   pub plain : (checks more : ℕ → List Term) → IsPlain (understood (portal_with checks more) sql)
 
+-- no table's foreign keys act where rows come
+pub no_works : (checks terms : ℕ → List Term) (tree : ℕ) (rows : List Row) → works (portal_with checks terms) Enforced 0 tree [] rows ≡ []
+no_works checks terms tree rows =
+    let s = portal_with checks terms in
+    elim (length rows == 0) as (λ gone. flat_map (λ (child : Table). filter_map (λ ref. work_by 0 tree (pairs [] rows) child ref (deed_for Enforced gone ref) (parent_key s.tables ref)) child.references) s.tables ≡ [])
+    [ true ↦ refl | false ↦ refl ]
+
 abbrev pub insert_portal : List ℕ
 insert_portal = codes "INSERT INTO portal (version, phase, office) VALUES (1, 0, ?1)"
 
@@ -51,14 +63,14 @@ insert_portal_is : Inserts insert_portal 0 (lit Null ∷ lit Null ∷ lit (Int (
 unfolding understood everything
 insert_portal_is = record { command = λ checks more. refl; plain = λ checks more. (refl, refl) }
 
-pub portal_added : (old new : State) (office : List ℕ) → Ran insert_portal (Text office ∷ []) old new → Made (Adds portal_tree (portal_cells (pos 1) (pos 0) office)) old new
+pub portal_added : (old new : State) (office : List ℕ) → Ran insert_portal (Text office ∷ []) old new → Made (Adds portal_tree (portal_cells (pos 1) (pos 0) office ∷ [])) old new
 portal_added old new office h = record {
   shown = h.shown;
   changed = λ own.
       let w = own_is old.now.schema own in
       let s = portal_with w.checks w.terms in
-      puts_own w.checks w.terms 0 old.now new.now w.is (portal_cells (pos 1) (pos 0) office)
-      (inserted s insert_portal 0 _ 0 _ _ _ _ _ _ _ _ refl (lit Null ∷ lit Null ∷ lit (Int (pos 1)) ∷ lit (Int (pos 0)) ∷ param 0 ∷ []) 5 (insert_portal_is.command w.checks w.terms) (insert_portal_is.plain w.checks w.terms) (λ row. refl) (Text office ∷ []) (portal_cells (pos 1) (pos 0) office) (λ more. refl) (rw (cast_null, cast_int (pos 1), cast_int (pos 0)) refl) old new h.count w.is h.runs);
+      puts_own w.checks w.terms 0 old.now new.now w.is (portal_cells (pos 1) (pos 0) office ∷ [])
+      (inserted s insert_portal 0 _ 0 _ _ _ _ _ _ _ _ refl (lit Null ∷ lit Null ∷ lit (Int (pos 1)) ∷ lit (Int (pos 0)) ∷ param 0 ∷ []) 5 (insert_portal_is.command w.checks w.terms) (insert_portal_is.plain w.checks w.terms) (no_works w.checks w.terms 0) (Text office ∷ []) (portal_cells (pos 1) (pos 0) office ∷ []) (λ more. refl) (rw (cast_null, cast_int (pos 1), cast_int (pos 0)) refl, tt) old new h.count w.is h.runs);
 }
 
 abbrev pub insert_lecturer : List ℕ
@@ -68,14 +80,14 @@ insert_lecturer_is : Inserts insert_lecturer 1 (lit Null ∷ param 0 ∷ param 1
 unfolding understood everything
 insert_lecturer_is = record { command = λ checks more. refl; plain = λ checks more. (refl, refl) }
 
-pub lecturer_added : (old new : State) (key name code : List ℕ) (capacity : ℕ) → Ran insert_lecturer (Text key ∷ Text name ∷ Text code ∷ Int (pos capacity) ∷ []) old new → Made (Adds lecturer_tree (lecturer_cells key name code (pos capacity) (pos 0))) old new
+pub lecturer_added : (old new : State) (key name code : List ℕ) (capacity : ℕ) → Ran insert_lecturer (Text key ∷ Text name ∷ Text code ∷ Int (pos capacity) ∷ []) old new → Made (Adds lecturer_tree (lecturer_cells key name code (pos capacity) (pos 0) ∷ [])) old new
 lecturer_added old new key name code capacity h = record {
   shown = h.shown;
   changed = λ own.
       let w = own_is old.now.schema own in
       let s = portal_with w.checks w.terms in
-      puts_own w.checks w.terms 1 old.now new.now w.is (lecturer_cells key name code (pos capacity) (pos 0))
-      (inserted s insert_lecturer 1 _ 1 _ _ _ _ _ _ _ _ refl (lit Null ∷ param 0 ∷ param 1 ∷ param 2 ∷ param 3 ∷ lit (Int (pos 0)) ∷ []) 6 (insert_lecturer_is.command w.checks w.terms) (insert_lecturer_is.plain w.checks w.terms) (λ row. refl) (Text key ∷ Text name ∷ Text code ∷ Int (pos capacity) ∷ []) (lecturer_cells key name code (pos capacity) (pos 0)) (λ more. refl) (rw (cast_null, cast_int (pos capacity), cast_int (pos 0)) refl) old new h.count w.is h.runs);
+      puts_own w.checks w.terms 1 old.now new.now w.is (lecturer_cells key name code (pos capacity) (pos 0) ∷ [])
+      (inserted s insert_lecturer 1 _ 1 _ _ _ _ _ _ _ _ refl (lit Null ∷ param 0 ∷ param 1 ∷ param 2 ∷ param 3 ∷ lit (Int (pos 0)) ∷ []) 6 (insert_lecturer_is.command w.checks w.terms) (insert_lecturer_is.plain w.checks w.terms) (no_works w.checks w.terms 1) (Text key ∷ Text name ∷ Text code ∷ Int (pos capacity) ∷ []) (lecturer_cells key name code (pos capacity) (pos 0) ∷ []) (λ more. refl) (rw (cast_null, cast_int (pos capacity), cast_int (pos 0)) refl, tt) old new h.count w.is h.runs);
 }
 
 abbrev pub insert_project : List ℕ
@@ -85,14 +97,14 @@ insert_project_is : Inserts insert_project 2 (lit Null ∷ param 0 ∷ param 1 �
 unfolding understood everything
 insert_project_is = record { command = λ checks more. refl; plain = λ checks more. (refl, refl) }
 
-pub project_added : (old new : State) (key lecturer title : List ℕ) (capacity : ℕ) → Ran insert_project (Text key ∷ Text lecturer ∷ Text title ∷ Int (pos capacity) ∷ []) old new → Made (Adds project_tree (project_cells key lecturer title (pos capacity))) old new
+pub project_added : (old new : State) (key lecturer title : List ℕ) (capacity : ℕ) → Ran insert_project (Text key ∷ Text lecturer ∷ Text title ∷ Int (pos capacity) ∷ []) old new → Made (Adds project_tree (project_cells key lecturer title (pos capacity) ∷ [])) old new
 project_added old new key lecturer title capacity h = record {
   shown = h.shown;
   changed = λ own.
       let w = own_is old.now.schema own in
       let s = portal_with w.checks w.terms in
-      puts_own w.checks w.terms 4 old.now new.now w.is (project_cells key lecturer title (pos capacity))
-      (inserted s insert_project 2 _ 4 _ _ _ _ _ _ _ _ refl (lit Null ∷ param 0 ∷ param 1 ∷ param 2 ∷ param 3 ∷ []) 5 (insert_project_is.command w.checks w.terms) (insert_project_is.plain w.checks w.terms) (λ row. refl) (Text key ∷ Text lecturer ∷ Text title ∷ Int (pos capacity) ∷ []) (project_cells key lecturer title (pos capacity)) (λ more. refl) (rw (cast_null, cast_int (pos capacity)) refl) old new h.count w.is h.runs);
+      puts_own w.checks w.terms 4 old.now new.now w.is (project_cells key lecturer title (pos capacity) ∷ [])
+      (inserted s insert_project 2 _ 4 _ _ _ _ _ _ _ _ refl (lit Null ∷ param 0 ∷ param 1 ∷ param 2 ∷ param 3 ∷ []) 5 (insert_project_is.command w.checks w.terms) (insert_project_is.plain w.checks w.terms) (no_works w.checks w.terms 4) (Text key ∷ Text lecturer ∷ Text title ∷ Int (pos capacity) ∷ []) (project_cells key lecturer title (pos capacity) ∷ []) (λ more. refl) (rw (cast_null, cast_int (pos capacity)) refl, tt) old new h.count w.is h.runs);
 }
 
 abbrev pub insert_student : List ℕ
@@ -102,14 +114,14 @@ insert_student_is : Inserts insert_student 3 (lit Null ∷ param 0 ∷ param 1 �
 unfolding understood everything
 insert_student_is = record { command = λ checks more. refl; plain = λ checks more. (refl, refl) }
 
-pub student_added : (old new : State) (key name code : List ℕ) → Ran insert_student (Text key ∷ Text name ∷ Text code ∷ []) old new → Made (Adds student_tree (student_cells key name code Null)) old new
+pub student_added : (old new : State) (key name code : List ℕ) → Ran insert_student (Text key ∷ Text name ∷ Text code ∷ []) old new → Made (Adds student_tree (student_cells key name code Null ∷ [])) old new
 student_added old new key name code h = record {
   shown = h.shown;
   changed = λ own.
       let w = own_is old.now.schema own in
       let s = portal_with w.checks w.terms in
-      puts_own w.checks w.terms 6 old.now new.now w.is (student_cells key name code Null)
-      (inserted s insert_student 3 _ 6 _ _ _ _ _ _ _ _ refl (lit Null ∷ param 0 ∷ param 1 ∷ param 2 ∷ lit Null ∷ []) 5 (insert_student_is.command w.checks w.terms) (insert_student_is.plain w.checks w.terms) (λ row. refl) (Text key ∷ Text name ∷ Text code ∷ []) (student_cells key name code Null) (λ more. refl) (rw (cast_null) refl) old new h.count w.is h.runs);
+      puts_own w.checks w.terms 6 old.now new.now w.is (student_cells key name code Null ∷ [])
+      (inserted s insert_student 3 _ 6 _ _ _ _ _ _ _ _ refl (lit Null ∷ param 0 ∷ param 1 ∷ param 2 ∷ lit Null ∷ []) 5 (insert_student_is.command w.checks w.terms) (insert_student_is.plain w.checks w.terms) (no_works w.checks w.terms 6) (Text key ∷ Text name ∷ Text code ∷ []) (student_cells key name code Null ∷ []) (λ more. refl) (rw (cast_null) refl, tt) old new h.count w.is h.runs);
 }
 
 abbrev pub insert_choice : List ℕ
@@ -119,14 +131,14 @@ insert_choice_is : Inserts insert_choice 4 (lit Null ∷ param 0 ∷ param 1 ∷
 unfolding understood everything
 insert_choice_is = record { command = λ checks more. refl; plain = λ checks more. (refl, refl) }
 
-pub choice_added : (old new : State) (student : List ℕ) (place : ℕ) (project : List ℕ) → Ran insert_choice (Text student ∷ Int (pos place) ∷ Text project ∷ []) old new → Made (Adds choice_tree (choice_cells student (pos place) project)) old new
+pub choice_added : (old new : State) (student : List ℕ) (place : ℕ) (project : List ℕ) → Ran insert_choice (Text student ∷ Int (pos place) ∷ Text project ∷ []) old new → Made (Adds choice_tree (choice_cells student (pos place) project ∷ [])) old new
 choice_added old new student place project h = record {
   shown = h.shown;
   changed = λ own.
       let w = own_is old.now.schema own in
       let s = portal_with w.checks w.terms in
-      puts_own w.checks w.terms 9 old.now new.now w.is (choice_cells student (pos place) project)
-      (inserted s insert_choice 4 _ 9 _ _ _ _ _ _ _ _ refl (lit Null ∷ param 0 ∷ param 1 ∷ param 2 ∷ []) 4 (insert_choice_is.command w.checks w.terms) (insert_choice_is.plain w.checks w.terms) (λ row. refl) (Text student ∷ Int (pos place) ∷ Text project ∷ []) (choice_cells student (pos place) project) (λ more. refl) (rw (cast_null, cast_int (pos place)) refl) old new h.count w.is h.runs);
+      puts_own w.checks w.terms 9 old.now new.now w.is (choice_cells student (pos place) project ∷ [])
+      (inserted s insert_choice 4 _ 9 _ _ _ _ _ _ _ _ refl (lit Null ∷ param 0 ∷ param 1 ∷ param 2 ∷ []) 4 (insert_choice_is.command w.checks w.terms) (insert_choice_is.plain w.checks w.terms) (no_works w.checks w.terms 9) (Text student ∷ Int (pos place) ∷ Text project ∷ []) (choice_cells student (pos place) project ∷ []) (λ more. refl) (rw (cast_null, cast_int (pos place)) refl, tt) old new h.count w.is h.runs);
 }
 
 abbrev pub insert_ranking : List ℕ
@@ -136,14 +148,14 @@ insert_ranking_is : Inserts insert_ranking 5 (lit Null ∷ param 0 ∷ param 1 �
 unfolding understood everything
 insert_ranking_is = record { command = λ checks more. refl; plain = λ checks more. (refl, refl) }
 
-pub ranking_added : (old new : State) (lecturer : List ℕ) (place : ℕ) (student : List ℕ) → Ran insert_ranking (Text lecturer ∷ Int (pos place) ∷ Text student ∷ []) old new → Made (Adds ranking_tree (ranking_cells lecturer (pos place) student)) old new
+pub ranking_added : (old new : State) (lecturer : List ℕ) (place : ℕ) (student : List ℕ) → Ran insert_ranking (Text lecturer ∷ Int (pos place) ∷ Text student ∷ []) old new → Made (Adds ranking_tree (ranking_cells lecturer (pos place) student ∷ [])) old new
 ranking_added old new lecturer place student h = record {
   shown = h.shown;
   changed = λ own.
       let w = own_is old.now.schema own in
       let s = portal_with w.checks w.terms in
-      puts_own w.checks w.terms 12 old.now new.now w.is (ranking_cells lecturer (pos place) student)
-      (inserted s insert_ranking 5 _ 12 _ _ _ _ _ _ _ _ refl (lit Null ∷ param 0 ∷ param 1 ∷ param 2 ∷ []) 4 (insert_ranking_is.command w.checks w.terms) (insert_ranking_is.plain w.checks w.terms) (λ row. refl) (Text lecturer ∷ Int (pos place) ∷ Text student ∷ []) (ranking_cells lecturer (pos place) student) (λ more. refl) (rw (cast_null, cast_int (pos place)) refl) old new h.count w.is h.runs);
+      puts_own w.checks w.terms 12 old.now new.now w.is (ranking_cells lecturer (pos place) student ∷ [])
+      (inserted s insert_ranking 5 _ 12 _ _ _ _ _ _ _ _ refl (lit Null ∷ param 0 ∷ param 1 ∷ param 2 ∷ []) 4 (insert_ranking_is.command w.checks w.terms) (insert_ranking_is.plain w.checks w.terms) (no_works w.checks w.terms 12) (Text lecturer ∷ Int (pos place) ∷ Text student ∷ []) (ranking_cells lecturer (pos place) student ∷ []) (λ more. refl) (rw (cast_null, cast_int (pos place)) refl, tt) old new h.count w.is h.runs);
 }
 
 abbrev pub delete_choices : List ℕ

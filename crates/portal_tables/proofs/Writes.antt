@@ -1,6 +1,7 @@
 -- What a statement on one table does to its rows.
-use Rattle.std.proofs.Common.{◌≡◌, ◌⊎◌, inl, inr, ℕ, ℤ, List, [], ◌∷◌, ◌++◌, map, slice_get, Bool, true, false, not, ◌&&◌, cond, ◌≢◌, Option, Some, None, Ok, Err, Result, refl, sym, ap, subst, subst₂, ◌∙◌, ◌||◌, filter, length, ◌/◌}
+use Rattle.std.proofs.Common.{◌≡◌, ◌⊎◌, inl, inr, ℕ, ℤ, List, [], ◌∷◌, ◌++◌, map, slice_get, Bool, true, false, not, ◌&&◌, cond, ◌≢◌, Option, Some, None, Ok, Err, Result, refl, sym, ap, ap₂, subst, subst₂, ◌∙◌, ◌||◌, filter, length, drop, ◌/◌}
 use Rattle.std.specs.List.{AllByRecursion, list_any}
+use Rattle.std.proofs.lemmas.Bool.{and_parts}
 use Rattle.sqlite.specs.declared.types.Value.TheVariants.{Null, Int}
 use Rattle.sqlite.specs.Order.{Row}
 use Rattle.sqlite.specs.Term.{Term, col}
@@ -10,7 +11,7 @@ use Rattle.sqlite.specs.Schema.{Schema}
 use Rattle.sqlite.specs.Kind.TheVariants as kind
 use Rattle.sqlite.specs.Source.TheVariants.{Values}
 use Rattle.sqlite.specs.Command.TheVariants.{Insert, Delete, Update}
-use Rattle.sqlite.specs.Edit.{Edit, edit_of, numbered, next_rowid, is_taken, are_fresh, without_all, id_in, taken_by}
+use Rattle.sqlite.specs.Edit.{Edit, edit_of, numbered, put_all, next_rowid, is_taken, are_fresh, without_all, id_in, taken_by}
 use Rattle.sqlite.specs.Cast.{cast, cast_row}
 use Rattle.sqlite.specs.Rowids.TheVariants.{Chosen, Given}
 use Rattle.sqlite.specs.Does.{Tally, Does}
@@ -26,7 +27,7 @@ use Rattle.sqlite_schema.specs.declared.schema.Column.{Column}
 use Rattle.sqlite_schema.specs.declared.schema.Reference.{Reference}
 use Rattle.sqlite_value.specs.declared.keys.Order.{Order}
 use Rattle.portal_tables.proofs.Weak.{portal_with}
-use Rattle.portal_tables.specs.Changes.{Puts, Drops, Sets, IsApart}
+use Rattle.portal_tables.specs.Changes.{Puts, Drops, Sets, IsApart, with_rows, AreNew}
 use Rattle.portal_tables.proofs.Query.{one_table, passes, shown_as}
 use Rattle.portal_tables.proofs.Lists.{looped, filter_same, without_is, found_once}
 use Rattle.std.specs.List.Sorted.{IsPermutation}
@@ -42,10 +43,10 @@ use Rattle.sqlite_trees.proofs.ListLemmas.{map-map}
 abbrev KeepsIn : Schema → ℕ → Database → Database → Type 0
 KeepsIn schema tree old new = AllByRecursion (λ t. t.tree ≢ tree → new.trees t.tree ≡ old.trees t.tree) schema.tables
 
-pub record PutsIn (schema : Schema) (tree : ℕ) (cells : Row) (old new : Database) : Type 0 where
+pub record PutsIn (schema : Schema) (tree : ℕ) (cells : List Row) (old new : Database) : Type 0 where
   pub schema_is : new.schema ≡ schema
-  pub free : is_taken (old.trees tree) (Int (next_rowid (old.trees tree)) ∷ cells) ≡ false
-  pub rows : new.trees tree ≡ put_row (Int (next_rowid (old.trees tree)) ∷ cells) (old.trees tree)
+  pub free : AreNew (old.trees tree) cells
+  pub rows : new.trees tree ≡ with_rows (old.trees tree) cells
   pub others : KeepsIn schema tree old new
   pub sound : IsDatabase new
 
@@ -64,8 +65,8 @@ pub record SetsIn (schema : Schema) (tree : ℕ) (p : Row → Bool) (row : Row) 
 
 -- in the portal's own schema
 module _ (checks terms : ℕ → List Term) (tree : ℕ) (old new : Database) (has : old.schema ≡ portal_with checks terms) where
-  pub puts_own : (cells : Row) → PutsIn (portal_with checks terms) tree cells old new → Puts tree cells old new
-  puts_own cells h = record { schema_is = h.schema_is ∙ sym has; free = h.free; rows = h.rows; others = h.others; sound = h.sound }
+  pub puts_own : (cells : List Row) → PutsIn (portal_with checks terms) tree cells old new → Puts tree cells old new
+  puts_own cells h = record { schema_is = h.schema_is ∙ sym has; free = h.free; rows = h.rows; others = h.others; sound = λ _. h.sound }
 
   pub drops_own : (p : Row → Bool) → DropsIn (portal_with checks terms) tree p old new → Drops tree p old new
   drops_own p h = record { schema_is = h.schema_is ∙ sym has; rows = h.rows; others = h.others; sound = h.sound }
@@ -93,9 +94,28 @@ went (inr on) = on
 pub same_value : {B E : Type 0} {a b : B} → ◌≡◌ {A = Result B E} (Ok a) (Ok b) → a ≡ b
 same_value e = cc
 
-not_true : (b : Bool) → (not b && true) ≡ true → b ≡ false
+not_true : (b : Bool) → not b ≡ true → b ≡ false
 not_true true h = absurd (cc)
 not_true false h = refl
+
+only_new : (b : Bool) → (not b && true) ≡ true → b ≡ false
+only_new true h = absurd (cc)
+only_new false h = refl
+
+-- a row before it has its number
+abbrev pub unnumbered : Row → Row
+unnumbered cells = Null ∷ cells
+
+rows_come : (table cells : List Row) → put_all table (numbered Chosen table (map unnumbered cells)) ≡ with_rows table cells
+rows_come table [] = refl
+rows_come table (c ∷ cells) = rows_come (put_row (Int (next_rowid table) ∷ c) table) cells
+
+rows_new : (table cells : List Row) → are_fresh table (numbered Chosen table (map unnumbered cells)) ≡ true → AreNew table cells
+rows_new table [] h = tt
+rows_new table (c ∷ cells) h =
+    let row = Int (next_rowid table) ∷ c in
+    let two = and_parts (not (is_taken table row)) (are_fresh (put_row row table) (numbered Chosen (put_row row table) (map unnumbered cells))) h in
+    (not_true (is_taken table row) two.0, rows_new (put_row row table) cells two.1)
 
 -- what a query of one table shows, in some order
 pub answered : (tree : ℕ) (tests project : List Term) (db : Trees) (params : Row) (rows : List Row) → IsProgramAnswer [] (one_table tree tests project) db params rows
@@ -141,8 +161,9 @@ module _ (schema : Schema) (sql : List ℕ) (at : ℕ) (name : List ℕ) (tree :
 
   module _ (place : slice_get schema.tables at ≡ Some table) where
     pub inserted : (terms : List Term) (width : ℕ) (command : command_of (understood schema sql) ≡ Insert at (Values terms width)) (plain : IsPlain (understood schema sql))
-        → ((row : Row) → works schema Enforced 0 tree [] (row ∷ []) ≡ [])
-        → (params cells : Row) → ((more : Row) → value_rows (params ++ more) width (length terms / width) terms ≡ (Null ∷ cells) ∷ []) → cast_row table (Null ∷ cells) ≡ Null ∷ cells
+        → ((rows : List Row) → works schema Enforced 0 tree [] rows ≡ [])
+        → (params : Row) (cells : List Row) → ((more : Row) → value_rows (params ++ more) width (length terms / width) terms ≡ map unnumbered cells)
+        → AllByRecursion (λ c. cast_row table (unnumbered c) ≡ unnumbered c) cells
         → (old new : State) (count : ℕ) → old.now.schema ≡ schema → Executes sql params old new (Ok count)
         → PutsIn schema tree cells old.now new.now
     inserted terms width command plain idle params cells given casts old new count has h =
@@ -156,22 +177,25 @@ module _ (schema : Schema) (sql : List ℕ) (at : ℕ) (name : List ℕ) (tree :
         let written = went (went source.2).2 in
         let counted = went written.2 in
         let trees : done.0.trees ≡ written.0 = ap (λ (it : Written). it.trees) (same_value counted.2) ∙ same_value counted.1 in
-        let row = Int (next_rowid (db tree)) ∷ cells in
-        let edit : Edit = record { table = table; gone = []; news = row ∷ [] } in
-        let from : source.0 ≡ (Null ∷ cells) ∷ [] = source.1.1 ∙ given _ in
-        let edit_is : edit_of db table [] Chosen 0 source.0 ≡ edit = ap (edit_of db table [] Chosen 0) from ∙ ap (λ r. edit_with (r ∷ [])) casts in
-        let wrote = one_step schema Enforced db written.0 edit (idle row) (subst (λ e. Edited schema Enforced db e (Ok written.0)) edit_is written.1) in
+        let edit : Edit = edit_with (map unnumbered cells) in
+        let edit_is : edit_of db table [] Chosen 0 source.0 ≡ edit = ap (edit_of db table [] Chosen 0) (source.1.1 ∙ given _) ∙ ap edit_with (cast_all cells casts) in
+        let wrote = one_step schema Enforced db written.0 edit (idle edit.news) (subst (λ e. Edited schema Enforced db e (Ok written.0)) edit_is written.1) in
         let after : new.now.trees ≡ written.0 = ap (λ (d : Database). d.trees) now ∙ trees in
         record {
           schema_is = ap (λ (d : Database). d.schema) now;
-          free = not_true (is_taken (db tree) row) wrote.fresh;
-          rows = ap (λ (t : Trees). t tree) after ∙ wrote.rows;
+          free = rows_new (db tree) cells wrote.fresh;
+          rows = ap (λ (t : Trees). t tree) after ∙ wrote.rows ∙ rows_come (db tree) cells;
           others = subst (λ (t : Trees). AllByRecursion (λ s. s.tree ≢ tree → t s.tree ≡ db s.tree) schema.tables) (sym after) wrote.tables;
           sound = w.sound;
         }
       where
         edit_with : List Row → Edit
         edit_with rows = record { table = table; gone = []; news = numbered Chosen (old.now.trees tree) rows }
+
+        cast_all : (cells : List Row) → AllByRecursion (λ c. cast_row table (unnumbered c) ≡ unnumbered c) cells
+            → map (λ s. cast_row table (drop 0 s)) (map unnumbered cells) ≡ map unnumbered cells
+        cast_all [] h = refl
+        cast_all (c ∷ cells) h = ap₂ (λ r rs. r ∷ rs) h.0 (cast_all cells h.1)
 
     pub deleted : (tests : List Term) (command : command_of (understood schema sql) ≡ Delete at (record { lets = []; body = one_table tree tests (col 1 0 ∷ []) })) (plain : IsPlain (understood schema sql))
         → ((olds : List Row) → works schema Enforced 0 tree olds [] ≡ [])
@@ -226,7 +250,7 @@ module _ (schema : Schema) (sql : List ℕ) (at : ℕ) (name : List ℕ) (tree :
         ap (without_all (db tree)) (ap ids_of (sym rows)) ∙ left_is (passes tests params) (shown_as project params) (db tree) queried.0 apart shown in
         record {
           schema_is = ap (λ (d : Database). d.schema) now;
-          free = not_true (is_taken (filter (λ x. not (passes tests params x)) (db tree)) fresh) (subst (λ l. are_fresh l (fresh ∷ []) ≡ true) left wrote.fresh);
+          free = only_new (is_taken (filter (λ x. not (passes tests params x)) (db tree)) fresh) (subst (λ l. are_fresh l (fresh ∷ []) ≡ true) left wrote.fresh);
           rows = ap (λ (t : Trees). t tree) after ∙ wrote.rows ∙ ap (put_row fresh) left;
           others = subst (λ (t : Trees). AllByRecursion (λ s. s.tree ≢ tree → t s.tree ≡ db s.tree) schema.tables) (sym after) wrote.tables;
           sound = w.sound;

@@ -17,13 +17,23 @@ use Rattle.portal_tables.specs.Tables.{own_trees}
 abbrev pub Keeps : ℕ → Database → Database → Type 0
 Keeps tree old new = AllByRecursion (λ t. t ≢ tree → new.trees t ≡ old.trees t) own_trees
 
--- one row more, with these cells after its number, and nothing else
-pub record Puts (tree : ℕ) (cells : Row) (old new : Database) : Type 0 where
+-- the table once rows with these cells have come, one after the other, each with the number after the last
+abbrev pub with_rows : List Row → List Row → List Row
+with_rows table [] = table
+with_rows table (c ∷ cells) = with_rows (put_row (Int (next_rowid table) ∷ c) table) cells
+
+-- no row has the number that one of these gets
+abbrev pub AreNew : List Row → List Row → Type 0
+AreNew table [] = ⊤
+AreNew table (c ∷ cells) = (is_taken table (Int (next_rowid table) ∷ c) ≡ false) × AreNew (put_row (Int (next_rowid table) ∷ c) table) cells
+
+-- more rows, with these cells after their numbers, and nothing else
+pub record Puts (tree : ℕ) (cells : List Row) (old new : Database) : Type 0 where
   pub schema_is : new.schema ≡ old.schema
-  pub free : is_taken (old.trees tree) (Int (next_rowid (old.trees tree)) ∷ cells) ≡ false
-  pub rows : new.trees tree ≡ put_row (Int (next_rowid (old.trees tree)) ∷ cells) (old.trees tree)
+  pub free : AreNew (old.trees tree) cells
+  pub rows : new.trees tree ≡ with_rows (old.trees tree) cells
   pub others : Keeps tree old new
-  pub sound : IsDatabase new
+  pub sound : IsDatabase old → IsDatabase new
 
 -- the rows that pass the test are gone, and nothing else
 pub record Drops (tree : ℕ) (p : Row → Bool) (old new : Database) : Type 0 where

@@ -5,3 +5,8 @@ pub mod Steps
 pub mod Making
 pub mod Rows
 pub mod Rising
+pub mod Lists
+pub mod Office
+pub mod Reading
+pub mod Rolls
+pub mod Shown

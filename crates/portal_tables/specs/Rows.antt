@@ -31,8 +31,8 @@ ranking_cells lecturer place student = Words lecturer ∷ Int place ∷ Words st
 abbrev pub portal_row : ℤ → ℤ → List ℕ → Row
 portal_row version phase office = Int (pos 1) ∷ portal_cells version phase office
 
--- one row more in a table of the portal's own
-abbrev pub Adds : ℕ → Row → Database → Database → Type 0
+-- rows with these cells come to a table of the portal's own
+abbrev pub Adds : ℕ → List Row → Database → Database → Type 0
 Adds tree cells old new = IsOwn old.schema → Puts tree cells old new
 
 -- the rows with this key in their first column are gone

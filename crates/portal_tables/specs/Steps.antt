@@ -16,6 +16,11 @@ pub record Made (Change : Database → Database → Type 0) (old new : State) : 
   pub shown : Shows old new new.now old.committed true
   pub changed : Change old.now new.now
 
+-- an open transaction is still open, and made this of the database
+pub record GoesOn (Change : Database → Database → Type 0) (old new : State) : Type 0 where
+  pub mode : old.in_transaction ≡ true → new.in_transaction ≡ true
+  pub changed : Change old.now new.now
+
 -- the change is made and committed
 pub record Commits (Change : Database → Database → Type 0) (old new : State) : Type 0 where
   pub was_open : IsTrue old.is_open

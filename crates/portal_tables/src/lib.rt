@@ -1,12 +1,18 @@
 //! The six tables of the portal in a database of the crate `sqlite`: how they are made, what each statement does to one of
-//! them, and what a query shows of one. It knows rows and numbers of trees and no world.
+//! them, what a query shows of one, and how what is shown is decoded into the portal's rows of rolls, the names of a list and the
+//! row of the office. It knows rows and numbers of trees and no world.
 #![tactic(auto)]
 
 pub mod apart;
+pub mod cells;
+pub mod decode;
+pub mod fault;
 pub mod insert;
 pub mod make;
+pub mod office;
 pub mod own;
 pub mod remove;
+pub mod rolls;
 mod run;
 pub mod select;
 pub mod update;

@@ -4,7 +4,9 @@ use portal_tables::apart::{
     has_apart_choices, has_apart_lecturers, has_apart_portal, has_apart_projects,
     has_apart_rankings, has_apart_students,
 };
-use portal_tables::insert::{add_choice, add_lecturer, add_project, add_ranking, add_student};
+use portal_tables::insert::{
+    NewChoice, NewLecturer, NewProject, NewRanking, NewRow, NewStudent, add_all,
+};
 use portal_tables::make::create_portal;
 use portal_tables::own::is_own;
 use portal_tables::remove::{clear_choices, clear_rankings};
@@ -57,21 +59,65 @@ fn create(conn: &mut Connection<MemStore>) -> Result<(), Error> {
 }
 
 fn add_rolls(tx: &mut Transaction<'_, MemStore>) -> Result<(), Error> {
-    add_lecturer(tx, b"L1", b"Lee", b"lee-code-1", 2)?;
-    add_project(tx, b"P1", b"L1", b"Tides", 1)?;
-    add_project(tx, b"P2", b"L1", b"Kites", 200)?;
-    add_student(tx, b"S1", b"Ann", b"ann-code-1")?;
-    add_student(tx, b"S2", b"Bea", b"bea-code-1")?;
-    Ok(())
+    let lee = NewLecturer {
+        key: b"L1",
+        name: b"Lee",
+        code: b"lee-code-1",
+        capacity: 2,
+    };
+    let tides = NewProject {
+        key: b"P1",
+        lecturer: b"L1",
+        title: b"Tides",
+        capacity: 1,
+    };
+    let kites = NewProject {
+        key: b"P2",
+        lecturer: b"L1",
+        title: b"Kites",
+        capacity: 200,
+    };
+    let ann = NewStudent {
+        key: b"S1",
+        name: b"Ann",
+        code: b"ann-code-1",
+    };
+    let bea = NewStudent {
+        key: b"S2",
+        name: b"Bea",
+        code: b"bea-code-1",
+    };
+    lee.add(tx)?;
+    add_all(tx, &[tides, kites])?;
+    add_all(tx, &[ann, bea])
+}
+
+fn choice<'a>(student: &'a [u8], place: u32, project: &'a [u8]) -> NewChoice<'a> {
+    NewChoice {
+        student,
+        place,
+        project,
+    }
+}
+
+fn ranking<'a>(lecturer: &'a [u8], place: u32, student: &'a [u8]) -> NewRanking<'a> {
+    NewRanking {
+        lecturer,
+        place,
+        student,
+    }
 }
 
 fn add_lists(tx: &mut Transaction<'_, MemStore>) -> Result<(), Error> {
-    add_choice(tx, b"S1", 1, b"P2")?;
-    add_choice(tx, b"S1", 2, b"P1")?;
-    add_choice(tx, b"S2", 1, b"P1")?;
-    add_ranking(tx, b"L1", 1, b"S2")?;
-    add_ranking(tx, b"L1", 2, b"S1")?;
-    Ok(())
+    add_all(
+        tx,
+        &[
+            choice(b"S1", 1, b"P2"),
+            choice(b"S1", 2, b"P1"),
+            choice(b"S2", 1, b"P1"),
+        ],
+    )?;
+    add_all(tx, &[ranking(b"L1", 1, b"S2"), ranking(b"L1", 2, b"S1")])
 }
 
 fn fill(conn: &mut Connection<MemStore>) -> Result<(), Error> {
@@ -122,6 +168,105 @@ fn department(rt: &(impl Abort + AllocGlobal)) -> Connection<MemStore> {
     create(&mut conn).expect(rt, "tables");
     fill(&mut conn).expect(rt, "rows");
     conn
+}
+
+/// Nine keys, so that a statement of eight rows and one of one row are made.
+fn nine() -> [&'static [u8]; 9] {
+    [
+        b"K1", b"K2", b"K3", b"K4", b"K5", b"K6", b"K7", b"K8", b"K9",
+    ]
+}
+
+/// Nine rows in each table, each of whose texts is a key; the first of the nine has a list of all and ranks all.
+fn add_nine(
+    rt: &(impl Abort + AllocGlobal),
+    tx: &mut Transaction<'_, MemStore>,
+) -> Result<(), Error> {
+    let keys = nine();
+    let mut lecturers = Vec::new(rt.alloc());
+    let mut projects = Vec::new(rt.alloc());
+    let mut students = Vec::new(rt.alloc());
+    let mut choices = Vec::new(rt.alloc());
+    let mut rankings = Vec::new(rt.alloc());
+    let mut place = 1u32;
+    for key in keys {
+        lecturers.push(NewLecturer {
+            key,
+            name: key,
+            code: key,
+            capacity: 1,
+        })?;
+        projects.push(NewProject {
+            key,
+            lecturer: b"K1",
+            title: key,
+            capacity: 1,
+        })?;
+        students.push(NewStudent {
+            key,
+            name: key,
+            code: key,
+        })?;
+        choices.push(choice(b"K1", place, key))?;
+        rankings.push(ranking(b"K1", place, key))?;
+        place = place.wrapping_add(1);
+    }
+    add_all(tx, &lecturers)?;
+    add_all(tx, &projects)?;
+    add_all(tx, &students)?;
+    add_all(tx, &choices)?;
+    add_all(tx, &rankings)
+}
+
+fn fill_nine(
+    rt: &(impl Abort + AllocGlobal),
+    conn: &mut Connection<MemStore>,
+) -> Result<(), Error> {
+    if !conn.is_autocommit() {
+        return Ok(());
+    }
+    let mut tx = conn.transaction();
+    add_nine(rt, &mut tx)?;
+    tx.commit()
+}
+
+#[test]
+fn rows_come_by_the_eight(rt: HostRuntime) -> Result<(), Fail> {
+    let mut conn = Connection::open_in_memory(rt.alloc())?;
+    create(&mut conn)?;
+    fill_nine(&rt, &mut conn)?;
+    shows(
+        &rt,
+        lecturer_rows(&mut conn),
+        5,
+        "K1 K1 K1 1 0 /K2 K2 K2 1 0 /K3 K3 K3 1 0 /K4 K4 K4 1 0 /K5 K5 K5 1 0 /K6 K6 K6 1 0 /K7 K7 K7 1 0 /K8 K8 K8 1 0 /K9 K9 K9 1 0 /",
+    );
+    shows(
+        &rt,
+        project_rows(&mut conn),
+        4,
+        "K1 K1 K1 1 /K2 K1 K2 1 /K3 K1 K3 1 /K4 K1 K4 1 /K5 K1 K5 1 /K6 K1 K6 1 /K7 K1 K7 1 /K8 K1 K8 1 /K9 K1 K9 1 /",
+    );
+    shows(
+        &rt,
+        student_rows(&mut conn),
+        4,
+        "K1 K1 K1 - /K2 K2 K2 - /K3 K3 K3 - /K4 K4 K4 - /K5 K5 K5 - /K6 K6 K6 - /K7 K7 K7 - /K8 K8 K8 - /K9 K9 K9 - /",
+    );
+    shows(
+        &rt,
+        list_of(&mut conn, b"K1"),
+        2,
+        "1 K1 /2 K2 /3 K3 /4 K4 /5 K5 /6 K6 /7 K7 /8 K8 /9 K9 /",
+    );
+    shows(
+        &rt,
+        ranking_of(&mut conn, b"K1"),
+        2,
+        "1 K1 /2 K2 /3 K3 /4 K4 /5 K5 /6 K6 /7 K7 /8 K8 /9 K9 /",
+    );
+    are_apart(&rt, &mut conn);
+    Ok(())
 }
 
 #[test]

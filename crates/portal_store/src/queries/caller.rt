@@ -6,10 +6,10 @@ ghost use Rattle.sqlite.specs.Held.{state};
 ghost use Rattle.portal_core.specs.View.{lecturer_with, student_with};
 ghost use Rattle.portal_store.specs.World.{world_of};
 ghost use Rattle.portal_store.specs.Kept.{Holds};
-ghost use Rattle.portal_store.specs.Reading.{Reads};
+ghost use Rattle.portal_tables.specs.Reading.{Reads};
 ghost use Rattle.portal_store.specs.Queried.{as_list, lecturer_from, student_from};
 
-use crate::load::LoadFault;
+use portal_tables::fault::LoadFault;
 use portal_tables::select::{lecturer_by_code, student_by_code};
 use sqlite::{Alter, Connection, Row};
 

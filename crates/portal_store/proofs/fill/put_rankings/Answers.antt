@@ -2,12 +2,10 @@ use Rattle.std.proofs.Common.{refl, subst, ◌∙◌, arith, []}
 use Rattle.sqlite.specs.State.{HasCleanDisk}
 use Rattle.sqlite.specs.Held.{state}
 use Rattle.sqlite.proofs.StateLemmas.{survives_then}
-use Rattle.portal_tables.specs.Steps.{Made}
-use Rattle.portal_tables.proofs.Runs.{kept_then, kept_same}
+use Rattle.portal_tables.specs.Steps.{GoesOn}
+use Rattle.portal_tables.proofs.Runs.{kept_then, kept_same, survives_same, goes_nowhere}
 use Rattle.portal_store.specs.Putting.{TurnsAll, TurnsThere}
 use Rattle.portal_store.proofs.FillTurns.{none_ranked, rankings_go_on}
-use Rattle.portal_store.proofs.Asking.{survives_same}
-use Rattle.portal_store.proofs.Ending.{goes_nowhere}
 use Rattle.portal_store.proofs.fill.put_rankings.Goals as goal
 
 pub rows-init : goal.rows-init
@@ -34,5 +32,5 @@ rows-preserved g c =
       done = λ clean.
           let early : HasCleanDisk mid = omega (arith, clean, e.survives.clean) in
           rankings_go_on _ c.args.rankings.now c.rows.ranking-index _ old mid new c.rows-test.true c.ranking-item.is (was.done early)
-          (subst (λ keys. Made (TurnsThere c.ranking-item.result.0 keys) mid new) c.deref.ensures.value (e.done clean));
+          (subst (λ keys. GoesOn (TurnsThere c.ranking-item.result.0 keys) mid new) c.deref.ensures.value (e.done clean));
     }

@@ -2,7 +2,7 @@ use Rattle.std.proofs.Common.{◌≡◌, List, map, take}
 use Rattle.sqlite.specs.State.{HasCleanDisk, KeepsCommit, Survives}
 use Rattle.sqlite.specs.Held.{state}
 use Rattle.portal_core.specs.Words.{Key}
-use Rattle.portal_store.specs.Going.{GoesOn}
+use Rattle.portal_tables.specs.Steps.{GoesOn}
 use Rattle.portal_store.specs.Putting.{TurnsAll}
 use Rattle.portal_store.proofs.fill.put_rankings.Given as goal
 

@@ -1,58 +1,28 @@
-use Rattle.std.proofs.Common.{refl, ap, subst, ◌∙◌, arith, pos, ◌+◌}
-use Rattle.std.proofs.lemmas.List.{take_all}
+use Rattle.std.proofs.Common.{pos, map, ap, subst, ◌∙◌, arith}
+use Rattle.std.proofs.lemmas.Result.{on_ok_weaker}
 use Rattle.sqlite.specs.State.{HasCleanDisk}
 use Rattle.sqlite.specs.Held.{state}
-use Rattle.sqlite.proofs.StateLemmas.{survives_then}
+use Rattle.portal_tables.specs.declared.insert.lists.NewRanking.{NewRanking}
 use Rattle.portal_tables.specs.Tables.{ranking_tree}
-use Rattle.portal_tables.specs.Steps.{Made}
+use Rattle.portal_tables.specs.Steps.{Made, GoesOn}
 use Rattle.portal_tables.specs.Rows.{Adds, Clears, Ranks, ranking_cells}
-use Rattle.portal_tables.proofs.Runs.{kept_then}
-use Rattle.portal_store.specs.Putting.{PutsList}
-use Rattle.portal_store.proofs.Putting.{made_begun, made_on}
+use Rattle.portal_store.proofs.Putting.{list_put}
 use Rattle.portal_store.proofs.RankTurns.{rank_made}
 use Rattle.portal_store.proofs.lists.put_ranking.Goals as goal
 
-pub rows-init : goal.rows-init
-rows-init g c =
-    let old = state g.S.Store c.args.tx.now.conn.now in
-    let new = state g.S.Store c.clear_rankings.new.tx.conn.now in
-    let e = c.in_ok-clear_rankings.ensures in
-    record {
-      same = e.same_reference;
-      at = refl;
-      kept = e.kept;
-      survives = e.survives;
-      done = λ clean. made_begun ranking_tree c.args.lecturer.now old new (subst (λ k. Made (Clears ranking_tree k) old new) c.as_bytes.ensures.bytes (e.done clean));
-    }
-
-pub rows-preserved : goal.rows-preserved
-rows-preserved g c =
-    let old = state g.S.Store c.args.tx.now.conn.now in
-    let mid = state g.S.Store c.rows.tx.conn.now in
-    let new = state g.S.Store c.add_ranking.new.tx.conn.now in
-    let was = c.rows.invariant in
-    let e = c.in_ok-add_ranking.ensures in
-    record {
-      same = e.same_reference ∙ was.same;
-      at = ap (λ n. n + 1) was.at;
-      kept = λ clean. kept_then old mid new (was.kept (omega (arith, clean, e.survives.clean))) (e.kept clean);
-      survives = survives_then old mid new _ _ (λ _. ⊥) (λ _ db none. none) (λ _ db none. none) was.survives e.survives;
-      done = λ clean.
-          let early : HasCleanDisk mid = omega (arith, clean, e.survives.clean) in
-          let own =
-          subst (λ k. Made (Adds ranking_tree (ranking_cells k (pos (c.rows.place + 1)) c.as_bytes-in-rows-2.result.now)) mid new) c.as_bytes-in-rows.ensures.bytes (e.done clean) in
-          let step =
-          subst (λ k. Made (Adds ranking_tree (ranking_cells c.args.lecturer.now (pos (c.rows.place + 1)) k)) mid new) c.as_bytes-in-rows-2.ensures.bytes own in
-          made_on ranking_tree c.args.lecturer.now _ c.args.students.now c.rows.student-index c.rows.place old mid new was.at c.rows-test.true c.student-item.is (was.done early) step;
-    }
-
 pub returns-clause-done : goal.returns-clause-done
 returns-clause-done g c clean =
+    let owner = c.args.lecturer.now in
+    let list = c.args.students.now in
     let old = state g.S.Store c.args.tx.now.conn.now in
-    let mid = state g.S.Store c.rows.tx.conn.now in
+    let mid = state g.S.Store c.clear_rankings.new.tx.conn.now in
+    let put = state g.S.Store c.add_all.new.tx.conn.now in
     let new = state g.S.Store c.set_ranked.new.tx.conn.now in
-    let e = c.in_ok-set_ranked.ensures in
-    let early : HasCleanDisk mid = omega (arith, clean, e.survives.clean) in
-    let whole = take_all c.rows.student-index c.args.students.now (omega (arith, c.rows-test.false)) in
-    rank_made c.args.lecturer.now c.args.students.now old mid new (subst (λ l. Made (PutsList ranking_tree c.args.lecturer.now l) old mid) whole (c.rows.invariant.done early))
-    (subst (λ k. Made (Ranks k) mid new) c.as_bytes-2.ensures.bytes (e.done clean))
+    let later : HasCleanDisk put = omega (arith, clean, c.set_ranked.ensures.survives.clean) in
+    let early : HasCleanDisk mid = omega (arith, later, c.add_all.ensures.survives.clean) in
+    let cleared = subst (λ k. Made (Clears ranking_tree k) old mid) c.as_bytes.ensures.bytes (c.in_ok-clear_rankings.ensures.done early) in
+    let cells = ap (map (λ (r : NewRanking). ranking_cells r.lecturer.now (pos r.place) r.student.now)) c.deref.ensures.value ∙ c.in_ok-rows.ensures in
+    let listed = list_put ranking_tree owner list old mid put cleared (subst (λ l. GoesOn (Adds ranking_tree l) mid put) cells (c.in_ok-add_all.ensures.done later)) in
+    on_ok_weaker c.set_ranked.result
+    (λ set. rank_made owner list old put new listed (subst (λ k. Made (Ranks k) put new) c.as_bytes-2.ensures.bytes set))
+    (c.set_ranked.ensures.done clean)

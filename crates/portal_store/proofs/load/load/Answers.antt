@@ -4,7 +4,7 @@ use Rattle.sqlite.specs.Held.{state}
 use Rattle.sqlite.specs.State.{IsUnchanged}
 use Rattle.sqlite.proofs.StateLemmas.{survives_then}
 use Rattle.portal_store.specs.Kept.{Stands}
-use Rattle.portal_store.proofs.InTurn.{clean_before, still_own}
+use Rattle.portal_tables.proofs.InTurn.{clean_before, still_own}
 use Rattle.portal_store.proofs.Read.{same_error}
 use Rattle.portal_store.proofs.Loaded.{answered}
 use Rattle.portal_store.proofs.Fine.{office_code, rolls_rise, all_fine}
@@ -24,7 +24,8 @@ returns-clause-rows g c own sound clean =
     let m : IsUnchanged a b = c.in_ok-office.ensures.same own before in
     let back : b.now.trees ≡ a.now.trees = ap (λ (x : Database). x.trees) m.0.now_is in
     let office = c.in_ok-office.ensures.row own sound before in
-    answered a.now.trees b.now.trees back c.in_ok-office.office.phase c.in_ok-office.office.code office c.world_in.result (c.world_in.ensures.rows (still_own a b m own) clean m.0.is_open) (c.world_in.ensures.read (still_own a b m own) clean m.0.is_open)
+    let sound_there = subst IsDatabase (sym m.0.now_is) sound in
+    answered a.now.trees b.now.trees back c.in_ok-office.office.phase c.in_ok-office.office.code office c.world_in.result (c.world_in.ensures.rows (still_own a b m own) sound_there clean m.0.is_open) (c.world_in.ensures.read (still_own a b m own) sound_there clean m.0.is_open)
 
 pub returns-clause-damaged : goal.returns-clause-damaged
 returns-clause-damaged g c own sound clean damaged stands =

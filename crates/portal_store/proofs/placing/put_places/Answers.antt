@@ -3,8 +3,8 @@ use Rattle.std.proofs.lemmas.List.{take_all}
 use Rattle.sqlite.specs.Held.{state}
 use Rattle.sqlite.proofs.StateLemmas.{survives_then}
 use Rattle.portal_tables.proofs.Runs.{kept_then}
-use Rattle.portal_store.specs.Going.{GoesOn}
-use Rattle.portal_store.proofs.Ending.{goes_both}
+use Rattle.portal_tables.specs.Steps.{GoesOn}
+use Rattle.portal_tables.proofs.Runs.{goes_both}
 use Rattle.portal_store.proofs.Places.{PlacesAmong, places_next, places_shown}
 use Rattle.portal_store.proofs.placing.put_places.Goals as goal
 

@@ -1,7 +1,7 @@
 use Rattle.std.proofs.Common.{◌≡◌, take}
 use Rattle.sqlite.specs.State.{HasCleanDisk, KeepsCommit, Survives}
 use Rattle.sqlite.specs.Held.{state}
-use Rattle.portal_store.specs.Going.{GoesOn}
+use Rattle.portal_tables.specs.Steps.{GoesOn}
 use Rattle.portal_store.proofs.Places.{PlacesAmong}
 use Rattle.portal_store.proofs.placing.put_places.Given as goal
 

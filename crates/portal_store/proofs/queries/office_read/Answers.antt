@@ -6,8 +6,9 @@ use Rattle.portal_core.specs.View.{catalogue, office_sees}
 use Rattle.portal_tables.specs.Tables.{portal_tree}
 use Rattle.portal_tables.specs.Rows.{portal_row}
 use Rattle.portal_store.specs.Kept.{Holds}
-use Rattle.portal_store.specs.World.{world_of, number_of}
-use Rattle.portal_store.proofs.InTurn.{reads_then, clean_before}
+use Rattle.portal_tables.specs.Office.{number_of}
+use Rattle.portal_store.specs.World.{world_of}
+use Rattle.portal_tables.proofs.InTurn.{reads_then, clean_before}
 use Rattle.portal_store.proofs.queries.office_read.Goals as goal
 
 pub returns-clause-shows : goal.returns-clause-shows

@@ -10,8 +10,9 @@ use Rattle.portal_tables.specs.Tables.{portal_tree}
 use Rattle.portal_tables.specs.Rows.{portal_row}
 use Rattle.std.proofs.lemmas.Result.{IfOk-weaker}
 use Rattle.portal_store.specs.Kept.{Holds, Remembers}
-use Rattle.portal_store.specs.World.{world_of, number_of}
-use Rattle.portal_store.proofs.InTurn.{clean_before}
+use Rattle.portal_tables.specs.Office.{number_of}
+use Rattle.portal_store.specs.World.{world_of}
+use Rattle.portal_tables.proofs.InTurn.{clean_before}
 use Rattle.portal_store.proofs.Queried.{phase_told, code_told}
 use Rattle.portal_store.proofs.Remembered.{at_start}
 use Rattle.portal_store.proofs.queries.sight.Goals as goal

@@ -1,5 +1,5 @@
 use Rattle.sqlite.specs.Held.{state}
-use Rattle.portal_store.proofs.InTurn.{reads_then, reads_more, reads_handed}
+use Rattle.portal_tables.proofs.InTurn.{reads_then, reads_more, reads_handed}
 use Rattle.portal_store.proofs.queries.student_sight.Goals as goal
 
 pub returns-in_err-catalogue-clause-reads : goal.returns-in_err-catalogue-clause-reads

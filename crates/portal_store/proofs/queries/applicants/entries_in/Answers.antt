@@ -6,7 +6,7 @@ use Rattle.sqlite.specs.Held.{state}
 use Rattle.portal_store.specs.Kept.{Holds}
 use Rattle.portal_store.specs.World.{world_of}
 use Rattle.portal_store.specs.Queried.{with_lines, lines_at}
-use Rattle.portal_store.proofs.InTurn.{reads_then, reads_more, reads_handed, clean_before}
+use Rattle.portal_tables.proofs.InTurn.{reads_then, reads_more, reads_handed, clean_before}
 use Rattle.portal_store.proofs.queries.applicants.entries_in.Goals as goal
 
 pub returns-in_err-entry_in-clause-reads : goal.returns-in_err-entry_in-clause-reads

@@ -2,10 +2,10 @@ use Rattle.std.proofs.Common.{◌≡◌, false, Ok, IsTrue, map, take}
 use Rattle.sqlite.specs.State.{HasCleanDisk}
 use Rattle.sqlite.specs.Held.{state}
 use Rattle.portal_store.specs.Kept.{Holds}
-use Rattle.portal_store.specs.Reading.{Reads}
+use Rattle.portal_tables.specs.Reading.{Reads}
 use Rattle.portal_store.specs.World.{world_of}
 use Rattle.portal_store.specs.Queried.{with_lines, lines_at}
-use Rattle.portal_store.specs.declared.load.LoadFault.{LoadFault}
+use Rattle.portal_tables.specs.declared.fault.LoadFault.{LoadFault}
 use Rattle.portal_store.proofs.queries.applicants.entries_in.Given as goal
 
 abbrev pub invariant-loop-project : goal.invariant-loop-project

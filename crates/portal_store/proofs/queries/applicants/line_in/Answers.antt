@@ -2,7 +2,7 @@ use Rattle.std.proofs.Common.{◌∙◌, sym}
 use Rattle.sqlite.specs.declared.error.Error.{Error}
 use Rattle.sqlite.specs.Held.{state}
 use Rattle.std.proofs.lemmas.Result.{IfOk-weaker}
-use Rattle.portal_store.proofs.InTurn.{reads_of, reads_more, reads_failed}
+use Rattle.portal_tables.proofs.InTurn.{reads_of, reads_more, reads_failed}
 use Rattle.portal_store.proofs.Queried.{line_told}
 use Rattle.portal_store.proofs.queries.applicants.line_in.Goals as goal
 

@@ -2,11 +2,11 @@ use Rattle.std.proofs.Common.{◌≡◌, false, Ok, IsTrue, map, take, Some}
 use Rattle.sqlite.specs.State.{HasCleanDisk}
 use Rattle.sqlite.specs.Held.{state}
 use Rattle.portal_store.specs.Kept.{Holds}
-use Rattle.portal_store.specs.Reading.{Reads}
-use Rattle.portal_store.specs.Shown.{first}
+use Rattle.portal_tables.specs.Reading.{Reads}
+use Rattle.portal_tables.specs.Shown.{first}
 use Rattle.portal_store.specs.World.{world_of}
 use Rattle.portal_store.specs.Queried.{line_at}
-use Rattle.portal_store.specs.declared.load.LoadFault.{LoadFault}
+use Rattle.portal_tables.specs.declared.fault.LoadFault.{LoadFault}
 use Rattle.portal_store.proofs.queries.applicants.lines_from.Given as goal
 
 abbrev pub invariant-loop-row : goal.invariant-loop-row

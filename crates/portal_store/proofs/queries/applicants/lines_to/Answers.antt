@@ -5,11 +5,11 @@ use Rattle.portal_tables.specs.Changes.{ListsBy, has_text, columns}
 use Rattle.portal_tables.specs.Tables.{choice_tree}
 use Rattle.sqlite.specs.declared.error.Error.{Error}
 use Rattle.sqlite.specs.Held.{state}
-use Rattle.portal_store.proofs.InTurn.{reads_of, reads_failed, reads_then, clean_before, both}
+use Rattle.portal_tables.proofs.InTurn.{reads_of, reads_failed, reads_then, clean_before, both}
 use Rattle.std.specs.Prelude.{IfOk}
 use Rattle.portal_store.specs.Kept.{Holds}
 use Rattle.portal_store.specs.World.{world_of}
-use Rattle.portal_store.specs.Shown.{first}
+use Rattle.portal_tables.specs.Shown.{first}
 use Rattle.portal_store.specs.Queried.{line_at}
 use Rattle.portal_store.proofs.Lined.{lines_are}
 use Rattle.portal_store.proofs.queries.applicants.lines_to.Goals as goal

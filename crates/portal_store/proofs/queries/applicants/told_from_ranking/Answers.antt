@@ -3,7 +3,7 @@ use Rattle.sqlite.specs.Held.{state}
 use Rattle.std.proofs.lemmas.Result.{IfOk-weaker}
 use Rattle.portal_store.specs.World.{world_of}
 use Rattle.portal_store.specs.Queried.{with_lines}
-use Rattle.portal_store.proofs.InTurn.{reads_more}
+use Rattle.portal_tables.proofs.InTurn.{reads_more}
 use Rattle.portal_store.proofs.Applying.{told_persons, placed_are}
 use Rattle.portal_store.proofs.queries.applicants.told_from_ranking.Goals as goal
 

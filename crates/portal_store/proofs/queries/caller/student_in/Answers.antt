@@ -1,7 +1,7 @@
 use Rattle.sqlite.specs.declared.error.Error.{Error}
 use Rattle.sqlite.specs.Held.{state}
 use Rattle.std.proofs.lemmas.Result.{IfOk-weaker}
-use Rattle.portal_store.proofs.InTurn.{reads_of, reads_more, reads_failed}
+use Rattle.portal_tables.proofs.InTurn.{reads_of, reads_more, reads_failed}
 use Rattle.portal_store.proofs.Queried.{student_found}
 use Rattle.portal_store.proofs.queries.caller.student_in.Goals as goal
 

@@ -11,7 +11,7 @@ use Rattle.std.proofs.lemmas.Result.{IfOk-weaker}
 use Rattle.portal_store.specs.Kept.{Holds}
 use Rattle.portal_store.specs.World.{world_of}
 use Rattle.portal_store.specs.Queried.{lecturer_from, with_persons}
-use Rattle.portal_store.proofs.InTurn.{reads_then, reads_more, reads_handed, clean_before}
+use Rattle.portal_tables.proofs.InTurn.{reads_then, reads_more, reads_handed, clean_before}
 use Rattle.portal_store.proofs.Applying.{lecturer_told}
 use Rattle.portal_store.proofs.queries.lecturer.lecturer_view.Goals as goal
 

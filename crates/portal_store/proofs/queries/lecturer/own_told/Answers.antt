@@ -4,7 +4,7 @@ use Rattle.sqlite.specs.Held.{state}
 use Rattle.portal_core.specs.declared.rows.Listing.{Listing}
 use Rattle.portal_core.specs.Words.{is}
 use Rattle.std.proofs.lemmas.Result.{IfOk-weaker}
-use Rattle.portal_store.specs.Shown.{first}
+use Rattle.portal_tables.specs.Shown.{first}
 use Rattle.portal_store.specs.World.{world_of}
 use Rattle.portal_store.specs.Queried.{lecturer_from}
 use Rattle.portal_store.proofs.Applying.{own_applicants, own_placed}

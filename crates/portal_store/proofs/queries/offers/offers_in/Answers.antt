@@ -3,8 +3,9 @@ use Rattle.sqlite.specs.Effect.{Database}
 use Rattle.sqlite.specs.Held.{state}
 use Rattle.sqlite.specs.State.{IsUnchanged}
 use Rattle.std.proofs.lemmas.Result.{IfOk-weaker}
-use Rattle.portal_store.specs.Shown.{shown_lecturer, shown_project, projects_shown}
-use Rattle.portal_store.proofs.InTurn.{reads_then, reads_more, reads_handed, clean_before, still_own}
+use Rattle.portal_tables.specs.Shown.{shown_lecturer, shown_project}
+use Rattle.portal_tables.specs.Rolls.{projects_shown}
+use Rattle.portal_tables.proofs.InTurn.{reads_then, reads_more, reads_handed, clean_before, still_own}
 use Rattle.portal_store.proofs.Queried.{lecturers_told, projects_told}
 use Rattle.portal_store.proofs.queries.offers.offers_in.Goals as goal
 

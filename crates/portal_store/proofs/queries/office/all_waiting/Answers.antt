@@ -6,9 +6,9 @@ use Rattle.sqlite.specs.State.{HasCleanDisk, IsUnchanged}
 use Rattle.sqlite.specs.Held.{state}
 use Rattle.portal_store.specs.Kept.{Holds}
 use Rattle.portal_store.specs.World.{world_of}
-use Rattle.portal_store.specs.Shown.{shown_project}
+use Rattle.portal_tables.specs.Shown.{shown_project}
 use Rattle.portal_store.specs.Queried.{waiting_key}
-use Rattle.portal_store.proofs.InTurn.{reads_then, reads_more, reads_handed, clean_before}
+use Rattle.portal_tables.proofs.InTurn.{reads_then, reads_more, reads_handed, clean_before}
 use Rattle.portal_store.proofs.queries.office.all_waiting.Goals.{in-Some+in_ok-push, in_default}
 use Rattle.portal_store.proofs.queries.office.all_waiting.Goals as goal
 

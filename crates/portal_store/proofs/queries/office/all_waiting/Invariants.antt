@@ -3,11 +3,11 @@ use Rattle.std.specs.List.{filter_map}
 use Rattle.sqlite.specs.State.{HasCleanDisk}
 use Rattle.sqlite.specs.Held.{state}
 use Rattle.portal_store.specs.Kept.{Holds}
-use Rattle.portal_store.specs.Reading.{Reads}
-use Rattle.portal_store.specs.Shown.{shown_project}
+use Rattle.portal_tables.specs.Reading.{Reads}
+use Rattle.portal_tables.specs.Shown.{shown_project}
 use Rattle.portal_store.specs.World.{world_of}
 use Rattle.portal_store.specs.Queried.{waiting_key}
-use Rattle.portal_store.specs.declared.load.LoadFault.{LoadFault}
+use Rattle.portal_tables.specs.declared.fault.LoadFault.{LoadFault}
 use Rattle.portal_store.proofs.queries.office.all_waiting.Given as goal
 
 abbrev pub invariant-loop-lecturer : goal.invariant-loop-lecturer

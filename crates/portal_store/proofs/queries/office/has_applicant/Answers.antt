@@ -8,8 +8,8 @@ use Rattle.sqlite.specs.Held.{state}
 use Rattle.portal_core.specs.Words.{is, has}
 use Rattle.portal_store.specs.Kept.{Holds}
 use Rattle.portal_store.specs.World.{world_of}
-use Rattle.portal_store.specs.Shown.{first, shown_project}
-use Rattle.portal_store.proofs.InTurn.{reads_self, reads_then, reads_more, reads_handed, clean_before}
+use Rattle.portal_tables.specs.Shown.{first, shown_project}
+use Rattle.portal_tables.proofs.InTurn.{reads_self, reads_then, reads_more, reads_handed, clean_before}
 use Rattle.portal_store.proofs.queries.office.has_applicant.Goals as goal
 
 pub loop-project-init : goal.loop-project-init

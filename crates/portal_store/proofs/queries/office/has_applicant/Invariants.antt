@@ -3,10 +3,10 @@ use Rattle.sqlite.specs.State.{HasCleanDisk}
 use Rattle.sqlite.specs.Held.{state}
 use Rattle.portal_list.specs.Shown.{is_wanted}
 use Rattle.portal_store.specs.Kept.{Holds}
-use Rattle.portal_store.specs.Reading.{Reads}
-use Rattle.portal_store.specs.Shown.{first, shown_project}
+use Rattle.portal_tables.specs.Reading.{Reads}
+use Rattle.portal_tables.specs.Shown.{first, shown_project}
 use Rattle.portal_store.specs.World.{world_of}
-use Rattle.portal_store.specs.declared.load.LoadFault.{LoadFault}
+use Rattle.portal_tables.specs.declared.fault.LoadFault.{LoadFault}
 use Rattle.portal_store.proofs.queries.office.has_applicant.Given as goal
 
 abbrev pub invariant-loop-project : goal.invariant-loop-project

@@ -3,7 +3,7 @@ use Rattle.std.specs.Prelude.{not}
 use Rattle.sqlite.specs.declared.error.Error.{Error}
 use Rattle.sqlite.specs.Held.{state}
 use Rattle.portal_core.specs.Words.{is_empty}
-use Rattle.portal_store.proofs.InTurn.{reads_of, reads_more, reads_failed}
+use Rattle.portal_tables.proofs.InTurn.{reads_of, reads_more, reads_failed}
 use Rattle.portal_store.proofs.OfficeSeen.{some_chooser}
 use Rattle.portal_store.proofs.queries.office.is_chosen.Goals as goal
 

@@ -6,8 +6,8 @@ use Rattle.portal_core.specs.Words.{Key, is, has}
 use Rattle.portal_core.specs.World.{Student}
 use Rattle.std.proofs.lemmas.Result.{IfOk-weaker}
 use Rattle.portal_store.specs.World.{world_of}
-use Rattle.portal_store.specs.Shown.{first, shown_project}
-use Rattle.portal_store.proofs.InTurn.{reads_self}
+use Rattle.portal_tables.specs.Shown.{first, shown_project}
+use Rattle.portal_tables.proofs.InTurn.{reads_self}
 use Rattle.portal_store.proofs.queries.office.is_chosen_of.Goals as goal
 
 pub returns-then-ne-clause-reads : goal.returns-then-ne-clause-reads

@@ -7,7 +7,7 @@ use Rattle.std.proofs.lemmas.List.Sorted.{searchable_from_sorted}
 use Rattle.spa_model.proofs.Numbers.{sorted_rows}
 use Rattle.portal_list.proofs.Rising.{pairs_rise}
 use Rattle.portal_list.proofs.KeyRows.{known_at, known_nowhere}
-use Rattle.portal_store.specs.Shown.{first}
+use Rattle.portal_tables.specs.Shown.{first}
 use Rattle.portal_store.proofs.queries.office.is_named.Goals as goal
 
 pub returns-in-Ok : goal.returns-in-Ok

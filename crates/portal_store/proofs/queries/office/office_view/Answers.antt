@@ -5,7 +5,7 @@ use Rattle.sqlite.specs.State.{HasCleanDisk, IsUnchanged}
 use Rattle.std.proofs.lemmas.Result.{IfOk-weaker}
 use Rattle.portal_store.specs.Kept.{Holds}
 use Rattle.portal_store.specs.Queried.{office_from}
-use Rattle.portal_store.proofs.InTurn.{reads_then, clean_before}
+use Rattle.portal_tables.proofs.InTurn.{reads_then, clean_before}
 use Rattle.portal_store.proofs.OfficeSeen.{office_told}
 use Rattle.portal_store.proofs.queries.office.office_view.Goals as goal
 

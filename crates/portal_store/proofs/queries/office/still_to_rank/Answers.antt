@@ -1,5 +1,5 @@
 use Rattle.sqlite.specs.Held.{state}
-use Rattle.portal_store.proofs.InTurn.{reads_self}
+use Rattle.portal_tables.proofs.InTurn.{reads_self}
 use Rattle.portal_store.proofs.queries.office.still_to_rank.Goals as goal
 
 pub returns-clause-reads : goal.returns-clause-reads

@@ -7,10 +7,10 @@ use Rattle.sqlite.specs.State.{HasCleanDisk, IsUnchanged}
 use Rattle.portal_core.specs.World.{is_from_ranking}
 use Rattle.std.proofs.lemmas.Result.{IfOk-weaker}
 use Rattle.portal_store.specs.Kept.{Holds}
-use Rattle.portal_store.specs.Shown.{shown_project}
+use Rattle.portal_tables.specs.Shown.{shown_project}
 use Rattle.portal_store.specs.World.{world_of}
 use Rattle.portal_store.specs.Queried.{unlisted, waiting_key, office_from}
-use Rattle.portal_store.proofs.InTurn.{reads_then, reads_more, reads_handed, clean_before}
+use Rattle.portal_tables.proofs.InTurn.{reads_then, reads_more, reads_handed, clean_before}
 use Rattle.portal_store.proofs.queries.office.view_of_rolls.Goals as goal
 
 pub returns-in_err-waiting-clause-reads : goal.returns-in_err-waiting-clause-reads

@@ -1,6 +1,6 @@
 use Rattle.std.specs.Prelude.{None}
 use Rattle.sqlite.specs.Held.{state}
-use Rattle.portal_store.proofs.InTurn.{reads_self, reads_more}
+use Rattle.portal_tables.proofs.InTurn.{reads_self, reads_more}
 use Rattle.portal_store.proofs.queries.office.waiting_in.Goals as goal
 
 pub returns-then-number_at-eq1-clause-reads : goal.returns-then-number_at-eq1-clause-reads

@@ -4,7 +4,7 @@ use Rattle.sqlite.specs.declared.error.Error.{Error}
 use Rattle.sqlite.specs.Held.{state}
 use Rattle.portal_tables.specs.Changes.{ListsBy, has_number, columns}
 use Rattle.portal_tables.specs.Tables.{choice_tree}
-use Rattle.portal_store.proofs.InTurn.{reads_of, reads_more, reads_failed}
+use Rattle.portal_tables.proofs.InTurn.{reads_of, reads_more, reads_failed}
 use Rattle.portal_store.proofs.OfficeSeen.{unlisted_are}
 use Rattle.portal_store.proofs.queries.office.without_list.Goals as goal
 

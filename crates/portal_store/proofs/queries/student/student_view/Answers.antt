@@ -5,9 +5,10 @@ use Rattle.sqlite.specs.Order.{column}
 use Rattle.portal_core.specs.declared.phase.Phase.{Phase}
 use Rattle.portal_core.specs.World.{is_published}
 use Rattle.std.proofs.lemmas.Result.{IfOk-weaker}
-use Rattle.portal_store.specs.World.{world_of, text_or_none}
+use Rattle.portal_tables.specs.Shown.{text_or_none}
+use Rattle.portal_store.specs.World.{world_of}
 use Rattle.portal_store.specs.Queried.{student_from}
-use Rattle.portal_store.proofs.InTurn.{reads_more}
+use Rattle.portal_tables.proofs.InTurn.{reads_more}
 use Rattle.portal_store.proofs.Queried.{student_told}
 use Rattle.portal_store.proofs.queries.student.student_view.Goals as goal
 

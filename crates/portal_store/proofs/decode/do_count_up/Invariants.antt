@@ -1,7 +1,0 @@
-use Rattle.std.proofs.Common.{◌↔◌, ◌+◌, map, drop}
-use Rattle.portal_store.specs.Lists.{CountUp}
-use Rattle.portal_store.specs.Shown.{shown_place}
-use Rattle.portal_store.proofs.decode.do_count_up.Given as goal
-
-abbrev pub invariant-loop-i : goal.invariant-loop-i
-invariant-loop-i l = CountUp 1 (map shown_place l.rows) ↔ CountUp (1 + l.i) (map shown_place (drop l.i l.rows))

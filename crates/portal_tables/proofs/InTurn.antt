@@ -1,0 +1,98 @@
+-- Several readings in turn.
+use Rattle.std.specs.Result.{IsErr}
+use Rattle.std.proofs.Common.{List, IfOk, ◌≡◌, inl, inr, IsTrue, Ok, Err, Result, OnOk, OnErr, refl, sym, subst, ◌∙◌, arith}
+use Rattle.sqlite.specs.Effect.{Database}
+use Rattle.sqlite.specs.State.{State, HasCleanDisk, IsUnchanged, Survives}
+use Rattle.sqlite.proofs.StateLemmas.{survives_then, survives_weaker}
+use Rattle.portal_tables.specs.Own.{IsOwn}
+use Rattle.portal_tables.specs.Steps.{Leaves}
+use Rattle.std.proofs.lemmas.Result.{on_ok_weaker, on_err_weaker}
+use Rattle.portal_tables.specs.Reading.{Reads}
+
+pub unchanged_then : (a b c : State) → IsUnchanged a b → IsUnchanged b c → IsUnchanged a c
+unchanged_then a b c p q = (
+  record { was_open = p.0.was_open; is_open = q.0.is_open; now_is = q.0.now_is ∙ p.0.now_is; committed_is = q.0.committed_is ∙ p.0.committed_is; mode = q.0.mode ∙ p.0.mode },
+  record { changes = q.1.changes ∙ p.1.changes; last_rowid = q.1.last_rowid ∙ p.1.last_rowid },
+  q.2 ∙ p.2,
+)
+
+unchanged_self : (s : State) → IsTrue s.is_open → IsUnchanged s s
+unchanged_self s on = (record { was_open = on; is_open = on; now_is = refl; committed_is = refl; mode = refl }, record { changes = refl; last_rowid = refl }, refl)
+
+pub then_leaves : (a b c : State) → IsUnchanged a b → Leaves b c → Leaves a c
+then_leaves a b c p (inl q) = inl (unchanged_then a b c p q)
+then_leaves a b c p (inr q) = inr (record {
+  was_open = λ _. p.0.was_open;
+  undone = λ on. let u = q.undone on in (u.0 ∙ p.0.committed_is, u.1 ∙ p.0.committed_is);
+  autocommit = q.autocommit;
+  unmarked = q.unmarked;
+  counts = record { changes = q.counts.changes ∙ p.1.changes; last_rowid = q.counts.last_rowid ∙ p.1.last_rowid };
+})
+
+-- what is known in the middle
+pub still : {V E : Type 0} (v : V) (a b : State) → Reads {V = V} {E = E} (Ok v) a b → IsOwn a.now.schema → HasCleanDisk b → IsTrue a.is_open → IsUnchanged a b
+still v a b h own clean on = h.same own clean on
+
+pub still_own : (a b : State) → IsUnchanged a b → IsOwn a.now.schema → IsOwn b.now.schema
+still_own a b h own = subst (λ (d : Database). IsOwn d.schema) (sym h.0.now_is) own
+
+pub clean_before : (b c : State) (P : _) → Survives b c P → HasCleanDisk c → HasCleanDisk b
+clean_before b c P h clean = omega (arith, h.clean, clean)
+
+pub reads_self : {V E : Type 0} (v : V) (s : State) → Reads {V = V} {E = E} (Ok v) s s
+reads_self v s = record {
+  same = λ own clean on. unchanged_self s on;
+  err = λ own clean on. tt;
+  crash = record { clean = omega arith; shield = λ h. h; counts = omega arith; limit = refl; closes = λ clean on. inl on; crash = λ clean db h. inl h };
+}
+
+-- another reading after one that answered
+pub reads_then : {U V D E : Type 0} (u : U) (r : Result V E) (a b c : State) → Reads {V = U} {E = D} (Ok u) a b → Reads r b c → Reads r a c
+reads_then u r a b c p q =
+    let before : HasCleanDisk c → HasCleanDisk b = clean_before b c _ q.crash in
+    let middle : IsOwn a.now.schema → HasCleanDisk c → IsTrue a.is_open → IsUnchanged a b = λ own clean on. p.same own (before clean) on in
+    record {
+      same = λ own clean on. let m = middle own clean on in on_ok_weaker r (unchanged_then a b c m) (q.same (still_own a b m own) clean m.0.is_open);
+      err = λ own clean on. let m = middle own clean on in on_err_weaker r (then_leaves a b c m) (q.err (still_own a b m own) clean m.0.is_open);
+      crash = survives_then a b c _ _ _ (λ clean db no. no) (λ clean db no own on. let m = middle own clean on in no (still_own a b m own) m.0.is_open) p.crash q.crash;
+    }
+
+-- the same reading, whatever is answered then
+pub reads_more : {U V D E : Type 0} (u : U) (r : Result V E) (a b : State) → Reads {V = U} {E = D} (Ok u) a b → Reads r a b
+reads_more u (Ok v) a b h = record { same = h.same; err = λ own clean on. tt; crash = h.crash }
+reads_more u (Err e) a b h = record { same = λ own clean on. tt; err = λ own clean on. inl (h.same own clean on); crash = h.crash }
+
+pub reads_fail : {U V D E : Type 0} (d : D) (e : E) (a b : State) → Reads {V = U} {E = D} (Err d) a b → Reads {V = V} {E = E} (Err e) a b
+reads_fail d e a b h = record { same = λ own clean on. tt; err = h.err; crash = h.crash }
+
+-- one query
+pub reads_of : {V E : Type 0} (r : Result V E) (a b : State) → (IsOwn a.now.schema → HasCleanDisk b → OnOk r (IsUnchanged a b)) → (IsOwn a.now.schema → HasCleanDisk b → OnErr r (Leaves a b))
+    → Survives a b (λ _. IsOwn a.now.schema → ⊥) → Reads r a b
+reads_of r a b same err crash = record {
+  same = λ own clean on. same own clean;
+  err = λ own clean on. err own clean;
+  crash = survives_weaker a b _ _ (λ clean db no own on. no own) crash;
+}
+
+-- what is answered, by what was found while it was read
+pub named : {X E V : Type 0} (items : V → List X) (r : Result V E) (shown wanted : List X) {Up : Type 0} → (Up → shown ≡ wanted) → IfOk r (λ _. Up) → IfOk r (λ v. items v ≡ shown) → IfOk r (λ v. items v ≡ wanted)
+named items (Ok v) shown wanted same up is = is ∙ same up
+named items (Err e) shown wanted same up is = tt
+
+-- two facts of one answer
+pub both : {V E : Type 0} (r : Result V E) (A B C : V → Type 0) → ((v : V) → A v → B v → C v) → IfOk r A → IfOk r B → IfOk r C
+both (Ok v) A B C more a b = more v a b
+both (Err e) A B C more a b = tt
+
+pub wholly : {V E : Type 0} (r : Result V E) (A B : Type 0) → (A → B) → IfOk r (λ _. A) → OnOk r B
+wholly (Ok v) A B more h = more h
+wholly (Err e) A B more h = tt
+
+-- an error that is handed on
+pub reads_handed : {V E : Type 0} {U : Type 0} (e : E) (r : Result V E) (a b : State) → IsErr r → Reads {V = U} {E = E} (Err e) a b → Reads r a b
+reads_handed e (Ok v) a b is h = absurd (cc)
+reads_handed e (Err f) a b is h = reads_fail e f a b h
+
+pub reads_failed : {V U D E : Type 0} (d : D) (r : Result V E) (a b : State) → IsErr r → Reads {V = U} {E = D} (Err d) a b → Reads r a b
+reads_failed d (Ok v) a b is h = absurd (cc)
+reads_failed d (Err f) a b is h = reads_fail d f a b h

@@ -1,0 +1,27 @@
+use Rattle.std.proofs.Common.{[], ◌∷◌}
+use Rattle.sqlite.specs.declared.error.Error.{Error}
+use Rattle.sqlite.specs.Held.{state}
+use Rattle.portal_tables.specs.Tables.{lecturer_tree}
+use Rattle.portal_tables.proofs.InTurn.{reads_of, reads_more, reads_failed}
+use Rattle.portal_tables.proofs.RollRows.{rolled, rolled_not}
+use Rattle.portal_tables.proofs.Texts.{lecturer_texts}
+use Rattle.portal_tables.proofs.rolls.lecturer_roll.Goals as goal
+
+pub returns-clause-rows : goal.returns-clause-rows
+returns-clause-rows g c own clean = rolled (2 ∷ 3 ∷ 4 ∷ 5 ∷ []) ((state g.S.Store c.args.conn.now).now.trees lecturer_tree) c.in_ok-rows.rows (c.in_ok-rows.ensures.rows own clean) c.risen.result c.risen.ensures.ok
+
+pub returns-clause-damaged : goal.returns-clause-damaged
+returns-clause-damaged g c own sound clean damaged up =
+    rolled_not (2 ∷ 3 ∷ 4 ∷ 5 ∷ []) ((state g.S.Store c.args.conn.now).now.trees lecturer_tree) c.in_ok-rows.rows (c.in_ok-rows.ensures.rows own clean) (lecturer_texts (state g.S.Store c.args.conn.now).now own sound) up (c.risen.ensures.damaged damaged)
+
+pub returns-clause-reads : goal.returns-clause-reads
+returns-clause-reads g c =
+    let a = state g.S.Store c.args.conn.now in
+    let b = state g.S.Store c.lecturer_rows.new.conn in
+    reads_more {D = Error} c.in_ok-rows.rows c.risen.result a b (reads_of _ a b c.in_ok-rows.ensures.same c.in_ok-rows.ensures.err c.in_ok-rows.ensures.survives)
+
+pub returns-in_err-rows-clause-reads : goal.returns-in_err-rows-clause-reads
+returns-in_err-rows-clause-reads g c =
+    let a = state g.S.Store c.args.conn.now in
+    let b = state g.S.Store c.lecturer_rows.new.conn in
+    reads_failed {U = Unit {0}} c.in_err-rows.field-0.0 c.from_residual.result a b c.from_residual.ensures.0 (reads_of _ a b c.in_err-rows.ensures.same c.in_err-rows.ensures.err c.in_err-rows.ensures.survives)

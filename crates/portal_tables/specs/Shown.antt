@@ -1,0 +1,47 @@
+-- What the rows that a query shows are decoded to: the cells of a roll or of a list, without the number of the row.
+use Rattle.std.specs.Prelude.{◌≡◌, ℕ, true, [], Option, Some, None, option_map, IfSome}
+use Rattle.sqlite.specs.declared.types.Value.{Value}
+use Rattle.sqlite.specs.declared.types.Value.TheVariants.{Null, Int, Real, Blob, Text as Words}
+use Rattle.sqlite.specs.Order.{Row, column, bytes}
+use Rattle.sqlite_trees.specs.Objects.{number_in}
+use Rattle.spa_rows.specs.Form.{is_key}
+use Rattle.portal_core.specs.Words.{Key}
+use Rattle.portal_core.specs.declared.rows.LecturerRow.{LecturerRow}
+use Rattle.portal_core.specs.declared.rows.ProjectRow.{ProjectRow}
+use Rattle.portal_core.specs.declared.rows.StudentRow.{StudentRow}
+
+-- the text in a cell, if it is not NULL
+abbrev pub text_or_none : Value → Option Key
+text_or_none Null = None
+text_or_none (Int n) = Some []
+text_or_none (Real x) = Some []
+text_or_none (Blob b) = Some []
+text_or_none (Words t) = Some t
+
+-- the key that a shown row begins with
+abbrev pub first : Row → Key
+first c = bytes (column c 0)
+
+abbrev pub shown_lecturer : Row → LecturerRow
+shown_lecturer c = record { key = first c; name = bytes (column c 1); code = bytes (column c 2); capacity = number_in (column c 3) }
+
+abbrev pub shown_project : Row → ProjectRow
+shown_project c = record { key = first c; lecturer = bytes (column c 1); title = bytes (column c 2); capacity = number_in (column c 3) }
+
+abbrev pub shown_student : Row → StudentRow
+shown_student c = record { key = first c; name = bytes (column c 1); code = bytes (column c 2) }
+
+-- the pair of the result that a student's row tells
+abbrev pub shown_pair : Row → Option (Key × Key)
+shown_pair c = option_map (λ p. (first c, p)) (text_or_none (column c 3))
+
+-- the place and the key that a row of a list shows
+abbrev pub shown_place : Row → ℕ
+shown_place c = number_in (column c 0)
+
+abbrev pub shown_name : Row → Key
+shown_name c = bytes (column c 1)
+
+-- what is assigned has the form of a key
+abbrev pub HasPlace : Row → Type 0
+HasPlace c = IfSome (text_or_none (column c 3)) (λ p. is_key p ≡ true)

@@ -1,0 +1,99 @@
+//! From one cell of a row that a query shows to a key, a name, a code or a number.
+
+ghost use Rattle.std.specs.Prelude.{◌≡◌, ◌≤◌, true, false, Err, IfOk, IfSome};
+ghost use Rattle.sqlite.specs.Order.{column, bytes};
+ghost use Rattle.sqlite_trees.specs.Objects.{number_in};
+ghost use Rattle.spa_rows.specs.Form.{is_key};
+ghost use Rattle.portal_core.specs.Form.{is_code, is_name};
+ghost use Rattle.portal_tables.specs.Shown.{text_or_none};
+
+use crate::fault::LoadFault;
+use portal_core::{Code, CodeFault, Name, NameFault};
+use spa_rows::{Key, KeyFault};
+use sqlite::Row;
+use sqlite::types::ValueRef;
+use std::alloc::Global;
+
+/// The bytes in the cell of a row, counted from 0, or none where the cell has no text and no blob.
+pub fn bytes_at(row: &Row, at: usize) -> &[u8]
+    ensures { result.now ≡ bytes (column row.now at) }
+{
+    match row.get_ref(at) {
+        Ok(ValueRef::Text(bytes)) | Ok(ValueRef::Blob(bytes)) => bytes,
+        _ => &[],
+    }
+}
+
+/// The number in a cell, or 0 where there is none from 0 on.
+pub fn number_at(row: &Row, at: usize) -> u64
+    ensures { result ≡ number_in (column row.now at) }
+{
+    match row.get_ref(at) {
+        Ok(ValueRef::Int(number)) if number > 0 => number as u64,
+        _ => 0,
+    }
+}
+
+/// The key in a cell. The fault is `Damaged` where the bytes have not the form of a key, and `Memory` where they cannot be copied.
+pub fn key_at(alloc: Global, row: &Row, at: usize) -> Result<Key, LoadFault>
+    ensures ok { IfOk result (λ key. key ≡ bytes (column row.now at)) }
+    ensures damaged { result ≡ Err LoadFault.Damaged → is_key (bytes (column row.now at)) ≡ false }
+{
+    match Key::parse(alloc, bytes_at(row, at)) {
+        Ok(key) => Ok(key),
+        Err(KeyFault::BadKey) => Err(LoadFault::Damaged),
+        Err(KeyFault::Memory) => Err(LoadFault::Memory),
+    }
+}
+
+/// The name or title in a cell. The fault is `Damaged` where the bytes have not the form of a name.
+pub fn name_at(alloc: Global, row: &Row, at: usize) -> Result<Name, LoadFault>
+    ensures ok { IfOk result (λ name. name ≡ bytes (column row.now at)) }
+    ensures damaged { result ≡ Err LoadFault.Damaged → is_name (bytes (column row.now at)) ≡ false }
+{
+    match Name::parse(alloc, bytes_at(row, at)) {
+        Ok(name) => Ok(name),
+        Err(NameFault::BadName) => Err(LoadFault::Damaged),
+        Err(NameFault::Memory) => Err(LoadFault::Memory),
+    }
+}
+
+/// The code in a cell. The fault is `Damaged` where the bytes have not the form of a code.
+pub fn code_at(alloc: Global, row: &Row, at: usize) -> Result<Code, LoadFault>
+    ensures ok { IfOk result (λ code. code ≡ bytes (column row.now at)) }
+    ensures damaged { result ≡ Err LoadFault.Damaged → is_code (bytes (column row.now at)) ≡ false }
+{
+    match Code::parse(alloc, bytes_at(row, at)) {
+        Ok(code) => Ok(code),
+        Err(CodeFault::BadCode) => Err(LoadFault::Damaged),
+        Err(CodeFault::Memory) => Err(LoadFault::Memory),
+    }
+}
+
+/// The capacity in a cell, in students. The fault is `Damaged` where it is not from 1 to 200.
+pub fn capacity_at(row: &Row, at: usize) -> Result<u32, LoadFault>
+    ensures ok { IfOk result (λ capacity. capacity ≡ number_in (column row.now at)) }
+    ensures damaged { result ≡ Err LoadFault.Damaged → 1 ≤ number_in (column row.now at) → number_in (column row.now at) ≤ 200 → ⊥ }
+{
+    let number = number_at(row, at);
+    if number < 1 || 200 < number {
+        return Err(LoadFault::Damaged);
+    }
+    Ok(number as u32)
+}
+
+/// The key in a cell that may be NULL, or none. The fault is `Damaged` where anything else is there.
+pub fn assigned_at(alloc: Global, row: &Row, at: usize) -> Result<Option<Key>, LoadFault>
+    ensures ok { IfOk result (λ key. key ≡ text_or_none (column row.now at)) }
+    ensures damaged { result ≡ Err LoadFault.Damaged → IfSome (text_or_none (column row.now at)) (λ p. is_key p ≡ true) → ⊥ }
+{
+    match row.get_ref(at) {
+        Ok(ValueRef::Null) | Err(_) => Ok(None),
+        Ok(ValueRef::Text(text)) => match Key::parse(alloc, text) {
+            Ok(key) => Ok(Some(key)),
+            Err(KeyFault::BadKey) => Err(LoadFault::Damaged),
+            Err(KeyFault::Memory) => Err(LoadFault::Memory),
+        },
+        Ok(_) => Err(LoadFault::Damaged),
+    }
+}

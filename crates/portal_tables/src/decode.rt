@@ -1,0 +1,163 @@
+//! From the rows that queries show to the rows of rolls, lists and pairs.
+
+ghost use Rattle.std.specs.Prelude.{◌≡◌, ◌↔◌, true, Err, IfOk, IsTrue, map};
+ghost use Rattle.std.specs.List.{AllByRecursion, filter_map};
+ghost use Rattle.sqlite.specs.Order.{Row as Cells};
+ghost use Rattle.spa_rows.specs.Form.{is_key};
+ghost use Rattle.portal_core.specs.Good.{IsLecturer, IsProject, IsStudent};
+ghost use Rattle.portal_core.specs.Words.{Rise, is_before};
+ghost use Rattle.portal_tables.specs.Lists.{CountUp};
+ghost use Rattle.portal_tables.specs.Shown.{first, shown_lecturer, shown_project, shown_student, shown_pair, shown_place, shown_name, HasPlace};
+
+use crate::cells::{assigned_at, bytes_at, capacity_at, code_at, key_at, name_at, number_at};
+use crate::fault::LoadFault;
+use portal_core::{LecturerRow, ProjectRow, StudentRow};
+use spa_rows::Key;
+use sqlite::Row;
+use std::alloc::Global;
+
+/// What a row that a query shows is decoded to. The fault is `Damaged` at most where the row is not fine, `Memory` where
+/// there is not enough memory.
+pub trait FromCells: Drop {
+    /// What a row with these cells is decoded to.
+    ghost shown: { Cells → Self };
+
+    /// Which cells are never refused as damaged.
+    ghost is_fine: { Cells → Type 0 };
+
+    /// The row decoded.
+    fn from_cells(alloc: Global, row: &Row) -> Result<Self, LoadFault>
+        ensures ok { IfOk result (λ x. x ≡ shown row.now) }
+        ensures damaged { result ≡ Err LoadFault.Damaged → is_fine row.now → ⊥ };
+}
+
+impl FromCells for LecturerRow {
+    ghost shown = { shown_lecturer };
+
+    ghost is_fine = { λ c. IsLecturer (shown_lecturer c) };
+
+    fn from_cells(alloc: Global, row: &Row) -> Result<LecturerRow, LoadFault> {
+        Ok(LecturerRow {
+            capacity: capacity_at(row, 3)?,
+            key: key_at(alloc, row, 0)?,
+            name: name_at(alloc, row, 1)?,
+            code: code_at(alloc, row, 2)?,
+        })
+    }
+}
+
+impl FromCells for ProjectRow {
+    ghost shown = { shown_project };
+
+    ghost is_fine = { λ c. IsProject (shown_project c) };
+
+    fn from_cells(alloc: Global, row: &Row) -> Result<ProjectRow, LoadFault> {
+        Ok(ProjectRow {
+            capacity: capacity_at(row, 3)?,
+            key: key_at(alloc, row, 0)?,
+            lecturer: key_at(alloc, row, 1)?,
+            title: name_at(alloc, row, 2)?,
+        })
+    }
+}
+
+impl FromCells for StudentRow {
+    ghost shown = { shown_student };
+
+    ghost is_fine = { λ c. IsStudent (shown_student c) };
+
+    fn from_cells(alloc: Global, row: &Row) -> Result<StudentRow, LoadFault> {
+        Ok(StudentRow {
+            key: key_at(alloc, row, 0)?,
+            name: name_at(alloc, row, 1)?,
+            code: code_at(alloc, row, 2)?,
+        })
+    }
+}
+
+/// What a row of a list names.
+impl FromCells for Key {
+    ghost shown = { shown_name };
+
+    ghost is_fine = { λ c. is_key (shown_name c) ≡ true };
+
+    fn from_cells(alloc: Global, row: &Row) -> Result<Key, LoadFault> {
+        key_at(alloc, row, 1)
+    }
+}
+
+/// Each row decoded, in the order of the rows, or the fault of the first that is refused.
+pub fn decoded<T: FromCells>(alloc: Global, rows: &[Row]) -> Result<Vec<T>, LoadFault>
+    ensures ok { IfOk result (λ v. v.items ≡ map T.shown rows.now) }
+    ensures damaged { result ≡ Err LoadFault.Damaged → AllByRecursion T.is_fine rows.now → ⊥ }
+{
+    let mut all = Vec::new(alloc);
+    for row in rows {
+        all.push(T::from_cells(alloc, row)?)?;
+    }
+    Ok(all)
+}
+
+fn is_lower(a: &Row, b: &Row) -> bool
+    ensures { result ≡ is_before (first a.now) (first b.now) }
+{
+    bytes_at(a, 0).cmp(bytes_at(b, 0)).is_lt()
+}
+
+/// Whether the keys that the rows begin with rise.
+pub fn do_rise(rows: &[Row]) -> bool
+    ensures { IsTrue result ↔ Rise (map first rows.now) }
+{
+    rows.is_sorted_by(|a, b| is_lower(a, b))
+}
+
+/// Whether the rows have the places 1, 2 and so on.
+fn do_count_up(rows: &[Row]) -> bool
+    ensures { IsTrue result ↔ CountUp 1 (map shown_place rows.now) }
+{
+    for (i, row) in rows.iter().enumerate() {
+        if number_at(row, 0) != i as u64 + 1 {
+            return false;
+        }
+    }
+    true
+}
+
+/// The names of a list whose rows show place and name. The fault is `Damaged` where the places are not 1, 2 and so on, or a
+/// name has not the form of a key.
+pub fn list_from(alloc: Global, rows: &[Row]) -> Result<Vec<Key>, LoadFault>
+    ensures names { IfOk result (λ v. v.items ≡ map shown_name rows.now) }
+    ensures whole { IfOk result (λ v. CountUp 1 (map shown_place rows.now)) }
+    ensures damaged { result ≡ Err LoadFault.Damaged → CountUp 1 (map shown_place rows.now) → AllByRecursion (λ c. is_key (shown_name c) ≡ true) rows.now → ⊥ }
+{
+    if !do_count_up(rows) {
+        return Err(LoadFault::Damaged);
+    }
+    decoded(alloc, rows)
+}
+
+/// The pair of the result that a student's row tells.
+fn pair_from(alloc: Global, row: &Row) -> Result<Option<(Key, Key)>, LoadFault>
+    ensures ok { IfOk result (λ pair. pair ≡ shown_pair row.now) }
+    ensures damaged { result ≡ Err LoadFault.Damaged → IsStudent (shown_student row.now) → HasPlace row.now → ⊥ }
+{
+    match assigned_at(alloc, row, 3)? {
+        Some(project) => Ok(Some((key_at(alloc, row, 0)?, project))),
+        None => Ok(None),
+    }
+}
+
+/// The result that the students' rows tell: the pairs of a student and the assigned project. The fault is `Damaged` where a
+/// key or what is assigned has not the form of a key.
+pub fn pairs_from(alloc: Global, rows: &[Row]) -> Result<Vec<(Key, Key)>, LoadFault>
+    ensures ok { IfOk result (λ v. v.items ≡ filter_map shown_pair rows.now) }
+    ensures damaged { result ≡ Err LoadFault.Damaged → AllByRecursion (λ c. IsStudent (shown_student c)) rows.now → AllByRecursion HasPlace rows.now → ⊥ }
+{
+    let mut pairs = Vec::new(alloc);
+    for row in rows {
+        if let Some(pair) = pair_from(alloc, row)? {
+            pairs.push(pair)?;
+        }
+    }
+    Ok(pairs)
+}
