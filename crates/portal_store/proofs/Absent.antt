@@ -18,8 +18,8 @@ use Rattle.portal_store.specs.World.{world_of, lecturer_of}
 use Rattle.portal_store.specs.Kept.{Turns}
 use Rattle.portal_store.specs.Putting.{TurnsThere}
 use Rattle.portal_tables.proofs.Sorted.{put_all_map, map_twice}
-use Rattle.portal_store.proofs.Shapes.{IsLecturerRow, lecturer_rows_formed}
-use Rattle.portal_store.proofs.Parents.{text_there}
+use Rattle.portal_tables.proofs.Shapes.{IsLecturerRow, lecturer_rows_formed}
+use Rattle.portal_tables.proofs.Parents.{text_there}
 use Rattle.portal_tables.proofs.Listed.{all_map_on}
 use Rattle.portal_store.proofs.RankTurns.{key_test, same_key}
 

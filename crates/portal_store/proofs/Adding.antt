@@ -32,7 +32,7 @@ use Rattle.portal_tables.specs.Rolls.{row_key}
 use Rattle.portal_store.specs.World.{world_of, phase_of, is_ranked, lecturer_of, project_row, student_of}
 use Rattle.portal_tables.proofs.Sorted.{permutes, permutes_more, more_put, rise_distinct, all_permuted, distinct_permuted, map_twice, map_alike}
 use Rattle.portal_tables.proofs.Listed.{all_map_on}
-use Rattle.portal_store.proofs.Parents.{none_of, choice_parents, ranking_parents}
+use Rattle.portal_tables.proofs.Parents.{none_of, choice_parents, ranking_parents}
 use Rattle.portal_store.proofs.Holding.{whole_same}
 use Rattle.portal_core.proofs.Keys.{all_unmap}
 use Rattle.portal_core.proofs.AllLaws.{all_map, all_append}

@@ -1,7 +1,6 @@
 -- Applicants and placed students, of what queries show.
 use Rattle.std.proofs.Common.{◌≡◌, Bool, true, false, ◌&&◌, ◌||◌, List, [], ◌∷◌, map, filter, Option, refl, sym, ap, ap₂, subst, ◌∙◌}
-use Rattle.std.specs.Prelude.{Vec, if◌then◌else◌, cond, IfSome, None, Some}
-use Rattle.std.specs.declared.alloc.Global.{Global}
+use Rattle.std.specs.Prelude.{if◌then◌else◌, cond, IfSome, None, Some}
 use Rattle.std.specs.List.{AllByRecursion, list_any}
 use Rattle.std.proofs.Math.Bool.{and_comm}
 use Rattle.std.proofs.lemmas.List.Sorted.{list_any-IsPermutation}
@@ -9,6 +8,7 @@ use Rattle.sqlite.specs.Order.{Row, column, bytes}
 use Rattle.sqlite.specs.Effect.{Database}
 use Rattle.sqlite_trees.proofs.ListLemmas.{filter-map, map-map}
 use Rattle.portal_core.specs.declared.phase.Phase.{Phase}
+use Rattle.portal_core.specs.declared.phase.Phase.TheVariants.{Setup, Choosing, Ranking, Published}
 use Rattle.portal_core.specs.declared.rows.Listing.{Listing}
 use Rattle.portal_core.specs.declared.rows.Person.{Person}
 use Rattle.portal_core.specs.Sight.{LecturerSees}
@@ -18,7 +18,6 @@ use Rattle.portal_core.specs.View.{persons, catalogue, lecturer_sees}
 use Rattle.portal_core.specs.Good.{Good}
 use Rattle.portal_core.proofs.Keys.{is_same}
 use Rattle.portal_core.proofs.AllLaws.{all_weaker, any_map, filtered_any, is_sym, all_map}
-use Rattle.portal_core.proofs.Enrol.{open_phase}
 use Rattle.portal_tables.specs.Tables.{student_tree, choice_tree}
 use Rattle.portal_tables.specs.Changes.{ListsBy, columns, has_text}
 use Rattle.portal_store.specs.declared.queries.applicants.Line.{Line}
@@ -27,11 +26,11 @@ use Rattle.portal_tables.specs.Lists.{of_key, named_by, place_key, by_place, cho
 use Rattle.portal_tables.specs.Rolls.{row_key, by_key}
 use Rattle.portal_store.specs.World.{world_of, student_of}
 use Rattle.portal_tables.specs.Shown.{first}
-use Rattle.portal_store.specs.Queried.{line_of, with_lines, lines_at, persons_in, placed_in, applicants_at, applicants_told, placed_told}
+use Rattle.portal_store.specs.Queried.{line_of, lines_shown, applicants_told, placed_told}
 use Rattle.portal_tables.proofs.Listed.{permuted, for_each}
 use Rattle.portal_store.proofs.Loaded.{students_are}
-use Rattle.portal_store.proofs.Shapes.{IsChoiceRow, has_text_of, choice_rows_formed}
-use Rattle.portal_tables.proofs.Sorted.{permutes, map_alike, map_twice}
+use Rattle.portal_tables.proofs.Shapes.{IsChoiceRow, has_text_of, choice_rows_formed}
+use Rattle.portal_tables.proofs.Sorted.{permutes}
 use Rattle.portal_store.proofs.Fine.{placed_listed}
 
 pub any_alike : {X : Type 0} (p q : X → Bool) (xs : List X) → AllByRecursion (λ x. p x ≡ q x) xs → list_any p xs ≡ list_any q xs
@@ -77,13 +76,6 @@ module _ (db : Database) (holds : Holds db) (p : Key) (shown : List Row) (lists 
 persons_of : (p : Line → Bool) (ss : List Student) → map (λ (l : Line). l.person) (filter p (map line_of ss)) ≡ persons (filter (λ s. p (line_of s)) ss)
 persons_of p ss = ap (map (λ (l : Line). l.person)) (filter-map p line_of ss) ∙ map-map (λ (l : Line). l.person) line_of (filter (λ s. p (line_of s)) ss)
 
--- told of the lines of applicants
-
-pub told_persons : (w : World) (entries : List (Key × Vec Line Global)) (keys : List Key) → map with_lines entries ≡ map (lines_at w) keys → map (λ e. persons_in (with_lines e)) entries ≡ map (applicants_at w) keys
-told_persons w entries keys told =
-    map_twice persons_in with_lines entries ∙ ap (map persons_in) told ∙ sym (map_twice persons_in (lines_at w) keys)
-    ∙ map_alike (λ k. persons_in (lines_at w k)) (applicants_at w) keys (λ k. ap (λ (ps : List Person). (k, ps)) (map-map (λ (l : Line). l.person) line_of (applicants_to w k)))
-
 -- who passes a test passes one before it, too
 filter_twice : (p q : Student → Bool) (ss : List Student) → AllByRecursion (λ s. p s ≡ true → q s ≡ true) ss → filter p (filter q ss) ≡ filter p ss
 filter_twice p q [] all = refl
@@ -106,31 +98,26 @@ placed_by_lines w good k =
     persons_of (λ (l : Line). is_at k l.placed) (applicants_to w k)
     ∙ ap persons (filter_twice (λ s. is_at k s.placed) (λ s. has s.choice k) w.students (all_weaker _ _ (λ s on. at_listed k s.choice s.placed on) w.students (placed_listed w good)))
 
-by_phase : (b : Bool) (f : Key → List Person) (keys : List Key) → (if b then map {B = Key × List Person} (λ k. (k, f k)) keys else map (λ k. (k, [])) keys) ≡ map {B = Key × List Person} (λ k. (k, if b then f k else [])) keys
-by_phase true f keys = refl
-by_phase false f keys = refl
+-- told of one project, by the lines that the phase shows
 
-pub placed_are : (w : World) → Good w → (phase : Phase) (entries : List (Key × Vec Line Global)) (keys : List Key) → phase ≡ w.phase → map with_lines entries ≡ map (lines_at w) keys
-    → (if is_published phase then map (λ e. placed_in (with_lines e)) entries else map (λ k. (k, [])) keys) ≡ placed_told w keys
-placed_are w good phase entries keys at told =
-    let here : map (λ e. placed_in (with_lines e)) entries ≡ map (λ k. (k, persons (placed_at w k))) keys =
-    map_twice placed_in with_lines entries ∙ ap (map placed_in) told ∙ sym (map_twice placed_in (lines_at w) keys)
-    ∙ map_alike (λ k. placed_in (lines_at w k)) (λ k. (k, persons (placed_at w k))) keys (λ k. ap (λ (ps : List Person). (k, ps)) (placed_by_lines w good k)) in
-    ap₂ (λ (f : Phase) (l : List (Key × List Person)). if is_published f then l else map (λ k. (k, [])) keys) at here ∙ by_phase (is_published w.phase) (λ k. persons (placed_at w k)) keys
+pub persons_shown : (w : World) (phase : Phase) (k : Key) → phase ≡ w.phase → map (λ (l : Line). l.person) (lines_shown w phase k) ≡ (if is_from_ranking w.phase then persons (applicants_to w k) else [])
+persons_shown w phase k at =
+    (elim (is_from_ranking phase) as (λ b. map (λ (l : Line). l.person) (if b then map line_of (applicants_to w k) else []) ≡ (if b then persons (applicants_to w k) else [])) [
+      | true ↦ map-map (λ (l : Line). l.person) line_of (applicants_to w k)
+      | false ↦ refl
+    ])
+    ∙ ap (λ (f : Phase). if is_from_ranking f then persons (applicants_to w k) else []) at
 
--- what the phase shows
-
-pub all_applicants : (w : World) (phase : Phase) (keys : List Key) → is_from_ranking phase ≡ true → phase ≡ w.phase → map (applicants_at w) keys ≡ applicants_told w keys
-all_applicants w phase keys closed at =
-    map_alike (applicants_at w) (λ k. (k, if is_from_ranking w.phase then persons (applicants_to w k) else [])) keys (λ k. ap (λ b. (k, if b then persons (applicants_to w k) else [])) (sym closed ∙ ap is_from_ranking at))
-
-pub no_applicants : (w : World) (phase : Phase) (keys : List Key) → is_from_ranking phase ≡ false → phase ≡ w.phase → map (λ k. (k, [])) keys ≡ applicants_told w keys
-no_applicants w phase keys ajar at =
-    map_alike (λ k. (k, [])) (λ k. (k, if is_from_ranking w.phase then persons (applicants_to w k) else [])) keys (λ k. ap (λ b. (k, if b then persons (applicants_to w k) else [])) (sym ajar ∙ ap is_from_ranking at))
-
-pub none_placed : (w : World) (phase : Phase) (keys : List Key) → is_from_ranking phase ≡ false → phase ≡ w.phase → map (λ k. (k, [])) keys ≡ placed_told w keys
-none_placed w phase keys ajar at =
-    map_alike (λ k. (k, [])) (λ k. (k, if is_published w.phase then persons (placed_at w k) else [])) keys (λ k. ap (λ b. (k, if b then persons (placed_at w k) else [])) (sym (open_phase phase ajar) ∙ ap is_published at))
+pub placed_shown : (w : World) → Good w → (phase : Phase) (k : Key) → phase ≡ w.phase
+    → (if is_published phase then map (λ (l : Line). l.person) (filter (λ (l : Line). is_at k l.placed) (lines_shown w phase k)) else []) ≡ (if is_published w.phase then persons (placed_at w k) else [])
+placed_shown w good phase k at =
+    (elim phase as (λ (f : Phase). (if is_published f then map (λ (l : Line). l.person) (filter (λ (l : Line). is_at k l.placed) (lines_shown w f k)) else []) ≡ (if is_published f then persons (placed_at w k) else [])) [
+      | Setup ↦ refl
+      | Choosing ↦ refl
+      | Ranking ↦ refl
+      | Published ↦ placed_by_lines w good k
+    ])
+    ∙ ap (λ (f : Phase). if is_published f then persons (placed_at w k) else []) at
 
 -- told of a lecturer's projects
 

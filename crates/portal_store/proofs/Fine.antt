@@ -24,14 +24,16 @@ use Rattle.portal_core.proofs.AllLaws.{all_weaker, all_map, all_both}
 use Rattle.portal_core.proofs.Keys.{is_same, is_own, all_unmap}
 use Rattle.portal_core.proofs.Only.{on_roll}
 use Rattle.portal_tables.specs.Tables.{lecturer_tree, project_tree, student_tree, choice_tree, ranking_tree}
-use Rattle.portal_store.specs.declared.entries.Lists.TheVariants.{Choices, Rankings}
+use Rattle.portal_tables.specs.declared.entries.Lists.TheVariants.{Choices, Rankings}
 use Rattle.portal_tables.specs.Rolls.{row_key, by_key, RollsRise, lecturers_shown, projects_shown, students_shown}
 use Rattle.portal_store.specs.World.{world_of, is_ranked, lecturer_row, student_row, lecturer_of, project_row, student_of}
 use Rattle.portal_tables.specs.Lists.{of_key, chosen, list_of, IsWhole}
 use Rattle.portal_store.specs.Kept.{Stands}
 use Rattle.portal_tables.specs.Shown.{shown_lecturer, shown_project, shown_student, HasPlace}
-use Rattle.portal_store.specs.Shown.{IsFine, AreFine}
-use Rattle.portal_store.proofs.Loaded.{lecturer_columns, roll_columns, lecturers_are, projects_are, students_are}
+use Rattle.portal_tables.specs.Owners.{IsFine}
+use Rattle.portal_store.specs.Shown.{AreFine}
+use Rattle.portal_tables.proofs.Owners.{lecturer_columns, roll_columns}
+use Rattle.portal_store.proofs.Loaded.{lecturers_are, projects_are, students_are}
 use Rattle.portal_tables.proofs.Sorted.{all_permuted, all_two, permutes}
 use Rattle.sqlite_trees.proofs.ListLemmas.{map-map}
 

@@ -1,10 +1,8 @@
 pub mod Absent
 pub mod Adding
 pub mod Again
-pub mod AllRead
 pub mod Applying
 pub mod Asked
-pub mod Asking
 pub mod ChoiceTurns
 pub mod Ending
 pub mod FillTurns
@@ -17,15 +15,9 @@ pub mod Lined
 pub mod Loaded
 pub mod OfficeSeen
 pub mod OneKey
-pub mod Owned
-pub mod Owners
-pub mod Parents
 pub mod Places
 pub mod Putting
 pub mod Queried
 pub mod RankTurns
-pub mod Read
 pub mod Remembered
 pub mod RowsOnce
-pub mod Runs
-pub mod Shapes

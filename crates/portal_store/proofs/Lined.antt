@@ -6,21 +6,26 @@ use Rattle.std.proofs.lemmas.List.{map-id}
 use Rattle.sqlite.specs.Order.{Row}
 use Rattle.sqlite.specs.Effect.{Database}
 use Rattle.sqlite_rules.specs.Lists.{Has}
+use Rattle.sqlite_trees.proofs.ListLemmas.{filter-map, map-map}
 use Rattle.portal_core.specs.Words.{Key, is, has, is_before, Rise}
 use Rattle.portal_core.specs.World.{Student, student_key, applicants_to}
 use Rattle.portal_core.proofs.AllLaws.{all_map}
 use Rattle.portal_core.proofs.Fills.{before_other, rise_kept}
 use Rattle.portal_core.proofs.Keys.{is_same, is_own, all_unmap}
-use Rattle.portal_tables.specs.Tables.{choice_tree}
+use Rattle.portal_tables.specs.Rolls.{row_key, by_key, students_shown}
+use Rattle.portal_tables.specs.Tables.{student_tree, choice_tree}
 use Rattle.portal_tables.specs.Changes.{ListsBy, columns, has_text}
 use Rattle.portal_store.specs.declared.queries.applicants.Line.{Line}
 use Rattle.portal_store.specs.Kept.{Holds}
-use Rattle.portal_store.specs.World.{world_of}
+use Rattle.portal_store.specs.World.{world_of, student_of}
 use Rattle.portal_tables.specs.Shown.{first}
-use Rattle.portal_store.specs.Queried.{line_of, line_at}
+use Rattle.portal_store.specs.Queried.{line_of, shown_line, line_at}
 use Rattle.portal_store.proofs.Applying.{choosers}
 use Rattle.portal_store.proofs.OfficeSeen.{choosers_known}
+use Rattle.portal_store.proofs.Loaded.{students_are}
 use Rattle.portal_store.proofs.OneKey.{students_rise}
+use Rattle.portal_store.proofs.Queried.{filter_alike}
+use Rattle.portal_tables.proofs.Owners.{roll_columns}
 use Rattle.portal_tables.proofs.Sorted.{at, has_of, one_order, map_alike_on, map_twice}
 
 some_back : (ls : List Line) → filter_map (λ o. o) (map Some ls) ≡ ls
@@ -91,3 +96,19 @@ lines_are db holds p shown lists lines up told =
     let all : map Some lines ≡ map Some (map line_of mine) =
     told ∙ map_twice (line_at w) first shown ∙ ap (map (line_at w)) keys ∙ sym (map_twice (line_at w) student_key mine) ∙ each ∙ map_twice Some line_of mine in
     sym (some_back lines) ∙ ap (filter_map (λ o. o)) all ∙ some_back (map line_of mine)
+
+-- and so are the lines of those on the roll whose keys are shown
+pub roll_lines : (db : Database) → Holds db → (p : Key) (shown : List Row) → ListsBy (1 ∷ []) (has_text 3 p) (columns (1 ∷ [])) (db.trees choice_tree) shown
+    → map shown_line (filter (λ c. has (map first shown) (first c)) (students_shown db.trees)) ≡ map line_of (applicants_to (world_of db.trees) p)
+unfolding world_of
+roll_lines db holds p shown lists =
+    let ks = map first shown in
+    let rows = by_key (db.trees student_tree) in
+    let of : Row → Student = student_of (db.trees choice_tree) in
+    let q : Student → Bool = λ s. has s.choice p in
+    let agree : AllByRecursion (λ r. has ks (row_key r) ≡ q (of r)) rows =
+    all_unmap (λ (s : Student). has ks s.row.key ≡ q s) of rows (subst (AllByRecursion (λ (s : Student). has ks s.row.key ≡ q s)) (students_are db.trees) (choosers db holds p shown lists)) in
+    ap (map shown_line) (filter-map (λ c. has ks (first c)) roll_columns rows)
+    ∙ map-map shown_line roll_columns (filter (λ r. has ks (row_key r)) rows)
+    ∙ ap (map (λ r. line_of (of r))) (filter_alike (λ r. has ks (row_key r)) (λ r. q (of r)) rows agree)
+    ∙ sym (ap (λ ss. map line_of (filter q ss)) (students_are db.trees) ∙ ap (map line_of) (filter-map q of rows) ∙ map-map line_of of (filter (λ r. q (of r)) rows))

@@ -1,7 +1,8 @@
 -- From what was read to the world.
 use Rattle.std.proofs.Common.{◌≡◌, pos, Bool, true, false, cond, Ok, Err, Result, IfOk, OnOk, Option, Some, None, option_map, List, [], ◌∷◌, map, refl, sym, ap, subst, ◌∙◌}
+use Rattle.std.specs.Result.{IsErrAnd}
 use Rattle.std.specs.Prelude.{slice_index_or}
-use Rattle.std.specs.List.{AllByRecursion, filter_map, cons_option}
+use Rattle.std.specs.List.{AllByRecursion, filter_map}
 use Rattle.std.proofs.lemmas.List.Sorted.{IsPermutation-sym}
 use Rattle.sqlite.specs.Order.{Row, column, bytes}
 use Rattle.sqlite.specs.Tree.{Trees}
@@ -15,8 +16,7 @@ use Rattle.portal_core.proofs.Keys.{all_unmap}
 use Rattle.portal_list.specs.Rows.{Rows, rows_of}
 use Rattle.portal_tables.specs.Tables.{portal_tree, lecturer_tree, project_tree, student_tree, choice_tree, ranking_tree}
 use Rattle.portal_tables.specs.Rows.{portal_row}
-use Rattle.portal_tables.specs.Changes.{columns}
-use Rattle.portal_store.specs.declared.entries.Lists.TheVariants.{Choices, Rankings}
+use Rattle.portal_tables.specs.declared.entries.Lists.TheVariants.{Choices, Rankings}
 use Rattle.portal_tables.specs.declared.fault.LoadFault.{LoadFault}
 use Rattle.portal_tables.specs.Office.{number_of}
 use Rattle.portal_tables.specs.Rolls.{row_key, by_key, lecturers_shown, projects_shown, students_shown}
@@ -25,17 +25,12 @@ use Rattle.portal_tables.specs.Lists.{of_key, chosen, IsWhole}
 use Rattle.portal_store.specs.Kept.{Whole}
 use Rattle.portal_store.specs.Loads.{Loads}
 use Rattle.portal_tables.specs.Shown.{shown_lecturer, shown_project, shown_student, shown_pair}
-use Rattle.portal_store.specs.Shown.{entry, IsRead, AreRead, rows_from}
+use Rattle.portal_tables.specs.Owners.{entry, IsRead}
+use Rattle.portal_store.specs.Shown.{AreRead, rows_from}
+use Rattle.portal_tables.proofs.Listed.{some_mapped, some_alike}
+use Rattle.portal_tables.proofs.Owners.{lecturer_columns, roll_columns}
 use Rattle.portal_tables.proofs.Sorted.{all_permuted, permutes, put_all_map}
 use Rattle.portal_store.proofs.Holding.{phase_back}
-
-pub some_mapped : {X Y Z : Type 0} (f : Y → Option Z) (g : X → Y) (xs : List X) → filter_map f (map g xs) ≡ filter_map (λ x. f (g x)) xs
-some_mapped f g [] = refl
-some_mapped f g (x ∷ xs) = ap (cons_option (f (g x))) (some_mapped f g xs)
-
-pub some_alike : {X Z : Type 0} (f g : X → Option Z) (xs : List X) → ((x : X) → f x ≡ g x) → filter_map f xs ≡ filter_map g xs
-some_alike f g [] h = refl
-some_alike f g (x ∷ xs) h = λ i. cons_option (h x i) (some_alike f g xs h i)
 
 each_some : {X Z : Type 0} (f : X → Z) (xs : List X) → filter_map (λ x. Some (f x)) xs ≡ map f xs
 each_some f [] = refl
@@ -44,12 +39,6 @@ each_some f (x ∷ xs) = ap (λ l. f x ∷ l) (each_some f xs)
 ranked_pair : (b : Bool) (key : Key) (list : List Key) → cond {A = Option (Key × List Key)} b (Some (key, list)) None ≡ option_map (λ l. (key, l)) (cond b (Some list) None)
 ranked_pair true key list = refl
 ranked_pair false key list = refl
-
-abbrev pub lecturer_columns : Row → Row
-lecturer_columns = columns (1 ∷ 2 ∷ 3 ∷ 4 ∷ 5 ∷ [])
-
-abbrev pub roll_columns : Row → Row
-roll_columns = columns (1 ∷ 2 ∷ 3 ∷ 4 ∷ [])
 
 module _ (db : Trees) where
   abbrev by_lecturer : List Row
@@ -124,3 +113,8 @@ pub answered : (db there : Trees) → there ≡ db → (phase : Phase) (code : K
     → IfOk r (λ rows. rows ≡ rows_from there phase code (lecturers_shown there) (projects_shown there) (students_shown there)) → OnOk r (AreRead there (lecturers_shown there) (students_shown there)) → IfOk r (Loads db)
 answered db there same phase code office r is read =
     loads db phase code office r (subst (λ t. IfOk r (λ rows. rows ≡ rows_from t phase code (lecturers_shown t) (projects_shown t) (students_shown t))) same is) (subst (λ t. OnOk r (AreRead t (lecturers_shown t) (students_shown t))) same read)
+
+-- an error that is handed on is the one that was answered
+pub same_error : {V U E : Type 0} (r : Result V E) (e want : E) → IsErrAnd r (λ f. f ≡ e) → r ≡ Err want → ◌≡◌ {A = Result U E} (Err e) (Err want)
+same_error (Ok v) e want is damaged = absurd (cc)
+same_error (Err f) e want is damaged = cc

@@ -37,12 +37,13 @@ use Rattle.portal_store.specs.Shown.{rows_from}
 use Rattle.portal_store.specs.Queried.{unlisted, waiting_key, office_from}
 use Rattle.portal_store.proofs.Applying.{any_alike, choosers, named_where}
 use Rattle.portal_store.proofs.Fine.{all_filtered}
-use Rattle.portal_tables.proofs.Listed.{permuted, for_each}
-use Rattle.portal_store.proofs.Loaded.{lecturer_columns, some_mapped, lecturers_are, students_are, rows_are, roll_columns}
-use Rattle.portal_store.proofs.Parents.{choice_parents, none_of}
+use Rattle.portal_tables.proofs.Listed.{permuted, for_each, some_mapped}
+use Rattle.portal_tables.proofs.Owners.{lecturer_columns, roll_columns}
+use Rattle.portal_store.proofs.Loaded.{lecturers_are, students_are, rows_are}
+use Rattle.portal_tables.proofs.Parents.{choice_parents, none_of}
 use Rattle.portal_tables.proofs.Sorted.{permutes, all_permuted}
 use Rattle.portal_store.proofs.Queried.{filter_alike}
-use Rattle.portal_store.proofs.Shapes.{IsChoiceRow, choice_rows_formed, has_text_of}
+use Rattle.portal_tables.proofs.Shapes.{IsChoiceRow, choice_rows_formed, has_text_of}
 
 -- somebody names the project
 

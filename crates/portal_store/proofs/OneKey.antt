@@ -27,8 +27,8 @@ use Rattle.portal_store.specs.Kept.{Holds}
 use Rattle.portal_tables.specs.Rolls.{row_key, by_key}
 use Rattle.portal_store.specs.World.{world_of, student_of}
 use Rattle.portal_store.proofs.Loaded.{students_are}
-use Rattle.portal_store.proofs.Parents.{told}
-use Rattle.portal_store.proofs.Shapes.{IsStudentRow, student_rows_formed, text_equals}
+use Rattle.portal_tables.proofs.Parents.{told}
+use Rattle.portal_tables.proofs.Shapes.{IsStudentRow, student_rows_formed, text_equals}
 use Rattle.portal_tables.proofs.Sorted.{rise_put_all}
 
 told_not : (o : Ordering) → is_true (from_truth (Some (is_ne o))) ≡ not (is_eq o)

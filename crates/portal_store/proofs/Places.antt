@@ -10,8 +10,7 @@ use Rattle.sqlite.specs.declared.types.Value.TheVariants.{Int, Text as Words}
 use Rattle.sqlite.specs.Order.{Row, column, bytes}
 use Rattle.sqlite.specs.Effect.{Database, IsDatabase}
 use Rattle.sqlite.specs.State.{State}
-use Rattle.portal_tables.specs.Steps.{Made}
-use Rattle.portal_tables.specs.Steps.{GoesOn}
+use Rattle.portal_tables.specs.Steps.{Made, GoesOn}
 use Rattle.std.proofs.lemmas.Map.Keys.{IsDistinct-IsPermutation}
 use Rattle.sqlite_trees.specs.Objects.{number_in}
 use Rattle.portal_core.specs.declared.phase.Phase.TheVariants.{Published}
@@ -25,7 +24,7 @@ use Rattle.portal_tables.specs.Tables.{portal_tree, lecturer_tree, project_tree,
 use Rattle.portal_tables.specs.Own.{IsOwn}
 use Rattle.portal_tables.specs.Changes.{IsApart, Keeps, every, columns, has_text}
 use Rattle.portal_tables.specs.Rows.{Assigns, MovesTo, student_cells, text_or_null}
-use Rattle.portal_tables.proofs.Keeping.{sets_apart}
+use Rattle.portal_tables.proofs.Keeping.{sets_apart, keeps_then}
 use Rattle.portal_tables.proofs.Lists.{put_splits, filter_all}
 use Rattle.portal_tables.specs.Office.{HasOffice}
 use Rattle.portal_store.specs.Kept.{Holds}
@@ -35,9 +34,8 @@ use Rattle.portal_tables.specs.Shown.{text_or_none}
 use Rattle.portal_store.specs.World.{world_of, phase_of, is_ranked, lecturer_of, project_row, student_of}
 use Rattle.portal_store.specs.Placing.{ShowsRoll, PlacesRow, PlacesShown, TurnsShown}
 use Rattle.portal_tables.proofs.Sorted.{all_permuted, distinct_if_rise, put_same, put_all_map, map_twice, map_alike, map_alike_on, at, all_has, has_of}
-use Rattle.portal_store.proofs.Shapes.{IsStudentRow, student_rows_formed, student_test}
+use Rattle.portal_tables.proofs.Shapes.{IsStudentRow, student_rows_formed, student_test}
 use Rattle.portal_store.proofs.Holding.{phase_turned}
-use Rattle.portal_tables.proofs.Keeping.{keeps_then}
 use Rattle.portal_tables.proofs.Runs.{goes_then, goes_more}
 
 -- the places of the students with these keys

@@ -24,14 +24,13 @@ use Rattle.portal_core.proofs.AllLaws.{is_sym}
 use Rattle.portal_tables.specs.Own.{IsOwn}
 use Rattle.portal_tables.specs.Changes.{has_text, with_rows, AreNew}
 use Rattle.portal_tables.specs.Rows.{Adds, Clears, choice_cells}
-use Rattle.portal_tables.proofs.Keeping.{puts_apart, drops_apart}
+use Rattle.portal_tables.proofs.Keeping.{puts_apart, drops_apart, keeps_then}
 use Rattle.portal_tables.proofs.Lists.{filter_same, filter-filter, put_splits, eq_self}
 use Rattle.portal_tables.specs.Lists.{of_key, place_key, by_place, list_of, CountUp, IsWhole}
 use Rattle.portal_store.specs.Putting.{numbered, placed, list_cells, PutsList}
-use Rattle.portal_tables.proofs.Keeping.{keeps_then}
 use Rattle.portal_tables.proofs.Listed.{less_is}
 use Rattle.portal_tables.proofs.Sorted.{in_order, put_all_map, map_twice}
-use Rattle.portal_store.proofs.Shapes.{text_equals}
+use Rattle.portal_tables.proofs.Shapes.{text_equals}
 
 equal_of : (o : Ordering) → is_eq o ≡ true → o ≡ Equal
 equal_of Less e = absurd (cc)

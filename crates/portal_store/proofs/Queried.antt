@@ -31,10 +31,11 @@ use Rattle.portal_tables.specs.Rolls.{row_key, by_key, lecturers_shown, projects
 use Rattle.portal_store.specs.World.{world_of, phase_of, lecturer_of, student_of}
 use Rattle.portal_tables.specs.Shown.{shown_lecturer, shown_project}
 use Rattle.portal_store.specs.Queried.{as_list, lecturer_from, student_from, name_of, offered, line_of, shown_line, line_at}
-use Rattle.portal_tables.proofs.Listed.{permuted}
+use Rattle.portal_tables.proofs.Listed.{permuted, some_alike}
 use Rattle.portal_store.proofs.Holding.{phase_back}
-use Rattle.portal_store.proofs.Loaded.{lecturer_columns, roll_columns, lecturers_are, projects_are, students_are, some_alike}
-use Rattle.portal_store.proofs.Shapes.{IsLecturerRow, IsStudentRow, has_text_of, student_test, lecturer_rows_formed, student_rows_formed}
+use Rattle.portal_tables.proofs.Owners.{lecturer_columns, roll_columns}
+use Rattle.portal_store.proofs.Loaded.{lecturers_are, projects_are, students_are}
+use Rattle.portal_tables.proofs.Shapes.{IsLecturerRow, IsStudentRow, has_text_of, student_test, lecturer_rows_formed, student_rows_formed}
 use Rattle.portal_tables.proofs.Sorted.{permutes, map_alike, map_twice}
 
 -- the first that passes is the only one that passes

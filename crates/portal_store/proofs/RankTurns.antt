@@ -32,7 +32,7 @@ use Rattle.portal_store.specs.Kept.{Whole, Holds}
 use Rattle.portal_store.specs.Putting.{HasPut, PutsList, TurnsThere}
 use Rattle.portal_tables.proofs.Listed.{all_map_on}
 use Rattle.portal_tables.proofs.Sorted.{put_all_map, put_same, distinct_if_rise, map_twice, all_permuted, all_two}
-use Rattle.portal_store.proofs.Shapes.{IsLecturerRow, lecturer_rows_formed, has_text_of}
+use Rattle.portal_tables.proofs.Shapes.{IsLecturerRow, lecturer_rows_formed, has_text_of}
 use Rattle.portal_store.proofs.ChoiceTurns.{chosen_is, whole_at}
 
 -- a row among others

@@ -7,7 +7,6 @@ pub mod Made
 pub mod Placing
 pub mod Putting
 pub mod Reading
-pub mod Runs
 pub mod Shown
 pub mod World
 pub mod Queried

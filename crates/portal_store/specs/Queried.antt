@@ -13,7 +13,7 @@ use Rattle.portal_core.specs.declared.phase.Phase.{Phase}
 use Rattle.portal_core.specs.Sight.{OfficeSees}
 use Rattle.portal_core.specs.View.{listing_with, persons}
 use Rattle.portal_core.specs.Words.{Key, is, is_empty}
-use Rattle.portal_core.specs.World.{World, Lecturer, Student, applicants_to, placed_at, is_at, is_from_ranking, is_published}
+use Rattle.portal_core.specs.World.{World, Lecturer, Student, applicants_to, placed_at, is_from_ranking, is_published}
 use Rattle.portal_list.specs.Shown.{is_wanted}
 use Rattle.portal_tables.specs.Tables.{choice_tree, ranking_tree}
 use Rattle.portal_store.specs.declared.queries.applicants.Line.{Line}
@@ -53,26 +53,13 @@ shown_line c = record { person = record { key = first c; name = bytes (column c 
 abbrev pub line_at : World → Key → Option Line
 line_at w k = option_map line_of (find (λ (s : Student). is s.row.key k) w.students)
 
--- a project with the lines of its applicants
-abbrev pub with_lines : Key × Vec Line Global → Key × List Line
-with_lines e = (e.0, e.1.items)
-
-abbrev pub lines_at : World → Key → Key × List Line
-lines_at w k = (k, map line_of (applicants_to w k))
-
--- the persons of all lines, and of those who are placed at the project
-abbrev pub persons_in : Key × List Line → Key × List Person
-persons_in e = (e.0, map (λ (l : Line). l.person) e.1)
-
-abbrev pub placed_in : Key × List Line → Key × List Person
-placed_in e = (e.0, map (λ (l : Line). l.person) (filter (λ (l : Line). is_at e.0 l.placed) e.1))
+-- the lines of the project's applicants, once the phase shows them
+abbrev pub lines_shown : World → Phase → Key → List Line
+lines_shown w phase k = if is_from_ranking phase then map line_of (applicants_to w k) else []
 
 -- a project with persons
 abbrev pub with_persons : Key × Vec Person Global → Key × List Person
 with_persons e = (e.0, e.1.items)
-
-abbrev pub applicants_at : World → Key → Key × List Person
-applicants_at w k = (k, persons (applicants_to w k))
 
 -- applicants and placed students of the projects with these keys, each once the phase shows them
 abbrev pub applicants_told : World → List Key → List (Key × List Person)

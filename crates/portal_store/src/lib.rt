@@ -3,7 +3,6 @@
 
 mod change;
 mod create;
-mod entries;
 mod fault;
 mod fill;
 mod instance;

@@ -12,12 +12,12 @@ ghost use Rattle.portal_store.specs.Kept.{Stands};
 ghost use Rattle.portal_store.specs.Loads.{Loads};
 ghost use Rattle.portal_tables.specs.Reading.{Reads};
 ghost use Rattle.portal_tables.specs.Shown.{shown_lecturer, shown_project, shown_student, shown_pair, HasPlace};
-ghost use Rattle.portal_store.specs.Runs.{AreOwned};
-ghost use Rattle.portal_store.specs.Shown.{with_list, rows_from, AreRead, AreFine};
+ghost use Rattle.portal_tables.specs.Owners.{AreOwned, with_list};
+ghost use Rattle.portal_store.specs.Shown.{rows_from, AreRead, AreFine};
 ghost use Rattle.portal_core.specs.Good.{IsLecturer, IsProject, IsStudent};
 
-use crate::entries::{Lists, entries_in};
 use portal_list::WorldRows;
+use portal_tables::entries::{Lists, entries_in};
 use portal_tables::fault::LoadFault;
 use portal_tables::office::{Office, office_in};
 use portal_tables::rolls::{Rolls, parts_of, rolls_in};

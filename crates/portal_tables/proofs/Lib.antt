@@ -21,3 +21,10 @@ pub mod OfficeRow
 pub mod RollRows
 pub mod Sorted
 pub mod Texts
+pub mod AllRead
+pub mod Asking
+pub mod CutLists
+pub mod Cuts
+pub mod Owners
+pub mod Parents
+pub mod Shapes

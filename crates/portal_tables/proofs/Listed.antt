@@ -1,6 +1,6 @@
 -- What a query of one table shows, and the one order of its rows.
-use Rattle.std.proofs.Common.{◌≡◌, inl, inr, ℕ, pos, negsuc, ◌+◌, ◌<◌, ◌≤◌, Bool, true, false, List, [], ◌∷◌, map, filter, refl, sym, ap, subst, subst₂, ◌∙◌, arith}
-use Rattle.std.specs.List.{AllByRecursion}
+use Rattle.std.proofs.Common.{◌≡◌, inl, inr, ℕ, pos, negsuc, ◌+◌, ◌<◌, ◌≤◌, Bool, true, false, Option, List, [], ◌∷◌, map, filter, refl, sym, ap, subst, subst₂, ◌∙◌, arith}
+use Rattle.std.specs.List.{AllByRecursion, filter_map, cons_option}
 use Rattle.std.specs.List.Sorted.{IsPermutation, IsSorted}
 use Rattle.std.proofs.lemmas.List.Sorted.{IsPermutation-map, IsPermutation-sym}
 use Rattle.std.specs.declared.cmp.Ordering.{Ordering}
@@ -26,7 +26,7 @@ use Rattle.portal_core.proofs.Keys.{all_unmap}
 use Rattle.portal_tables.specs.Changes.{ListsBy, every, columns, has_text}
 use Rattle.portal_tables.proofs.Lists.{filter_all}
 use Rattle.portal_tables.specs.Rolls.{row_key, by_key}
-use Rattle.portal_tables.specs.Lists.{of_key, place_of, place_key, by_place, chosen, CountUp, IsWhole}
+use Rattle.portal_tables.specs.Lists.{of_key, place_of, place_key, by_place, named_by, chosen, CountUp, IsWhole}
 use Rattle.portal_tables.specs.Shown.{first, shown_place, shown_name}
 use Rattle.portal_tables.proofs.Sorted.{NeverFall, all_permuted, in_order, sorted_order, put_all_map, permutes}
 
@@ -201,3 +201,25 @@ module _ (key : Key) (table shown : List Row) (h : ListsBy (2 ∷ []) (has_text 
   list_counts =
       counts_of key table shown list_rows (λ good. subst NeverFall (map-map (λ v. one (number_in v)) (λ c. column c 0) shown)
       (falls AtMost (λ v. one (number_in v)) IsCount counts_agree _ (ascends 2 (3 ∷ []) (has_text 1 key) table shown h) (all_map IsCount (λ c. column c 0) shown good)))
+
+pub some_mapped : {X Y Z : Type 0} (f : Y → Option Z) (g : X → Y) (xs : List X) → filter_map f (map g xs) ≡ filter_map (λ x. f (g x)) xs
+some_mapped f g [] = refl
+some_mapped f g (x ∷ xs) = ap (cons_option (f (g x))) (some_mapped f g xs)
+
+pub some_alike : {X Z : Type 0} (f g : X → Option Z) (xs : List X) → ((x : X) → f x ≡ g x) → filter_map f xs ≡ filter_map g xs
+some_alike f g [] h = refl
+some_alike f g (x ∷ xs) h = λ i. cons_option (h x i) (some_alike f g xs h i)
+
+none_there : {X : Type 0} (xs : List X) → AllByRecursion (λ x. ⊥) xs → xs ≡ []
+none_there [] all = refl
+none_there (x ∷ xs) all = absurd all.0
+
+unmapped : {X Y : Type 0} (f : X → Y) (xs : List X) → map f xs ≡ [] → AllByRecursion (λ x. ⊥) xs
+unmapped f [] e = tt
+unmapped f (x ∷ xs) e = absurd (cc)
+
+-- a list that is empty has no row
+pub none_chosen : (key : Key) (table : List Row) → chosen table key ≡ [] → of_key key table ≡ []
+none_chosen key table e =
+    let mine = of_key key table in
+    none_there mine (all_permuted (λ x. ⊥) (by_place mine) mine (IsPermutation-sym _ _ (permutes place_key mine)) (unmapped named_by (by_place mine) e))

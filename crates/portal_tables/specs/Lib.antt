@@ -10,3 +10,5 @@ pub mod Office
 pub mod Reading
 pub mod Rolls
 pub mod Shown
+pub mod Cuts
+pub mod Owners

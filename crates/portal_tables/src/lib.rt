@@ -6,6 +6,7 @@
 pub mod apart;
 pub mod cells;
 pub mod decode;
+pub mod entries;
 pub mod fault;
 pub mod insert;
 pub mod make;

@@ -1,23 +1,27 @@
 //! Applicants and placed students of a lecturer's projects.
 
-ghost use Rattle.std.specs.Prelude.{◌≡◌, [], ◌∷◌, false, IfOk, IsTrue, Some, if◌then◌else◌, map, filter};
+ghost use Rattle.std.specs.Prelude.{◌≡◌, [], ◌∷◌, ◌++◌, false, IfOk, OnOk, IsTrue, Some, if◌then◌else◌, map, filter};
 ghost use Rattle.sqlite.specs.Order.{Row as Cells};
 ghost use Rattle.sqlite.specs.State.{HasCleanDisk};
 ghost use Rattle.sqlite.specs.Held.{state};
-ghost use Rattle.portal_core.specs.Words.{Rise};
+ghost use Rattle.portal_core.specs.Words.{has, Rise};
 ghost use Rattle.portal_core.specs.Good.{Good};
 ghost use Rattle.portal_core.specs.World.{is_at, is_from_ranking, is_published, applicants_to};
 ghost use Rattle.portal_store.specs.World.{world_of};
 ghost use Rattle.portal_store.specs.Kept.{Holds};
+ghost use Rattle.portal_tables.specs.Own.{IsOwn};
 ghost use Rattle.portal_tables.specs.Reading.{Reads};
+ghost use Rattle.portal_tables.specs.Rolls.{students_shown};
 ghost use Rattle.portal_tables.specs.Shown.{first};
-ghost use Rattle.portal_store.specs.Queried.{line_of, shown_line, line_at, with_lines, lines_at, with_persons, persons_in, placed_in, applicants_at, applicants_told, placed_told};
+ghost use Rattle.portal_store.specs.Queried.{line_of, shown_line, line_at, lines_shown, with_persons, applicants_told, placed_told};
 
+use super::office::is_named;
 use super::student::person_at;
 use portal_core::{Person, Phase};
 use portal_tables::cells::{assigned_at, bytes_at};
 use portal_tables::decode::{FromCells, do_rise};
 use portal_tables::fault::LoadFault;
+use portal_tables::rolls::student_roll;
 use portal_tables::select::{choosers_of, student_by_key};
 use spa_rows::Key;
 use sqlite::{Alter, Connection, Row};
@@ -98,6 +102,41 @@ fn rising_lines<S: Alter>(
     lines_from(alloc, conn, rows)
 }
 
+/// The lines of those students whose keys the other rows begin with.
+fn lines_among(alloc: Global, students: &[Row], named: &[Row]) -> Result<Vec<Line>, LoadFault>
+    requires { Rise (map first named.now) }
+    ensures { IfOk result (λ v. v.items ≡ map shown_line (filter (λ c. has (map first named.now) (first c)) students.now)) }
+{
+    let mut lines = Vec::new(alloc);
+    for student in students {
+        if is_named(named, bytes_at(student, 0)) {
+            lines.push(Line::from_cells(alloc, student)?)?;
+        }
+    }
+    Ok(lines)
+}
+
+/// The lines of the students on the roll with whose keys the rows begin, by one query of the roll.
+fn lines_on_roll<S: Alter>(
+    alloc: Global,
+    conn: &mut Connection<S>,
+    named: &[Row],
+) -> Result<Vec<Line>, LoadFault>
+    ensures told { IsOwn conn.old.schema → HasCleanDisk (state S.Store conn.new) → IfOk result (λ v. v.items ≡ map shown_line (filter (λ c. has (map first named.now) (first c)) (students_shown (state S.Store conn.old).now.trees))) }
+    ensures reads { Reads result (state S.Store conn.old) (state S.Store conn.new) }
+    ensures mode { conn.old.in_transaction ≡ false → conn.new.in_transaction ≡ false }
+{
+    let students = student_roll(conn)?;
+    if !do_rise(named) {
+        return Err(LoadFault::Damaged);
+    }
+    lines_among(alloc, &students, named)
+}
+
+/// From how many applicants on the roll is read as a whole: it has at most 2,000 students, so that at most four rows are read for
+/// each who is told of.
+const MANY: usize = 500;
+
 /// The lines of the students whose list holds the project.
 fn lines_to<S: Alter>(
     alloc: Global,
@@ -109,39 +148,37 @@ fn lines_to<S: Alter>(
     ensures mode { conn.old.in_transaction ≡ false → conn.new.in_transaction ≡ false }
 {
     let rows = choosers_of(conn, project.as_bytes())?;
-    rising_lines(alloc, conn, &rows)
-}
-
-/// The project with the lines of its applicants.
-fn entry_in<S: Alter>(
-    alloc: Global,
-    conn: &mut Connection<S>,
-    project: &Key,
-) -> Result<(Key, Vec<Line>), LoadFault>
-    ensures told { Holds (state S.Store conn.old).now → HasCleanDisk (state S.Store conn.new) → IsTrue (state S.Store conn.old).is_open → IfOk result (λ e. with_lines e ≡ lines_at (world_of (state S.Store conn.old).now.trees) project.now) }
-    ensures reads { Reads result (state S.Store conn.old) (state S.Store conn.new) }
-    ensures mode { conn.old.in_transaction ≡ false → conn.new.in_transaction ≡ false }
-{
-    let key = project.copy(alloc)?;
-    let lines = lines_to(alloc, conn, project)?;
-    Ok((key, lines))
-}
-
-/// Each project with the lines of its applicants.
-fn entries_in<S: Alter>(
-    alloc: Global,
-    conn: &mut Connection<S>,
-    projects: &[Key],
-) -> Result<Vec<(Key, Vec<Line>)>, LoadFault>
-    ensures told { Holds (state S.Store conn.old).now → HasCleanDisk (state S.Store conn.new) → IsTrue (state S.Store conn.old).is_open → IfOk result (λ v. map with_lines v.items ≡ map (lines_at (world_of (state S.Store conn.old).now.trees)) projects.now) }
-    ensures reads { Reads result (state S.Store conn.old) (state S.Store conn.new) }
-    ensures mode { conn.old.in_transaction ≡ false → conn.new.in_transaction ≡ false }
-{
-    let mut entries = Vec::new(alloc);
-    for project in projects {
-        entries.push(entry_in(alloc, conn, project)?)?;
+    if rows.len() < MANY {
+        return rising_lines(alloc, conn, &rows);
     }
-    Ok(entries)
+    lines_on_roll(alloc, conn, &rows)
+}
+
+/// Whether the students' lists are closed.
+pub(super) fn are_closed(phase: Phase) -> bool
+    ensures { result ≡ is_from_ranking phase }
+{
+    match phase {
+        Phase::Setup | Phase::Choosing => false,
+        Phase::Ranking | Phase::Published => true,
+    }
+}
+
+/// The lines of the project's applicants that the phase shows.
+fn lines_in<S: Alter>(
+    alloc: Global,
+    conn: &mut Connection<S>,
+    phase: Phase,
+    project: &Key,
+) -> Result<Vec<Line>, LoadFault>
+    ensures told { Holds (state S.Store conn.old).now → HasCleanDisk (state S.Store conn.new) → IsTrue (state S.Store conn.old).is_open → IfOk result (λ v. v.items ≡ lines_shown (world_of (state S.Store conn.old).now.trees) phase project.now) }
+    ensures reads { Reads result (state S.Store conn.old) (state S.Store conn.new) }
+    ensures mode { conn.old.in_transaction ≡ false → conn.new.in_transaction ≡ false }
+{
+    if are_closed(phase) {
+        return lines_to(alloc, conn, project);
+    }
+    Ok(Vec::new(alloc))
 }
 
 fn person_of(alloc: Global, person: &Person) -> Result<Person, AllocError>
@@ -162,40 +199,6 @@ fn persons_of(alloc: Global, lines: &[Line]) -> Result<Vec<Person>, AllocError>
         found.push(person_of(alloc, &line.person)?)?;
     }
     Ok(found)
-}
-
-/// The project with its applicants.
-fn applicants_of(alloc: Global, entry: &(Key, Vec<Line>)) -> Result<(Key, Vec<Person>), AllocError>
-    ensures { IfOk result (λ e. with_persons e ≡ persons_in (with_lines entry.now)) }
-{
-    let key = entry.0.copy(alloc)?;
-    let persons = persons_of(alloc, &entry.1)?;
-    Ok((key, persons))
-}
-
-/// Each project with its applicants.
-fn with_applicants(
-    alloc: Global,
-    entries: &[(Key, Vec<Line>)],
-) -> Result<Vec<(Key, Vec<Person>)>, AllocError>
-    ensures { IfOk result (λ v. map with_persons v.items ≡ map (λ e. persons_in (with_lines e)) entries.now) }
-{
-    let mut told = Vec::with_capacity(alloc, entries.len())?;
-    for entry in entries {
-        told.push(applicants_of(alloc, entry)?)?;
-    }
-    Ok(told)
-}
-
-/// Each project with nobody.
-fn with_nobody(alloc: Global, projects: &[Key]) -> Result<Vec<(Key, Vec<Person>)>, AllocError>
-    ensures { IfOk result (λ v. map with_persons v.items ≡ map (λ k. (k, [])) projects.now) }
-{
-    let mut entries = Vec::with_capacity(alloc, projects.len())?;
-    for project in projects {
-        entries.push((project.copy(alloc)?, Vec::new(alloc)))?;
-    }
-    Ok(entries)
 }
 
 /// Whether the result gives this project.
@@ -221,27 +224,19 @@ fn placed_at(alloc: Global, lines: &[Line], project: &Key) -> Result<Vec<Person>
     Ok(found)
 }
 
-/// The project with those of its applicants whom the result places at it.
-fn placed_of(alloc: Global, entry: &(Key, Vec<Line>)) -> Result<(Key, Vec<Person>), AllocError>
-    ensures { IfOk result (λ e. with_persons e ≡ placed_in (with_lines entry.now)) }
-{
-    let key = entry.0.copy(alloc)?;
-    let persons = placed_at(alloc, &entry.1, &entry.0)?;
-    Ok((key, persons))
-}
-
-/// Each project with those of its applicants whom the result places at it.
-fn with_placed(
+/// The students on the lines whom a published result places at the project.
+fn placed_in(
     alloc: Global,
-    entries: &[(Key, Vec<Line>)],
-) -> Result<Vec<(Key, Vec<Person>)>, AllocError>
-    ensures { IfOk result (λ v. map with_persons v.items ≡ map (λ e. placed_in (with_lines e)) entries.now) }
+    phase: Phase,
+    lines: &[Line],
+    project: &Key,
+) -> Result<Vec<Person>, AllocError>
+    ensures { IfOk result (λ v. v.items ≡ (if is_published phase then map (λ l. l.person) (filter (λ l. is_at project.now l.placed) lines.now) else [])) }
 {
-    let mut told = Vec::with_capacity(alloc, entries.len())?;
-    for entry in entries {
-        told.push(placed_of(alloc, entry)?)?;
+    match phase {
+        Phase::Published => placed_at(alloc, lines, project),
+        Phase::Setup | Phase::Choosing | Phase::Ranking => Ok(Vec::new(alloc)),
     }
-    Ok(told)
 }
 
 /// What is told of a lecturer's projects.
@@ -251,58 +246,23 @@ pub(super) struct Told {
     pub placed: Vec<(Key, Vec<Person>)>,
 }
 
-/// What is told before the lists are closed.
-fn nothing_told(alloc: Global, projects: &[Key]) -> Result<Told, LoadFault>
-    ensures applicants { IfOk result (λ t. map with_persons t.applicants.items ≡ map (λ k. (k, [])) projects.now) }
-    ensures placed { IfOk result (λ t. map with_persons t.placed.items ≡ map (λ k. (k, [])) projects.now) }
-{
-    Ok(Told {
-        applicants: with_nobody(alloc, projects)?,
-        placed: with_nobody(alloc, projects)?,
-    })
-}
-
-/// What is told with the applicants, of the phase.
-fn told_with(
-    alloc: Global,
-    phase: Phase,
-    projects: &[Key],
-    entries: &[(Key, Vec<Line>)],
-) -> Result<Told, LoadFault>
-    ensures applicants { IfOk result (λ t. map with_persons t.applicants.items ≡ map (λ e. persons_in (with_lines e)) entries.now) }
-    ensures placed { IfOk result (λ t. map with_persons t.placed.items ≡ (if is_published phase then map (λ e. placed_in (with_lines e)) entries.now else map (λ k. (k, [])) projects.now)) }
-{
-    let applicants = with_applicants(alloc, entries)?;
-    let placed = match phase {
-        Phase::Published => with_placed(alloc, entries)?,
-        Phase::Setup | Phase::Choosing | Phase::Ranking => with_nobody(alloc, projects)?,
-    };
-    Ok(Told { applicants, placed })
-}
-
-/// What is told once the lists are closed.
-fn told_from_ranking<S: Alter>(
-    alloc: Global,
-    conn: &mut Connection<S>,
-    phase: Phase,
-    projects: &[Key],
-) -> Result<Told, LoadFault>
-    ensures applicants { Holds (state S.Store conn.old).now → HasCleanDisk (state S.Store conn.new) → IsTrue (state S.Store conn.old).is_open → IfOk result (λ t. map with_persons t.applicants.items ≡ map (applicants_at (world_of (state S.Store conn.old).now.trees)) projects.now) }
-    ensures placed { Holds (state S.Store conn.old).now → HasCleanDisk (state S.Store conn.new) → IsTrue (state S.Store conn.old).is_open → phase ≡ (world_of (state S.Store conn.old).now.trees).phase → Good (world_of (state S.Store conn.old).now.trees) → IfOk result (λ t. map with_persons t.placed.items ≡ placed_told (world_of (state S.Store conn.old).now.trees) projects.now) }
-    ensures reads { Reads result (state S.Store conn.old) (state S.Store conn.new) }
-    ensures mode { conn.old.in_transaction ≡ false → conn.new.in_transaction ≡ false }
-{
-    let entries = entries_in(alloc, conn, projects)?;
-    told_with(alloc, phase, projects, &entries)
-}
-
-/// Whether the students' lists are closed.
-pub(super) fn are_closed(phase: Phase) -> bool
-    ensures { result ≡ is_from_ranking phase }
-{
-    match phase {
-        Phase::Setup | Phase::Choosing => false,
-        Phase::Ranking | Phase::Published => true,
+impl Told {
+    /// Tells of one project more, by the lines of its applicants.
+    fn add(
+        &mut self,
+        alloc: Global,
+        phase: Phase,
+        project: &Key,
+        lines: &[Line],
+    ) -> Result<(), AllocError>
+        ensures applicants { OnOk result (map with_persons self.new.applicants.items ≡ map with_persons self.old.applicants.items ++ ((project.now, map (λ l. l.person) lines.now) ∷ [])) }
+        ensures placed { OnOk result (map with_persons self.new.placed.items ≡ map with_persons self.old.placed.items ++ ((project.now, if is_published phase then map (λ l. l.person) (filter (λ l. is_at project.now l.placed) lines.now) else []) ∷ [])) }
+    {
+        let applicants = persons_of(alloc, lines)?;
+        let placed = placed_in(alloc, phase, lines, project)?;
+        self.applicants.push((project.copy(alloc)?, applicants))?;
+        self.placed.push((project.copy(alloc)?, placed))?;
+        Ok(())
     }
 }
 
@@ -318,8 +278,13 @@ pub(super) fn told_in<S: Alter>(
     ensures reads { Reads result (state S.Store conn.old) (state S.Store conn.new) }
     ensures mode { conn.old.in_transaction ≡ false → conn.new.in_transaction ≡ false }
 {
-    if are_closed(phase) {
-        return told_from_ranking(alloc, conn, phase, projects);
+    let mut told = Told {
+        applicants: Vec::new(alloc),
+        placed: Vec::new(alloc),
+    };
+    for project in projects {
+        let lines = lines_in(alloc, conn, phase, project)?;
+        told.add(alloc, phase, project, &lines)?;
     }
-    nothing_told(alloc, projects)
+    Ok(told)
 }

@@ -19,9 +19,9 @@ ghost use Rattle.portal_store.specs.Queried.{lecturer_from, with_persons};
 
 use super::applicants::{Told, told_in};
 use super::student::person_at;
-use crate::entries::{Lists, list_in};
 use portal_core::{LecturerView, Listing, Phase};
 use portal_tables::cells::{capacity_at, key_at, number_at};
+use portal_tables::entries::{Lists, list_in};
 use portal_tables::fault::LoadFault;
 use spa_rows::Key;
 use sqlite::{Alter, Connection, Row};

@@ -34,7 +34,7 @@ use std::cmp::Ordering;
 use std::rc::Rc;
 
 /// Whether a row begins with the key, among rows whose keys rise.
-fn is_named(rows: &[Row], key: &[u8]) -> bool
+pub(super) fn is_named(rows: &[Row], key: &[u8]) -> bool
     requires { Rise (map first rows.now) }
     ensures { result ≡ has (map first rows.now) key.now }
 {

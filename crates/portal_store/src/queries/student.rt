@@ -15,9 +15,9 @@ ghost use Rattle.portal_store.specs.Kept.{Holds};
 ghost use Rattle.portal_tables.specs.Reading.{Reads};
 ghost use Rattle.portal_store.specs.Queried.{student_from};
 
-use crate::entries::{Lists, list_in};
 use portal_core::{Listing, Person, Phase, StudentView};
 use portal_tables::cells::{assigned_at, key_at, name_at};
+use portal_tables::entries::{Lists, list_in};
 use portal_tables::fault::LoadFault;
 use spa_rows::Key;
 use sqlite::{Alter, Connection, Row};

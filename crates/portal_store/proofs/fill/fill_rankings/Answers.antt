@@ -7,7 +7,7 @@ use Rattle.portal_core.specs.Good.{Sound}
 use Rattle.portal_store.specs.World.{world_of}
 use Rattle.portal_store.specs.Kept.{Holds, Turns}
 use Rattle.portal_store.specs.Putting.{TurnsAll}
-use Rattle.portal_store.proofs.Asking.{commits_asked, crash_asked}
+use Rattle.portal_tables.proofs.Asking.{commits_asked, crash_asked}
 use Rattle.portal_store.proofs.FillTurns.{fill_turns}
 use Rattle.portal_store.proofs.fill.fill_rankings.Goals as goal
 

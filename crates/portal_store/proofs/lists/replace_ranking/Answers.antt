@@ -4,7 +4,7 @@ use Rattle.sqlite.specs.Held.{state}
 use Rattle.portal_core.specs.Change.{Ranks}
 use Rattle.portal_store.specs.Kept.{Turns}
 use Rattle.portal_store.specs.Putting.{TurnsThere}
-use Rattle.portal_store.proofs.Asking.{commits_asked, crash_asked, commits_none}
+use Rattle.portal_tables.proofs.Asking.{commits_asked, crash_asked, commits_none}
 use Rattle.portal_store.proofs.Absent.{turns_shown, turns_none}
 use Rattle.portal_store.proofs.lists.replace_ranking.Goals as goal
 

@@ -5,8 +5,7 @@ use Rattle.sqlite.specs.State.{IsUnchanged}
 use Rattle.sqlite.proofs.StateLemmas.{survives_then}
 use Rattle.portal_store.specs.Kept.{Stands}
 use Rattle.portal_tables.proofs.InTurn.{clean_before, still_own}
-use Rattle.portal_store.proofs.Read.{same_error}
-use Rattle.portal_store.proofs.Loaded.{answered}
+use Rattle.portal_store.proofs.Loaded.{same_error, answered}
 use Rattle.portal_store.proofs.Fine.{office_code, rolls_rise, all_fine}
 use Rattle.portal_store.proofs.load.load.Goals as goal
 

@@ -3,12 +3,12 @@ use Rattle.sqlite.specs.Effect.{Database, IsDatabase}
 use Rattle.sqlite.specs.Held.{state}
 use Rattle.sqlite.specs.Order.{Row as Cells}
 use Rattle.sqlite.specs.State.{IsUnchanged}
-use Rattle.portal_store.specs.declared.entries.Lists.TheVariants.{Choices, Rankings}
-use Rattle.portal_store.specs.Runs.{AreOwned}
+use Rattle.portal_tables.specs.declared.entries.Lists.TheVariants.{Choices, Rankings}
+use Rattle.portal_tables.specs.Owners.{AreOwned}
 use Rattle.portal_store.specs.Shown.{AreFine}
 use Rattle.portal_tables.specs.Rolls.{lecturers_shown, projects_shown, students_shown}
 use Rattle.portal_tables.proofs.InTurn.{reads_then, clean_before, still_own}
-use Rattle.portal_store.proofs.Owners.{choices_owned, rankings_owned}
+use Rattle.portal_tables.proofs.Owners.{choices_owned, rankings_owned}
 use Rattle.portal_store.proofs.load.world_in.Goals as goal
 
 pub returns-clause-damaged : goal.returns-clause-damaged

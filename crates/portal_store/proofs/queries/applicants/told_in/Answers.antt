@@ -1,22 +1,56 @@
-use Rattle.std.proofs.Common.{◌≡◌, ◌∙◌, true, false, rules}
+use Rattle.std.proofs.Common.{◌≡◌, ◌∙◌, arith, ap, subst, IsTrue, map, List, []}
+use Rattle.std.proofs.lemmas.Grind.{common_steps}
+use Rattle.sqlite.specs.Effect.{Database}
+use Rattle.sqlite.specs.State.{HasCleanDisk, IsUnchanged}
 use Rattle.sqlite.specs.Held.{state}
-use Rattle.portal_core.specs.World.{is_from_ranking}
-use Rattle.std.proofs.lemmas.Result.{IfOk-weaker}
+use Rattle.portal_core.specs.World.{is_at, is_published}
+use Rattle.std.specs.Prelude.{if◌then◌else◌, filter}
+use Rattle.portal_store.specs.Kept.{Holds}
 use Rattle.portal_store.specs.World.{world_of}
-use Rattle.portal_store.proofs.Applying.{all_applicants, no_applicants, none_placed}
+use Rattle.portal_store.specs.declared.queries.applicants.Line.{Line}
+use Rattle.portal_store.specs.Queried.{lines_shown}
+use Rattle.portal_tables.proofs.InTurn.{reads_then, reads_more, reads_handed, clean_before}
+use Rattle.portal_store.proofs.Applying.{persons_shown, placed_shown}
 use Rattle.portal_store.proofs.queries.applicants.told_in.Goals as goal
 
-pub returns-then-are_closed-clause-applicants : goal.returns-then-are_closed-clause-applicants
-returns-then-are_closed-clause-applicants g c holds clean on phase =
-    let closed : is_from_ranking c.args.phase ≡ true = search rules in
-    IfOk-weaker c.told_from_ranking.result _ _ (λ t is. is ∙ all_applicants (world_of (state g.S.Store c.args.conn.now).now.trees) c.args.phase c.args.projects.now closed phase) (c.told_from_ranking.ensures.applicants holds clean on)
+pub returns-in_err-lines-clause-reads : goal.returns-in_err-lines-clause-reads
+returns-in_err-lines-clause-reads g c =
+    let a = state g.S.Store c.args.conn.now in
+    let b = state g.S.Store c.loop-project.conn in
+    let d = state g.S.Store c.lines_in.new.conn in
+    reads_handed c.in_err-lines.field-0.0 c.from_residual.result a d c.from_residual.ensures.0 (reads_then c.loop-project.told _ a b d c.loop-project.invariant.reads c.in_err-lines.ensures.reads)
 
-pub returns-clause-applicants : goal.returns-clause-applicants
-returns-clause-applicants g c holds clean on phase =
-    let ajar : is_from_ranking c.args.phase ≡ false = search rules in
-    IfOk-weaker c.nothing_told.result _ _ (λ t is. is ∙ no_applicants (world_of (state g.S.Store c.args.conn.now).now.trees) c.args.phase c.args.projects.now ajar phase) c.nothing_told.ensures.applicants
+pub returns-in_err-add-clause-reads : goal.returns-in_err-add-clause-reads
+returns-in_err-add-clause-reads g c =
+    let a = state g.S.Store c.args.conn.now in
+    let b = state g.S.Store c.loop-project.conn in
+    let d = state g.S.Store c.lines_in.new.conn in
+    reads_more c.in_ok-lines.lines _ a d (reads_then c.loop-project.told _ a b d c.loop-project.invariant.reads c.in_ok-lines.ensures.reads)
 
-pub returns-clause-placed : goal.returns-clause-placed
-returns-clause-placed g c holds clean on phase good =
-    let ajar : is_from_ranking c.args.phase ≡ false = search rules in
-    IfOk-weaker c.nothing_told.result _ _ (λ t is. is ∙ none_placed (world_of (state g.S.Store c.args.conn.now).now.trees) c.args.phase c.args.projects.now ajar phase) c.nothing_told.ensures.placed
+pub loop-project-preserved : goal.loop-project-preserved
+loop-project-preserved g c =
+    let a = state g.S.Store c.args.conn.now in
+    let b = state g.S.Store c.loop-project.conn in
+    let d = state g.S.Store c.lines_in.new.conn in
+    let inv = c.loop-project.invariant in
+    let project = c.project-item.result in
+    let same : HasCleanDisk d → Holds a.now → IsTrue a.is_open → IsUnchanged a b =
+    λ clean holds on. inv.reads.same holds.own (clean_before b d _ c.in_ok-lines.ensures.reads.crash clean) on in
+    let lines : Holds a.now → HasCleanDisk d → IsTrue a.is_open → c.deref.result.now ≡ lines_shown (world_of a.now.trees) c.args.phase project =
+    λ holds clean on.
+    let m = same clean holds on in
+    c.deref.ensures.value ∙ subst (λ (x : Database). Holds x → HasCleanDisk d → IsTrue b.is_open → c.in_ok-lines.lines.items ≡ lines_shown (world_of x.trees) c.args.phase project) m.0.now_is c.in_ok-lines.ensures.told holds clean m.0.is_open in
+    record {
+      applicants = λ holds clean on phase.
+          let before = inv.applicants holds (clean_before b d _ c.in_ok-lines.ensures.reads.crash clean) on phase in
+          let here = ap (map (λ (l : Line). l.person)) (lines holds clean on) ∙ persons_shown (world_of a.now.trees) c.args.phase project phase in
+          let added = c.in_ok-add.ensures.applicants in
+          grind (arith, common_steps, before, here, added);
+      placed = λ holds clean on phase good.
+          let before = inv.placed holds (clean_before b d _ c.in_ok-lines.ensures.reads.crash clean) on phase good in
+          let here = ap (λ (ls : List Line). if is_published c.args.phase then map (λ (l : Line). l.person) (filter (λ (l : Line). is_at project l.placed) ls) else []) (lines holds clean on) ∙ placed_shown (world_of a.now.trees) good c.args.phase project phase in
+          let added = c.in_ok-add.ensures.placed in
+          grind (arith, common_steps, before, here, added);
+      reads = reads_more c.in_ok-lines.lines _ a d (reads_then c.loop-project.told _ a b d inv.reads c.in_ok-lines.ensures.reads);
+      mode = λ idle. c.in_ok-lines.ensures.mode (inv.mode idle);
+    }

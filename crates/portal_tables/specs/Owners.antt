@@ -1,0 +1,48 @@
+-- The lists that the tables hold of the owners whose rows are shown.
+use Rattle.std.specs.Prelude.{Vec, ◌≡◌, ℕ, true, false, Bool, ◌==◌, if◌then◌else◌, List, [], Option, Some, None, map}
+use Rattle.std.specs.List.{AllByRecursion}
+use Rattle.std.specs.declared.alloc.Global.{Global}
+use Rattle.sqlite.specs.Order.{Row, column}
+use Rattle.sqlite.specs.Tree.{Trees}
+use Rattle.sqlite_trees.specs.Objects.{number_in}
+use Rattle.spa_rows.specs.Form.{is_key}
+use Rattle.portal_core.specs.Words.{Key, has, Rise}
+use Rattle.portal_tables.specs.Tables.{choice_tree, ranking_tree}
+use Rattle.portal_tables.specs.Rolls.{row_key}
+use Rattle.portal_tables.specs.Shown.{first}
+use Rattle.portal_tables.specs.declared.entries.Lists.{Lists}
+use Rattle.portal_tables.specs.declared.entries.Lists.TheVariants.{Choices, Rankings}
+use Rattle.portal_tables.specs.Lists.{IsWhole, chosen, of_key}
+
+abbrev pub tree_of : Lists → ℕ
+tree_of Choices = choice_tree
+tree_of Rankings = ranking_tree
+
+-- each student has a list, and each lecturer whose row says that a ranking is there
+abbrev pub has_list : Lists → Row → Bool
+has_list Choices c = true
+has_list Rankings c = number_in (column c 4) == 1
+
+-- the list of the owner whose row is shown
+abbrev pub entry : Lists → Trees → Row → Option (Key × List Key)
+entry lists db c = if has_list lists c then Some (first c, chosen (db (tree_of lists)) (first c)) else None
+
+-- an owner with the list
+abbrev pub with_list : Key × Vec Key Global → Key × List Key
+with_list e = (e.0, e.1.items)
+
+-- the owner's list has no gap, and where there is to be none it has no row
+pub record IsRead (lists : Lists) (db : Trees) (c : Row) : Type 0 where
+  pub whole : IsWhole (of_key (first c) (db (tree_of lists)))
+  pub none : has_list lists c ≡ false → of_key (first c) (db (tree_of lists)) ≡ []
+
+-- what the reading of a list asks
+pub record IsFine (lists : Lists) (db : Trees) (c : Row) : Type 0 where
+  pub key : is_key (first c) ≡ true
+  pub read : IsRead lists db c
+  pub names : AllByRecursion (λ k. is_key k ≡ true) (chosen (db (tree_of lists)) (first c))
+
+-- the owners whose rows are shown have rising keys, and each row of a list is of one of them
+pub record AreOwned (lists : Lists) (db : Trees) (owners : List Row) : Type 0 where
+  pub rise : Rise (map first owners)
+  pub known : AllByRecursion (λ r. has (map first owners) (row_key r) ≡ true) (db (tree_of lists))
