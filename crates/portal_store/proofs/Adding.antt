@@ -69,7 +69,7 @@ added_of tree cells old new put = record {
   rows = subst (λ t. IsPermutation (map unnumbered cells ++ map bare (old.trees tree)) (map bare t)) (sym put.rows) (rows_permute (old.trees tree) cells put.free);
   apart = puts_apart tree cells old new put;
   others = put.others;
-  sound = put.sound;
+  sound = λ h. put.sound (λ _. h);
 }
 
 -- what is read of a row does not depend on its number

@@ -142,7 +142,7 @@ put_whole tree owner list first mid now puts adds own apart =
     let listed = listed_all owner [] list 1 (first.trees tree) (mid.trees tree) refl (record { others = was.others; places = was.places }) put.free in
     record {
       schema_is = put.schema_is ∙ was.schema_is;
-      sound = put.sound was.sound;
+      sound = put.sound (λ _. was.sound);
       apart = puts_apart tree _ mid now put was.apart;
       tables = keeps_then tree first mid now was.tables put.others;
       others = λ key other. ap (of_key key) put.rows ∙ listed.others key other;

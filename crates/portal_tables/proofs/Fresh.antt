@@ -25,7 +25,7 @@ fresh_made a b c office p q = made_then Makes (Adds portal_tree (portal_cells (p
         λ o. others.0 o ∙ none.0,
         (λ o. others.1.0 o ∙ none.1.0, (λ o. others.1.1.0 o ∙ none.1.1.0, (λ o. others.1.1.1.0 o ∙ none.1.1.1.0, (λ o. others.1.1.1.1.0 o ∙ none.1.1.1.1.0, (λ o. others.1.1.1.1.1.0 o ∙ none.1.1.1.1.1.0, tt))))),
       );
-      sound = put.sound there.sound;
+      sound = put.sound (λ _. there.sound);
     })
 
 -- there each row has a number of its own

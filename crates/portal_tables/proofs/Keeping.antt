@@ -1,5 +1,5 @@
 -- What each change leaves of what a store knows between two calls: the tables are its own, and rows have numbers of their own.
-use Rattle.std.proofs.Common.{◌≡◌, ◌≢◌, ℕ, ℤ, ◌+◌, ◌<◌, List, [], ◌∷◌, ◌++◌, map, take, get_or, length, Bool, false, refl, sym, ap, subst, ◌∙◌}
+use Rattle.std.proofs.Common.{◌≡◌, ◌≢◌, ℕ, ℤ, ◌+◌, ◌<◌, List, [], ◌∷◌, ◌++◌, map, take, get_or, length, Bool, false, refl, sym, ap, ap₂, subst, ◌∙◌}
 use Rattle.std.specs.List.{AllByRecursion}
 use Rattle.std.specs.Ordering.{is_eq, match_ordering}
 use Rattle.std.specs.declared.cmp.Ordering.{Ordering}
@@ -53,7 +53,7 @@ keeps_then tree a b c p q = each own_trees p q
 
 -- no row comes
 puts_none : (tree : ℕ) (db : Database) → Puts tree [] db db
-puts_none tree db = record { schema_is = refl; free = tt; rows = refl; others = each own_trees; sound = λ h. h }
+puts_none tree db = record { schema_is = refl; free = tt; rows = refl; others = each own_trees; sound = λ h. h refl }
   where
     each : (trees : List ℕ) → AllByRecursion (λ t. t ≢ tree → db.trees t ≡ db.trees t) trees
     each [] = tt
@@ -80,7 +80,7 @@ adds_then tree cells more a b c adds later own =
       free = new_then (a.trees tree) cells more p.free (subst (λ t. AreNew t more) p.rows q.free);
       rows = q.rows ∙ ap (λ t. with_rows t more) p.rows ∙ sym (rows_then (a.trees tree) cells more);
       others = keeps_then tree a b c p.others q.others;
-      sound = λ h. q.sound (p.sound h);
+      sound = λ h. q.sound (λ no_more. p.sound (λ none. h (ap₂ (λ x y. x ++ y) none no_more)));
     }
 
 -- a loop's turn: the row at i comes

@@ -27,13 +27,13 @@ abbrev pub AreNew : List Row → List Row → Type 0
 AreNew table [] = ⊤
 AreNew table (c ∷ cells) = (is_taken table (Int (next_rowid table) ∷ c) ≡ false) × AreNew (put_row (Int (next_rowid table) ∷ c) table) cells
 
--- more rows, with these cells after their numbers, and nothing else
+-- more rows, with these cells after their numbers, and nothing else; a row that came leaves a sound database, and none leaves it as it was
 pub record Puts (tree : ℕ) (cells : List Row) (old new : Database) : Type 0 where
   pub schema_is : new.schema ≡ old.schema
   pub free : AreNew (old.trees tree) cells
   pub rows : new.trees tree ≡ with_rows (old.trees tree) cells
   pub others : Keeps tree old new
-  pub sound : IsDatabase old → IsDatabase new
+  pub sound : (cells ≡ [] → IsDatabase old) → IsDatabase new
 
 -- the rows that pass the test are gone, and nothing else
 pub record Drops (tree : ℕ) (p : Row → Bool) (old new : Database) : Type 0 where
