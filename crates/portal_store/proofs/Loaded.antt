@@ -17,7 +17,7 @@ use Rattle.portal_list.specs.Rows.{Rows, rows_of}
 use Rattle.portal_tables.specs.Tables.{portal_tree, lecturer_tree, project_tree, student_tree, choice_tree, ranking_tree}
 use Rattle.portal_tables.specs.Rows.{portal_row}
 use Rattle.portal_tables.specs.declared.entries.Lists.TheVariants.{Choices, Rankings}
-use Rattle.portal_tables.specs.declared.fault.LoadFault.{LoadFault}
+use Rattle.portal_tables.specs.declared.fault.TableFault.{TableFault}
 use Rattle.portal_tables.specs.Office.{number_of}
 use Rattle.portal_tables.specs.Rolls.{row_key, by_key, lecturers_shown, projects_shown, students_shown}
 use Rattle.portal_store.specs.World.{world_of, phase_of, is_ranked, lecturer_of, project_row, student_of}
@@ -103,13 +103,13 @@ module _ (db : Trees) where
             (all_weaker (λ r. IsRead Rankings db (lecturer_columns r)) (λ r. is_ranked r ≡ false → of_key (row_key r) (db ranking_tree) ≡ []) (λ r x. x.none) by_lecturer ranks);
       }
 
-  pub loads : (phase : Phase) (code : Key) → db portal_tree ≡ portal_row (pos 1) (pos (number_of phase)) code ∷ [] → (r : Result Rows LoadFault)
+  pub loads : (phase : Phase) (code : Key) → db portal_tree ≡ portal_row (pos 1) (pos (number_of phase)) code ∷ [] → (r : Result Rows TableFault)
       → IfOk r (λ rows. rows ≡ rows_from db phase code (lecturers_shown db) (projects_shown db) (students_shown db)) → OnOk r (AreRead db (lecturers_shown db) (students_shown db)) → IfOk r (Loads db)
   loads phase code office (Ok rows) is read = record { office = record { phase = phase; office = code; is = office }; whole = whole_is read; rows_are = is ∙ rows_are phase code office }
   loads phase code office (Err e) is read = tt
 
 -- the same, where it was read later
-pub answered : (db there : Trees) → there ≡ db → (phase : Phase) (code : Key) → db portal_tree ≡ portal_row (pos 1) (pos (number_of phase)) code ∷ [] → (r : Result Rows LoadFault)
+pub answered : (db there : Trees) → there ≡ db → (phase : Phase) (code : Key) → db portal_tree ≡ portal_row (pos 1) (pos (number_of phase)) code ∷ [] → (r : Result Rows TableFault)
     → IfOk r (λ rows. rows ≡ rows_from there phase code (lecturers_shown there) (projects_shown there) (students_shown there)) → OnOk r (AreRead there (lecturers_shown there) (students_shown there)) → IfOk r (Loads db)
 answered db there same phase code office r is read =
     loads db phase code office r (subst (λ t. IfOk r (λ rows. rows ≡ rows_from t phase code (lecturers_shown t) (projects_shown t) (students_shown t))) same is) (subst (λ t. OnOk r (AreRead t (lecturers_shown t) (students_shown t))) same read)

@@ -8,7 +8,7 @@ ghost use Rattle.portal_store.specs.Asked.{Refutes};
 use crate::store::{CreateFault, OpenFault};
 use portal_core::KeepFault;
 use portal_list::RowsFault;
-use portal_tables::fault::LoadFault;
+use portal_tables::fault::TableFault;
 use sqlite::{Error, ErrorCode};
 
 /// Want of memory, or a fault of the store.
@@ -30,20 +30,20 @@ pub(crate) fn create_fault_of(error: Error) -> CreateFault
 }
 
 /// Want of memory, or a fault of the store, also where the rows stand for no good world.
-pub(crate) fn keep_fault_of(fault: LoadFault) -> KeepFault {
+pub(crate) fn keep_fault_of(fault: TableFault) -> KeepFault {
     match fault {
-        LoadFault::Memory => KeepFault::Memory,
-        LoadFault::Damaged | LoadFault::Store => KeepFault::Store,
+        TableFault::Memory => KeepFault::Memory,
+        TableFault::Damaged | TableFault::Store => KeepFault::Store,
     }
 }
 
 /// Rows of no sound world are damaged.
-pub(crate) fn load_fault_of(fault: RowsFault) -> LoadFault
-    ensures { result ≡ LoadFault.Damaged → fault ≡ RowsFault.NotGood }
+pub(crate) fn load_fault_of(fault: RowsFault) -> TableFault
+    ensures { result ≡ TableFault.Damaged → fault ≡ RowsFault.NotGood }
 {
     match fault {
-        RowsFault::NotGood => LoadFault::Damaged,
-        RowsFault::Memory => LoadFault::Memory,
+        RowsFault::NotGood => TableFault::Damaged,
+        RowsFault::Memory => TableFault::Memory,
     }
 }
 
@@ -78,12 +78,12 @@ pub(crate) fn table_fault_of(error: Error) -> OpenFault {
 }
 
 /// What it means to an opening that no world was loaded.
-pub(crate) fn load_open_fault_of(fault: LoadFault) -> OpenFault
-    ensures { (db : Trees) → (fault ≡ LoadFault.Damaged → Stands db → ⊥) → Refutes result db }
+pub(crate) fn load_open_fault_of(fault: TableFault) -> OpenFault
+    ensures { (db : Trees) → (fault ≡ TableFault.Damaged → Stands db → ⊥) → Refutes result db }
 {
     match fault {
-        LoadFault::Damaged => OpenFault::Damaged,
-        LoadFault::Store => OpenFault::Store,
-        LoadFault::Memory => OpenFault::Memory,
+        TableFault::Damaged => OpenFault::Damaged,
+        TableFault::Store => OpenFault::Store,
+        TableFault::Memory => OpenFault::Memory,
     }
 }

@@ -22,7 +22,7 @@ use crate::lists::put_ranking;
 use crate::load::load;
 use portal_core::KeepFault;
 use portal_list::{WorldRows, fills_of_rows};
-use portal_tables::fault::LoadFault;
+use portal_tables::fault::TableFault;
 use spa_rows::Key;
 use sqlite::{Alter, Connection, Error, Transaction};
 use std::alloc::Global;
@@ -74,7 +74,7 @@ fn are_short(rankings: &[(Key, Vec<Key>)]) -> bool
 }
 
 /// The rankings that a fill of the world of these rows would put. No list is judged.
-fn missing_of(alloc: Global, rows: WorldRows) -> Result<Vec<(Key, Vec<Key>)>, LoadFault>
+fn missing_of(alloc: Global, rows: WorldRows) -> Result<Vec<(Key, Vec<Key>)>, TableFault>
     ensures fills { IfOk result (λ v. (w : World) → Sound w → rows ≡ rows_of w → map {B = words.Key × List words.Key} (λ f. (f.0, f.1.items)) v.items ≡ fills w) }
     ensures few { IfOk result (λ v. AllByRecursion (λ f. length f.1.items ≤ 2000) v.items) }
 {
@@ -83,7 +83,7 @@ fn missing_of(alloc: Global, rows: WorldRows) -> Result<Vec<(Key, Vec<Key>)>, Lo
         Err(fault) => return Err(load_fault_of(fault)),
     };
     if !are_short(&rankings) {
-        return Err(LoadFault::Damaged);
+        return Err(TableFault::Damaged);
     }
     Ok(rankings)
 }

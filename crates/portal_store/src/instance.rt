@@ -14,13 +14,13 @@ use crate::fault::{keep_fault_of, load_fault_of};
 use crate::load::load;
 use portal_core::KeepFault;
 use portal_list::instance_of_rows;
-use portal_tables::fault::LoadFault;
+use portal_tables::fault::TableFault;
 use spa_model::Instance;
 use sqlite::{Alter, Connection};
 use std::alloc::Global;
 
 /// The instance of the rows, once they are loaded.
-fn loaded<S: Alter>(alloc: Global, conn: &mut Connection<S>) -> Result<Instance, LoadFault>
+fn loaded<S: Alter>(alloc: Global, conn: &mut Connection<S>) -> Result<Instance, TableFault>
     requires idle { conn.old.in_transaction ≡ false }
     ensures idle { conn.new.in_transaction ≡ false }
     ensures instance { IsOwn conn.old.schema → IsDatabase (state S.Store conn.old).now → HasCleanDisk (state S.Store conn.new) → IfOk result (λ i. Sound (world_of (state S.Store conn.old).now.trees) → i ≡ meant_by.instance (world_of (state S.Store conn.old).now.trees)) }

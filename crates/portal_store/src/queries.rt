@@ -31,7 +31,7 @@ use lecturer::lecturer_view;
 use offers::shared_catalogue;
 use office::office_view;
 use portal_core::{KeepFault, OfficeView, Phase, View};
-use portal_tables::fault::LoadFault;
+use portal_tables::fault::TableFault;
 use portal_tables::office::{Office, office_in};
 use sqlite::{Alter, Connection};
 use std::alloc::Global;
@@ -43,7 +43,7 @@ fn office_read<S: Alter>(
     conn: &mut Connection<S>,
     remembered: &mut Mind,
     office: Office,
-) -> Result<OfficeView, LoadFault>
+) -> Result<OfficeView, TableFault>
     ensures shows { Holds (state S.Store conn.old).now → HasCleanDisk (state S.Store conn.new) → IsTrue (state S.Store conn.old).is_open → (state S.Store conn.old).now.trees portal_tree ≡ portal_row (pos 1) (pos (number_of office.phase)) office.code ∷ [] → Remembers remembered.old (world_of (state S.Store conn.old).now.trees) → IfOk result (λ view. view ≡ seen.office_sees (world_of (state S.Store conn.old).now.trees)) }
     ensures mind { KeepsInMind remembered.old remembered.new (state S.Store conn.old) (state S.Store conn.new) }
     ensures reads { Reads result (state S.Store conn.old) (state S.Store conn.new) }
@@ -59,7 +59,7 @@ fn office_sight<S: Alter>(
     conn: &mut Connection<S>,
     remembered: &mut Mind,
     office: Office,
-) -> Result<View, LoadFault>
+) -> Result<View, TableFault>
     requires idle { conn.old.in_transaction ≡ false }
     ensures idle { conn.new.in_transaction ≡ false }
     ensures shows { Holds (state S.Store conn.old).now → HasCleanDisk (state S.Store conn.new) → IsTrue (state S.Store conn.old).is_open → (state S.Store conn.old).now.trees portal_tree ≡ portal_row (pos 1) (pos (number_of office.phase)) office.code ∷ [] → Remembers remembered.old (world_of (state S.Store conn.old).now.trees) → IfOk result (λ view. view ≡ sight_of (world_of (state S.Store conn.old).now.trees) OfficeCaller) }
@@ -81,7 +81,7 @@ fn student_sight<S: Alter>(
     remembered: &mut Mind,
     phase: Phase,
     code: &[u8],
-) -> Result<View, LoadFault>
+) -> Result<View, TableFault>
     requires idle { conn.old.in_transaction ≡ false }
     ensures idle { conn.new.in_transaction ≡ false }
     ensures shows { Holds (state S.Store conn.old).now → HasCleanDisk (state S.Store conn.new) → IsTrue (state S.Store conn.old).is_open → phase ≡ (world_of (state S.Store conn.old).now.trees).phase → Remembers remembered.old (world_of (state S.Store conn.old).now.trees) → IfOk result (λ view. view ≡ sight_of (world_of (state S.Store conn.old).now.trees) (caller_among None (student_with (world_of (state S.Store conn.old).now.trees) code.now))) }
@@ -102,7 +102,7 @@ fn person_sight<S: Alter>(
     remembered: &mut Mind,
     phase: Phase,
     code: &[u8],
-) -> Result<View, LoadFault>
+) -> Result<View, TableFault>
     requires idle { conn.old.in_transaction ≡ false }
     ensures idle { conn.new.in_transaction ≡ false }
     ensures shows { Holds (state S.Store conn.old).now → HasCleanDisk (state S.Store conn.new) → IsTrue (state S.Store conn.old).is_open → phase ≡ (world_of (state S.Store conn.old).now.trees).phase → is (world_of (state S.Store conn.old).now.trees).office code.now ≡ false → Good (world_of (state S.Store conn.old).now.trees) → Remembers remembered.old (world_of (state S.Store conn.old).now.trees) → IfOk result (λ view. view ≡ seen.view (world_of (state S.Store conn.old).now.trees) code.now) }
@@ -122,7 +122,7 @@ fn sight<S: Alter>(
     conn: &mut Connection<S>,
     remembered: &mut Mind,
     code: &[u8],
-) -> Result<View, LoadFault>
+) -> Result<View, TableFault>
     requires idle { conn.old.in_transaction ≡ false }
     ensures idle { conn.new.in_transaction ≡ false }
     ensures shows { Holds (state S.Store conn.old).now → HasCleanDisk (state S.Store conn.new) → Good (world_of (state S.Store conn.old).now.trees) → Remembers remembered.old (world_of (state S.Store conn.old).now.trees) → IfOk result (λ view. view ≡ seen.view (world_of (state S.Store conn.old).now.trees) code.now) }

@@ -13,7 +13,7 @@ ghost use Rattle.portal_store.specs.Found.{Finds};
 use crate::fault::load_fault_of;
 use crate::load::load;
 use portal_list::ListKeeper;
-use portal_tables::fault::LoadFault;
+use portal_tables::fault::TableFault;
 use sqlite::{Alter, Connection};
 use std::alloc::Global;
 
@@ -21,12 +21,12 @@ use std::alloc::Global;
 pub(crate) fn load_keeper<S: Alter>(
     alloc: Global,
     conn: &mut Connection<S>,
-) -> Result<ListKeeper, LoadFault>
+) -> Result<ListKeeper, TableFault>
     requires idle { conn.old.in_transaction ≡ false }
     ensures idle { conn.new.in_transaction ≡ false }
     ensures sound { IfOk result (λ keeper. Sound keeper) }
     ensures found { IsOwn conn.old.schema → IsDatabase (state S.Store conn.old).now → HasCleanDisk (state S.Store conn.new) → IfOk result (λ keeper. Finds (state S.Store conn.old).now.trees keeper) }
-    ensures damaged { IsOwn conn.old.schema → IsDatabase (state S.Store conn.old).now → HasCleanDisk (state S.Store conn.new) → result ≡ Err LoadFault.Damaged → Stands (state S.Store conn.old).now.trees → ⊥ }
+    ensures damaged { IsOwn conn.old.schema → IsDatabase (state S.Store conn.old).now → HasCleanDisk (state S.Store conn.new) → result ≡ Err TableFault.Damaged → Stands (state S.Store conn.old).now.trees → ⊥ }
     ensures same { IsOwn conn.old.schema → HasCleanDisk (state S.Store conn.new) → OnOk result (IsUnchanged (state S.Store conn.old) (state S.Store conn.new)) }
     ensures err { IsOwn conn.old.schema → HasCleanDisk (state S.Store conn.new) → OnErr result (Leaves (state S.Store conn.old) (state S.Store conn.new)) }
     ensures crash { IsOwn conn.old.schema → Survives (state S.Store conn.old) (state S.Store conn.new) (λ _. ⊥) }

@@ -13,7 +13,7 @@ use Rattle.portal_tables.specs.Own.{IsOwn}
 use Rattle.portal_tables.specs.Changes.{ListsBy, every, columns}
 use Rattle.portal_tables.specs.declared.entries.Lists.{Lists}
 use Rattle.portal_tables.specs.declared.entries.Lists.TheVariants.{Choices, Rankings}
-use Rattle.portal_tables.specs.declared.fault.LoadFault.{LoadFault}
+use Rattle.portal_tables.specs.declared.fault.TableFault.{TableFault}
 use Rattle.portal_tables.specs.Lists.{list_of, chosen}
 use Rattle.portal_tables.specs.Cuts.{runs, left, run_name, run_entry, IsRunRead, IsRunFine}
 use Rattle.portal_tables.specs.Owners.{AreOwned, tree_of, has_list, entry, with_list, IsRead, IsFine}
@@ -87,7 +87,7 @@ module _ (lists : Lists) (db : Trees) (owners shown : List Row)
         (all_map (IsRunFine lists) with_own owners (all_weaker (IsFine lists db) (λ c. IsRunFine lists (with_own c)) run_fine owners fine))
 
   -- with an answer
-  pub entries_told : (r : Result (Vec (Key × Vec Key Global) Global) LoadFault)
+  pub entries_told : (r : Result (Vec (Key × Vec Key Global) Global) TableFault)
       → IfOk r (λ v. map with_list v.items ≡ filter_map (run_entry lists) (runs owners shown))
       → OnOk r (Rise (map first owners)) → OnOk r (left owners shown ≡ []) → OnOk r (AllByRecursion (IsRunRead lists) (runs owners shown))
       → IfOk r (λ v. map with_list v.items ≡ filter_map (entry lists db) owners)

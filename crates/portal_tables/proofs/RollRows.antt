@@ -7,10 +7,10 @@ use Rattle.portal_core.specs.Words.{Rise}
 use Rattle.portal_tables.specs.Changes.{ListsBy, every, columns}
 use Rattle.portal_tables.specs.Rolls.{row_key, by_key}
 use Rattle.portal_tables.specs.Shown.{first}
-use Rattle.portal_tables.specs.declared.fault.LoadFault.{LoadFault}
+use Rattle.portal_tables.specs.declared.fault.TableFault.{TableFault}
 use Rattle.portal_tables.proofs.Listed.{IsText, roll_shown, roll_rises}
 
-pub rolled : (rest : List ℕ) (table : List Row) (rows : Vec Row Global) → ListsBy (1 ∷ []) every (columns (1 ∷ rest)) table rows.items → (r : Result (Vec Row Global) LoadFault) → IfOk r (λ v. (v ≡ rows) × Rise (map first rows.items))
+pub rolled : (rest : List ℕ) (table : List Row) (rows : Vec Row Global) → ListsBy (1 ∷ []) every (columns (1 ∷ rest)) table rows.items → (r : Result (Vec Row Global) TableFault) → IfOk r (λ v. (v ≡ rows) × Rise (map first rows.items))
     → IfOk r (λ v. v.items ≡ map (columns (1 ∷ rest)) (by_key table))
 rolled rest table rows h (Ok v) is = ap (λ (w : Vec Row Global). w.items) is.0 ∙ roll_shown rest table rows.items h is.1
 rolled rest table rows h (Err e) is = tt

@@ -7,7 +7,7 @@ ghost use Rattle.spa_rows.specs.Form.{is_key};
 ghost use Rattle.portal_core.specs.Form.{is_code, is_name};
 ghost use Rattle.portal_tables.specs.Shown.{text_or_none};
 
-use crate::fault::LoadFault;
+use crate::fault::TableFault;
 use portal_core::{Code, CodeFault, Name, NameFault};
 use spa_rows::{Key, KeyFault};
 use sqlite::Row;
@@ -35,65 +35,65 @@ pub fn number_at(row: &Row, at: usize) -> u64
 }
 
 /// The key in a cell. The fault is `Damaged` where the bytes have not the form of a key, and `Memory` where they cannot be copied.
-pub fn key_at(alloc: Global, row: &Row, at: usize) -> Result<Key, LoadFault>
+pub fn key_at(alloc: Global, row: &Row, at: usize) -> Result<Key, TableFault>
     ensures ok { IfOk result (λ key. key ≡ bytes (column row.now at)) }
-    ensures damaged { result ≡ Err LoadFault.Damaged → is_key (bytes (column row.now at)) ≡ false }
+    ensures damaged { result ≡ Err TableFault.Damaged → is_key (bytes (column row.now at)) ≡ false }
 {
     match Key::parse(alloc, bytes_at(row, at)) {
         Ok(key) => Ok(key),
-        Err(KeyFault::BadKey) => Err(LoadFault::Damaged),
-        Err(KeyFault::Memory) => Err(LoadFault::Memory),
+        Err(KeyFault::BadKey) => Err(TableFault::Damaged),
+        Err(KeyFault::Memory) => Err(TableFault::Memory),
     }
 }
 
 /// The name or title in a cell. The fault is `Damaged` where the bytes have not the form of a name.
-pub fn name_at(alloc: Global, row: &Row, at: usize) -> Result<Name, LoadFault>
+pub fn name_at(alloc: Global, row: &Row, at: usize) -> Result<Name, TableFault>
     ensures ok { IfOk result (λ name. name ≡ bytes (column row.now at)) }
-    ensures damaged { result ≡ Err LoadFault.Damaged → is_name (bytes (column row.now at)) ≡ false }
+    ensures damaged { result ≡ Err TableFault.Damaged → is_name (bytes (column row.now at)) ≡ false }
 {
     match Name::parse(alloc, bytes_at(row, at)) {
         Ok(name) => Ok(name),
-        Err(NameFault::BadName) => Err(LoadFault::Damaged),
-        Err(NameFault::Memory) => Err(LoadFault::Memory),
+        Err(NameFault::BadName) => Err(TableFault::Damaged),
+        Err(NameFault::Memory) => Err(TableFault::Memory),
     }
 }
 
 /// The code in a cell. The fault is `Damaged` where the bytes have not the form of a code.
-pub fn code_at(alloc: Global, row: &Row, at: usize) -> Result<Code, LoadFault>
+pub fn code_at(alloc: Global, row: &Row, at: usize) -> Result<Code, TableFault>
     ensures ok { IfOk result (λ code. code ≡ bytes (column row.now at)) }
-    ensures damaged { result ≡ Err LoadFault.Damaged → is_code (bytes (column row.now at)) ≡ false }
+    ensures damaged { result ≡ Err TableFault.Damaged → is_code (bytes (column row.now at)) ≡ false }
 {
     match Code::parse(alloc, bytes_at(row, at)) {
         Ok(code) => Ok(code),
-        Err(CodeFault::BadCode) => Err(LoadFault::Damaged),
-        Err(CodeFault::Memory) => Err(LoadFault::Memory),
+        Err(CodeFault::BadCode) => Err(TableFault::Damaged),
+        Err(CodeFault::Memory) => Err(TableFault::Memory),
     }
 }
 
 /// The capacity in a cell, in students. The fault is `Damaged` where it is not from 1 to 200.
-pub fn capacity_at(row: &Row, at: usize) -> Result<u32, LoadFault>
+pub fn capacity_at(row: &Row, at: usize) -> Result<u32, TableFault>
     ensures ok { IfOk result (λ capacity. capacity ≡ number_in (column row.now at)) }
-    ensures damaged { result ≡ Err LoadFault.Damaged → 1 ≤ number_in (column row.now at) → number_in (column row.now at) ≤ 200 → ⊥ }
+    ensures damaged { result ≡ Err TableFault.Damaged → 1 ≤ number_in (column row.now at) → number_in (column row.now at) ≤ 200 → ⊥ }
 {
     let number = number_at(row, at);
     if number < 1 || 200 < number {
-        return Err(LoadFault::Damaged);
+        return Err(TableFault::Damaged);
     }
     Ok(number as u32)
 }
 
 /// The key in a cell that may be NULL, or none. The fault is `Damaged` where anything else is there.
-pub fn assigned_at(alloc: Global, row: &Row, at: usize) -> Result<Option<Key>, LoadFault>
+pub fn assigned_at(alloc: Global, row: &Row, at: usize) -> Result<Option<Key>, TableFault>
     ensures ok { IfOk result (λ key. key ≡ text_or_none (column row.now at)) }
-    ensures damaged { result ≡ Err LoadFault.Damaged → IfSome (text_or_none (column row.now at)) (λ p. is_key p ≡ true) → ⊥ }
+    ensures damaged { result ≡ Err TableFault.Damaged → IfSome (text_or_none (column row.now at)) (λ p. is_key p ≡ true) → ⊥ }
 {
     match row.get_ref(at) {
         Ok(ValueRef::Null) | Err(_) => Ok(None),
         Ok(ValueRef::Text(text)) => match Key::parse(alloc, text) {
             Ok(key) => Ok(Some(key)),
-            Err(KeyFault::BadKey) => Err(LoadFault::Damaged),
-            Err(KeyFault::Memory) => Err(LoadFault::Memory),
+            Err(KeyFault::BadKey) => Err(TableFault::Damaged),
+            Err(KeyFault::Memory) => Err(TableFault::Memory),
         },
-        Ok(_) => Err(LoadFault::Damaged),
+        Ok(_) => Err(TableFault::Damaged),
     }
 }

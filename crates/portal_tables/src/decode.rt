@@ -10,7 +10,7 @@ ghost use Rattle.portal_tables.specs.Lists.{CountUp};
 ghost use Rattle.portal_tables.specs.Shown.{first, shown_lecturer, shown_project, shown_student, shown_pair, shown_place, shown_name, HasPlace};
 
 use crate::cells::{assigned_at, bytes_at, capacity_at, code_at, key_at, name_at, number_at};
-use crate::fault::LoadFault;
+use crate::fault::TableFault;
 use portal_core::{LecturerRow, ProjectRow, StudentRow};
 use spa_rows::Key;
 use sqlite::Row;
@@ -26,9 +26,9 @@ pub trait FromCells: Drop {
     ghost is_fine: { Cells → Type 0 };
 
     /// The row decoded.
-    fn from_cells(alloc: Global, row: &Row) -> Result<Self, LoadFault>
+    fn from_cells(alloc: Global, row: &Row) -> Result<Self, TableFault>
         ensures ok { IfOk result (λ x. x ≡ shown row.now) }
-        ensures damaged { result ≡ Err LoadFault.Damaged → is_fine row.now → ⊥ };
+        ensures damaged { result ≡ Err TableFault.Damaged → is_fine row.now → ⊥ };
 }
 
 impl FromCells for LecturerRow {
@@ -36,7 +36,7 @@ impl FromCells for LecturerRow {
 
     ghost is_fine = { λ c. IsLecturer (shown_lecturer c) };
 
-    fn from_cells(alloc: Global, row: &Row) -> Result<LecturerRow, LoadFault> {
+    fn from_cells(alloc: Global, row: &Row) -> Result<LecturerRow, TableFault> {
         Ok(LecturerRow {
             capacity: capacity_at(row, 3)?,
             key: key_at(alloc, row, 0)?,
@@ -51,7 +51,7 @@ impl FromCells for ProjectRow {
 
     ghost is_fine = { λ c. IsProject (shown_project c) };
 
-    fn from_cells(alloc: Global, row: &Row) -> Result<ProjectRow, LoadFault> {
+    fn from_cells(alloc: Global, row: &Row) -> Result<ProjectRow, TableFault> {
         Ok(ProjectRow {
             capacity: capacity_at(row, 3)?,
             key: key_at(alloc, row, 0)?,
@@ -66,7 +66,7 @@ impl FromCells for StudentRow {
 
     ghost is_fine = { λ c. IsStudent (shown_student c) };
 
-    fn from_cells(alloc: Global, row: &Row) -> Result<StudentRow, LoadFault> {
+    fn from_cells(alloc: Global, row: &Row) -> Result<StudentRow, TableFault> {
         Ok(StudentRow {
             key: key_at(alloc, row, 0)?,
             name: name_at(alloc, row, 1)?,
@@ -81,15 +81,15 @@ impl FromCells for Key {
 
     ghost is_fine = { λ c. is_key (shown_name c) ≡ true };
 
-    fn from_cells(alloc: Global, row: &Row) -> Result<Key, LoadFault> {
+    fn from_cells(alloc: Global, row: &Row) -> Result<Key, TableFault> {
         key_at(alloc, row, 1)
     }
 }
 
 /// Each row decoded, in the order of the rows, or the fault of the first that is refused.
-pub fn decoded<T: FromCells>(alloc: Global, rows: &[Row]) -> Result<Vec<T>, LoadFault>
+pub fn decoded<T: FromCells>(alloc: Global, rows: &[Row]) -> Result<Vec<T>, TableFault>
     ensures ok { IfOk result (λ v. v.items ≡ map T.shown rows.now) }
-    ensures damaged { result ≡ Err LoadFault.Damaged → AllByRecursion T.is_fine rows.now → ⊥ }
+    ensures damaged { result ≡ Err TableFault.Damaged → AllByRecursion T.is_fine rows.now → ⊥ }
 {
     let mut all = Vec::new(alloc);
     for row in rows {
@@ -125,21 +125,21 @@ fn do_count_up(rows: &[Row]) -> bool
 
 /// The names of a list whose rows show place and name. The fault is `Damaged` where the places are not 1, 2 and so on, or a
 /// name has not the form of a key.
-pub fn list_from(alloc: Global, rows: &[Row]) -> Result<Vec<Key>, LoadFault>
+pub fn list_from(alloc: Global, rows: &[Row]) -> Result<Vec<Key>, TableFault>
     ensures names { IfOk result (λ v. v.items ≡ map shown_name rows.now) }
     ensures whole { IfOk result (λ v. CountUp 1 (map shown_place rows.now)) }
-    ensures damaged { result ≡ Err LoadFault.Damaged → CountUp 1 (map shown_place rows.now) → AllByRecursion (λ c. is_key (shown_name c) ≡ true) rows.now → ⊥ }
+    ensures damaged { result ≡ Err TableFault.Damaged → CountUp 1 (map shown_place rows.now) → AllByRecursion (λ c. is_key (shown_name c) ≡ true) rows.now → ⊥ }
 {
     if !do_count_up(rows) {
-        return Err(LoadFault::Damaged);
+        return Err(TableFault::Damaged);
     }
     decoded(alloc, rows)
 }
 
 /// The pair of the result that a student's row tells.
-fn pair_from(alloc: Global, row: &Row) -> Result<Option<(Key, Key)>, LoadFault>
+fn pair_from(alloc: Global, row: &Row) -> Result<Option<(Key, Key)>, TableFault>
     ensures ok { IfOk result (λ pair. pair ≡ shown_pair row.now) }
-    ensures damaged { result ≡ Err LoadFault.Damaged → IsStudent (shown_student row.now) → HasPlace row.now → ⊥ }
+    ensures damaged { result ≡ Err TableFault.Damaged → IsStudent (shown_student row.now) → HasPlace row.now → ⊥ }
 {
     match assigned_at(alloc, row, 3)? {
         Some(project) => Ok(Some((key_at(alloc, row, 0)?, project))),
@@ -149,9 +149,9 @@ fn pair_from(alloc: Global, row: &Row) -> Result<Option<(Key, Key)>, LoadFault>
 
 /// The result that the students' rows tell: the pairs of a student and the assigned project. The fault is `Damaged` where a
 /// key or what is assigned has not the form of a key.
-pub fn pairs_from(alloc: Global, rows: &[Row]) -> Result<Vec<(Key, Key)>, LoadFault>
+pub fn pairs_from(alloc: Global, rows: &[Row]) -> Result<Vec<(Key, Key)>, TableFault>
     ensures ok { IfOk result (λ v. v.items ≡ filter_map shown_pair rows.now) }
-    ensures damaged { result ≡ Err LoadFault.Damaged → AllByRecursion (λ c. IsStudent (shown_student c)) rows.now → AllByRecursion HasPlace rows.now → ⊥ }
+    ensures damaged { result ≡ Err TableFault.Damaged → AllByRecursion (λ c. IsStudent (shown_student c)) rows.now → AllByRecursion HasPlace rows.now → ⊥ }
 {
     let mut pairs = Vec::new(alloc);
     for row in rows {

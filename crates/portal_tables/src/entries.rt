@@ -17,7 +17,7 @@ ghost use Rattle.portal_tables.specs.Shown.{first};
 
 use crate::cells::{bytes_at, key_at, number_at};
 use crate::decode::{do_rise, list_from};
-use crate::fault::LoadFault;
+use crate::fault::TableFault;
 use crate::select::{choice_rows, list_of, ranking_of, ranking_rows};
 use spa_rows::Key;
 use sqlite::{Alter, Connection, Error, Row};
@@ -55,10 +55,10 @@ pub fn list_in<S: Alter>(
     conn: &mut Connection<S>,
     lists: Lists,
     owner: &Key,
-) -> Result<Vec<Key>, LoadFault>
+) -> Result<Vec<Key>, TableFault>
     ensures names { IsOwn conn.old.schema → HasCleanDisk (state S.Store conn.new) → IfOk result (λ v. v.items ≡ chosen ((state S.Store conn.old).now.trees (tree_of lists)) owner.now) }
     ensures whole { IsOwn conn.old.schema → HasCleanDisk (state S.Store conn.new) → OnOk result (IsWhole (of_key owner.now ((state S.Store conn.old).now.trees (tree_of lists)))) }
-    ensures damaged { IsOwn conn.old.schema → HasCleanDisk (state S.Store conn.new) → result ≡ Err LoadFault.Damaged → IsWhole (of_key owner.now ((state S.Store conn.old).now.trees (tree_of lists))) → AllByRecursion (λ k. is_key k ≡ true) (chosen ((state S.Store conn.old).now.trees (tree_of lists)) owner.now) → ⊥ }
+    ensures damaged { IsOwn conn.old.schema → HasCleanDisk (state S.Store conn.new) → result ≡ Err TableFault.Damaged → IsWhole (of_key owner.now ((state S.Store conn.old).now.trees (tree_of lists))) → AllByRecursion (λ k. is_key k ≡ true) (chosen ((state S.Store conn.old).now.trees (tree_of lists)) owner.now) → ⊥ }
     ensures reads { Reads result (state S.Store conn.old) (state S.Store conn.new) }
     ensures mode { conn.old.in_transaction ≡ false → conn.new.in_transaction ≡ false }
 {
@@ -82,16 +82,16 @@ fn kept_entry(
     row: &Row,
     owner: Key,
     list: Vec<Key>,
-) -> Result<Option<(Key, Vec<Key>)>, LoadFault>
+) -> Result<Option<(Key, Vec<Key>)>, TableFault>
     ensures ok { IfOk result (λ found. option_map with_list found ≡ (if has_list lists row.now then Some (owner, list.items) else None)) }
     ensures none { OnOk result (has_list lists row.now ≡ false → list.items ≡ []) }
-    ensures damaged { result ≡ Err LoadFault.Damaged → (has_list lists row.now ≡ false → list.items ≡ []) → ⊥ }
+    ensures damaged { result ≡ Err TableFault.Damaged → (has_list lists row.now ≡ false → list.items ≡ []) → ⊥ }
 {
     if has_list(lists, row) {
         return Ok(Some((owner, list)));
     }
     if !list.is_empty() {
-        return Err(LoadFault::Damaged);
+        return Err(TableFault::Damaged);
     }
     Ok(None)
 }
@@ -114,15 +114,15 @@ fn split_run<'a>(rows: &'a [Row], owner: &Row) -> (&'a [Row], &'a [Row])
 }
 
 /// The list that an owner's rows are, whose places are 1, 2 and so on.
-fn list_of_run(alloc: Global, rows: &[Row]) -> Result<Vec<Key>, LoadFault>
+fn list_of_run(alloc: Global, rows: &[Row]) -> Result<Vec<Key>, TableFault>
     ensures names { IfOk result (λ v. v.items ≡ map run_name rows.now) }
     ensures whole { IfOk result (λ v. CountUp 1 (map run_place rows.now)) }
-    ensures damaged { result ≡ Err LoadFault.Damaged → CountUp 1 (map run_place rows.now) → AllByRecursion (λ c. is_key (run_name c) ≡ true) rows.now → ⊥ }
+    ensures damaged { result ≡ Err TableFault.Damaged → CountUp 1 (map run_place rows.now) → AllByRecursion (λ c. is_key (run_name c) ≡ true) rows.now → ⊥ }
 {
     let mut list = Vec::new(alloc);
     for (i, row) in rows.iter().enumerate() {
         if number_at(row, 1) != i as u64 + 1 {
-            return Err(LoadFault::Damaged);
+            return Err(TableFault::Damaged);
         }
         list.push(key_at(alloc, row, 2)?)?;
     }
@@ -135,10 +135,10 @@ fn entry_of(
     lists: Lists,
     owner: &Row,
     rows: &[Row],
-) -> Result<Option<(Key, Vec<Key>)>, LoadFault>
+) -> Result<Option<(Key, Vec<Key>)>, TableFault>
     ensures ok { IfOk result (λ found. option_map with_list found ≡ run_entry lists (owner.now, rows.now)) }
     ensures read { OnOk result (IsRunRead lists (owner.now, rows.now)) }
-    ensures damaged { result ≡ Err LoadFault.Damaged → IsRunFine lists (owner.now, rows.now) → ⊥ }
+    ensures damaged { result ≡ Err TableFault.Damaged → IsRunFine lists (owner.now, rows.now) → ⊥ }
 {
     let key = key_at(alloc, owner, 0)?;
     let list = list_of_run(alloc, rows)?;
@@ -151,15 +151,15 @@ fn entries_of(
     lists: Lists,
     owners: &[Row],
     rows: &[Row],
-) -> Result<Vec<(Key, Vec<Key>)>, LoadFault>
+) -> Result<Vec<(Key, Vec<Key>)>, TableFault>
     ensures ok { IfOk result (λ v. map with_list v.items ≡ filter_map (run_entry lists) (runs owners.now rows.now)) }
     ensures read { OnOk result (AllByRecursion (IsRunRead lists) (runs owners.now rows.now)) }
     ensures rise { OnOk result (Rise (map first owners.now)) }
     ensures none_left { OnOk result (left owners.now rows.now ≡ []) }
-    ensures damaged { result ≡ Err LoadFault.Damaged → Rise (map first owners.now) → left owners.now rows.now ≡ [] → AllByRecursion (IsRunFine lists) (runs owners.now rows.now) → ⊥ }
+    ensures damaged { result ≡ Err TableFault.Damaged → Rise (map first owners.now) → left owners.now rows.now ≡ [] → AllByRecursion (IsRunFine lists) (runs owners.now rows.now) → ⊥ }
 {
     if !do_rise(owners) {
-        return Err(LoadFault::Damaged);
+        return Err(TableFault::Damaged);
     }
     let mut entries = Vec::new(alloc);
     let mut rest = rows;
@@ -171,7 +171,7 @@ fn entries_of(
         rest = others;
     }
     if !rest.is_empty() {
-        return Err(LoadFault::Damaged);
+        return Err(TableFault::Damaged);
     }
     Ok(entries)
 }
@@ -195,10 +195,10 @@ pub fn entries_in<S: Alter>(
     conn: &mut Connection<S>,
     lists: Lists,
     owners: &[Row],
-) -> Result<Vec<(Key, Vec<Key>)>, LoadFault>
+) -> Result<Vec<(Key, Vec<Key>)>, TableFault>
     ensures ok { IsOwn conn.old.schema → IsDatabase (state S.Store conn.old).now → HasCleanDisk (state S.Store conn.new) → IfOk result (λ v. map with_list v.items ≡ filter_map (entry lists (state S.Store conn.old).now.trees) owners.now) }
     ensures read { IsOwn conn.old.schema → IsDatabase (state S.Store conn.old).now → HasCleanDisk (state S.Store conn.new) → OnOk result (AllByRecursion (IsRead lists (state S.Store conn.old).now.trees) owners.now) }
-    ensures damaged { IsOwn conn.old.schema → IsDatabase (state S.Store conn.old).now → HasCleanDisk (state S.Store conn.new) → result ≡ Err LoadFault.Damaged → AreOwned lists (state S.Store conn.old).now.trees owners.now → AllByRecursion (IsFine lists (state S.Store conn.old).now.trees) owners.now → ⊥ }
+    ensures damaged { IsOwn conn.old.schema → IsDatabase (state S.Store conn.old).now → HasCleanDisk (state S.Store conn.new) → result ≡ Err TableFault.Damaged → AreOwned lists (state S.Store conn.old).now.trees owners.now → AllByRecursion (IsFine lists (state S.Store conn.old).now.trees) owners.now → ⊥ }
     ensures reads { Reads result (state S.Store conn.old) (state S.Store conn.new) }
     ensures mode { conn.old.in_transaction ≡ false → conn.new.in_transaction ≡ false }
 {

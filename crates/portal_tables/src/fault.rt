@@ -1,14 +1,15 @@
-//! Why rows are not read.
+//! Why tables are not read or written.
 
 ghost use Rattle.std.specs.Prelude.{◌≡◌};
-ghost use Rattle.portal_tables.specs.declared.fault.LoadFault.TheVariants.{Damaged, Memory};
+ghost use Rattle.portal_tables.specs.declared.fault.TableFault.TheVariants.{Damaged, Memory};
 
+use portal_core::KeepFault;
 use sqlite::{Error, ErrorCode};
 use std::alloc::{AllocError, AllocFailed};
 
-/// Why nothing is loaded.
+/// Why tables are not read or written.
 #[derive(Drop)]
-pub enum LoadFault {
+pub enum TableFault {
     /// The rows are not as the portal writes them.
     Damaged,
     /// The store answered an error.
@@ -17,29 +18,39 @@ pub enum LoadFault {
     Memory,
 }
 
-impl<T: Drop> From<AllocFailed<T>> for LoadFault {
+impl<T: Drop> From<AllocFailed<T>> for TableFault {
     ghost from_gives = { λ _ fault. fault ≡ Memory };
 
-    fn from(_: AllocFailed<T>) -> LoadFault {
-        LoadFault::Memory
+    fn from(_: AllocFailed<T>) -> TableFault {
+        TableFault::Memory
     }
 }
 
-impl From<Error> for LoadFault {
+impl From<Error> for TableFault {
     ghost from_gives = { λ _ fault. fault ≡ Damaged → ⊥ };
 
-    fn from(error: Error) -> LoadFault {
+    fn from(error: Error) -> TableFault {
         match error {
-            Error::SqliteFailure(ErrorCode::OutOfMemory) => LoadFault::Memory,
-            _ => LoadFault::Store,
+            Error::SqliteFailure(ErrorCode::OutOfMemory) => TableFault::Memory,
+            _ => TableFault::Store,
         }
     }
 }
 
-impl From<AllocError> for LoadFault {
+impl From<AllocError> for TableFault {
     ghost from_gives = { λ _ fault. fault ≡ Memory };
 
-    fn from(_: AllocError) -> LoadFault {
-        LoadFault::Memory
+    fn from(_: AllocError) -> TableFault {
+        TableFault::Memory
+    }
+}
+
+/// To a keeper, rows that are not as the portal writes them are a fault of its store.
+impl From<TableFault> for KeepFault {
+    fn from(fault: TableFault) -> KeepFault {
+        match fault {
+            TableFault::Memory => KeepFault::Memory,
+            TableFault::Damaged | TableFault::Store => KeepFault::Store,
+        }
     }
 }

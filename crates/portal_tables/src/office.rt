@@ -15,7 +15,7 @@ ghost use Rattle.portal_tables.specs.Rows.{portal_row};
 ghost use Rattle.portal_tables.specs.Office.{number_of, IsOffice, HasOffice};
 
 use crate::cells::code_at;
-use crate::fault::LoadFault;
+use crate::fault::TableFault;
 use crate::select::portal_rows;
 use portal_core::{Code, Phase};
 use sqlite::types::ValueRef;
@@ -51,26 +51,26 @@ fn phase_at(row: &Row, at: usize) -> Option<Phase>
 }
 
 /// The code in a cell that has a text.
-fn text_code_at(alloc: Global, row: &Row, at: usize) -> Result<Code, LoadFault>
+fn text_code_at(alloc: Global, row: &Row, at: usize) -> Result<Code, TableFault>
     ensures ok { IfOk result (λ code. column row.now at ≡ Words code) }
-    ensures damaged { result ≡ Err LoadFault.Damaged → (code : List ℕ) → column row.now at ≡ Words code → is_code code ≡ true → ⊥ }
+    ensures damaged { result ≡ Err TableFault.Damaged → (code : List ℕ) → column row.now at ≡ Words code → is_code code ≡ true → ⊥ }
 {
     match row.get_ref(at) {
         Ok(ValueRef::Text(_)) => code_at(alloc, row, at),
-        _ => Err(LoadFault::Damaged),
+        _ => Err(TableFault::Damaged),
     }
 }
 
 /// The office, of its row: id and version are 1.
-fn office_at(alloc: Global, row: &Row) -> Result<Office, LoadFault>
+fn office_at(alloc: Global, row: &Row) -> Result<Office, TableFault>
     ensures ok { IfOk result (λ office. IsOffice office.phase office.code row.now) }
-    ensures damaged { result ≡ Err LoadFault.Damaged → (phase : ThePhase) (code : List ℕ) → IsOffice phase code row.now → is_code code ≡ true → ⊥ }
+    ensures damaged { result ≡ Err TableFault.Damaged → (phase : ThePhase) (code : List ℕ) → IsOffice phase code row.now → is_code code ≡ true → ⊥ }
 {
     if !is_one(row, 0) || !is_one(row, 1) {
-        return Err(LoadFault::Damaged);
+        return Err(TableFault::Damaged);
     }
     let Some(phase) = phase_at(row, 2) else {
-        return Err(LoadFault::Damaged);
+        return Err(TableFault::Damaged);
     };
     let code = text_code_at(alloc, row, 3)?;
     Ok(Office { phase, code })
@@ -78,21 +78,21 @@ fn office_at(alloc: Global, row: &Row) -> Result<Office, LoadFault>
 
 /// The office, of the only row of its table. The fault is `Damaged` where there is not one row, with id and version 1, a phase and
 /// a code.
-pub fn office_from(alloc: Global, rows: &[Row]) -> Result<Office, LoadFault>
+pub fn office_from(alloc: Global, rows: &[Row]) -> Result<Office, TableFault>
     ensures ok { IfOk result (λ office. (row : Cells) × (rows.now ≡ row ∷ []) × IsOffice office.phase office.code row) }
-    ensures damaged { result ≡ Err LoadFault.Damaged → (row : Cells) (phase : ThePhase) (code : List ℕ) → rows.now ≡ row ∷ [] → IsOffice phase code row → is_code code ≡ true → ⊥ }
+    ensures damaged { result ≡ Err TableFault.Damaged → (row : Cells) (phase : ThePhase) (code : List ℕ) → rows.now ≡ row ∷ [] → IsOffice phase code row → is_code code ≡ true → ⊥ }
 {
     match rows {
         [row] => office_at(alloc, row),
-        _ => Err(LoadFault::Damaged),
+        _ => Err(TableFault::Damaged),
     }
 }
 
 /// The office, of its table. The fault is `Damaged` where the table has not the one row of version 1, `Store` where the store
 /// answered an error.
-pub fn office_in<S: Alter>(alloc: Global, conn: &mut Connection<S>) -> Result<Office, LoadFault>
+pub fn office_in<S: Alter>(alloc: Global, conn: &mut Connection<S>) -> Result<Office, TableFault>
     ensures row { IsOwn conn.old.schema → IsDatabase (state S.Store conn.old).now → HasCleanDisk (state S.Store conn.new) → IfOk result (λ office. (state S.Store conn.old).now.trees portal_tree ≡ portal_row (pos 1) (pos (number_of office.phase)) office.code ∷ []) }
-    ensures damaged { IsOwn conn.old.schema → HasCleanDisk (state S.Store conn.new) → result ≡ Err LoadFault.Damaged → (office : HasOffice ((state S.Store conn.old).now.trees portal_tree)) → is_code office.office ≡ true → ⊥ }
+    ensures damaged { IsOwn conn.old.schema → HasCleanDisk (state S.Store conn.new) → result ≡ Err TableFault.Damaged → (office : HasOffice ((state S.Store conn.old).now.trees portal_tree)) → is_code office.office ≡ true → ⊥ }
     ensures same { IsOwn conn.old.schema → HasCleanDisk (state S.Store conn.new) → OnOk result (IsUnchanged (state S.Store conn.old) (state S.Store conn.new)) }
     ensures err { IsOwn conn.old.schema → HasCleanDisk (state S.Store conn.new) → OnErr result (Leaves (state S.Store conn.old) (state S.Store conn.new)) }
     ensures mode { conn.old.in_transaction ≡ false → conn.new.in_transaction ≡ false }

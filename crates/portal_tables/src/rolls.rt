@@ -15,7 +15,7 @@ ghost use Rattle.portal_tables.specs.Rolls.{row_key, by_key, lecturers_shown, pr
 ghost use Rattle.portal_tables.specs.Shown.{first, shown_lecturer, shown_project, shown_student, shown_pair, HasPlace};
 
 use crate::decode::{decoded, do_rise, pairs_from};
-use crate::fault::LoadFault;
+use crate::fault::TableFault;
 use crate::select::{lecturer_rows, project_rows, student_rows};
 use portal_core::{LecturerRow, ProjectRow, StudentRow};
 use spa_rows::Key;
@@ -34,21 +34,21 @@ pub struct Rolls {
 }
 
 /// The rows, if the keys that they begin with rise.
-fn risen(rows: Vec<Row>) -> Result<Vec<Row>, LoadFault>
+fn risen(rows: Vec<Row>) -> Result<Vec<Row>, TableFault>
     ensures ok { IfOk result (λ v. (v ≡ rows) × Rise (map first rows.items)) }
-    ensures damaged { result ≡ Err LoadFault.Damaged → Rise (map first rows.items) → ⊥ }
+    ensures damaged { result ≡ Err TableFault.Damaged → Rise (map first rows.items) → ⊥ }
 {
     if do_rise(&rows) {
         Ok(rows)
     } else {
-        Err(LoadFault::Damaged)
+        Err(TableFault::Damaged)
     }
 }
 
 /// The lecturers by key. The fault is `Damaged` where the keys do not rise, `Store` where the store answered an error.
-pub fn lecturer_roll<S: Alter>(conn: &mut Connection<S>) -> Result<Vec<Row>, LoadFault>
+pub fn lecturer_roll<S: Alter>(conn: &mut Connection<S>) -> Result<Vec<Row>, TableFault>
     ensures rows { IsOwn conn.old.schema → HasCleanDisk (state S.Store conn.new) → IfOk result (λ v. v.items ≡ map (columns (1 ∷ 2 ∷ 3 ∷ 4 ∷ 5 ∷ [])) (by_key ((state S.Store conn.old).now.trees lecturer_tree))) }
-    ensures damaged { IsOwn conn.old.schema → IsDatabase (state S.Store conn.old).now → HasCleanDisk (state S.Store conn.new) → result ≡ Err LoadFault.Damaged → Rise (map row_key (by_key ((state S.Store conn.old).now.trees lecturer_tree))) → ⊥ }
+    ensures damaged { IsOwn conn.old.schema → IsDatabase (state S.Store conn.old).now → HasCleanDisk (state S.Store conn.new) → result ≡ Err TableFault.Damaged → Rise (map row_key (by_key ((state S.Store conn.old).now.trees lecturer_tree))) → ⊥ }
     ensures reads { Reads result (state S.Store conn.old) (state S.Store conn.new) }
     ensures mode { conn.old.in_transaction ≡ false → conn.new.in_transaction ≡ false }
 {
@@ -57,9 +57,9 @@ pub fn lecturer_roll<S: Alter>(conn: &mut Connection<S>) -> Result<Vec<Row>, Loa
 }
 
 /// The projects by key, with the faults of `lecturer_roll`.
-pub fn project_roll<S: Alter>(conn: &mut Connection<S>) -> Result<Vec<Row>, LoadFault>
+pub fn project_roll<S: Alter>(conn: &mut Connection<S>) -> Result<Vec<Row>, TableFault>
     ensures rows { IsOwn conn.old.schema → HasCleanDisk (state S.Store conn.new) → IfOk result (λ v. v.items ≡ map (columns (1 ∷ 2 ∷ 3 ∷ 4 ∷ [])) (by_key ((state S.Store conn.old).now.trees project_tree))) }
-    ensures damaged { IsOwn conn.old.schema → IsDatabase (state S.Store conn.old).now → HasCleanDisk (state S.Store conn.new) → result ≡ Err LoadFault.Damaged → Rise (map row_key (by_key ((state S.Store conn.old).now.trees project_tree))) → ⊥ }
+    ensures damaged { IsOwn conn.old.schema → IsDatabase (state S.Store conn.old).now → HasCleanDisk (state S.Store conn.new) → result ≡ Err TableFault.Damaged → Rise (map row_key (by_key ((state S.Store conn.old).now.trees project_tree))) → ⊥ }
     ensures reads { Reads result (state S.Store conn.old) (state S.Store conn.new) }
     ensures mode { conn.old.in_transaction ≡ false → conn.new.in_transaction ≡ false }
 {
@@ -68,9 +68,9 @@ pub fn project_roll<S: Alter>(conn: &mut Connection<S>) -> Result<Vec<Row>, Load
 }
 
 /// The students by key, with the faults of `lecturer_roll`.
-pub fn student_roll<S: Alter>(conn: &mut Connection<S>) -> Result<Vec<Row>, LoadFault>
+pub fn student_roll<S: Alter>(conn: &mut Connection<S>) -> Result<Vec<Row>, TableFault>
     ensures rows { IsOwn conn.old.schema → HasCleanDisk (state S.Store conn.new) → IfOk result (λ v. v.items ≡ map (columns (1 ∷ 2 ∷ 3 ∷ 4 ∷ [])) (by_key ((state S.Store conn.old).now.trees student_tree))) }
-    ensures damaged { IsOwn conn.old.schema → IsDatabase (state S.Store conn.old).now → HasCleanDisk (state S.Store conn.new) → result ≡ Err LoadFault.Damaged → Rise (map row_key (by_key ((state S.Store conn.old).now.trees student_tree))) → ⊥ }
+    ensures damaged { IsOwn conn.old.schema → IsDatabase (state S.Store conn.old).now → HasCleanDisk (state S.Store conn.new) → result ≡ Err TableFault.Damaged → Rise (map row_key (by_key ((state S.Store conn.old).now.trees student_tree))) → ⊥ }
     ensures reads { Reads result (state S.Store conn.old) (state S.Store conn.new) }
     ensures mode { conn.old.in_transaction ≡ false → conn.new.in_transaction ≡ false }
 {
@@ -79,11 +79,11 @@ pub fn student_roll<S: Alter>(conn: &mut Connection<S>) -> Result<Vec<Row>, Load
 }
 
 /// The three rolls by key, or the fault of the first that cannot be read.
-pub fn rolls_in<S: Alter>(conn: &mut Connection<S>) -> Result<Rolls, LoadFault>
+pub fn rolls_in<S: Alter>(conn: &mut Connection<S>) -> Result<Rolls, TableFault>
     ensures lecturers { IsOwn conn.old.schema → HasCleanDisk (state S.Store conn.new) → IsTrue (state S.Store conn.old).is_open → IfOk result (λ r. r.lecturers.items ≡ lecturers_shown (state S.Store conn.old).now.trees) }
     ensures projects { IsOwn conn.old.schema → HasCleanDisk (state S.Store conn.new) → IsTrue (state S.Store conn.old).is_open → IfOk result (λ r. r.projects.items ≡ projects_shown (state S.Store conn.old).now.trees) }
     ensures students { IsOwn conn.old.schema → HasCleanDisk (state S.Store conn.new) → IsTrue (state S.Store conn.old).is_open → IfOk result (λ r. r.students.items ≡ students_shown (state S.Store conn.old).now.trees) }
-    ensures damaged { IsOwn conn.old.schema → IsDatabase (state S.Store conn.old).now → HasCleanDisk (state S.Store conn.new) → IsTrue (state S.Store conn.old).is_open → result ≡ Err LoadFault.Damaged → RollsRise (state S.Store conn.old).now.trees → ⊥ }
+    ensures damaged { IsOwn conn.old.schema → IsDatabase (state S.Store conn.old).now → HasCleanDisk (state S.Store conn.new) → IsTrue (state S.Store conn.old).is_open → result ≡ Err TableFault.Damaged → RollsRise (state S.Store conn.old).now.trees → ⊥ }
     ensures reads { Reads result (state S.Store conn.old) (state S.Store conn.new) }
     ensures mode { conn.old.in_transaction ≡ false → conn.new.in_transaction ≡ false }
 {
@@ -107,12 +107,12 @@ pub struct Parts {
 }
 
 /// The rows of the rolls, decoded. The fault is `Damaged` where a cell has not the form that it is to have.
-pub fn parts_of(alloc: Global, rolls: &Rolls) -> Result<Parts, LoadFault>
+pub fn parts_of(alloc: Global, rolls: &Rolls) -> Result<Parts, TableFault>
     ensures lecturers { IfOk result (λ p. p.lecturers.items ≡ map shown_lecturer rolls.now.lecturers.items) }
     ensures projects { IfOk result (λ p. p.projects.items ≡ map shown_project rolls.now.projects.items) }
     ensures students { IfOk result (λ p. p.students.items ≡ map shown_student rolls.now.students.items) }
     ensures pairs { IfOk result (λ p. p.pairs.items ≡ filter_map shown_pair rolls.now.students.items) }
-    ensures damaged { result ≡ Err LoadFault.Damaged → AllByRecursion (λ c. IsLecturer (shown_lecturer c)) rolls.now.lecturers.items → AllByRecursion (λ c. IsProject (shown_project c)) rolls.now.projects.items → AllByRecursion (λ c. IsStudent (shown_student c)) rolls.now.students.items → AllByRecursion HasPlace rolls.now.students.items → ⊥ }
+    ensures damaged { result ≡ Err TableFault.Damaged → AllByRecursion (λ c. IsLecturer (shown_lecturer c)) rolls.now.lecturers.items → AllByRecursion (λ c. IsProject (shown_project c)) rolls.now.projects.items → AllByRecursion (λ c. IsStudent (shown_student c)) rolls.now.students.items → AllByRecursion HasPlace rolls.now.students.items → ⊥ }
 {
     Ok(Parts {
         lecturers: decoded(alloc, &rolls.lecturers)?,

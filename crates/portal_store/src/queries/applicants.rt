@@ -20,7 +20,7 @@ use super::student::person_at;
 use portal_core::{Person, Phase};
 use portal_tables::cells::{assigned_at, bytes_at};
 use portal_tables::decode::{FromCells, do_rise};
-use portal_tables::fault::LoadFault;
+use portal_tables::fault::TableFault;
 use portal_tables::rolls::student_roll;
 use portal_tables::select::{choosers_of, student_by_key};
 use spa_rows::Key;
@@ -40,7 +40,7 @@ impl FromCells for Line {
     // which rows are refused is left open
     ghost is_fine = { λ c. ⊥ };
 
-    fn from_cells(alloc: Global, row: &Row) -> Result<Line, LoadFault> {
+    fn from_cells(alloc: Global, row: &Row) -> Result<Line, TableFault> {
         Ok(Line {
             person: person_at(alloc, row)?,
             placed: assigned_at(alloc, row, 3)?,
@@ -49,17 +49,17 @@ impl FromCells for Line {
 }
 
 /// The line of a student, of the only row.
-fn line_from(alloc: Global, rows: &[Row]) -> Result<Line, LoadFault>
+fn line_from(alloc: Global, rows: &[Row]) -> Result<Line, TableFault>
     ensures { IfOk result (λ l. (c : Cells) × (rows.now ≡ c ∷ []) × (l ≡ shown_line c)) }
 {
     match rows {
         [row] => Line::from_cells(alloc, row),
-        _ => Err(LoadFault::Damaged),
+        _ => Err(TableFault::Damaged),
     }
 }
 
 /// The line of the student with the key.
-fn line_in<S: Alter>(alloc: Global, conn: &mut Connection<S>, key: &[u8]) -> Result<Line, LoadFault>
+fn line_in<S: Alter>(alloc: Global, conn: &mut Connection<S>, key: &[u8]) -> Result<Line, TableFault>
     ensures told { Holds (state S.Store conn.old).now → HasCleanDisk (state S.Store conn.new) → IfOk result (λ l. Some l ≡ line_at (world_of (state S.Store conn.old).now.trees) key.now) }
     ensures reads { Reads result (state S.Store conn.old) (state S.Store conn.new) }
     ensures mode { conn.old.in_transaction ≡ false → conn.new.in_transaction ≡ false }
@@ -73,7 +73,7 @@ fn lines_from<S: Alter>(
     alloc: Global,
     conn: &mut Connection<S>,
     rows: &[Row],
-) -> Result<Vec<Line>, LoadFault>
+) -> Result<Vec<Line>, TableFault>
     ensures told { Holds (state S.Store conn.old).now → HasCleanDisk (state S.Store conn.new) → IsTrue (state S.Store conn.old).is_open → IfOk result (λ v. map Some v.items ≡ map (λ c. line_at (world_of (state S.Store conn.old).now.trees) (first c)) rows.now) }
     ensures reads { Reads result (state S.Store conn.old) (state S.Store conn.new) }
     ensures mode { conn.old.in_transaction ≡ false → conn.new.in_transaction ≡ false }
@@ -90,20 +90,20 @@ fn rising_lines<S: Alter>(
     alloc: Global,
     conn: &mut Connection<S>,
     rows: &[Row],
-) -> Result<Vec<Line>, LoadFault>
+) -> Result<Vec<Line>, TableFault>
     ensures rise { IfOk result (λ v. Rise (map first rows.now)) }
     ensures told { Holds (state S.Store conn.old).now → HasCleanDisk (state S.Store conn.new) → IsTrue (state S.Store conn.old).is_open → IfOk result (λ v. map Some v.items ≡ map (λ c. line_at (world_of (state S.Store conn.old).now.trees) (first c)) rows.now) }
     ensures reads { Reads result (state S.Store conn.old) (state S.Store conn.new) }
     ensures mode { conn.old.in_transaction ≡ false → conn.new.in_transaction ≡ false }
 {
     if !do_rise(rows) {
-        return Err(LoadFault::Damaged);
+        return Err(TableFault::Damaged);
     }
     lines_from(alloc, conn, rows)
 }
 
 /// The lines of those students whose keys the other rows begin with.
-fn lines_among(alloc: Global, students: &[Row], named: &[Row]) -> Result<Vec<Line>, LoadFault>
+fn lines_among(alloc: Global, students: &[Row], named: &[Row]) -> Result<Vec<Line>, TableFault>
     requires { Rise (map first named.now) }
     ensures { IfOk result (λ v. v.items ≡ map shown_line (filter (λ c. has (map first named.now) (first c)) students.now)) }
 {
@@ -121,14 +121,14 @@ fn lines_on_roll<S: Alter>(
     alloc: Global,
     conn: &mut Connection<S>,
     named: &[Row],
-) -> Result<Vec<Line>, LoadFault>
+) -> Result<Vec<Line>, TableFault>
     ensures told { IsOwn conn.old.schema → HasCleanDisk (state S.Store conn.new) → IfOk result (λ v. v.items ≡ map shown_line (filter (λ c. has (map first named.now) (first c)) (students_shown (state S.Store conn.old).now.trees))) }
     ensures reads { Reads result (state S.Store conn.old) (state S.Store conn.new) }
     ensures mode { conn.old.in_transaction ≡ false → conn.new.in_transaction ≡ false }
 {
     let students = student_roll(conn)?;
     if !do_rise(named) {
-        return Err(LoadFault::Damaged);
+        return Err(TableFault::Damaged);
     }
     lines_among(alloc, &students, named)
 }
@@ -142,7 +142,7 @@ fn lines_to<S: Alter>(
     alloc: Global,
     conn: &mut Connection<S>,
     project: &Key,
-) -> Result<Vec<Line>, LoadFault>
+) -> Result<Vec<Line>, TableFault>
     ensures told { Holds (state S.Store conn.old).now → HasCleanDisk (state S.Store conn.new) → IsTrue (state S.Store conn.old).is_open → IfOk result (λ v. v.items ≡ map line_of (applicants_to (world_of (state S.Store conn.old).now.trees) project.now)) }
     ensures reads { Reads result (state S.Store conn.old) (state S.Store conn.new) }
     ensures mode { conn.old.in_transaction ≡ false → conn.new.in_transaction ≡ false }
@@ -170,7 +170,7 @@ fn lines_in<S: Alter>(
     conn: &mut Connection<S>,
     phase: Phase,
     project: &Key,
-) -> Result<Vec<Line>, LoadFault>
+) -> Result<Vec<Line>, TableFault>
     ensures told { Holds (state S.Store conn.old).now → HasCleanDisk (state S.Store conn.new) → IsTrue (state S.Store conn.old).is_open → IfOk result (λ v. v.items ≡ lines_shown (world_of (state S.Store conn.old).now.trees) phase project.now) }
     ensures reads { Reads result (state S.Store conn.old) (state S.Store conn.new) }
     ensures mode { conn.old.in_transaction ≡ false → conn.new.in_transaction ≡ false }
@@ -272,7 +272,7 @@ pub(super) fn told_in<S: Alter>(
     conn: &mut Connection<S>,
     phase: Phase,
     projects: &[Key],
-) -> Result<Told, LoadFault>
+) -> Result<Told, TableFault>
     ensures applicants { Holds (state S.Store conn.old).now → HasCleanDisk (state S.Store conn.new) → IsTrue (state S.Store conn.old).is_open → phase ≡ (world_of (state S.Store conn.old).now.trees).phase → IfOk result (λ t. map with_persons t.applicants.items ≡ applicants_told (world_of (state S.Store conn.old).now.trees) projects.now) }
     ensures placed { Holds (state S.Store conn.old).now → HasCleanDisk (state S.Store conn.new) → IsTrue (state S.Store conn.old).is_open → phase ≡ (world_of (state S.Store conn.old).now.trees).phase → Good (world_of (state S.Store conn.old).now.trees) → IfOk result (λ t. map with_persons t.placed.items ≡ placed_told (world_of (state S.Store conn.old).now.trees) projects.now) }
     ensures reads { Reads result (state S.Store conn.old) (state S.Store conn.new) }

@@ -9,16 +9,16 @@ ghost use Rattle.portal_store.specs.Kept.{Holds};
 ghost use Rattle.portal_tables.specs.Reading.{Reads};
 ghost use Rattle.portal_store.specs.Queried.{as_list, lecturer_from, student_from};
 
-use portal_tables::fault::LoadFault;
+use portal_tables::fault::TableFault;
 use portal_tables::select::{lecturer_by_code, student_by_code};
 use sqlite::{Alter, Connection, Row};
 
 /// The row, if there is one; two are damage.
-fn only(mut rows: Vec<Row>) -> Result<Option<Row>, LoadFault>
+fn only(mut rows: Vec<Row>) -> Result<Option<Row>, TableFault>
     ensures { IfOk result (λ row. as_list row ≡ rows.items) }
 {
     if rows.len() > 1 {
-        return Err(LoadFault::Damaged);
+        return Err(TableFault::Damaged);
     }
     Ok(rows.pop())
 }
@@ -27,7 +27,7 @@ fn only(mut rows: Vec<Row>) -> Result<Option<Row>, LoadFault>
 pub(super) fn lecturer_in<S: Alter>(
     conn: &mut Connection<S>,
     code: &[u8],
-) -> Result<Option<Row>, LoadFault>
+) -> Result<Option<Row>, TableFault>
     ensures found { Holds (state S.Store conn.old).now → HasCleanDisk (state S.Store conn.new) → IfOk result (λ row. option_map (lecturer_from (state S.Store conn.old).now.trees) row ≡ lecturer_with (world_of (state S.Store conn.old).now.trees) code.now) }
     ensures reads { Reads result (state S.Store conn.old) (state S.Store conn.new) }
     ensures mode { conn.old.in_transaction ≡ false → conn.new.in_transaction ≡ false }
@@ -40,7 +40,7 @@ pub(super) fn lecturer_in<S: Alter>(
 pub(super) fn student_in<S: Alter>(
     conn: &mut Connection<S>,
     code: &[u8],
-) -> Result<Option<Row>, LoadFault>
+) -> Result<Option<Row>, TableFault>
     ensures found { Holds (state S.Store conn.old).now → HasCleanDisk (state S.Store conn.new) → IfOk result (λ row. option_map (student_from (state S.Store conn.old).now.trees) row ≡ student_with (world_of (state S.Store conn.old).now.trees) code.now) }
     ensures reads { Reads result (state S.Store conn.old) (state S.Store conn.new) }
     ensures mode { conn.old.in_transaction ≡ false → conn.new.in_transaction ≡ false }

@@ -22,7 +22,7 @@ use super::student::person_at;
 use portal_core::{LecturerView, Listing, Phase};
 use portal_tables::cells::{capacity_at, key_at, number_at};
 use portal_tables::entries::{Lists, list_in};
-use portal_tables::fault::LoadFault;
+use portal_tables::fault::TableFault;
 use spa_rows::Key;
 use sqlite::{Alter, Connection, Row};
 use std::alloc::{AllocError, Global};
@@ -46,7 +46,7 @@ fn own_projects(
 }
 
 /// The keys of the projects of the lecturer whose row this is.
-fn own_of(alloc: Global, catalogue: &[Listing], row: &Row) -> Result<Vec<Key>, LoadFault>
+fn own_of(alloc: Global, catalogue: &[Listing], row: &Row) -> Result<Vec<Key>, TableFault>
     ensures { IfOk result (λ v. v.items ≡ map (λ p. p.key) (filter (λ p. is p.lecturer (first row.now)) catalogue.now)) }
 {
     let lecturer = key_at(alloc, row, 0)?;
@@ -58,7 +58,7 @@ fn ranked_in<S: Alter>(
     alloc: Global,
     conn: &mut Connection<S>,
     row: &Row,
-) -> Result<Vec<Key>, LoadFault>
+) -> Result<Vec<Key>, TableFault>
     ensures names { IsOwn conn.old.schema → HasCleanDisk (state S.Store conn.new) → IfOk result (λ v. v.items ≡ chosen ((state S.Store conn.old).now.trees ranking_tree) (first row.now)) }
     ensures reads { Reads result (state S.Store conn.old) (state S.Store conn.new) }
     ensures mode { conn.old.in_transaction ≡ false → conn.new.in_transaction ≡ false }
@@ -72,7 +72,7 @@ fn ranking_in<S: Alter>(
     alloc: Global,
     conn: &mut Connection<S>,
     row: &Row,
-) -> Result<Option<Vec<Key>>, LoadFault>
+) -> Result<Option<Vec<Key>>, TableFault>
     ensures names { IsOwn conn.old.schema → HasCleanDisk (state S.Store conn.new) → IfOk result (λ o. option_map (λ v. v.items) o ≡ (if number_in (column row.now 4) == 1 then Some (chosen ((state S.Store conn.old).now.trees ranking_tree) (first row.now)) else None)) }
     ensures reads { Reads result (state S.Store conn.old) (state S.Store conn.new) }
     ensures mode { conn.old.in_transaction ≡ false → conn.new.in_transaction ≡ false }
@@ -92,7 +92,7 @@ fn put_together(
     catalogue: Rc<Vec<Listing>>,
     ranking: Option<Vec<Key>>,
     told: Told,
-) -> Result<LecturerView, LoadFault>
+) -> Result<LecturerView, TableFault>
     ensures { IfOk result (λ v. v ≡ record { phase = phase; me = record { key = first row.now; name = bytes (column row.now 1) }; capacity = number_in (column row.now 3); catalogue = catalogue.value.items; applicants = map with_persons told.applicants.items; ranking = option_map (λ r. r.items) ranking; placed = map with_persons told.placed.items }) }
 {
     Ok(LecturerView {
@@ -113,7 +113,7 @@ fn own_told<S: Alter>(
     phase: Phase,
     row: &Row,
     catalogue: &[Listing],
-) -> Result<Told, LoadFault>
+) -> Result<Told, TableFault>
     ensures applicants { Holds (state S.Store conn.old).now → HasCleanDisk (state S.Store conn.new) → IsTrue (state S.Store conn.old).is_open → phase ≡ (world_of (state S.Store conn.old).now.trees).phase → catalogue.now ≡ seen.catalogue (world_of (state S.Store conn.old).now.trees) → Good (world_of (state S.Store conn.old).now.trees) → IfOk result (λ t. map with_persons t.applicants.items ≡ (seen.lecturer_sees (world_of (state S.Store conn.old).now.trees) (lecturer_from (state S.Store conn.old).now.trees row.now)).applicants) }
     ensures placed { Holds (state S.Store conn.old).now → HasCleanDisk (state S.Store conn.new) → IsTrue (state S.Store conn.old).is_open → phase ≡ (world_of (state S.Store conn.old).now.trees).phase → catalogue.now ≡ seen.catalogue (world_of (state S.Store conn.old).now.trees) → Good (world_of (state S.Store conn.old).now.trees) → IfOk result (λ t. map with_persons t.placed.items ≡ (seen.lecturer_sees (world_of (state S.Store conn.old).now.trees) (lecturer_from (state S.Store conn.old).now.trees row.now)).placed) }
     ensures reads { Reads result (state S.Store conn.old) (state S.Store conn.new) }
@@ -130,7 +130,7 @@ pub(super) fn lecturer_view<S: Alter>(
     phase: Phase,
     row: &Row,
     catalogue: Rc<Vec<Listing>>,
-) -> Result<LecturerView, LoadFault>
+) -> Result<LecturerView, TableFault>
     ensures shows { Holds (state S.Store conn.old).now → HasCleanDisk (state S.Store conn.new) → IsTrue (state S.Store conn.old).is_open → phase ≡ (world_of (state S.Store conn.old).now.trees).phase → catalogue.value.items ≡ seen.catalogue (world_of (state S.Store conn.old).now.trees) → Good (world_of (state S.Store conn.old).now.trees) → IfOk result (λ v. v ≡ seen.lecturer_sees (world_of (state S.Store conn.old).now.trees) (lecturer_from (state S.Store conn.old).now.trees row.now)) }
     ensures reads { Reads result (state S.Store conn.old) (state S.Store conn.new) }
     ensures mode { conn.old.in_transaction ≡ false → conn.new.in_transaction ≡ false }

@@ -15,7 +15,7 @@ ghost use Rattle.portal_store.specs.Queried.{name_of, offered};
 use crate::mind::Mind;
 use portal_core::{LecturerRow, Listing, Name, ProjectRow};
 use portal_tables::decode::decoded;
-use portal_tables::fault::LoadFault;
+use portal_tables::fault::TableFault;
 use portal_tables::rolls::{lecturer_roll, project_roll};
 use spa_rows::Key;
 use sqlite::{Alter, Connection, Row};
@@ -30,7 +30,7 @@ struct Offers {
 }
 
 /// The rows decoded.
-fn offers_from(alloc: Global, lecturers: &[Row], projects: &[Row]) -> Result<Offers, LoadFault>
+fn offers_from(alloc: Global, lecturers: &[Row], projects: &[Row]) -> Result<Offers, TableFault>
     ensures lecturers { IfOk result (λ o. o.lecturers.items ≡ map shown_lecturer lecturers.now) }
     ensures projects { IfOk result (λ o. o.projects.items ≡ map shown_project projects.now) }
 {
@@ -41,7 +41,7 @@ fn offers_from(alloc: Global, lecturers: &[Row], projects: &[Row]) -> Result<Off
 }
 
 /// The projects by key, and the lecturers.
-fn offers_in<S: Alter>(alloc: Global, conn: &mut Connection<S>) -> Result<Offers, LoadFault>
+fn offers_in<S: Alter>(alloc: Global, conn: &mut Connection<S>) -> Result<Offers, TableFault>
     ensures lecturers { Holds (state S.Store conn.old).now → HasCleanDisk (state S.Store conn.new) → IsTrue (state S.Store conn.old).is_open → IfOk result (λ o. o.lecturers.items ≡ map (λ (l : Lecturer). l.row) (world_of (state S.Store conn.old).now.trees).lecturers) }
     ensures projects { Holds (state S.Store conn.old).now → HasCleanDisk (state S.Store conn.new) → IsTrue (state S.Store conn.old).is_open → IfOk result (λ o. o.projects.items ≡ (world_of (state S.Store conn.old).now.trees).projects) }
     ensures reads { Reads result (state S.Store conn.old) (state S.Store conn.new) }
@@ -118,7 +118,7 @@ fn catalogue_of(alloc: Global, offers: &Offers) -> Result<Rc<Vec<Listing>>, Allo
 fn catalogue_in<S: Alter>(
     alloc: Global,
     conn: &mut Connection<S>,
-) -> Result<Rc<Vec<Listing>>, LoadFault>
+) -> Result<Rc<Vec<Listing>>, TableFault>
     ensures shows { Holds (state S.Store conn.old).now → HasCleanDisk (state S.Store conn.new) → IsTrue (state S.Store conn.old).is_open → IfOk result (λ shared. shared.value.items ≡ catalogue (world_of (state S.Store conn.old).now.trees)) }
     ensures reads { Reads result (state S.Store conn.old) (state S.Store conn.new) }
     ensures mode { conn.old.in_transaction ≡ false → conn.new.in_transaction ≡ false }
@@ -132,7 +132,7 @@ pub(super) fn shared_catalogue<S: Alter>(
     alloc: Global,
     conn: &mut Connection<S>,
     remembered: &mut Mind,
-) -> Result<Rc<Vec<Listing>>, LoadFault>
+) -> Result<Rc<Vec<Listing>>, TableFault>
     ensures shows { Holds (state S.Store conn.old).now → HasCleanDisk (state S.Store conn.new) → IsTrue (state S.Store conn.old).is_open → Remembers remembered.old (world_of (state S.Store conn.old).now.trees) → IfOk result (λ shared. shared.value.items ≡ catalogue (world_of (state S.Store conn.old).now.trees)) }
     ensures mind { KeepsInMind remembered.old remembered.new (state S.Store conn.old) (state S.Store conn.new) }
     ensures reads { Reads result (state S.Store conn.old) (state S.Store conn.new) }

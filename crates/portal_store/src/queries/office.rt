@@ -23,7 +23,7 @@ use super::applicants::are_closed;
 use portal_core::{Listing, OfficeView, Phase};
 use portal_tables::cells::{bytes_at, key_at, number_at};
 use portal_tables::decode::do_rise;
-use portal_tables::fault::LoadFault;
+use portal_tables::fault::TableFault;
 use portal_tables::office::Office;
 use portal_tables::rolls::{Rolls, parts_of, rolls_in};
 use portal_tables::select::{choosers_of, listed_students};
@@ -49,7 +49,7 @@ pub(super) fn is_named(rows: &[Row], key: &[u8]) -> bool
 }
 
 /// The keys that students' rows begin with, but for those of the listed, whose keys rise.
-fn keys_but(alloc: Global, students: &[Row], listed: &[Row]) -> Result<Vec<Key>, LoadFault>
+fn keys_but(alloc: Global, students: &[Row], listed: &[Row]) -> Result<Vec<Key>, TableFault>
     requires { Rise (map first listed.now) }
     ensures { IfOk result (λ v. v.items ≡ map first (filter (λ c. not (has (map first listed.now) (first c))) students.now)) }
 {
@@ -63,11 +63,11 @@ fn keys_but(alloc: Global, students: &[Row], listed: &[Row]) -> Result<Vec<Key>,
 }
 
 /// The keys that students' rows begin with, but for those of the listed.
-fn keys_without(alloc: Global, students: &[Row], listed: &[Row]) -> Result<Vec<Key>, LoadFault>
+fn keys_without(alloc: Global, students: &[Row], listed: &[Row]) -> Result<Vec<Key>, TableFault>
     ensures { IfOk result (λ v. v.items ≡ map first (filter (λ c. not (has (map first listed.now) (first c))) students.now)) }
 {
     if !do_rise(listed) {
-        return Err(LoadFault::Damaged);
+        return Err(TableFault::Damaged);
     }
     keys_but(alloc, students, listed)
 }
@@ -77,7 +77,7 @@ fn without_list<S: Alter>(
     alloc: Global,
     conn: &mut Connection<S>,
     students: &[Row],
-) -> Result<Vec<Key>, LoadFault>
+) -> Result<Vec<Key>, TableFault>
     ensures told { Holds (state S.Store conn.old).now → HasCleanDisk (state S.Store conn.new) → IfOk result (λ v. v.items ≡ unlisted (state S.Store conn.old).now.trees students.now) }
     ensures reads { Reads result (state S.Store conn.old) (state S.Store conn.new) }
     ensures mode { conn.old.in_transaction ≡ false → conn.new.in_transaction ≡ false }
@@ -87,7 +87,7 @@ fn without_list<S: Alter>(
 }
 
 /// Whether a student's list holds the project.
-fn is_chosen<S: Alter>(conn: &mut Connection<S>, project: &[u8]) -> Result<bool, LoadFault>
+fn is_chosen<S: Alter>(conn: &mut Connection<S>, project: &[u8]) -> Result<bool, TableFault>
     ensures told { Holds (state S.Store conn.old).now → HasCleanDisk (state S.Store conn.new) → IfOk result (λ yes. yes ≡ list_any (λ s. has s.choice project.now) (world_of (state S.Store conn.old).now.trees).students) }
     ensures reads { Reads result (state S.Store conn.old) (state S.Store conn.new) }
     ensures mode { conn.old.in_transaction ≡ false → conn.new.in_transaction ≡ false }
@@ -101,7 +101,7 @@ fn is_chosen_of<S: Alter>(
     conn: &mut Connection<S>,
     lecturer: &Row,
     project: &Row,
-) -> Result<bool, LoadFault>
+) -> Result<bool, TableFault>
     ensures told { Holds (state S.Store conn.old).now → HasCleanDisk (state S.Store conn.new) → IfOk result (λ yes. yes ≡ (is (shown_project project.now).lecturer (first lecturer.now) && list_any (λ s. has s.choice (shown_project project.now).key) (world_of (state S.Store conn.old).now.trees).students)) }
     ensures reads { Reads result (state S.Store conn.old) (state S.Store conn.new) }
     ensures mode { conn.old.in_transaction ≡ false → conn.new.in_transaction ≡ false }
@@ -117,7 +117,7 @@ fn has_applicant<S: Alter>(
     conn: &mut Connection<S>,
     projects: &[Row],
     lecturer: &Row,
-) -> Result<bool, LoadFault>
+) -> Result<bool, TableFault>
     ensures told { Holds (state S.Store conn.old).now → HasCleanDisk (state S.Store conn.new) → IsTrue (state S.Store conn.old).is_open → IfOk result (λ yes. yes ≡ is_wanted (world_of (state S.Store conn.old).now.trees).students (map shown_project projects.now) (first lecturer.now)) }
     ensures reads { Reads result (state S.Store conn.old) (state S.Store conn.new) }
     ensures mode { conn.old.in_transaction ≡ false → conn.new.in_transaction ≡ false }
@@ -136,7 +136,7 @@ fn waiting_in<S: Alter>(
     conn: &mut Connection<S>,
     projects: &[Row],
     lecturer: &Row,
-) -> Result<Option<Key>, LoadFault>
+) -> Result<Option<Key>, TableFault>
     ensures told { Holds (state S.Store conn.old).now → HasCleanDisk (state S.Store conn.new) → IsTrue (state S.Store conn.old).is_open → IfOk result (λ key. key ≡ waiting_key (world_of (state S.Store conn.old).now.trees) (map shown_project projects.now) lecturer.now) }
     ensures reads { Reads result (state S.Store conn.old) (state S.Store conn.new) }
     ensures mode { conn.old.in_transaction ≡ false → conn.new.in_transaction ≡ false }
@@ -156,7 +156,7 @@ fn all_waiting<S: Alter>(
     conn: &mut Connection<S>,
     projects: &[Row],
     lecturers: &[Row],
-) -> Result<Vec<Key>, LoadFault>
+) -> Result<Vec<Key>, TableFault>
     ensures told { Holds (state S.Store conn.old).now → HasCleanDisk (state S.Store conn.new) → IsTrue (state S.Store conn.old).is_open → IfOk result (λ v. v.items ≡ filter_map (waiting_key (world_of (state S.Store conn.old).now.trees) (map shown_project projects.now)) lecturers.now) }
     ensures reads { Reads result (state S.Store conn.old) (state S.Store conn.new) }
     ensures mode { conn.old.in_transaction ≡ false → conn.new.in_transaction ≡ false }
@@ -176,7 +176,7 @@ fn still_to_rank<S: Alter>(
     conn: &mut Connection<S>,
     phase: Phase,
     rolls: &Rolls,
-) -> Result<Vec<Key>, LoadFault>
+) -> Result<Vec<Key>, TableFault>
     ensures told { Holds (state S.Store conn.old).now → HasCleanDisk (state S.Store conn.new) → IsTrue (state S.Store conn.old).is_open → IfOk result (λ v. v.items ≡ (if is_from_ranking phase then filter_map (waiting_key (world_of (state S.Store conn.old).now.trees) (map shown_project rolls.now.projects.items)) rolls.now.lecturers.items else [])) }
     ensures reads { Reads result (state S.Store conn.old) (state S.Store conn.new) }
     ensures mode { conn.old.in_transaction ≡ false → conn.new.in_transaction ≡ false }
@@ -205,7 +205,7 @@ fn put_together(
     rolls: &Rolls,
     without_list: Vec<Key>,
     still_to_rank: Vec<Key>,
-) -> Result<OfficeView, LoadFault>
+) -> Result<OfficeView, TableFault>
     ensures { IfOk result (λ v. v ≡ record { phase = office.phase; office_code = office.code; lecturers = map shown_lecturer rolls.now.lecturers.items; projects = map shown_project rolls.now.projects.items; students = map shown_student rolls.now.students.items; catalogue = catalogue.value.items; without_list = without_list.items; still_to_rank = still_to_rank.items; pairs = if is_published office.phase then filter_map shown_pair rolls.now.students.items else [] }) }
 {
     let parts = parts_of(alloc, rolls)?;
@@ -229,7 +229,7 @@ fn view_of_rolls<S: Alter>(
     office: Office,
     catalogue: Rc<Vec<Listing>>,
     rolls: &Rolls,
-) -> Result<OfficeView, LoadFault>
+) -> Result<OfficeView, TableFault>
     ensures shows { Holds (state S.Store conn.old).now → HasCleanDisk (state S.Store conn.new) → IsTrue (state S.Store conn.old).is_open → IfOk result (λ v. v ≡ office_from (state S.Store conn.old).now.trees office.phase office.code catalogue.value.items rolls.now.lecturers.items rolls.now.projects.items rolls.now.students.items) }
     ensures reads { Reads result (state S.Store conn.old) (state S.Store conn.new) }
     ensures mode { conn.old.in_transaction ≡ false → conn.new.in_transaction ≡ false }
@@ -245,7 +245,7 @@ pub(super) fn office_view<S: Alter>(
     conn: &mut Connection<S>,
     office: Office,
     catalogue: Rc<Vec<Listing>>,
-) -> Result<OfficeView, LoadFault>
+) -> Result<OfficeView, TableFault>
     ensures shows { Holds (state S.Store conn.old).now → HasCleanDisk (state S.Store conn.new) → IsTrue (state S.Store conn.old).is_open → (state S.Store conn.old).now.trees portal_tree ≡ portal_row (pos 1) (pos (number_of office.phase)) office.code ∷ [] → catalogue.value.items ≡ seen.catalogue (world_of (state S.Store conn.old).now.trees) → IfOk result (λ v. v ≡ seen.office_sees (world_of (state S.Store conn.old).now.trees)) }
     ensures reads { Reads result (state S.Store conn.old) (state S.Store conn.new) }
     ensures mode { conn.old.in_transaction ≡ false → conn.new.in_transaction ≡ false }

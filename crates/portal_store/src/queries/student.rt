@@ -18,14 +18,14 @@ ghost use Rattle.portal_store.specs.Queried.{student_from};
 use portal_core::{Listing, Person, Phase, StudentView};
 use portal_tables::cells::{assigned_at, key_at, name_at};
 use portal_tables::entries::{Lists, list_in};
-use portal_tables::fault::LoadFault;
+use portal_tables::fault::TableFault;
 use spa_rows::Key;
 use sqlite::{Alter, Connection, Row};
 use std::alloc::Global;
 use std::rc::Rc;
 
 /// The person whose row of a roll this is.
-pub(super) fn person_at(alloc: Global, row: &Row) -> Result<Person, LoadFault>
+pub(super) fn person_at(alloc: Global, row: &Row) -> Result<Person, TableFault>
     ensures { IfOk result (λ p. p ≡ record { key = first row.now; name = bytes (column row.now 1) }) }
 {
     Ok(Person {
@@ -35,7 +35,7 @@ pub(super) fn person_at(alloc: Global, row: &Row) -> Result<Person, LoadFault>
 }
 
 /// The student's project, once the result is shown.
-fn result_at(alloc: Global, phase: Phase, row: &Row) -> Result<Option<Key>, LoadFault>
+fn result_at(alloc: Global, phase: Phase, row: &Row) -> Result<Option<Key>, TableFault>
     ensures { IfOk result (λ p. p ≡ (if is_published phase then text_or_none (column row.now 3) else None)) }
 {
     match phase {
@@ -49,7 +49,7 @@ fn choices_in<S: Alter>(
     alloc: Global,
     conn: &mut Connection<S>,
     row: &Row,
-) -> Result<Vec<Key>, LoadFault>
+) -> Result<Vec<Key>, TableFault>
     ensures names { IsOwn conn.old.schema → HasCleanDisk (state S.Store conn.new) → IfOk result (λ v. v.items ≡ chosen ((state S.Store conn.old).now.trees choice_tree) (first row.now)) }
     ensures reads { Reads result (state S.Store conn.old) (state S.Store conn.new) }
     ensures mode { conn.old.in_transaction ≡ false → conn.new.in_transaction ≡ false }
@@ -65,7 +65,7 @@ fn put_together(
     row: &Row,
     catalogue: Rc<Vec<Listing>>,
     choices: Vec<Key>,
-) -> Result<StudentView, LoadFault>
+) -> Result<StudentView, TableFault>
     ensures { IfOk result (λ v. v ≡ record { phase = phase; me = record { key = first row.now; name = bytes (column row.now 1) }; catalogue = catalogue.value.items; choices = choices.items; result = if is_published phase then text_or_none (column row.now 3) else None }) }
 {
     Ok(StudentView {
@@ -84,7 +84,7 @@ pub(super) fn student_view<S: Alter>(
     phase: Phase,
     row: &Row,
     catalogue: Rc<Vec<Listing>>,
-) -> Result<StudentView, LoadFault>
+) -> Result<StudentView, TableFault>
     ensures shows { Holds (state S.Store conn.old).now → HasCleanDisk (state S.Store conn.new) → IsTrue (state S.Store conn.old).is_open → phase ≡ (world_of (state S.Store conn.old).now.trees).phase → catalogue.value.items ≡ seen.catalogue (world_of (state S.Store conn.old).now.trees) → IfOk result (λ v. v ≡ seen.student_sees (world_of (state S.Store conn.old).now.trees) (student_from (state S.Store conn.old).now.trees row.now)) }
     ensures reads { Reads result (state S.Store conn.old) (state S.Store conn.new) }
     ensures mode { conn.old.in_transaction ≡ false → conn.new.in_transaction ≡ false }

@@ -6,12 +6,12 @@ use Rattle.portal_tables.specs.Reading.{Reads}
 use Rattle.portal_tables.specs.Shown.{first}
 use Rattle.portal_store.specs.World.{world_of}
 use Rattle.portal_store.specs.Queried.{line_at}
-use Rattle.portal_tables.specs.declared.fault.LoadFault.{LoadFault}
+use Rattle.portal_tables.specs.declared.fault.TableFault.{TableFault}
 use Rattle.portal_store.proofs.queries.applicants.lines_from.Given as goal
 
 abbrev pub invariant-loop-row : goal.invariant-loop-row
 invariant-loop-row g l =
     (Holds (state g.S.Store l.fn.conn).now → HasCleanDisk (state g.S.Store l.conn) → IsTrue (state g.S.Store l.fn.conn).is_open
     → map Some l.lines.items ≡ map (λ c. line_at (world_of (state g.S.Store l.fn.conn).now.trees) (first c)) (take l.row-index l.rows))
-    × Reads {E = LoadFault} (Ok l.lines) (state g.S.Store l.fn.conn) (state g.S.Store l.conn)
+    × Reads {E = TableFault} (Ok l.lines) (state g.S.Store l.fn.conn) (state g.S.Store l.conn)
     × (l.fn.conn.in_transaction ≡ false → l.conn.in_transaction ≡ false)

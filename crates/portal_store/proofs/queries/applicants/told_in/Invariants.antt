@@ -6,7 +6,7 @@ use Rattle.portal_store.specs.Kept.{Holds}
 use Rattle.portal_tables.specs.Reading.{Reads}
 use Rattle.portal_store.specs.World.{world_of}
 use Rattle.portal_store.specs.Queried.{with_persons, applicants_told, placed_told}
-use Rattle.portal_tables.specs.declared.fault.LoadFault.{LoadFault}
+use Rattle.portal_tables.specs.declared.fault.TableFault.{TableFault}
 use Rattle.portal_store.proofs.queries.applicants.told_in.Given as goal
 
 abbrev pub invariant-loop-project : goal.invariant-loop-project
@@ -15,6 +15,6 @@ invariant-loop-project g l = record {
       → map with_persons l.told.applicants.items ≡ applicants_told (world_of (state g.S.Store l.fn.conn).now.trees) (take l.project-index l.projects);
   placed : Holds (state g.S.Store l.fn.conn).now → HasCleanDisk (state g.S.Store l.conn) → IsTrue (state g.S.Store l.fn.conn).is_open → l.phase ≡ (world_of (state g.S.Store l.fn.conn).now.trees).phase
       → Good (world_of (state g.S.Store l.fn.conn).now.trees) → map with_persons l.told.placed.items ≡ placed_told (world_of (state g.S.Store l.fn.conn).now.trees) (take l.project-index l.projects);
-  reads : Reads {E = LoadFault} (Ok l.told) (state g.S.Store l.fn.conn) (state g.S.Store l.conn);
+  reads : Reads {E = TableFault} (Ok l.told) (state g.S.Store l.fn.conn) (state g.S.Store l.conn);
   mode : l.fn.conn.in_transaction ≡ false → l.conn.in_transaction ≡ false;
 }
