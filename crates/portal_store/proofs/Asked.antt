@@ -19,6 +19,7 @@ use Rattle.portal_tables.specs.Rows.{portal_row}
 use Rattle.portal_tables.specs.Steps.{Leaves}
 use Rattle.std.proofs.lemmas.Result.{on_ok_weaker, on_err_weaker}
 use Rattle.portal_core.specs.Words.{Key}
+use Rattle.portal_core.specs.declared.phase.Phase.{Phase}
 use Rattle.portal_tables.specs.Office.{number_of, HasOffice}
 use Rattle.portal_store.specs.World.{world_of}
 use Rattle.portal_store.specs.Kept.{Holds, IsKept}
@@ -91,11 +92,9 @@ office_refuted db shown (Err Store) h none other judged = tt
 office_refuted db shown (Err Memory) h none other judged = tt
 
 -- the code that the one row tells is that of the world
-pub office_told : (db : Trees) (shown : List Row) (code : Key) → ListsBy (0 ∷ []) every (columns (0 ∷ 2 ∷ 3 ∷ 4 ∷ [])) (db portal_tree) shown → HasOffice (db portal_tree)
-    → ((row : Row) → shown ≡ row ∷ [] → code ≡ bytes (column row 3)) → code ≡ (world_of db).office
+pub office_told : (db : Trees) (phase : Phase) (code : Key) → db portal_tree ≡ portal_row (pos 1) (pos (number_of phase)) code ∷ [] → code ≡ (world_of db).office
 unfolding world_of
-office_told db shown code h has told =
-    told _ (listed_one _ _ _ shown (portal_row (pos 1) (pos (number_of has.phase)) has.office) h has.is) ∙ sym (ap (λ rows. bytes (column (slice_index_or rows 0 []) 4)) has.is)
+office_told db phase code is = sym (ap (λ rows. bytes (column (slice_index_or rows 0 []) 4)) is)
 
 -- a store over tables that were admitted
 pub opened_kept : {S : Type 0} (g : Ghosts S) (own : Bool) (old new : Held S) → new.in_transaction ≡ false → (IsTrue own → IsOwn old.schema) → (IsTrue (state g old).is_open → (state g old).now ≡ (state g old).committed) → IsLive (state g old)

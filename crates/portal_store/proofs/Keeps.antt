@@ -13,7 +13,6 @@ use Rattle.portal_tables.specs.Own.{IsOwn}
 use Rattle.portal_tables.specs.Steps.{Commits, Stays, Leaves, IsAfter}
 use Rattle.portal_store.specs.declared.mind.Mind.{Mind}
 use Rattle.portal_store.specs.World.{world_of}
-use Rattle.portal_tables.specs.Office.{HasOffice}
 use Rattle.portal_store.specs.Kept.{Holds, Turned, Turns, Seen, IsKept, IsCleanStore, kept_world, Remembers}
 use Rattle.portal_store.specs.Crash.{IsLeft}
 use Rattle.portal_store.specs.Reading.{KeepsInMind}
@@ -183,10 +182,6 @@ module _
   -- what is known where a call may rely on what is kept
   pub read_holds : (P : Type 0) → (IsOwn old.schema → HasCleanDisk (state g new) → Holds (state g old).now → P) → IsCleanStore g (record { conn = new; own = own }) → P
   read_holds P found on = found (own_known on.0) (law on.1) (kept.ready on.0 (rest on.0 on.1).0).holds
-
-  -- what is known where there is a row of the office
-  pub read_office : (P : Type 0) → (IsOwn old.schema → HasCleanDisk (state g new) → HasOffice ((state g old).now.trees portal_tree) → P) → IsCleanStore g (record { conn = new; own = own }) → P
-  read_office P found on = found (own_known on.0) (law on.1) (kept.ready on.0 (rest on.0 on.1).0).holds.office
 
 -- what follows of an answer, whatever it is, from what is said of it under a premise
 pub when_ok : {V E : Type 0} (C : Type 0) (A B : V → Type 0) (r : Result V E) → (C → IfOk r A) → ((v : V) → (C → A v) → B v) → IfOk r B

@@ -4,7 +4,6 @@ pub mod Again
 pub mod Applying
 pub mod Asked
 pub mod ChoiceTurns
-pub mod Ending
 pub mod FillTurns
 pub mod Filled
 pub mod Fine

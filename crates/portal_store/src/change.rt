@@ -9,15 +9,48 @@ ghost use Rattle.portal_tables.specs.Steps.{Commits, IsAfter, LeavesOnly, Stays}
 ghost use Rattle.portal_store.specs.Kept.{Turns};
 
 use crate::fill::fill_rankings;
-use crate::lists::{replace_choice, replace_ranking};
-use crate::phase::set_phase;
+use crate::lists::{PutChoices, replace_ranking};
+use crate::phase::SetPhase;
 use crate::placing::publish;
-use crate::rolls::{add_lecturers, add_projects, add_students};
+use crate::rolls::{AddLecturers, AddProjects, AddStudents};
 use portal_core::{Change, KeepFault};
+use portal_tables::fault::TableFault;
+use portal_tables::step::commit;
 use sqlite::{Alter, Connection};
 use std::alloc::Global;
 
-/// Makes the change and commits it, or leaves all as it was.
+/// Takes the step of the change and commits it, or leaves all as it was. The fault is `Damaged` only where rows are read and are those of no
+/// good world.
+fn take<S: Alter>(
+    alloc: Global,
+    conn: &mut Connection<S>,
+    change: &Change,
+) -> Result<(), TableFault>
+    requires idle { conn.old.in_transaction ≡ false }
+    ensures idle { conn.new.in_transaction ≡ false }
+    ensures ok { IsOwn conn.old.schema → HasCleanDisk (state S.Store conn.new) → OnOk result (Commits (Turns (meant change.now)) (state S.Store conn.old) (state S.Store conn.new)) }
+    ensures err { IsOwn conn.old.schema → HasCleanDisk (state S.Store conn.new) → IsTrue (state S.Store conn.new).is_open → OnErr result (Stays (state S.Store conn.old) (state S.Store conn.new)) }
+    ensures durable { IsOwn conn.old.schema → HasCleanDisk (state S.Store conn.new) → OnOk result (LeavesOnly (state S.Store conn.new)) }
+    ensures crash { IsOwn conn.old.schema → Survives (state S.Store conn.old) (state S.Store conn.new) (IsAfter (Turns (meant change.now)) (state S.Store conn.old)) }
+{
+    match change {
+        Change::Choices { student, projects } => commit(
+            alloc,
+            conn,
+            PutChoices { student, projects },
+        ),
+        Change::Ranking { lecturer, students } => replace_ranking(alloc, conn, lecturer, students),
+        Change::Lecturers(rows) => commit(alloc, conn, AddLecturers { rows }),
+        Change::Projects(rows) => commit(alloc, conn, AddProjects { rows }),
+        Change::Students(rows) => commit(alloc, conn, AddStudents { rows }),
+        Change::Phase(phase) => commit(alloc, conn, SetPhase { phase: *phase }),
+        Change::Result(pairs) => publish(alloc, conn, pairs),
+        Change::Fill => fill_rankings(alloc, conn),
+    }
+}
+
+/// Makes the change and commits it, or leaves all as it was. The store fault also where rows that
+/// are read are those of no good world.
 pub(crate) fn make<S: Alter>(
     alloc: Global,
     conn: &mut Connection<S>,
@@ -30,14 +63,8 @@ pub(crate) fn make<S: Alter>(
     ensures durable { IsOwn conn.old.schema → HasCleanDisk (state S.Store conn.new) → OnOk result (LeavesOnly (state S.Store conn.new)) }
     ensures crash { IsOwn conn.old.schema → Survives (state S.Store conn.old) (state S.Store conn.new) (IsAfter (Turns (meant change.now)) (state S.Store conn.old)) }
 {
-    match change {
-        Change::Choices { student, projects } => replace_choice(alloc, conn, student, projects),
-        Change::Ranking { lecturer, students } => replace_ranking(alloc, conn, lecturer, students),
-        Change::Lecturers(rows) => add_lecturers(alloc, conn, rows),
-        Change::Projects(rows) => add_projects(alloc, conn, rows),
-        Change::Students(rows) => add_students(alloc, conn, rows),
-        Change::Phase(phase) => set_phase(alloc, conn, *phase),
-        Change::Result(pairs) => publish(alloc, conn, pairs),
-        Change::Fill => fill_rankings(alloc, conn),
+    match take(alloc, conn, change) {
+        Ok(()) => Ok(()),
+        Err(fault) => Err(KeepFault::from(fault)),
     }
 }

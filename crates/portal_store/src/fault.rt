@@ -1,4 +1,4 @@
-//! What an error of the connection means to a keeper.
+//! What an error of the connection, of the tables or of their rows means to who makes or opens a store.
 
 ghost use Rattle.std.specs.Prelude.{◌≡◌, ◌≢◌};
 ghost use Rattle.sqlite.specs.Tree.{Trees};
@@ -6,18 +6,9 @@ ghost use Rattle.portal_store.specs.Kept.{Stands};
 ghost use Rattle.portal_store.specs.Asked.{Refutes};
 
 use crate::store::{CreateFault, OpenFault};
-use portal_core::KeepFault;
 use portal_list::RowsFault;
 use portal_tables::fault::TableFault;
 use sqlite::{Error, ErrorCode};
-
-/// Want of memory, or a fault of the store.
-pub(crate) fn fault_of(error: Error) -> KeepFault {
-    match error {
-        Error::SqliteFailure(ErrorCode::OutOfMemory) => KeepFault::Memory,
-        _ => KeepFault::Store,
-    }
-}
 
 /// Want of memory, or a fault of the store; never that tables are there.
 pub(crate) fn create_fault_of(error: Error) -> CreateFault
@@ -29,16 +20,8 @@ pub(crate) fn create_fault_of(error: Error) -> CreateFault
     }
 }
 
-/// Want of memory, or a fault of the store, also where the rows stand for no good world.
-pub(crate) fn keep_fault_of(fault: TableFault) -> KeepFault {
-    match fault {
-        TableFault::Memory => KeepFault::Memory,
-        TableFault::Damaged | TableFault::Store => KeepFault::Store,
-    }
-}
-
 /// Rows of no sound world are damaged.
-pub(crate) fn load_fault_of(fault: RowsFault) -> TableFault
+pub(crate) fn rows_fault_of(fault: RowsFault) -> TableFault
     ensures { result ≡ TableFault.Damaged → fault ≡ RowsFault.NotGood }
 {
     match fault {

@@ -10,29 +10,13 @@ ghost use Rattle.portal_tables.specs.Own.{IsOwn};
 ghost use Rattle.portal_tables.specs.Steps.{Leaves};
 ghost use Rattle.portal_store.specs.World.{world_of};
 
-use crate::fault::{keep_fault_of, load_fault_of};
+use crate::fault::rows_fault_of;
 use crate::load::load;
 use portal_core::KeepFault;
 use portal_list::instance_of_rows;
-use portal_tables::fault::TableFault;
 use spa_model::Instance;
 use sqlite::{Alter, Connection};
 use std::alloc::Global;
-
-/// The instance of the rows, once they are loaded.
-fn loaded<S: Alter>(alloc: Global, conn: &mut Connection<S>) -> Result<Instance, TableFault>
-    requires idle { conn.old.in_transaction ≡ false }
-    ensures idle { conn.new.in_transaction ≡ false }
-    ensures instance { IsOwn conn.old.schema → IsDatabase (state S.Store conn.old).now → HasCleanDisk (state S.Store conn.new) → IfOk result (λ i. Sound (world_of (state S.Store conn.old).now.trees) → i ≡ meant_by.instance (world_of (state S.Store conn.old).now.trees)) }
-    ensures same { IsOwn conn.old.schema → HasCleanDisk (state S.Store conn.new) → OnOk result (IsUnchanged (state S.Store conn.old) (state S.Store conn.new)) }
-    ensures err { IsOwn conn.old.schema → HasCleanDisk (state S.Store conn.new) → OnErr result (Leaves (state S.Store conn.old) (state S.Store conn.new)) }
-{
-    let rows = load(alloc, conn)?;
-    match instance_of_rows(alloc, rows) {
-        Ok(instance) => Ok(instance),
-        Err(fault) => Err(load_fault_of(fault)),
-    }
-}
 
 /// The instance of the rolls, the lists and the rankings, as they stand in the tables: no list is judged.
 pub(crate) fn instance_in<S: Alter>(
@@ -45,8 +29,9 @@ pub(crate) fn instance_in<S: Alter>(
     ensures same { IsOwn conn.old.schema → HasCleanDisk (state S.Store conn.new) → OnOk result (IsUnchanged (state S.Store conn.old) (state S.Store conn.new)) }
     ensures err { IsOwn conn.old.schema → HasCleanDisk (state S.Store conn.new) → OnErr result (Leaves (state S.Store conn.old) (state S.Store conn.new)) }
 {
-    match loaded(alloc, conn) {
+    let rows = load(alloc, conn)?;
+    match instance_of_rows(alloc, rows) {
         Ok(instance) => Ok(instance),
-        Err(fault) => Err(keep_fault_of(fault)),
+        Err(fault) => Err(KeepFault::from(rows_fault_of(fault))),
     }
 }

@@ -1,23 +1,23 @@
-//! A student's list and a lecturer's ranking, each replaced in a transaction of its own.
+//! A student's list and a lecturer's ranking, each put in place of any other.
 
 ghost use Rattle.std.specs.Prelude.{◌≡◌, ◌≤◌, pos, false, length, map, IfOk, OnOk, OnErr, IsTrue};
-ghost use Rattle.sqlite.specs.State.{HasCleanDisk, KeepsCommit, Survives};
+ghost use Rattle.sqlite.specs.State.{HasCleanDisk, Survives};
 ghost use Rattle.sqlite.specs.Held.{state};
 ghost use Rattle.portal_core.specs.Change.{Choices, Ranks};
 ghost use Rattle.portal_tables.specs.Own.{IsOwn};
 ghost use Rattle.portal_tables.specs.Rows.{choice_cells, ranking_cells};
-ghost use Rattle.portal_tables.specs.Steps.{GoesOn, Commits, IsAfter, LeavesOnly, Stays};
+ghost use Rattle.portal_tables.specs.Steps.{Commits, IsAfter, LeavesOnly, Stays};
 ghost use Rattle.portal_store.specs.Kept.{Turns};
 ghost use Rattle.portal_store.specs.Putting.{list_cells, TurnsThere};
 
-use crate::fault::fault_of;
-use portal_core::KeepFault;
+use portal_tables::fault::TableFault;
 use portal_tables::insert::{NewChoice, NewRanking, add_all};
 use portal_tables::remove::{clear_choices, clear_rankings};
 use portal_tables::select::lecturer_by_key;
+use portal_tables::step::{Step, commit};
 use portal_tables::update::set_ranked;
 use spa_rows::Key;
-use sqlite::{Alter, Connection, Error, Transaction};
+use sqlite::{Alter, Connection, Error, ErrorCode, Transaction};
 use std::alloc::{AllocError, Global};
 
 /// No list is longer: there are at most 1,000 projects and 2,000 students.
@@ -45,67 +45,24 @@ fn choices_of<'a>(
     Ok(rows)
 }
 
-/// Puts the projects in the place of the student's list.
-fn put_choices<S: Alter>(
-    alloc: Global,
-    tx: &mut Transaction<'_, S>,
-    student: &Key,
-    projects: &[Key],
-) -> Result<(), Error>
-    requires few { length projects.now ≤ 2000 }
-    ensures same_reference { tx.new.conn.ghost_name ≡ tx.old.conn.ghost_name }
-    ensures done { HasCleanDisk (state S.Store tx.new.conn.now) → OnOk result (GoesOn (Turns (Choices student.now projects.now)) (state S.Store tx.old.conn.now) (state S.Store tx.new.conn.now)) }
-    ensures kept { HasCleanDisk (state S.Store tx.new.conn.now) → KeepsCommit (state S.Store tx.old.conn.now) (state S.Store tx.new.conn.now) }
-    ensures survives { Survives (state S.Store tx.old.conn.now) (state S.Store tx.new.conn.now) (λ _. ⊥) }
-{
-    clear_choices(tx, student.as_bytes())?;
-    let rows = choices_of(alloc, student, projects)?;
-    add_all(tx, &rows)
+/// The student's list becomes these projects, best first. A list that is longer than any may be is refused as too big.
+pub(crate) struct PutChoices<'a> {
+    pub student: &'a Key,
+    pub projects: &'a [Key],
 }
 
-/// Replaces the student's list.
-fn turn_choice<S: Alter>(
-    alloc: Global,
-    conn: &mut Connection<S>,
-    student: &Key,
-    projects: &[Key],
-) -> Result<(), Error>
-    requires few { length projects.now ≤ 2000 }
-    requires idle { conn.old.in_transaction ≡ false }
-    ensures idle { conn.new.in_transaction ≡ false }
-    ensures ok { HasCleanDisk (state S.Store conn.new) → OnOk result (Commits (Turns (Choices student.now projects.now)) (state S.Store conn.old) (state S.Store conn.new)) }
-    ensures err { HasCleanDisk (state S.Store conn.new) → IsTrue (state S.Store conn.new).is_open → OnErr result (Stays (state S.Store conn.old) (state S.Store conn.new)) }
-    ensures durable { HasCleanDisk (state S.Store conn.new) → OnOk result (LeavesOnly (state S.Store conn.new)) }
-    ensures crash { Survives (state S.Store conn.old) (state S.Store conn.new) (IsAfter (Turns (Choices student.now projects.now)) (state S.Store conn.old)) }
-{
-    let _idle = conn.is_autocommit();
-    let mut tx = conn.transaction();
-    put_choices(alloc, &mut tx, student, projects)?;
-    tx.commit()?;
-    Ok(())
-}
+impl Step for PutChoices<'_> {
+    ghost makes = { λ s. Turns (Choices s.student.now s.projects.now) };
 
-/// Replaces the student's list by these projects, best first. The store fault also where the list is longer than any may be.
-pub(crate) fn replace_choice<S: Alter>(
-    alloc: Global,
-    conn: &mut Connection<S>,
-    student: &Key,
-    projects: &[Key],
-) -> Result<(), KeepFault>
-    requires idle { conn.old.in_transaction ≡ false }
-    ensures idle { conn.new.in_transaction ≡ false }
-    ensures ok { IsOwn conn.old.schema → HasCleanDisk (state S.Store conn.new) → OnOk result (Commits (Turns (Choices student.now projects.now)) (state S.Store conn.old) (state S.Store conn.new)) }
-    ensures err { IsOwn conn.old.schema → HasCleanDisk (state S.Store conn.new) → IsTrue (state S.Store conn.new).is_open → OnErr result (Stays (state S.Store conn.old) (state S.Store conn.new)) }
-    ensures durable { IsOwn conn.old.schema → HasCleanDisk (state S.Store conn.new) → OnOk result (LeavesOnly (state S.Store conn.new)) }
-    ensures crash { IsOwn conn.old.schema → Survives (state S.Store conn.old) (state S.Store conn.new) (IsAfter (Turns (Choices student.now projects.now)) (state S.Store conn.old)) }
-{
-    if projects.len() > LONGEST {
-        return Err(KeepFault::Store);
+    fn take<S: Alter>(self, alloc: Global, tx: &mut Transaction<'_, S>) -> Result<(), Error> {
+        let PutChoices { student, projects } = self;
+        if projects.len() > LONGEST {
+            return Err(Error::SqliteFailure(ErrorCode::TooBig));
+        }
+        clear_choices(tx, student.as_bytes())?;
+        let rows = choices_of(alloc, student, projects)?;
+        add_all(tx, &rows)
     }
-    if let Err(error) = turn_choice(alloc, conn, student, projects) {
-        return Err(fault_of(error));
-    }
-    Ok(())
 }
 
 /// The rows of a lecturer's ranking.
@@ -130,54 +87,35 @@ fn rankings_of<'a>(
     Ok(rows)
 }
 
-/// Puts the students in the place of the lecturer's ranking, and says of the lecturer that a ranking is there.
-pub(crate) fn put_ranking<S: Alter>(
-    alloc: Global,
-    tx: &mut Transaction<'_, S>,
-    lecturer: &Key,
-    students: &[Key],
-) -> Result<(), Error>
-    requires few { length students.now ≤ 2000 }
-    ensures same_reference { tx.new.conn.ghost_name ≡ tx.old.conn.ghost_name }
-    ensures done { HasCleanDisk (state S.Store tx.new.conn.now) → OnOk result (GoesOn (TurnsThere lecturer.now students.now) (state S.Store tx.old.conn.now) (state S.Store tx.new.conn.now)) }
-    ensures kept { HasCleanDisk (state S.Store tx.new.conn.now) → KeepsCommit (state S.Store tx.old.conn.now) (state S.Store tx.new.conn.now) }
-    ensures survives { Survives (state S.Store tx.old.conn.now) (state S.Store tx.new.conn.now) (λ _. ⊥) }
-{
-    clear_rankings(tx, lecturer.as_bytes())?;
-    let rows = rankings_of(alloc, lecturer, students)?;
-    add_all(tx, &rows)?;
-    set_ranked(tx, lecturer.as_bytes())
+/// The ranking of a lecturer who is on the roll becomes these students, best first, and the lecturer's row says that it is there. As
+/// `PutChoices` otherwise.
+pub(crate) struct PutRanking<'a> {
+    pub lecturer: &'a Key,
+    pub students: &'a [Key],
 }
 
-/// Replaces the ranking of a lecturer who is on the roll.
-fn turn_ranking<S: Alter>(
-    alloc: Global,
-    conn: &mut Connection<S>,
-    lecturer: &Key,
-    students: &[Key],
-) -> Result<(), Error>
-    requires few { length students.now ≤ 2000 }
-    requires idle { conn.old.in_transaction ≡ false }
-    ensures idle { conn.new.in_transaction ≡ false }
-    ensures ok { HasCleanDisk (state S.Store conn.new) → OnOk result (Commits (TurnsThere lecturer.now students.now) (state S.Store conn.old) (state S.Store conn.new)) }
-    ensures err { HasCleanDisk (state S.Store conn.new) → IsTrue (state S.Store conn.new).is_open → OnErr result (Stays (state S.Store conn.old) (state S.Store conn.new)) }
-    ensures durable { HasCleanDisk (state S.Store conn.new) → OnOk result (LeavesOnly (state S.Store conn.new)) }
-    ensures crash { Survives (state S.Store conn.old) (state S.Store conn.new) (IsAfter (TurnsThere lecturer.now students.now) (state S.Store conn.old)) }
-{
-    let _idle = conn.is_autocommit();
-    let mut tx = conn.transaction();
-    put_ranking(alloc, &mut tx, lecturer, students)?;
-    tx.commit()?;
-    Ok(())
+impl Step for PutRanking<'_> {
+    ghost makes = { λ s. TurnsThere s.lecturer.now s.students.now };
+
+    fn take<S: Alter>(self, alloc: Global, tx: &mut Transaction<'_, S>) -> Result<(), Error> {
+        let PutRanking { lecturer, students } = self;
+        if students.len() > LONGEST {
+            return Err(Error::SqliteFailure(ErrorCode::TooBig));
+        }
+        clear_rankings(tx, lecturer.as_bytes())?;
+        let rows = rankings_of(alloc, lecturer, students)?;
+        add_all(tx, &rows)?;
+        set_ranked(tx, lecturer.as_bytes())
+    }
 }
 
-/// Replaces the lecturer's ranking by these students, best first, if the lecturer is on the roll. As `replace_choice` otherwise.
+/// Replaces the lecturer's ranking by these students, best first, if the lecturer is on the roll.
 pub(crate) fn replace_ranking<S: Alter>(
     alloc: Global,
     conn: &mut Connection<S>,
     lecturer: &Key,
     students: &[Key],
-) -> Result<(), KeepFault>
+) -> Result<(), TableFault>
     requires idle { conn.old.in_transaction ≡ false }
     ensures idle { conn.new.in_transaction ≡ false }
     ensures ok { IsOwn conn.old.schema → HasCleanDisk (state S.Store conn.new) → OnOk result (Commits (Turns (Ranks lecturer.now students.now)) (state S.Store conn.old) (state S.Store conn.new)) }
@@ -185,19 +123,10 @@ pub(crate) fn replace_ranking<S: Alter>(
     ensures durable { IsOwn conn.old.schema → HasCleanDisk (state S.Store conn.new) → OnOk result (LeavesOnly (state S.Store conn.new)) }
     ensures crash { IsOwn conn.old.schema → Survives (state S.Store conn.old) (state S.Store conn.new) (IsAfter (Turns (Ranks lecturer.now students.now)) (state S.Store conn.old)) }
 {
-    if students.len() > LONGEST {
-        return Err(KeepFault::Store);
-    }
     let _idle = conn.is_autocommit();
-    let there = match lecturer_by_key(conn, lecturer.as_bytes()) {
-        Ok(rows) => rows,
-        Err(error) => return Err(fault_of(error)),
-    };
+    let there = lecturer_by_key(conn, lecturer.as_bytes())?;
     if there.is_empty() {
         return Ok(());
     }
-    if let Err(error) = turn_ranking(alloc, conn, lecturer, students) {
-        return Err(fault_of(error));
-    }
-    Ok(())
+    commit(alloc, conn, PutRanking { lecturer, students })
 }

@@ -24,7 +24,6 @@ mod offers;
 mod office;
 mod student;
 
-use crate::fault::keep_fault_of;
 use crate::mind::{Mind, office_view_of};
 use caller::{lecturer_in, student_in};
 use lecturer::lecturer_view;
@@ -153,7 +152,7 @@ pub(crate) fn view_with<S: Alter>(
 {
     match sight(alloc, conn, remembered, code) {
         Ok(view) => Ok(view),
-        Err(fault) => Err(keep_fault_of(fault)),
+        Err(fault) => Err(KeepFault::from(fault)),
     }
 }
 

@@ -10,7 +10,7 @@ ghost use Rattle.portal_tables.specs.Steps.{Leaves};
 ghost use Rattle.portal_store.specs.Kept.{Stands};
 ghost use Rattle.portal_store.specs.Found.{Finds};
 
-use crate::fault::load_fault_of;
+use crate::fault::rows_fault_of;
 use crate::load::load;
 use portal_list::ListKeeper;
 use portal_tables::fault::TableFault;
@@ -35,6 +35,6 @@ pub(crate) fn load_keeper<S: Alter>(
     let rows = load(alloc, conn)?;
     match ListKeeper::from_rows(alloc, rows) {
         Ok(keeper) => Ok(keeper),
-        Err(fault) => Err(load_fault_of(fault)),
+        Err(fault) => Err(rows_fault_of(fault)),
     }
 }

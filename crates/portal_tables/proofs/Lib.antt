@@ -10,6 +10,7 @@ pub mod Queries
 pub mod Rises
 pub mod Statements
 pub mod Eights
+pub mod Ending
 pub mod Shows
 pub mod Keeping
 pub mod Owned

@@ -16,4 +16,5 @@ pub mod remove;
 pub mod rolls;
 mod run;
 pub mod select;
+pub mod step;
 pub mod update;

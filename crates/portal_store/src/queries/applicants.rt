@@ -59,7 +59,11 @@ fn line_from(alloc: Global, rows: &[Row]) -> Result<Line, TableFault>
 }
 
 /// The line of the student with the key.
-fn line_in<S: Alter>(alloc: Global, conn: &mut Connection<S>, key: &[u8]) -> Result<Line, TableFault>
+fn line_in<S: Alter>(
+    alloc: Global,
+    conn: &mut Connection<S>,
+    key: &[u8],
+) -> Result<Line, TableFault>
     ensures told { Holds (state S.Store conn.old).now → HasCleanDisk (state S.Store conn.new) → IfOk result (λ l. Some l ≡ line_at (world_of (state S.Store conn.old).now.trees) key.now) }
     ensures reads { Reads result (state S.Store conn.old) (state S.Store conn.new) }
     ensures mode { conn.old.in_transaction ≡ false → conn.new.in_transaction ≡ false }

@@ -1,4 +1,5 @@
 use Rattle.std.proofs.Common.{List, map, arith, ap, ◌∙◌}
+use Rattle.std.proofs.lemmas.Result.{on_ok_weaker}
 use Rattle.sqlite.specs.State.{HasCleanDisk}
 use Rattle.sqlite.specs.Held.{state}
 use Rattle.portal_core.specs.Words.{Key}
@@ -15,32 +16,22 @@ pub returns-clause-ok : goal.returns-clause-ok
 returns-clause-ok g c own clean =
     let old = state g.S.Store c.args.conn.now in
     let mid = state g.S.Store c.missing_rankings.new.conn in
-    let new = state g.S.Store c.turn_rankings.new.conn in
+    let new = state g.S.Store c.commit.new.conn in
     let fs : List (Key × List Key) = map (λ f. (f.0, f.1.items)) c.deref.result.now in
     let are =
-    λ (clean : HasCleanDisk mid) (holds : Holds old.now) (sound : Sound (world_of old.now.trees)). ap (map {B = Key × List Key} (λ f. (f.0, f.1.items))) c.deref.ensures.value ∙ c.in-Ok.ensures.fills own holds.sound clean sound in
-    let early : HasCleanDisk mid = omega (arith, clean, c.turn_rankings.ensures.crash.clean) in
-    commits_asked old mid new (TurnsAll fs) (Turns Fill) (λ clean after. fill_turns fs old.now after (are clean))
-    early (c.in-Ok.ensures.same own early) (c.in_default.ensures.ok clean)
+    λ (clean : HasCleanDisk mid) (holds : Holds old.now) (sound : Sound (world_of old.now.trees)). ap (map {B = Key × List Key} (λ f. (f.0, f.1.items))) c.deref.ensures.value ∙ c.in_ok-rankings.ensures.fills own holds.sound clean sound in
+    let early : HasCleanDisk mid = omega (arith, clean, c.commit.ensures.crash.clean) in
+    on_ok_weaker c.commit.result
+    (commits_asked old mid new (TurnsAll fs) (Turns Fill) (λ clean after. fill_turns fs old.now after (are clean)) early (c.in_ok-rankings.ensures.same own early))
+    (c.commit.ensures.ok clean)
 
 pub returns-clause-crash : goal.returns-clause-crash
 returns-clause-crash g c own =
     let old = state g.S.Store c.args.conn.now in
     let mid = state g.S.Store c.missing_rankings.new.conn in
-    let new = state g.S.Store c.turn_rankings.new.conn in
+    let new = state g.S.Store c.commit.new.conn in
     let fs : List (Key × List Key) = map (λ f. (f.0, f.1.items)) c.deref.result.now in
     let are =
-    λ (clean : HasCleanDisk mid) (holds : Holds old.now) (sound : Sound (world_of old.now.trees)). ap (map {B = Key × List Key} (λ f. (f.0, f.1.items))) c.deref.ensures.value ∙ c.in-Ok.ensures.fills own holds.sound clean sound in
+    λ (clean : HasCleanDisk mid) (holds : Holds old.now) (sound : Sound (world_of old.now.trees)). ap (map {B = Key × List Key} (λ f. (f.0, f.1.items))) c.deref.ensures.value ∙ c.in_ok-rankings.ensures.fills own holds.sound clean sound in
     crash_asked old mid new (TurnsAll fs) (Turns Fill) (λ clean after. fill_turns fs old.now after (are clean))
-    (λ clean. c.in-Ok.ensures.same own clean) (c.missing_rankings.ensures.crash own) c.turn_rankings.ensures.crash
-
-pub returns-in-Err-turn_rankings-clause-crash : goal.returns-in-Err-turn_rankings-clause-crash
-returns-in-Err-turn_rankings-clause-crash g c own =
-    let old = state g.S.Store c.args.conn.now in
-    let mid = state g.S.Store c.missing_rankings.new.conn in
-    let new = state g.S.Store c.turn_rankings.new.conn in
-    let fs : List (Key × List Key) = map (λ f. (f.0, f.1.items)) c.deref.result.now in
-    let are =
-    λ (clean : HasCleanDisk mid) (holds : Holds old.now) (sound : Sound (world_of old.now.trees)). ap (map {B = Key × List Key} (λ f. (f.0, f.1.items))) c.deref.ensures.value ∙ c.in-Ok.ensures.fills own holds.sound clean sound in
-    crash_asked old mid new (TurnsAll fs) (Turns Fill) (λ clean after. fill_turns fs old.now after (are clean))
-    (λ clean. c.in-Ok.ensures.same own clean) (c.missing_rankings.ensures.crash own) c.turn_rankings.ensures.crash
+    (λ clean. c.in_ok-rankings.ensures.same own clean) (c.missing_rankings.ensures.crash own) c.commit.ensures.crash

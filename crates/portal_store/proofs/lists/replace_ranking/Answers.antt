@@ -1,4 +1,5 @@
 use Rattle.std.proofs.Common.{rules, arith, ◌≡◌, ◌≢◌, length}
+use Rattle.std.proofs.lemmas.Result.{on_ok_weaker}
 use Rattle.sqlite.specs.State.{HasCleanDisk}
 use Rattle.sqlite.specs.Held.{state}
 use Rattle.portal_core.specs.Change.{Ranks}
@@ -13,10 +14,10 @@ returns-then-is_empty-clause-ok g c own clean =
     let k = c.args.lecturer.now in
     let list = c.args.students.now in
     let old = state g.S.Store c.args.conn.now in
-    let none : length c.in-Ok.rows.items ≡ 0 = search rules in
+    let none : length c.in_ok-there.there.items ≡ 0 = search rules in
     commits_none old (state g.S.Store c.lecturer_by_key.new.conn) (Turns (Ranks k list))
-    (λ on. c.is_autocommit-idle.ensures.settled (search rules) on) (c.in-Ok.ensures.same own clean)
-    (turns_none k _ list _ c.in-Ok.rows.items old.now c.as_bytes.ensures.bytes none (c.in-Ok.ensures.rows own clean))
+    (λ on. c.is_autocommit-idle.ensures.settled (search rules) on) (c.in_ok-there.ensures.same own clean)
+    (turns_none k _ list _ c.in_ok-there.there.items old.now c.as_bytes.ensures.bytes none (c.in_ok-there.ensures.rows own clean))
 
 pub returns-clause-ok : goal.returns-clause-ok
 returns-clause-ok g c own clean =
@@ -24,12 +25,14 @@ returns-clause-ok g c own clean =
     let list = c.args.students.now in
     let old = state g.S.Store c.args.conn.now in
     let mid = state g.S.Store c.lecturer_by_key.new.conn in
-    let new = state g.S.Store c.turn_ranking.new.conn in
-    let early : HasCleanDisk mid = omega (arith, clean, c.turn_ranking.ensures.crash.clean) in
-    let some : length c.in-Ok.rows.items ≢ 0 = λ e. search rules in
-    commits_asked old mid new (TurnsThere k list) (Turns (Ranks k list))
-    (λ clean after. turns_shown k _ list _ c.in-Ok.rows.items old.now after c.as_bytes.ensures.bytes some (c.in-Ok.ensures.rows own clean))
-    early (c.in-Ok.ensures.same own early) (c.in_default.ensures.ok clean)
+    let new = state g.S.Store c.commit.new.conn in
+    let early : HasCleanDisk mid = omega (arith, clean, c.commit.ensures.crash.clean) in
+    let some : length c.in_ok-there.there.items ≢ 0 = λ e. search rules in
+    on_ok_weaker c.commit.result
+    (commits_asked old mid new (TurnsThere k list) (Turns (Ranks k list))
+    (λ clean after. turns_shown k _ list _ c.in_ok-there.there.items old.now after c.as_bytes.ensures.bytes some (c.in_ok-there.ensures.rows own clean))
+    early (c.in_ok-there.ensures.same own early))
+    (c.commit.ensures.ok clean)
 
 pub returns-clause-crash : goal.returns-clause-crash
 returns-clause-crash g c own =
@@ -37,20 +40,8 @@ returns-clause-crash g c own =
     let list = c.args.students.now in
     let old = state g.S.Store c.args.conn.now in
     let mid = state g.S.Store c.lecturer_by_key.new.conn in
-    let new = state g.S.Store c.turn_ranking.new.conn in
-    let some : length c.in-Ok.rows.items ≢ 0 = λ e. search rules in
+    let new = state g.S.Store c.commit.new.conn in
+    let some : length c.in_ok-there.there.items ≢ 0 = λ e. search rules in
     crash_asked old mid new (TurnsThere k list) (Turns (Ranks k list))
-    (λ clean after. turns_shown k _ list _ c.in-Ok.rows.items old.now after c.as_bytes.ensures.bytes some (c.in-Ok.ensures.rows own clean))
-    (λ clean. c.in-Ok.ensures.same own clean) (c.lecturer_by_key.ensures.crash own) c.turn_ranking.ensures.crash
-
-pub returns-in-Err-turn_ranking-clause-crash : goal.returns-in-Err-turn_ranking-clause-crash
-returns-in-Err-turn_ranking-clause-crash g c own =
-    let k = c.args.lecturer.now in
-    let list = c.args.students.now in
-    let old = state g.S.Store c.args.conn.now in
-    let mid = state g.S.Store c.lecturer_by_key.new.conn in
-    let new = state g.S.Store c.turn_ranking.new.conn in
-    let some : length c.in-Ok.rows.items ≢ 0 = λ e. search rules in
-    crash_asked old mid new (TurnsThere k list) (Turns (Ranks k list))
-    (λ clean after. turns_shown k _ list _ c.in-Ok.rows.items old.now after c.as_bytes.ensures.bytes some (c.in-Ok.ensures.rows own clean))
-    (λ clean. c.in-Ok.ensures.same own clean) (c.lecturer_by_key.ensures.crash own) c.turn_ranking.ensures.crash
+    (λ clean after. turns_shown k _ list _ c.in_ok-there.there.items old.now after c.as_bytes.ensures.bytes some (c.in_ok-there.ensures.rows own clean))
+    (λ clean. c.in_ok-there.ensures.same own clean) (c.lecturer_by_key.ensures.crash own) c.commit.ensures.crash

@@ -4,7 +4,7 @@ use Rattle.sqlite.specs.Held.{Held, state}
 use Rattle.portal_tables.proofs.Runs.{clean_if_open}
 use Rattle.std.proofs.lemmas.Result.{IfOk-weaker}
 use Rattle.portal_store.specs.Kept.{kept_world}
-use Rattle.portal_store.proofs.Keeps.{read_keeps, read_shown, read_clean, read_same, read_office}
+use Rattle.portal_store.proofs.Keeps.{read_keeps, read_shown, read_clean, read_same, read_holds}
 use Rattle.portal_store.proofs.store.Store.office_code.Given.{Over}
 use Rattle.portal_store.proofs.store.Store.office_code.Goals as goal
 
@@ -32,5 +32,5 @@ returns-clause-same g c =
 pub returns-clause-code : goal.returns-clause-code
 returns-clause-code g c on =
     IfOk-weaker c.office_of.result _ _ (λ code is. is ∙ ap (λ s. (kept_world g.S.Store s).office) c.self.view_is)
-    (read_office g.S.Store c.self.inside.conn c.office_of.new.conn c.self.inside.own c.args.self.now c.self.view_is c.self.invariant.kept c.office_of.ensures.idle c.in_ok-check_own.ensures (law g c.office_of.new.conn)
-    c.office_of.result c.office_of.ensures.same c.office_of.ensures.err _ c.office_of.ensures.code on)
+    (read_holds g.S.Store c.self.inside.conn c.office_of.new.conn c.self.inside.own c.args.self.now c.self.view_is c.self.invariant.kept c.office_of.ensures.idle c.in_ok-check_own.ensures (law g c.office_of.new.conn)
+    c.office_of.result c.office_of.ensures.same c.office_of.ensures.err _ (λ own clean holds. c.office_of.ensures.code own holds.sound clean) on)

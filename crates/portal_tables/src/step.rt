@@ -1,0 +1,45 @@
+//! What is done in a transaction of its own.
+
+ghost use Rattle.std.specs.Prelude.{◌≡◌, false, OnOk, OnErr, IsTrue};
+ghost use Rattle.sqlite.specs.State.{HasCleanDisk, KeepsCommit, Survives};
+ghost use Rattle.sqlite.specs.Held.{state};
+ghost use Rattle.sqlite.specs.Effect.{Database};
+ghost use Rattle.portal_tables.specs.Steps.{GoesOn, Commits, IsAfter, LeavesOnly, Stays};
+
+use crate::fault::TableFault;
+use sqlite::{Alter, Connection, Error, Transaction};
+use std::alloc::Global;
+
+/// What is done to the tables within one transaction.
+pub trait Step {
+    // what it makes of the database
+    ghost makes: { Self → Database → Database → Type 0 };
+
+    /// Does it. After an error of the store the transaction should be dropped, which undoes it.
+    fn take<S: Alter>(self, alloc: Global, tx: &mut Transaction<'_, S>) -> Result<(), Error>
+        ensures same_reference { tx.new.conn.ghost_name ≡ tx.old.conn.ghost_name }
+        ensures done { HasCleanDisk (state S.Store tx.new.conn.now) → OnOk result (GoesOn (makes self) (state S.Store tx.old.conn.now) (state S.Store tx.new.conn.now)) }
+        ensures kept { HasCleanDisk (state S.Store tx.new.conn.now) → KeepsCommit (state S.Store tx.old.conn.now) (state S.Store tx.new.conn.now) }
+        ensures survives { Survives (state S.Store tx.old.conn.now) (state S.Store tx.new.conn.now) (λ _. ⊥) };
+}
+
+/// Takes the step in a transaction of its own and commits it. After an error nothing is changed, and it is `Memory` for want of memory, else
+/// `Store`; after Ok a crash leaves what the step made.
+pub fn commit<S: Alter, T: Step>(
+    alloc: Global,
+    conn: &mut Connection<S>,
+    step: T,
+) -> Result<(), TableFault>
+    requires idle { conn.old.in_transaction ≡ false }
+    ensures idle { conn.new.in_transaction ≡ false }
+    ensures ok { HasCleanDisk (state S.Store conn.new) → OnOk result (Commits (T.makes step) (state S.Store conn.old) (state S.Store conn.new)) }
+    ensures err { HasCleanDisk (state S.Store conn.new) → IsTrue (state S.Store conn.new).is_open → OnErr result (Stays (state S.Store conn.old) (state S.Store conn.new)) }
+    ensures durable { HasCleanDisk (state S.Store conn.new) → OnOk result (LeavesOnly (state S.Store conn.new)) }
+    ensures crash { Survives (state S.Store conn.old) (state S.Store conn.new) (IsAfter (T.makes step) (state S.Store conn.old)) }
+{
+    let _idle = conn.is_autocommit();
+    let mut tx = conn.transaction();
+    step.take(alloc, &mut tx)?;
+    tx.commit()?;
+    Ok(())
+}
