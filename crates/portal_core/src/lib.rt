@@ -11,6 +11,7 @@ pub mod laws;
 mod name;
 mod phase;
 mod placing;
+mod remembered;
 mod rows;
 mod view;
 
@@ -22,5 +23,6 @@ pub use keeper::{KeepFault, Keeper};
 pub use name::{Name, NameFault};
 pub use phase::Phase;
 pub use placing::Placings;
+pub use remembered::Remembered;
 pub use rows::{LecturerRow, Listing, Person, ProjectRow, StudentRow};
 pub use view::{LecturerView, OfficeView, StudentView, View};

@@ -1,9 +1,12 @@
 //! What a caller sees.
 
+ghost use Rattle.std.specs.Prelude.{◌≡◌, IfOk};
+
 use crate::code::Code;
 use crate::phase::Phase;
 use crate::rows::{LecturerRow, Listing, Person, ProjectRow, StudentRow};
 use spa_rows::Key;
+use std::alloc::{AllocError, Global};
 use std::marker::Model;
 use std::rc::Rc;
 
@@ -81,6 +84,51 @@ impl Model for OfficeView {
       still_to_rank = v.still_to_rank.items;
       pairs = v.pairs.items;
     } };
+}
+
+/// The same keys again.
+fn keys_of(alloc: Global, keys: &[Key]) -> Result<Vec<Key>, AllocError>
+    ensures { IfOk result (λ v. v.items ≡ keys.now) }
+{
+    let mut copies = Vec::with_capacity(alloc, keys.len())?;
+    for key in keys {
+        copies.push(key.copy(alloc)?)?;
+    }
+    Ok(copies)
+}
+
+/// The same pairs again.
+fn pairs_of(alloc: Global, pairs: &[(Key, Key)]) -> Result<Vec<(Key, Key)>, AllocError>
+    ensures { IfOk result (λ v. v.items ≡ pairs.now) }
+{
+    let mut copies = Vec::with_capacity(alloc, pairs.len())?;
+    for (student, project) in pairs {
+        copies.push((student.copy(alloc)?, project.copy(alloc)?))?;
+    }
+    Ok(copies)
+}
+
+impl OfficeView {
+    /// The same view again, of the same rolls and the same catalogue, which are shared.
+    ///
+    /// # Errors
+    ///
+    /// Memory ran out.
+    pub fn copy(&self, alloc: Global) -> Result<OfficeView, AllocError>
+        ensures { IfOk result (λ view. view ≡ self.now) }
+    {
+        Ok(OfficeView {
+            phase: self.phase,
+            office_code: self.office_code.copy(alloc)?,
+            lecturers: self.lecturers.clone()?,
+            projects: self.projects.clone()?,
+            students: self.students.clone()?,
+            catalogue: self.catalogue.clone()?,
+            without_list: keys_of(alloc, &self.without_list)?,
+            still_to_rank: keys_of(alloc, &self.still_to_rank)?,
+            pairs: pairs_of(alloc, &self.pairs)?,
+        })
+    }
 }
 
 #[derive(Drop)]

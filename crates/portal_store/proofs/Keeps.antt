@@ -11,9 +11,10 @@ use Rattle.portal_core.specs.Good.{Good}
 use Rattle.portal_tables.specs.Tables.{portal_tree}
 use Rattle.portal_tables.specs.Own.{IsOwn}
 use Rattle.portal_tables.specs.Steps.{Commits, Stays, Leaves, IsAfter}
-use Rattle.portal_store.specs.declared.mind.Mind.{Mind}
+use Rattle.portal_core.specs.Remembered.{Remembers}
+use Rattle.portal_core.specs.declared.remembered.Remembered.{Remembered}
 use Rattle.portal_store.specs.World.{world_of}
-use Rattle.portal_store.specs.Kept.{Holds, Turned, Turns, Seen, IsKept, IsCleanStore, kept_world, Remembers}
+use Rattle.portal_store.specs.Kept.{Holds, Turned, Turns, Seen, IsKept, IsCleanStore, kept_world}
 use Rattle.portal_store.specs.Crash.{IsLeft}
 use Rattle.portal_store.specs.Reading.{KeepsInMind}
 
@@ -106,7 +107,7 @@ module _
     same_by (Ok v) same = tt
     same_by (Err e) same = λ on. ap (λ (d : Database). world_of d.trees) (same on.0 on.1).1
 
-    shown_by : (m n : Mind) → (IsCleanStore g seen → Remembers m (kept_world g seen)) → (r : Result V E)
+    shown_by : (m n : Remembered) → (IsCleanStore g seen → Remembers m (kept_world g seen)) → (r : Result V E)
         → OnOk r ((w : World) → Remembers m w → Remembers n (changed w change)) → OnErr r (n ≡ m)
         → (IsTrue own → IsTrue (state g new).is_open → OnOk r (Commits (Turns change) (state g old) (state g new)))
         → (IsTrue own → IsTrue (state g new).is_open → OnErr r (Stays (state g old) (state g new))) → IsCleanStore g (record { conn = new; own = own }) → Remembers n (world_of (state g new).now.trees)
@@ -115,7 +116,7 @@ module _
         subst (λ k. Remembers k (world_of (state g new).now.trees)) (sym stayed) (subst (Remembers m) (sym (same_by (Err e) same on)) (was (clean_by (Err e) did same on)))
 
     -- what is remembered is right: after a change that was made what follows, and otherwise what it was
-    pub change_shown : (m n : Mind) → (IsCleanStore g seen → Remembers m (kept_world g seen)) → OnOk r ((w : World) → Remembers m w → Remembers n (changed w change)) → OnErr r (n ≡ m)
+    pub change_shown : (m n : Remembered) → (IsCleanStore g seen → Remembers m (kept_world g seen)) → OnOk r ((w : World) → Remembers m w → Remembers n (changed w change)) → OnErr r (n ≡ m)
         → IsCleanStore g (record { conn = new; own = own }) → Remembers n (world_of (state g new).now.trees)
     change_shown m n was follows stayed = shown_by m n was r follows stayed done stays
 
@@ -173,7 +174,7 @@ module _
   read_same on = ap (λ (d : Database). world_of d.trees) (rest on.0 on.1).1 ∙ ap (λ s. kept_world g s) is
 
   -- what is remembered stays right
-  pub read_shown : (m n : Mind) → (IsCleanStore g (record { conn = old; own = own }) → Remembers m (world_of (state g old).now.trees)) → KeepsInMind m n (state g old) (state g new)
+  pub read_shown : (m n : Remembered) → (IsCleanStore g (record { conn = old; own = own }) → Remembers m (world_of (state g old).now.trees)) → KeepsInMind m n (state g old) (state g new)
       → IsCleanStore g (record { conn = new; own = own }) → Remembers n (world_of (state g new).now.trees)
   read_shown m n was mind on =
       let same = rest on.0 on.1 in

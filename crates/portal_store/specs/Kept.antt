@@ -1,5 +1,5 @@
 -- What a store keeps true between two calls, and what a change of the world is to the tables.
-use Rattle.std.specs.Prelude.{◌≡◌, Bool, false, [], IfSome, IsTrue, refl}
+use Rattle.std.specs.Prelude.{◌≡◌, Bool, false, [], IsTrue, refl}
 use Rattle.std.specs.Coded.{Coded, code_by, coded×, coded_bool}
 use Rattle.std.specs.List.{AllByRecursion}
 use Rattle.sqlite.specs.Tree.{Trees}
@@ -10,11 +10,11 @@ use Rattle.sqlite.specs.Held.{Held, held_code, state}
 use Rattle.portal_core.specs.World.{World}
 use Rattle.portal_core.specs.Change.{Change, changed}
 use Rattle.portal_core.specs.Good.{Good}
-use Rattle.portal_core.specs.View.{catalogue, office_sees}
+use Rattle.portal_core.specs.Remembered.{Remembers}
+use Rattle.portal_core.specs.declared.remembered.Remembered.{Remembered}
 use Rattle.portal_tables.specs.Tables.{portal_tree, lecturer_tree, student_tree, choice_tree, ranking_tree, own_trees}
 use Rattle.portal_tables.specs.Own.{IsOwn}
 use Rattle.portal_tables.specs.Changes.{IsApart}
-use Rattle.portal_store.specs.declared.mind.Mind.{Mind}
 use Rattle.portal_tables.specs.Lists.{of_key, IsWhole}
 use Rattle.portal_tables.specs.Office.{HasOffice}
 use Rattle.portal_tables.specs.Rolls.{row_key}
@@ -73,12 +73,7 @@ IsCleanStore g s = IsTrue s.own × IsTrue (state g s.conn).is_open
 abbrev pub kept_world : {S : Type 0} → Ghosts S → Seen S → World
 kept_world g s = world_of (state g s.conn).now.trees
 
--- what is remembered, if anything is, is what this world shows
-pub record Remembers (mind : Mind) (world : World) : Type 0 where
-  pub offers : IfSome mind.catalogue (λ shared. shared.value.items ≡ catalogue world)
-  pub office : IfSome mind.office (λ view. view ≡ office_sees world)
-
 -- a store between two calls; what it remembers is of its world
-pub record IsAtRest {S : Type 0} (g : Ghosts S) (s : Seen S) (mind : Mind) : Type 0 where
+pub record IsAtRest {S : Type 0} (g : Ghosts S) (s : Seen S) (mind : Remembered) : Type 0 where
   pub kept : IsKept g s
   pub shown : IsCleanStore g s → Remembers mind (kept_world g s)

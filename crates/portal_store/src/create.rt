@@ -13,9 +13,8 @@ ghost use Rattle.portal_store.specs.Kept.{IsCleanStore, kept_world};
 ghost use Rattle.portal_store.specs.Made.{has_own_name, stands_for_table, is_named_table, is_named_view, has_names, first_world};
 
 use crate::fault::create_fault_of;
-use crate::mind::Mind;
 use crate::store::{CreateFault, NotOpened, Store};
-use portal_core::Code;
+use portal_core::{Code, Remembered};
 use portal_tables::make::create_portal;
 use portal_tables::own::Pattern;
 use sqlite::{Alter, Connection, MemStore};
@@ -126,7 +125,7 @@ impl<S: Alter> Store<S> {
             conn,
             own,
             pattern,
-            mind: Mind::empty(),
+            mind: Remembered::nothing(),
         })
     }
 }

@@ -10,7 +10,6 @@ mod keeper;
 pub mod laws;
 mod lists;
 mod load;
-mod mind;
 mod office;
 mod open;
 mod phase;

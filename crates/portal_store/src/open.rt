@@ -17,9 +17,9 @@ ghost use Rattle.portal_store.specs.Kept.{Stands, IsCleanStore, kept_world};
 ghost use Rattle.portal_store.specs.Asked.{Asks, Refutes, Admits};
 
 use crate::fault::{load_open_fault_of, open_fault_of, table_fault_of};
-use crate::mind::Mind;
 use crate::sound::load_keeper;
 use crate::store::{NotOpened, OpenFault, Store};
+use portal_core::Remembered;
 use portal_list::ListKeeper;
 use portal_tables::apart::{
     has_apart_choices, has_apart_lecturers, has_apart_projects, has_apart_rankings,
@@ -227,7 +227,7 @@ impl<S: Alter> Store<S> {
             conn,
             own,
             pattern,
-            mind: Mind::empty(),
+            mind: Remembered::nothing(),
         })
     }
 }

@@ -5,6 +5,7 @@ ghost use Rattle.sqlite.specs.State.{HasCleanDisk, IsUnchanged};
 ghost use Rattle.sqlite.specs.Held.{state};
 ghost use Rattle.portal_core.specs.Good.{Good};
 ghost use Rattle.portal_core.specs.View as seen;
+ghost use Rattle.portal_core.specs.Remembered.{Remembers};
 ghost use Rattle.portal_core.specs.Words.{is};
 ghost use Rattle.portal_core.specs.View.{sight_of, caller_among, student_with, OfficeCaller};
 ghost use Rattle.portal_tables.specs.Own.{IsOwn};
@@ -13,7 +14,7 @@ ghost use Rattle.portal_tables.specs.Rows.{portal_row};
 ghost use Rattle.portal_tables.specs.Steps.{Leaves};
 ghost use Rattle.portal_tables.specs.Office.{number_of};
 ghost use Rattle.portal_store.specs.World.{world_of};
-ghost use Rattle.portal_store.specs.Kept.{Holds, Remembers};
+ghost use Rattle.portal_store.specs.Kept.{Holds};
 ghost use Rattle.portal_tables.specs.Reading.{Reads};
 ghost use Rattle.portal_store.specs.Reading.{KeepsInMind};
 
@@ -24,12 +25,11 @@ mod offers;
 mod office;
 mod student;
 
-use crate::mind::{Mind, office_view_of};
 use caller::{lecturer_in, student_in};
 use lecturer::lecturer_view;
 use offers::shared_catalogue;
 use office::office_view;
-use portal_core::{KeepFault, OfficeView, Phase, View};
+use portal_core::{KeepFault, OfficeView, Phase, Remembered, View};
 use portal_tables::fault::TableFault;
 use portal_tables::office::{Office, office_in};
 use sqlite::{Alter, Connection};
@@ -40,7 +40,7 @@ use student::student_view;
 fn office_read<S: Alter>(
     alloc: Global,
     conn: &mut Connection<S>,
-    remembered: &mut Mind,
+    remembered: &mut Remembered,
     office: Office,
 ) -> Result<OfficeView, TableFault>
     ensures shows { Holds (state S.Store conn.old).now → HasCleanDisk (state S.Store conn.new) → IsTrue (state S.Store conn.old).is_open → (state S.Store conn.old).now.trees portal_tree ≡ portal_row (pos 1) (pos (number_of office.phase)) office.code ∷ [] → Remembers remembered.old (world_of (state S.Store conn.old).now.trees) → IfOk result (λ view. view ≡ seen.office_sees (world_of (state S.Store conn.old).now.trees)) }
@@ -56,7 +56,7 @@ fn office_read<S: Alter>(
 fn office_sight<S: Alter>(
     alloc: Global,
     conn: &mut Connection<S>,
-    remembered: &mut Mind,
+    remembered: &mut Remembered,
     office: Office,
 ) -> Result<View, TableFault>
     requires idle { conn.old.in_transaction ≡ false }
@@ -66,10 +66,10 @@ fn office_sight<S: Alter>(
     ensures reads { Reads result (state S.Store conn.old) (state S.Store conn.new) }
 {
     if let Some(view) = &remembered.office {
-        return Ok(View::Office(office_view_of(alloc, view)?));
+        return Ok(View::Office(view.copy(alloc)?));
     }
     let view = office_read(alloc, conn, remembered, office)?;
-    remembered.office = Some(office_view_of(alloc, &view)?);
+    remembered.office = Some(view.copy(alloc)?);
     Ok(View::Office(view))
 }
 
@@ -77,7 +77,7 @@ fn office_sight<S: Alter>(
 fn student_sight<S: Alter>(
     alloc: Global,
     conn: &mut Connection<S>,
-    remembered: &mut Mind,
+    remembered: &mut Remembered,
     phase: Phase,
     code: &[u8],
 ) -> Result<View, TableFault>
@@ -98,7 +98,7 @@ fn student_sight<S: Alter>(
 fn person_sight<S: Alter>(
     alloc: Global,
     conn: &mut Connection<S>,
-    remembered: &mut Mind,
+    remembered: &mut Remembered,
     phase: Phase,
     code: &[u8],
 ) -> Result<View, TableFault>
@@ -119,7 +119,7 @@ fn person_sight<S: Alter>(
 fn sight<S: Alter>(
     alloc: Global,
     conn: &mut Connection<S>,
-    remembered: &mut Mind,
+    remembered: &mut Remembered,
     code: &[u8],
 ) -> Result<View, TableFault>
     requires idle { conn.old.in_transaction ≡ false }
@@ -140,7 +140,7 @@ fn sight<S: Alter>(
 pub(crate) fn view_with<S: Alter>(
     alloc: Global,
     conn: &mut Connection<S>,
-    remembered: &mut Mind,
+    remembered: &mut Remembered,
     code: &[u8],
 ) -> Result<View, KeepFault>
     requires idle { conn.old.in_transaction ≡ false }
@@ -173,6 +173,6 @@ pub fn view<S: Alter>(
     ensures same { IsOwn conn.old.schema → HasCleanDisk (state S.Store conn.new) → OnOk result (IsUnchanged (state S.Store conn.old) (state S.Store conn.new)) }
     ensures err { IsOwn conn.old.schema → HasCleanDisk (state S.Store conn.new) → OnErr result (Leaves (state S.Store conn.old) (state S.Store conn.new)) }
 {
-    let mut remembered = Mind::empty();
+    let mut remembered = Remembered::nothing();
     view_with(alloc, conn, &mut remembered, code)
 }

@@ -2,7 +2,7 @@
 
 ghost use Rattle.std.specs.Prelude.{◌≡◌, false};
 
-use crate::mind::Mind;
+use portal_core::Remembered;
 use portal_tables::own::Pattern;
 use sqlite::{Alter, Connection};
 use std::marker::Model;
@@ -16,7 +16,7 @@ pub struct Store<S: Alter> {
     /// What the portal's own tables are.
     pub(crate) pattern: Pattern,
     /// What was shown of the world, until that is changed.
-    pub(crate) mind: Mind,
+    pub(crate) mind: Remembered,
 }
 
 impl<S: Alter> Model for Store<S> {

@@ -5,15 +5,15 @@ ghost use Rattle.sqlite.specs.State.{HasCleanDisk};
 ghost use Rattle.sqlite.specs.Held.{state};
 ghost use Rattle.portal_core.specs.World.{Lecturer};
 ghost use Rattle.portal_core.specs.View.{catalogue, listing_with};
+ghost use Rattle.portal_core.specs.Remembered.{Remembers};
 ghost use Rattle.portal_store.specs.World.{world_of};
-ghost use Rattle.portal_store.specs.Kept.{Holds, Remembers};
+ghost use Rattle.portal_store.specs.Kept.{Holds};
 ghost use Rattle.portal_tables.specs.Reading.{Reads};
 ghost use Rattle.portal_store.specs.Reading.{KeepsInMind};
 ghost use Rattle.portal_tables.specs.Shown.{shown_lecturer, shown_project};
 ghost use Rattle.portal_store.specs.Queried.{name_of, offered};
 
-use crate::mind::Mind;
-use portal_core::{LecturerRow, Listing, Name, ProjectRow};
+use portal_core::{LecturerRow, Listing, Name, ProjectRow, Remembered};
 use portal_tables::decode::decoded;
 use portal_tables::fault::TableFault;
 use portal_tables::rolls::{lecturer_roll, project_roll};
@@ -131,7 +131,7 @@ fn catalogue_in<S: Alter>(
 pub(super) fn shared_catalogue<S: Alter>(
     alloc: Global,
     conn: &mut Connection<S>,
-    remembered: &mut Mind,
+    remembered: &mut Remembered,
 ) -> Result<Rc<Vec<Listing>>, TableFault>
     ensures shows { Holds (state S.Store conn.old).now → HasCleanDisk (state S.Store conn.new) → IsTrue (state S.Store conn.old).is_open → Remembers remembered.old (world_of (state S.Store conn.old).now.trees) → IfOk result (λ shared. shared.value.items ≡ catalogue (world_of (state S.Store conn.old).now.trees)) }
     ensures mind { KeepsInMind remembered.old remembered.new (state S.Store conn.old) (state S.Store conn.new) }

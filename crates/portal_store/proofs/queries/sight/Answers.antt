@@ -5,11 +5,12 @@ use Rattle.sqlite.specs.Held.{state}
 use Rattle.sqlite.specs.State.{HasCleanDisk, IsUnchanged}
 use Rattle.portal_core.specs.Good.{Good}
 use Rattle.portal_core.specs.View.{view, sight_of, caller_among, lecturer_with, student_with, OfficeCaller}
+use Rattle.portal_core.specs.Remembered.{Remembers}
 use Rattle.portal_core.specs.Words.{is}
 use Rattle.portal_tables.specs.Tables.{portal_tree}
 use Rattle.portal_tables.specs.Rows.{portal_row}
 use Rattle.std.proofs.lemmas.Result.{IfOk-weaker}
-use Rattle.portal_store.specs.Kept.{Holds, Remembers}
+use Rattle.portal_store.specs.Kept.{Holds}
 use Rattle.portal_tables.specs.Office.{number_of}
 use Rattle.portal_store.specs.World.{world_of}
 use Rattle.portal_tables.proofs.InTurn.{clean_before}

@@ -15,7 +15,7 @@ invariant_of-result g c =
     let new = c.create_portal.new.conn in
     record {
       kept = first_kept g.S.Store c.as_bytes.result.now c.is_empty-own.result c.args.conn new c.create_portal.ensures.idle (λ own. sym c.schema.ensures.value ∙ c.is_empty-own.ensures.0 own) (λ on. c.in_default.ensures.ok (law g new on));
-      shown = λ on. c.empty.ensures _;
+      shown = λ on. c.nothing.ensures _;
     }
 
 pub returns-clause-world : goal.returns-clause-world

@@ -18,7 +18,7 @@ invariant_of-result g c =
     record {
       kept = opened_kept g.S.Store c.fits-own.result c.args.conn new c.examine.ensures.idle c.fits-own.ensures.0 (c.is_autocommit-idle.ensures.settled (c.is_autocommit-idle.ensures.value ∙ ap not c.requires.idle)) c.schema-live.ensures.live
           (λ mine on. ((c.in_default.ensures.asks mine).same (c.fits-own.ensures.0 mine) (law g new on), c.in_default.ensures.admits mine (c.fits-own.ensures.0 mine) c.schema-live.ensures.live (law g new on)));
-      shown = λ on. c.empty.ensures _;
+      shown = λ on. c.nothing.ensures _;
     }
 
 pub returns-clause-good : goal.returns-clause-good

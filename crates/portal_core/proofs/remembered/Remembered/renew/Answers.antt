@@ -7,9 +7,9 @@ use Rattle.portal_core.specs.View.{catalogue, office_sees}
 use Rattle.portal_core.specs.World.{World}
 use Rattle.portal_core.proofs.Acts.{catalogue_ranked}
 use Rattle.portal_core.proofs.Fills.{catalogue_filled}
-use Rattle.portal_store.specs.declared.mind.Mind.{Mind}
-use Rattle.portal_store.specs.Kept.{Remembers}
-use Rattle.portal_store.proofs.mind.Mind.renew.Goals as goal
+use Rattle.portal_core.specs.declared.remembered.Remembered.{Remembered}
+use Rattle.portal_core.specs.Remembered.{Remembers}
+use Rattle.portal_core.proofs.remembered.Remembered.renew.Goals as goal
 
 -- what the office sees afterwards is told by what it saw
 seen_after : (w : World) (change : Change) (result seen was : Option OfficeSees) → seen ≡ was
@@ -19,7 +19,7 @@ seen_after w change (Some after) seen was same tells right = tells w (subst (λ 
 seen_after w change None seen was same tells right = tt
 
 -- the catalogue is the same afterwards
-offers_after : (mind : Mind) (v w : World) → catalogue w ≡ catalogue v → Remembers mind v → IfSome mind.catalogue (λ shared. shared.value.items ≡ catalogue w)
+offers_after : (mind : Remembered) (v w : World) → catalogue w ≡ catalogue v → Remembers mind v → IfSome mind.catalogue (λ shared. shared.value.items ≡ catalogue w)
 offers_after mind v w same right = subst (λ offers. IfSome mind.catalogue (λ shared. shared.value.items ≡ offers)) (sym same) right.offers
 
 -- a ranking

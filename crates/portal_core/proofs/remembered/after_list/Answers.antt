@@ -4,7 +4,7 @@ use Rattle.portal_core.specs.Words.{Key, is, is_empty}
 use Rattle.portal_core.specs.Sight.{OfficeSees}
 use Rattle.portal_core.specs.declared.phase.Phase.TheVariants.{Choosing}
 use Rattle.portal_core.proofs.Renewed.{choosing_seen}
-use Rattle.portal_store.proofs.mind.after_list.Goals as goal
+use Rattle.portal_core.proofs.remembered.after_list.Goals as goal
 
 not_empty : (list : List Key) → false ≡ (length list == 0) → is_empty list ≡ false
 not_empty [] e = cc

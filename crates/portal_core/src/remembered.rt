@@ -1,33 +1,36 @@
-//! What a store remembers of the world, until that is changed.
+//! What a keeper remembers of the world, until that is changed.
 
-ghost use Rattle.std.specs.Prelude.{◌≡◌, IfOk, OnOk, OnErr, IfSome, filter, not};
+ghost use Rattle.std.specs.Prelude.{◌≡◌, OnOk, OnErr, IfSome, filter, not};
 ghost use Rattle.portal_core.specs.Words.{is};
 ghost use Rattle.portal_core.specs.World.{World};
-ghost use Rattle.portal_core.specs.Change.{Choices, Ranks, changed};
+ghost use Rattle.portal_core.specs.Change.{Choices, Ranks, Fill, changed};
 ghost use Rattle.portal_core.specs.Meaning.{meant};
 ghost use Rattle.portal_core.specs.View.{office_sees};
-ghost use Rattle.portal_store.specs.Kept.{Remembers};
+ghost use Rattle.portal_core.specs.Remembered.{Remembers};
 
-use portal_core::{Change, KeepFault, Listing, OfficeView, Phase};
+use crate::decision::Change;
+use crate::phase::Phase;
+use crate::rows::Listing;
+use crate::view::OfficeView;
 use spa_rows::Key;
-use std::alloc::{AllocError, Global};
 use std::rc::Rc;
 
-/// What was shown of the world, and would be shown again.
+/// What a keeper remembers of what it showed, and would show again of the same world. Beside a keeper of which each
+/// view costs queries, it spares those that would answer as before.
 #[derive(Drop)]
-pub(crate) struct Mind {
-    /// The catalogue, once it was asked for.
-    pub(crate) catalogue: Option<Rc<Vec<Listing>>>,
-    /// What the office sees, once the office asked.
-    pub(crate) office: Option<OfficeView>,
+pub struct Remembered {
+    /// The catalogue, once it was shown.
+    pub catalogue: Option<Rc<Vec<Listing>>>,
+    /// What the office sees, once that was shown.
+    pub office: Option<OfficeView>,
 }
 
-impl Mind {
-    /// Nothing is remembered.
-    pub(crate) fn empty() -> Mind
+impl Remembered {
+    /// Nothing is remembered yet, which is right of every world.
+    pub fn nothing() -> Remembered
         ensures { (w : World) → Remembers result w }
     {
-        Mind {
+        Remembered {
             catalogue: None,
             office: None,
         }
@@ -48,8 +51,9 @@ impl Mind {
         }
     }
 
-    /// Remembers what holds after the change, if it was made.
-    pub(crate) fn follow(&mut self, change: &Change, made: &Result<(), KeepFault>)
+    /// Remembers of the changed world, where the change was made, what was remembered and still holds; where it was refused,
+    /// whatever the error, all that was remembered stays. It takes no memory.
+    pub fn follow<E>(&mut self, change: &Change, made: &Result<(), E>)
         ensures made { OnOk made.now ((w : World) → Remembers self.old w → Remembers self.new (changed w (meant change.now))) }
         ensures not_made { OnErr made.now (self.new ≡ self.old) }
     {
@@ -93,6 +97,17 @@ fn after_ranking(view: OfficeView, lecturer: &Key, students: &[Key]) -> Option<O
     })
 }
 
+/// What the office sees after the missing rankings were made, where what it saw before tells that: nobody is still to rank.
+fn after_fill(mut view: OfficeView) -> Option<OfficeView>
+    ensures { IfSome result (λ seen. (w : World) → view ≡ office_sees w → seen ≡ office_sees (changed w Fill)) }
+{
+    if view.phase != Phase::Ranking {
+        return None;
+    }
+    view.still_to_rank.clear();
+    Some(view)
+}
+
 /// What the office sees after the change, where what it saw before tells that.
 fn office_after(seen: Option<OfficeView>, change: &Change) -> Option<OfficeView>
     ensures { IfSome result (λ after. (w : World) → IfSome seen (λ view. view ≡ office_sees w) → after ≡ office_sees (changed w (meant change.now))) }
@@ -100,50 +115,11 @@ fn office_after(seen: Option<OfficeView>, change: &Change) -> Option<OfficeView>
     match change {
         Change::Choices { student, projects } => after_list(seen?, student, projects),
         Change::Ranking { lecturer, students } => after_ranking(seen?, lecturer, students),
-        Change::Fill
-        | Change::Lecturers(_)
+        Change::Fill => after_fill(seen?),
+        Change::Lecturers(_)
         | Change::Projects(_)
         | Change::Students(_)
         | Change::Phase(_)
         | Change::Result(_) => None,
     }
-}
-
-/// The same keys again.
-fn keys_of(alloc: Global, keys: &[Key]) -> Result<Vec<Key>, AllocError>
-    ensures { IfOk result (λ v. v.items ≡ keys.now) }
-{
-    let mut copies = Vec::with_capacity(alloc, keys.len())?;
-    for key in keys {
-        copies.push(key.copy(alloc)?)?;
-    }
-    Ok(copies)
-}
-
-/// The same pairs again.
-fn pairs_of(alloc: Global, pairs: &[(Key, Key)]) -> Result<Vec<(Key, Key)>, AllocError>
-    ensures { IfOk result (λ v. v.items ≡ pairs.now) }
-{
-    let mut copies = Vec::with_capacity(alloc, pairs.len())?;
-    for (student, project) in pairs {
-        copies.push((student.copy(alloc)?, project.copy(alloc)?))?;
-    }
-    Ok(copies)
-}
-
-/// The same view again, of the same rolls and the same catalogue.
-pub(crate) fn office_view_of(alloc: Global, view: &OfficeView) -> Result<OfficeView, AllocError>
-    ensures { IfOk result (λ v. v ≡ view.now) }
-{
-    Ok(OfficeView {
-        phase: view.phase,
-        office_code: view.office_code.copy(alloc)?,
-        lecturers: view.lecturers.clone()?,
-        projects: view.projects.clone()?,
-        students: view.students.clone()?,
-        catalogue: view.catalogue.clone()?,
-        without_list: keys_of(alloc, &view.without_list)?,
-        still_to_rank: keys_of(alloc, &view.still_to_rank)?,
-        pairs: pairs_of(alloc, &view.pairs)?,
-    })
 }

@@ -3,7 +3,7 @@ use Rattle.portal_core.specs.Words.{is}
 use Rattle.portal_core.specs.Sight.{OfficeSees}
 use Rattle.portal_core.specs.declared.phase.Phase.TheVariants.{Ranking}
 use Rattle.portal_core.proofs.Renewed.{ranking_seen}
-use Rattle.portal_store.proofs.mind.after_ranking.Goals as goal
+use Rattle.portal_core.proofs.remembered.after_ranking.Goals as goal
 
 pub returns : goal.returns
 returns c w told =
