@@ -1,10 +1,9 @@
 -- Applicants and placed students, of what queries show.
-use Rattle.std.proofs.Common.{◌≡◌, Bool, true, false, ◌&&◌, ◌||◌, List, [], ◌∷◌, map, filter, Option, refl, sym, ap, ap₂, subst, ◌∙◌}
+use Rattle.std.proofs.Common.{◌≡◌, Bool, true, false, List, [], ◌∷◌, map, filter, Option, refl, sym, ap, subst, ◌∙◌}
 use Rattle.std.specs.Prelude.{if◌then◌else◌, cond, IfSome, None, Some}
-use Rattle.std.specs.List.{AllByRecursion, list_any}
-use Rattle.std.proofs.Math.Bool.{and_comm}
-use Rattle.std.proofs.lemmas.List.Sorted.{list_any-IsPermutation}
-use Rattle.sqlite.specs.Order.{Row, column, bytes}
+use Rattle.std.specs.List.{AllByRecursion}
+use Rattle.sqlite.specs.Order.{Row}
+use Rattle.sqlite.specs.Tree.{Trees}
 use Rattle.sqlite.specs.Effect.{Database}
 use Rattle.sqlite_trees.proofs.ListLemmas.{filter-map, map-map}
 use Rattle.portal_core.specs.declared.phase.Phase.{Phase}
@@ -12,66 +11,48 @@ use Rattle.portal_core.specs.declared.phase.Phase.TheVariants.{Setup, Choosing, 
 use Rattle.portal_core.specs.declared.rows.Listing.{Listing}
 use Rattle.portal_core.specs.declared.rows.Person.{Person}
 use Rattle.portal_core.specs.Sight.{LecturerSees}
-use Rattle.portal_core.specs.Words.{Key, is, has}
+use Rattle.portal_core.specs.Words.{Key, has}
 use Rattle.portal_core.specs.World.{World, Lecturer, Student, project_key, projects_of, applicants_to, placed_at, is_at, is_from_ranking, is_published}
 use Rattle.portal_core.specs.View.{persons, catalogue, lecturer_sees}
 use Rattle.portal_core.specs.Good.{Good}
 use Rattle.portal_core.proofs.Keys.{is_same}
-use Rattle.portal_core.proofs.AllLaws.{all_weaker, any_map, filtered_any, is_sym, all_map}
+use Rattle.portal_core.proofs.AllLaws.{all_weaker, all_map}
 use Rattle.portal_tables.specs.Tables.{student_tree, choice_tree}
 use Rattle.portal_tables.specs.Changes.{ListsBy, columns, has_text}
-use Rattle.portal_store.specs.declared.queries.applicants.Line.{Line}
+use Rattle.portal_tables.specs.declared.lines.Line.{Line}
 use Rattle.portal_store.specs.Kept.{Holds}
-use Rattle.portal_tables.specs.Lists.{of_key, named_by, place_key, by_place, chosen}
+use Rattle.portal_tables.specs.Lists.{chosen}
+use Rattle.portal_tables.specs.Lines.{shown_line, applicant_lines}
 use Rattle.portal_tables.specs.Rolls.{row_key, by_key}
 use Rattle.portal_store.specs.World.{world_of, student_of}
 use Rattle.portal_tables.specs.Shown.{first}
 use Rattle.portal_store.specs.Queried.{line_of, lines_shown, applicants_told, placed_told}
-use Rattle.portal_tables.proofs.Listed.{permuted, for_each}
+use Rattle.portal_tables.proofs.Choosers.{chooser}
+use Rattle.portal_tables.proofs.Listed.{for_each}
+use Rattle.portal_tables.proofs.Owners.{roll_columns}
+use Rattle.portal_store.proofs.Holding.{has_tables}
 use Rattle.portal_store.proofs.Loaded.{students_are}
-use Rattle.portal_tables.proofs.Shapes.{IsChoiceRow, has_text_of, choice_rows_formed}
-use Rattle.portal_tables.proofs.Sorted.{permutes}
 use Rattle.portal_store.proofs.Fine.{placed_listed}
 
-pub any_alike : {X : Type 0} (p q : X → Bool) (xs : List X) → AllByRecursion (λ x. p x ≡ q x) xs → list_any p xs ≡ list_any q xs
-any_alike p q [] all = refl
-any_alike p q (x ∷ xs) all = ap₂ (λ a b. a || b) all.0 (any_alike p q xs all.1)
+-- a student of the world is among those who name the project where the student's list names it
+pub choosers : (db : Database) → Holds db → (p : Key) (shown : List Row) → ListsBy (1 ∷ []) (has_text 3 p) (columns (1 ∷ [])) (db.trees choice_tree) shown
+    → AllByRecursion (λ (s : Student). has (map first shown) s.row.key ≡ has s.choice p) (world_of db.trees).students
+unfolding world_of
+choosers db holds p shown lists =
+    subst (AllByRecursion (λ (s : Student). has (map first shown) s.row.key ≡ has s.choice p)) (sym (students_are db.trees))
+    (all_map (λ (s : Student). has (map first shown) s.row.key ≡ has s.choice p) (student_of (db.trees choice_tree)) (by_key (db.trees student_tree))
+    (for_each _ (by_key (db.trees student_tree)) (λ r. chooser db (has_tables db holds) p shown lists (row_key r))))
 
--- a key is shown of the rows that pass where one of them is its own
-pub named_where : (t : Row → Bool) (table shown : List Row) → ListsBy (1 ∷ []) t (columns (1 ∷ [])) table shown → (k : Key) → has (map first shown) k ≡ list_any (λ r. t r && is k (row_key r)) table
-named_where t table shown lists k =
-    let f : Row → Row = columns (1 ∷ []) in
-    any_map (is k) first shown
-    ∙ sym (list_any-IsPermutation (λ c. is k (first c)) (map f (filter t table)) shown (permuted _ _ _ table shown lists))
-    ∙ any_map (λ c. is k (first c)) f (filter t table)
-    ∙ filtered_any (λ r. is k (row_key r)) t table
-
--- a student is among those who name the project where the student's list names it
-module _ (db : Database) (holds : Holds db) (p : Key) (shown : List Row) (lists : ListsBy (1 ∷ []) (has_text 3 p) (columns (1 ∷ [])) (db.trees choice_tree) shown) where
-  abbrev table : List Row
-  table = db.trees choice_tree
-
-  alike : (k : Key) (r : Row) → IsChoiceRow r → (has_text 3 p r && is k (row_key r)) ≡ (has_text 1 k r && is p (named_by r))
-  alike k r x =
-      let of : has_text 3 p r ≡ is x.project p = has_text_of 3 p r x.project (ap (λ s. column s 3) x.is) in
-      let by : has_text 1 k r ≡ is x.student k = has_text_of 1 k r x.student (ap (λ s. column s 1) x.is) in
-      let key : is k (row_key r) ≡ is x.student k = ap (λ s. is k (bytes (column s 1))) x.is ∙ is_sym k x.student in
-      let name : is p (named_by r) ≡ is x.project p = ap (λ s. is p (bytes (column s 3))) x.is ∙ is_sym p x.project in
-      ap₂ (λ a b. a && b) of key ∙ and_comm (is x.project p) (is x.student k) ∙ sym (ap₂ (λ a b. a && b) by name)
-
-  chooser : (k : Key) → has (map first shown) k ≡ has (chosen table k) p
-  chooser k =
-      let right : has (chosen table k) p ≡ list_any (λ r. has_text 1 k r && is p (named_by r)) table =
-      any_map (is p) named_by (by_place (of_key k table))
-      ∙ sym (list_any-IsPermutation (λ r. is p (named_by r)) (of_key k table) (by_place (of_key k table)) (permutes place_key (of_key k table)))
-      ∙ filtered_any (λ r. is p (named_by r)) (has_text 1 k) table in
-      named_where (has_text 3 p) table shown lists k ∙ any_alike _ _ table (all_weaker IsChoiceRow _ (alike k) table (choice_rows_formed db holds.own holds.sound holds.apart.1.1.1.1.0)) ∙ sym right
-
-  pub choosers : AllByRecursion (λ (s : Student). has (map first shown) s.row.key ≡ has s.choice p) (world_of db.trees).students
-  unfolding world_of
-  choosers =
-      subst (AllByRecursion (λ (s : Student). has (map first shown) s.row.key ≡ has s.choice p)) (sym (students_are db.trees))
-      (all_map (λ (s : Student). has (map first shown) s.row.key ≡ has s.choice p) (student_of (db.trees choice_tree)) (by_key (db.trees student_tree)) (for_each _ (by_key (db.trees student_tree)) (λ r. chooser (row_key r))))
+-- the lines that the tables tell of a project are those of its applicants
+pub lines_told : (db : Trees) (p : Key) → applicant_lines db p ≡ map line_of (applicants_to (world_of db) p)
+unfolding world_of
+lines_told db p =
+    let rows = by_key (db student_tree) in
+    let of : Row → Student = student_of (db choice_tree) in
+    let q : Student → Bool = λ s. has s.choice p in
+    ap (map shown_line) (filter-map (λ c. has (chosen (db choice_tree) (first c)) p) roll_columns rows)
+    ∙ map-map shown_line roll_columns (filter (λ r. q (of r)) rows)
+    ∙ sym (ap (λ ss. map line_of (filter q ss)) (students_are db) ∙ ap (map line_of) (filter-map q of rows) ∙ map-map line_of of (filter (λ r. q (of r)) rows))
 
 persons_of : (p : Line → Bool) (ss : List Student) → map (λ (l : Line). l.person) (filter p (map line_of ss)) ≡ persons (filter (λ s. p (line_of s)) ss)
 persons_of p ss = ap (map (λ (l : Line). l.person)) (filter-map p line_of ss) ∙ map-map (λ (l : Line). l.person) line_of (filter (λ s. p (line_of s)) ss)

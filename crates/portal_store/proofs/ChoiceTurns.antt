@@ -21,9 +21,9 @@ use Rattle.portal_store.specs.World.{world_of, phase_of, student_of, lecturer_of
 use Rattle.portal_tables.specs.Rolls.{row_key}
 use Rattle.portal_tables.specs.Office.{HasOffice}
 use Rattle.portal_store.specs.Kept.{Whole, Holds, Turns}
-use Rattle.portal_store.specs.Putting.{HasPut, PutsList}
+use Rattle.portal_tables.specs.Putting.{HasPut, PutsList}
 use Rattle.portal_tables.proofs.Sorted.{put_all_map, map_alike, map_twice}
-use Rattle.portal_store.proofs.Putting.{list_is, whole_is}
+use Rattle.portal_tables.proofs.Putting.{list_is, whole_is}
 
 -- in either table of lists
 module _ (tree : ℕ) (k : Key) (list : List Key) (first now : Database) (put : HasPut tree k list first now) where

@@ -1,5 +1,5 @@
 -- Tables that stand for a good world are fine to read.
-use Rattle.std.proofs.Common.{◌≡◌, inl, inr, ℕ, suc, ◌<◌, ◌+◌, Bool, true, false, not, cond, ◌||◌, IfSome, Option, Some, None, option_map, List, [], ◌∷◌, map, filter, length, get_or, arith, refl, sym, ap, subst, ◌∙◌}
+use Rattle.std.proofs.Common.{◌≡◌, inl, inr, ℕ, suc, ◌<◌, ◌+◌, Bool, true, false, not, cond, ◌||◌, IfSome, Option, Some, None, option_map, List, [], ◌∷◌, map, length, get_or, arith, refl, sym, ap, subst, ◌∙◌}
 use Rattle.std.specs.Prelude.{◌==◌, slice_index_or}
 use Rattle.std.specs.List.{AllByRecursion}
 use Rattle.std.proofs.Math.Bool.{or-true}
@@ -32,6 +32,7 @@ use Rattle.portal_store.specs.Kept.{Stands}
 use Rattle.portal_tables.specs.Shown.{shown_lecturer, shown_project, shown_student, HasPlace}
 use Rattle.portal_tables.specs.Owners.{IsFine}
 use Rattle.portal_store.specs.Shown.{AreFine}
+use Rattle.portal_tables.proofs.Choosers.{all_filtered}
 use Rattle.portal_tables.proofs.Owners.{lecturer_columns, roll_columns}
 use Rattle.portal_store.proofs.Loaded.{lecturers_are, projects_are, students_are}
 use Rattle.portal_tables.proofs.Sorted.{all_permuted, all_two, permutes}
@@ -55,10 +56,6 @@ numbered (x ∷ xs) all k low =
       | true ↦ λ e f. subst IsKey (is_same x k e) all.0
       | false ↦ λ e f. numbered xs all.1 k (omega (arith, f))
     ]) refl low
-
-pub all_filtered : {X : Type 0} (P : X → Type 0) (p : X → Bool) (xs : List X) → AllByRecursion P xs → AllByRecursion P (filter p xs)
-all_filtered P p [] all = tt
-all_filtered P p (x ∷ xs) all = elim (p x) as (λ b. AllByRecursion P (cond b (x ∷ filter p xs) (filter p xs))) [ true ↦ (all.0, all_filtered P p xs all.1) | false ↦ all_filtered P p xs all.1 ]
 
 -- in a good world whatever is told of a student is a key
 module _ (w : World) (good : Good w) where

@@ -18,6 +18,7 @@ use Rattle.portal_tables.specs.Rows.{MovesTo, portal_row}
 use Rattle.portal_tables.proofs.Keeping.{apart_one}
 use Rattle.portal_store.specs.Kept.{Whole, Holds, Turned, Turns}
 use Rattle.portal_tables.specs.Lists.{of_key, IsWhole}
+use Rattle.portal_tables.specs.Lines.{HasTables}
 use Rattle.portal_tables.specs.Office.{number_of}
 use Rattle.portal_tables.specs.Rolls.{row_key}
 use Rattle.portal_store.specs.World.{world_of, phase_of, is_ranked, office_row, lecturer_of, project_row, student_of}
@@ -29,6 +30,9 @@ whole_same old new l s c r was = record {
   rankings = subst₂ (λ a b. AllByRecursion (λ x. IsWhole (of_key (row_key x) b)) a) (sym l) (sym r) was.rankings;
   ranked = subst₂ (λ a b. AllByRecursion (λ x. is_ranked x ≡ false → of_key (row_key x) b ≡ []) a) (sym l) (sym r) was.ranked;
 }
+
+pub has_tables : (db : Database) → Holds db → HasTables db
+has_tables db holds = record { own = holds.own; sound = holds.sound; apart = holds.apart }
 
 pub phase_back : (p : Phase) → phase_of (number_of p) ≡ p
 phase_back Setup = refl

@@ -10,12 +10,9 @@ pub mod Fine
 pub mod First
 pub mod Holding
 pub mod Keeps
-pub mod Lined
 pub mod Loaded
 pub mod OfficeSeen
-pub mod OneKey
 pub mod Places
-pub mod Putting
 pub mod Queried
 pub mod RankTurns
 pub mod Remembered

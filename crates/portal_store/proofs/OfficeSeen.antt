@@ -35,14 +35,15 @@ use Rattle.portal_tables.specs.Lists.{chosen, of_key, place_of, place_key, named
 use Rattle.portal_tables.specs.Shown.{first, shown_project}
 use Rattle.portal_store.specs.Shown.{rows_from}
 use Rattle.portal_store.specs.Queried.{unlisted, waiting_key, office_from}
-use Rattle.portal_store.proofs.Applying.{any_alike, choosers, named_where}
-use Rattle.portal_store.proofs.Fine.{all_filtered}
-use Rattle.portal_tables.proofs.Listed.{permuted, for_each, some_mapped}
+use Rattle.portal_store.proofs.Applying.{choosers}
+use Rattle.portal_store.proofs.Holding.{has_tables}
+use Rattle.portal_tables.proofs.Choosers.{all_filtered, any_alike, named_where, choosers_known as shown_known}
+use Rattle.portal_tables.proofs.Listed.{for_each, some_mapped}
 use Rattle.portal_tables.proofs.Owners.{lecturer_columns, roll_columns}
 use Rattle.portal_store.proofs.Loaded.{lecturers_are, students_are, rows_are}
 use Rattle.portal_tables.proofs.Parents.{choice_parents, none_of}
 use Rattle.portal_tables.proofs.Sorted.{permutes, all_permuted}
-use Rattle.portal_store.proofs.Queried.{filter_alike}
+use Rattle.portal_tables.proofs.OneFound.{filter_alike}
 use Rattle.portal_tables.proofs.Shapes.{IsChoiceRow, choice_rows_formed, has_text_of}
 
 -- somebody names the project
@@ -60,32 +61,20 @@ anyone [] ss all = any_nowhere ss
 anyone (k ∷ ks) ss all =
     some_more (λ (s : Student). is k s.row.key) (λ s. is s.row.key k || has ks s.row.key) ss (λ s e. ap (λ b. b || has ks s.row.key) (is_sym s.row.key k ∙ e)) (sym (any_map (is k) student_key ss) ∙ all.0)
 
--- who has a row is in the world
-on_roll : (db : Trees) (k : Key) → has (map student_key (world_of db).students) k ≡ has (map row_key (db student_tree)) k
+-- the keys of the roll that is shown are those of the world
+keys_told : (db : Trees) → map first (students_shown db) ≡ map student_key (world_of db).students
 unfolding world_of
-on_roll db k =
-    let roll = db student_tree in
-    ap (λ ss. has (map student_key ss) k) (students_are db)
-    ∙ ap (λ ks. has ks k) (map-map student_key (student_of (db choice_tree)) (by_key roll))
-    ∙ any_map (is k) row_key (by_key roll)
-    ∙ sym (list_any-IsPermutation (λ r. is k (row_key r)) roll (by_key roll) (permutes row_key roll))
-    ∙ sym (any_map (is k) row_key roll)
+keys_told db =
+    let rows = by_key (db student_tree) in
+    map-map first roll_columns rows ∙ sym (ap (map student_key) (students_are db) ∙ map-map student_key (student_of (db choice_tree)) rows)
 
 module _ (db : Database) (holds : Holds db) (p : Key) (shown : List Row) (lists : ListsBy (1 ∷ []) (has_text 3 p) (columns (1 ∷ [])) (db.trees choice_tree) shown) where
   abbrev named : World
   named = world_of db.trees
 
-  abbrev IsKnown : Key → Type 0
-  IsKnown k = has (map student_key named.students) k ≡ true
-
   -- who names the project is on the roll
-  pub choosers_known : AllByRecursion IsKnown (map first shown)
-  choosers_known =
-      let table = db.trees choice_tree in
-      let rows : AllByRecursion (λ r. IsKnown (row_key r)) table = all_weaker _ (λ r. IsKnown (row_key r)) (λ r known. on_roll db.trees (row_key r) ∙ known.0) table (choice_parents db holds.own holds.sound holds.apart.1.1.1.1.0) in
-      let mapped : AllByRecursion (λ c. IsKnown (first c)) (map (columns (1 ∷ [])) (filter (has_text 3 p) table)) =
-      all_map (λ c. IsKnown (first c)) (columns (1 ∷ [])) (filter (has_text 3 p) table) (all_filtered (λ r. IsKnown (row_key r)) (has_text 3 p) table rows) in
-      all_map IsKnown first shown (all_permuted (λ c. IsKnown (first c)) _ shown (permuted _ _ _ table shown lists) mapped)
+  choosers_known : AllByRecursion (λ k. has (map student_key named.students) k ≡ true) (map first shown)
+  choosers_known = subst (λ ks. AllByRecursion (λ k. has ks k ≡ true) (map first shown)) (keys_told db.trees) (shown_known db (has_tables db holds) p shown lists)
 
   pub some_chooser : not (is_empty shown) ≡ list_any (λ (s : Student). has s.choice p) named.students
   some_chooser = ap not (sym (empty_map first shown)) ∙ sym (anyone (map first shown) named.students choosers_known) ∙ any_alike _ _ named.students (choosers db holds p shown lists)

@@ -1,14 +1,11 @@
 -- From what queries show of one caller to what the world says.
-use Rattle.std.proofs.Common.{◌≡◌, ℕ, pos, Bool, true, false, cond, Option, Some, None, option_map, List, [], ◌∷◌, map, filter, refl, sym, ap, ap₂, subst, subst₂, ◌∙◌}
+use Rattle.std.proofs.Common.{◌≡◌, pos, Option, Some, None, option_map, List, [], ◌∷◌, map, refl, sym, ap, ap₂, ◌∙◌}
 use Rattle.std.specs.Prelude.{if◌then◌else◌, slice_index_or}
-use Rattle.std.specs.List.{AllByRecursion, find}
-use Rattle.std.specs.List.Sorted.{IsPermutation}
-use Rattle.std.proofs.lemmas.List.Sorted.{IsPermutation-map, IsPermutation-sym, IsPermutation-trans, length_permutation}
+use Rattle.std.specs.List.{find}
 use Rattle.sqlite.specs.Order.{Row, column, bytes}
 use Rattle.sqlite.specs.Tree.{Trees}
 use Rattle.sqlite.specs.Effect.{Database}
-use Rattle.sqlite.proofs.Callers.{one_permutation}
-use Rattle.sqlite_trees.proofs.ListLemmas.{IsPermutation-filter, filter-map, map-map}
+use Rattle.sqlite_trees.proofs.ListLemmas.{map-map}
 use Rattle.portal_core.specs.declared.rows.LecturerRow.{LecturerRow}
 use Rattle.portal_core.specs.declared.rows.Listing.{Listing}
 use Rattle.portal_core.specs.declared.rows.ProjectRow.{ProjectRow}
@@ -24,63 +21,18 @@ use Rattle.portal_tables.specs.Rows.{portal_row}
 use Rattle.sqlite_trees.specs.Objects.{number_in}
 use Rattle.portal_tables.specs.Tables.{portal_tree, lecturer_tree, project_tree, student_tree, choice_tree, ranking_tree}
 use Rattle.portal_tables.specs.Changes.{ListsBy, columns, has_text}
-use Rattle.portal_store.specs.declared.queries.applicants.Line.{Line}
 use Rattle.portal_store.specs.Kept.{Holds}
 use Rattle.portal_tables.specs.Office.{number_of}
-use Rattle.portal_tables.specs.Rolls.{row_key, by_key, lecturers_shown, projects_shown}
+use Rattle.portal_tables.specs.Rolls.{by_key, lecturers_shown, projects_shown}
 use Rattle.portal_store.specs.World.{world_of, phase_of, lecturer_of, student_of}
-use Rattle.portal_tables.specs.Shown.{shown_lecturer, shown_project}
-use Rattle.portal_store.specs.Queried.{as_list, lecturer_from, student_from, name_of, offered, line_of, shown_line, line_at}
-use Rattle.portal_tables.proofs.Listed.{permuted, some_alike}
+use Rattle.portal_tables.specs.Shown.{as_list, shown_lecturer, shown_project}
+use Rattle.portal_store.specs.Queried.{lecturer_from, student_from, name_of, offered}
+use Rattle.portal_tables.proofs.Listed.{some_alike}
+use Rattle.portal_tables.proofs.OneFound.{found}
 use Rattle.portal_store.proofs.Holding.{phase_back}
 use Rattle.portal_tables.proofs.Owners.{lecturer_columns, roll_columns}
 use Rattle.portal_store.proofs.Loaded.{lecturers_are, projects_are, students_are}
-use Rattle.portal_tables.proofs.Shapes.{IsLecturerRow, IsStudentRow, has_text_of, student_test, lecturer_rows_formed, student_rows_formed}
-use Rattle.portal_tables.proofs.Sorted.{permutes, map_alike, map_twice}
-
--- the first that passes is the only one that passes
-
-abbrev first_of : {X : Type 0} → List X → Option X
-first_of [] = None
-first_of (x ∷ xs) = Some x
-
-find_is : {X : Type 0} (p : X → Bool) (xs : List X) → find p xs ≡ first_of (filter p xs)
-find_is p [] = refl
-find_is p (x ∷ xs) = elim (p x) as (λ b. cond b (Some x) (find p xs) ≡ first_of (cond b (x ∷ filter p xs) (filter p xs))) [ true ↦ refl | false ↦ find_is p xs ]
-
-first_back : {X : Type 0} (o : Option X) → first_of (as_list o) ≡ o
-first_back None = refl
-first_back (Some x) = refl
-
-no_more : {X : Type 0} (xs : List X) → IsPermutation [] xs → xs ≡ []
-no_more [] same = refl
-no_more (x ∷ xs) same = absurd (let e = length_permutation [] (x ∷ xs) same in cc)
-
-only_one : {X : Type 0} (o : Option X) (xs : List X) → IsPermutation (as_list o) xs → xs ≡ as_list o
-only_one None xs same = no_more xs same
-only_one (Some x) xs same = one_permutation x xs same
-
-listed_map : {X Y : Type 0} (f : X → Y) (o : Option X) → map f (as_list o) ≡ as_list (option_map f o)
-listed_map f None = refl
-listed_map f (Some x) = refl
-
-pub filter_alike : {X : Type 0} (p q : X → Bool) (xs : List X) → AllByRecursion (λ x. p x ≡ q x) xs → filter p xs ≡ filter q xs
-filter_alike p q [] all = refl
-filter_alike p q (x ∷ xs) all = ap₂ (λ b l. cond b (x ∷ l) l) all.0 (filter_alike p q xs all.1)
-
--- the row that a query by code shows is what a search of the roll finds
-found : {X : Type 0} (keys : List ℕ) (p : Row → Bool) (show : Row → Row) (of : Row → X) (from : Row → X) (test : X → Bool) → ((r : Row) → from (show r) ≡ of r) → (table shown : List Row)
-    → AllByRecursion (λ r. p r ≡ test (of r)) table → ListsBy keys p show table shown → (o : Option Row) → as_list o ≡ shown → option_map from o ≡ find test (map of (by_key table))
-found keys p show of from test alike table shown agree lists o is =
-    let one : IsPermutation (map from (map show (filter p table))) (map from shown) = IsPermutation-map from _ shown (permuted keys p show table shown lists) in
-    let two : map from (map show (filter p table)) ≡ map of (filter (λ r. test (of r)) table) =
-    sym (map_twice from show (filter p table)) ∙ map_alike (λ r. from (show r)) of (filter p table) alike ∙ ap (map of) (filter_alike p (λ r. test (of r)) table agree) in
-    let three : IsPermutation (map of (filter (λ r. test (of r)) table)) (map of (filter (λ r. test (of r)) (by_key table))) =
-    IsPermutation-map of _ _ (IsPermutation-filter (λ r. test (of r)) table (by_key table) (permutes row_key table)) in
-    let four : IsPermutation (map from shown) (filter test (map of (by_key table))) =
-    IsPermutation-trans _ _ _ (IsPermutation-sym _ _ one) (subst₂ IsPermutation (sym two) (sym (filter-map test of (by_key table))) three) in
-    let five : IsPermutation (as_list (option_map from o)) (filter test (map of (by_key table))) = subst (λ l. IsPermutation l (filter test (map of (by_key table)))) (ap (map from) (sym is) ∙ listed_map from o) four in
-    sym (find_is test (map of (by_key table)) ∙ ap first_of (only_one (option_map from o) _ five) ∙ first_back (option_map from o))
+use Rattle.portal_tables.proofs.Shapes.{IsLecturerRow, IsStudentRow, has_text_of, lecturer_rows_formed, student_rows_formed}
 
 module _ (db : Database) (holds : Holds db) where
   lecturer_agrees : (code : Key) (r : Row) → IsLecturerRow r → has_text 3 code r ≡ is (bytes (column r 3)) code
@@ -104,19 +56,6 @@ module _ (db : Database) (holds : Holds db) where
       found (1 ∷ []) (has_text 3 code) roll_columns (student_of (db.trees choice_tree)) (student_from db.trees) (λ (s : Student). is s.row.code code) (λ r. refl) (db.trees student_tree) shown
       (all_weaker IsStudentRow (λ r. has_text 3 code r ≡ is (bytes (column r 3)) code) (student_agrees code) (db.trees student_tree) (student_rows_formed db holds.own holds.sound holds.apart.1.1.1.0)) lists o told
       ∙ ap (find (λ (s : Student). is s.row.code code)) (sym (students_are db.trees))
-
-  student_keyed : (key : Key) (shown : List Row) → ListsBy (1 ∷ []) (has_text 1 key) (columns (1 ∷ 2 ∷ 3 ∷ 4 ∷ [])) (db.trees student_tree) shown → (o : Option Row) → as_list o ≡ shown
-      → option_map (student_from db.trees) o ≡ find (λ (s : Student). is s.row.key key) (world_of db.trees).students
-  unfolding world_of
-  student_keyed key shown lists o told =
-      found (1 ∷ []) (has_text 1 key) roll_columns (student_of (db.trees choice_tree)) (student_from db.trees) (λ (s : Student). is s.row.key key) (λ r. refl) (db.trees student_tree) shown
-      (all_weaker IsStudentRow (λ r. has_text 1 key r ≡ is (row_key r) key) (student_test key) (db.trees student_tree) (student_rows_formed db holds.own holds.sound holds.apart.1.1.1.0)) lists o told
-      ∙ ap (find (λ (s : Student). is s.row.key key)) (sym (students_are db.trees))
-
-  -- the only row of a key tells the line of its student
-  pub line_told : (key : Key) (shown : List Row) → ListsBy (1 ∷ []) (has_text 1 key) (columns (1 ∷ 2 ∷ 3 ∷ 4 ∷ [])) (db.trees student_tree) shown → (l : Line) (c : Row) → shown ≡ c ∷ [] → l ≡ shown_line c
-      → Some l ≡ line_at (world_of db.trees) key
-  line_told key shown lists l c only is = ap Some is ∙ ap (option_map line_of) (student_keyed key shown lists (Some c) (sym only))
 
 -- the rolls that are shown are those of the world
 

@@ -29,7 +29,8 @@ use Rattle.portal_store.specs.World.{world_of, phase_of, student_of, lecturer_of
 use Rattle.portal_tables.specs.Rolls.{row_key}
 use Rattle.portal_tables.specs.Office.{HasOffice}
 use Rattle.portal_store.specs.Kept.{Whole, Holds}
-use Rattle.portal_store.specs.Putting.{HasPut, PutsList, TurnsThere}
+use Rattle.portal_tables.specs.Putting.{HasPut, PutsList}
+use Rattle.portal_store.specs.Putting.{TurnsThere}
 use Rattle.portal_tables.proofs.Listed.{all_map_on}
 use Rattle.portal_tables.proofs.Sorted.{put_all_map, put_same, distinct_if_rise, map_twice, all_permuted, all_two}
 use Rattle.portal_tables.proofs.Shapes.{IsLecturerRow, lecturer_rows_formed, has_text_of}

@@ -1,8 +1,8 @@
 -- What is told of a caller and of the catalogue by rows that queries show.
-use Rattle.std.specs.Prelude.{Vec, ◌==◌, if◌then◌else◌, List, [], ◌∷◌, map, filter, Option, Some, None, option_map}
+use Rattle.std.specs.Prelude.{Vec, ◌==◌, if◌then◌else◌, List, [], map, filter, Option, Some, None, option_map}
 use Rattle.std.specs.List.{find, filter_map}
 use Rattle.std.specs.declared.alloc.Global.{Global}
-use Rattle.sqlite.specs.Order.{Row, column, bytes}
+use Rattle.sqlite.specs.Order.{Row, column}
 use Rattle.sqlite.specs.Tree.{Trees}
 use Rattle.sqlite_trees.specs.Objects.{number_in}
 use Rattle.portal_core.specs.declared.rows.LecturerRow.{LecturerRow}
@@ -16,15 +16,10 @@ use Rattle.portal_core.specs.Words.{Key, is, is_empty}
 use Rattle.portal_core.specs.World.{World, Lecturer, Student, applicants_to, placed_at, is_from_ranking, is_published}
 use Rattle.portal_list.specs.Shown.{is_wanted}
 use Rattle.portal_tables.specs.Tables.{choice_tree, ranking_tree}
-use Rattle.portal_store.specs.declared.queries.applicants.Line.{Line}
+use Rattle.portal_tables.specs.declared.lines.Line.{Line}
 use Rattle.portal_tables.specs.Lists.{chosen}
 use Rattle.portal_tables.specs.Shown.{first, shown_lecturer, shown_project, shown_student, shown_pair, text_or_none}
 use Rattle.portal_store.specs.World.{world_of}
-
--- one thing or none, as a list
-abbrev pub as_list : {X : Type 0} → Option X → List X
-as_list None = []
-as_list (Some x) = x ∷ []
 
 -- the lecturer whose row is shown, with the ranking in the tables
 abbrev pub lecturer_from : Trees → Row → Lecturer
@@ -45,13 +40,6 @@ offered ls ps = filter_map (λ p. option_map (listing_with p) (name_of ls p.lect
 -- what a lecturer may be told of a student
 abbrev pub line_of : Student → Line
 line_of s = record { person = record { key = s.row.key; name = s.row.name }; placed = s.placed }
-
-abbrev pub shown_line : Row → Line
-shown_line c = record { person = record { key = first c; name = bytes (column c 1) }; placed = text_or_none (column c 3) }
-
--- what is told of the student with this key, where there is one
-abbrev pub line_at : World → Key → Option Line
-line_at w k = option_map line_of (find (λ (s : Student). is s.row.key k) w.students)
 
 -- the lines of the project's applicants, once the phase shows them
 abbrev pub lines_shown : World → Phase → Key → List Line

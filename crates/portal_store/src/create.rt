@@ -1,79 +1,25 @@
 //! Makes the portal's tables.
 
-ghost use Rattle.std.specs.Prelude.{◌≡◌, ◌↔◌, true, false, Err, IfOk, IfErr, IsTrue};
-ghost use Rattle.std.specs.List.{list_any};
+ghost use Rattle.std.specs.Prelude.{◌≡◌, ◌↔◌, false, Err, IfOk, IfErr, IsTrue};
 ghost use Rattle.sqlite.specs.State.{HasCleanDisk, Survives};
 ghost use Rattle.sqlite.specs.Held.{state};
 ghost use Rattle.sqlite.specs.Steps.{over_memory};
 ghost use Rattle.portal_core.specs.Good.{Good};
 ghost use Rattle.portal_tables.specs.Tables.{no_schema};
 ghost use Rattle.portal_tables.specs.Making.{Creates};
+ghost use Rattle.portal_tables.specs.Names.{has_names};
 ghost use Rattle.portal_tables.specs.Steps.{Commits, IsAfter, LeavesOnly, Stays};
 ghost use Rattle.portal_store.specs.Kept.{IsCleanStore, kept_world};
-ghost use Rattle.portal_store.specs.Made.{has_own_name, stands_for_table, is_named_table, is_named_view, has_names, first_world};
+ghost use Rattle.portal_store.specs.Made.{first_world};
 
 use crate::fault::create_fault_of;
 use crate::store::{CreateFault, NotOpened, Store};
 use portal_core::{Code, Remembered};
 use portal_tables::make::create_portal;
+use portal_tables::names::{is_empty, is_there};
 use portal_tables::own::Pattern;
 use sqlite::{Alter, Connection, MemStore};
-use sqlite_schema::names::same_name;
-use sqlite_schema::schema::{Schema, Table, View};
 use std::alloc::Global;
-
-/// Whether this is the name of one of the six tables.
-fn is_own_name(name: &[u8]) -> bool
-    ensures { result ≡ has_own_name name.now }
-{
-    same_name(name, b"portal".as_slice())
-        || same_name(name, b"lecturer".as_slice())
-        || same_name(name, b"project".as_slice())
-        || same_name(name, b"student".as_slice())
-        || same_name(name, b"choice".as_slice())
-        || same_name(name, b"ranking".as_slice())
-}
-
-/// Whether this is a view, or a table that the connection cannot read.
-fn is_view(view: &View) -> bool
-    ensures { result ≡ stands_for_table view.now.name view.now.foreign }
-{
-    match &view.foreign {
-        Some(table) => table.as_slice() == view.name.as_slice(),
-        None => true,
-    }
-}
-
-fn is_own_view(view: &View) -> bool
-    ensures { result ≡ is_named_view view.now }
-{
-    is_own_name(view.name.as_slice()) && is_view(view)
-}
-
-fn has_own_tables(tables: &[Table]) -> bool
-    ensures { result ≡ list_any is_named_table tables.now }
-{
-    tables.iter().any(|t| is_own_name(t.name.as_slice()))
-}
-
-fn has_own_views(views: &[View]) -> bool
-    ensures { result ≡ list_any is_named_view views.now }
-{
-    views.iter().any(is_own_view)
-}
-
-/// Whether a table or a view of one of the six names is there.
-fn is_there(schema: &Schema) -> bool
-    ensures { result ≡ has_names schema.now }
-{
-    has_own_tables(schema.tables.as_slice()) || has_own_views(schema.views.as_slice())
-}
-
-fn is_empty(schema: &Schema) -> bool
-    ensures { IsTrue result ↔ (schema.now ≡ no_schema) }
-{
-    schema.tables.is_empty() && schema.indexes.is_empty() && schema.views.is_empty()
-}
 
 impl<S: Alter> Store<S> {
     /// Makes the portal's tables in a database that has none of them: the empty world in setup, whose office has this code.

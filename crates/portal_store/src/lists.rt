@@ -1,49 +1,26 @@
 //! A student's list and a lecturer's ranking, each put in place of any other.
 
-ghost use Rattle.std.specs.Prelude.{◌≡◌, ◌≤◌, pos, false, length, map, IfOk, OnOk, OnErr, IsTrue};
+ghost use Rattle.std.specs.Prelude.{◌≡◌, false, OnOk, OnErr, IsTrue};
 ghost use Rattle.sqlite.specs.State.{HasCleanDisk, Survives};
 ghost use Rattle.sqlite.specs.Held.{state};
 ghost use Rattle.portal_core.specs.Change.{Choices, Ranks};
 ghost use Rattle.portal_tables.specs.Own.{IsOwn};
-ghost use Rattle.portal_tables.specs.Rows.{choice_cells, ranking_cells};
 ghost use Rattle.portal_tables.specs.Steps.{Commits, IsAfter, LeavesOnly, Stays};
 ghost use Rattle.portal_store.specs.Kept.{Turns};
-ghost use Rattle.portal_store.specs.Putting.{list_cells, TurnsThere};
+ghost use Rattle.portal_store.specs.Putting.{TurnsThere};
 
 use portal_tables::fault::TableFault;
-use portal_tables::insert::{NewChoice, NewRanking, add_all};
+use portal_tables::insert::{add_all, choices_of, rankings_of};
 use portal_tables::remove::{clear_choices, clear_rankings};
 use portal_tables::select::lecturer_by_key;
 use portal_tables::step::{Step, commit};
 use portal_tables::update::set_ranked;
 use spa_rows::Key;
 use sqlite::{Alter, Connection, Error, ErrorCode, Transaction};
-use std::alloc::{AllocError, Global};
+use std::alloc::Global;
 
 /// No list is longer: there are at most 1,000 projects and 2,000 students.
 const LONGEST: usize = 2000;
-
-/// The rows of a student's list.
-fn choices_of<'a>(
-    alloc: Global,
-    student: &'a Key,
-    projects: &'a [Key],
-) -> Result<Vec<NewChoice<'a>>, AllocError>
-    requires few { length projects.now ≤ 2000 }
-    ensures { IfOk result (λ v. map (λ r. choice_cells r.student.now (pos r.place) r.project.now) v.items ≡ list_cells student.now projects.now) }
-{
-    let mut rows = Vec::with_capacity(alloc, projects.len())?;
-    let mut place = 0u32;
-    'rows: for project in projects {
-        place += 1;
-        rows.push(NewChoice {
-            student: student.as_bytes(),
-            place,
-            project: project.as_bytes(),
-        })?;
-    }
-    Ok(rows)
-}
 
 /// The student's list becomes these projects, best first. A list that is longer than any may be is refused as too big.
 pub(crate) struct PutChoices<'a> {
@@ -63,28 +40,6 @@ impl Step for PutChoices<'_> {
         let rows = choices_of(alloc, student, projects)?;
         add_all(tx, &rows)
     }
-}
-
-/// The rows of a lecturer's ranking.
-fn rankings_of<'a>(
-    alloc: Global,
-    lecturer: &'a Key,
-    students: &'a [Key],
-) -> Result<Vec<NewRanking<'a>>, AllocError>
-    requires few { length students.now ≤ 2000 }
-    ensures { IfOk result (λ v. map (λ r. ranking_cells r.lecturer.now (pos r.place) r.student.now) v.items ≡ list_cells lecturer.now students.now) }
-{
-    let mut rows = Vec::with_capacity(alloc, students.len())?;
-    let mut rank = 0u32;
-    'rows: for student in students {
-        rank += 1;
-        rows.push(NewRanking {
-            lecturer: lecturer.as_bytes(),
-            place: rank,
-            student: student.as_bytes(),
-        })?;
-    }
-    Ok(rows)
 }
 
 /// The ranking of a lecturer who is on the roll becomes these students, best first, and the lecturer's row says that it is there. As

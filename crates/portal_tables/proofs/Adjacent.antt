@@ -1,8 +1,8 @@
 -- Rows that rise by their keys, each beside the next.
-use Rattle.std.proofs.Common.{◌≡◌, zero, suc, ◌+◌, ◌<◌, Bool, true, false, IsTrue, ◌↔◌, List, [], ◌∷◌, map, length, get_or, Ordering, Less, Equal, Greater, refl, ◌∙◌, ap, ℕ, arith}
+use Rattle.std.proofs.Common.{◌≡◌, zero, suc, ◌+◌, ◌<◌, Bool, true, false, IsTrue, ◌↔◌, List, [], ◌∷◌, map, length, get_or, Ordering, Less, Equal, Greater, refl, sym, ◌∙◌, ap, ℕ, arith}
 use Rattle.std.specs.List.{IsAllAdjacentAnswer}
-use Rattle.std.specs.List.Sorted.{IsStrictlySortedBy}
-use Rattle.std.specs.Ordering.{nat_cmp, is_lt}
+use Rattle.std.specs.List.Sorted.{IsSortedBy, IsStrictlySortedBy}
+use Rattle.std.specs.Ordering.{nat_cmp, is_lt, ordering_reverse}
 use Rattle.std.specs.Cmp.Lexicographic.{slice_cmp}
 use Rattle.std.proofs.lemmas.Bool.{false≢true}
 use Rattle.std.proofs.lemmas.Cmp.{nat_list_cmp_total}
@@ -52,3 +52,12 @@ adjacent_rise {X} key rows false (k, low, apart) = (
       rw (get_or-map key rows k x.0 [] (omega arith), get_or-map key rows (k + 1) x.0 [] low) at above in
       absurd (false≢true (apart x.0 ∙ here)),
 )
+
+-- rows whose keys rise are sorted
+pub rows_sorted : {X : Type 0} (key : X → Key) (rows : List X) → Rise (map key rows) → IsSortedBy (λ a b. is_lt (slice_cmp nat_cmp (key a) (key b))) rows
+rows_sorted key rows up k d low high =
+    let size = length-map rows key in
+    let above = less (slice_cmp nat_cmp (get_or (map key rows) k []) (get_or (map key rows) (k + 1) [])) (sym (comes_before (map key rows) up k (k + 1) (omega arith) (omega (arith, size, high)))) in
+    let here = get_or-map key rows k d [] (omega arith) in
+    let next = get_or-map key rows (k + 1) d [] high in
+    ap is_lt (nat_list_cmp_total.antisymm (key (get_or rows (k + 1) d)) (key (get_or rows k d)) ∙ ap ordering_reverse (rw (here, next) at above))

@@ -29,3 +29,9 @@ pub mod Cuts
 pub mod Owners
 pub mod Parents
 pub mod Shapes
+pub mod Putting
+pub mod NamedRows
+pub mod OneFound
+pub mod Choosers
+pub mod OneKey
+pub mod LineRows

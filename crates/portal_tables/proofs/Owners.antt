@@ -69,10 +69,10 @@ module _ (show : Row → Row) (alike : (r : Row) → first (show r) ≡ row_key 
   keys_are : map first (map show (by_key roll)) ≡ map row_key (by_key roll)
   keys_are = map-map first show (by_key roll) ∙ (λ i. map (λ r. alike r i) (by_key roll))
 
-  keys_rise : Rise (map row_key (by_key roll)) → Rise (map first (map show (by_key roll)))
+  pub keys_rise : Rise (map row_key (by_key roll)) → Rise (map first (map show (by_key roll)))
   keys_rise up = subst Rise (sym keys_are) up
 
-  all_known : AllByRecursion (λ r. OnRoll roll (row_key r)) table
+  pub all_known : AllByRecursion (λ r. OnRoll roll (row_key r)) table
       → AllByRecursion (λ r. has (map first (map show (by_key roll))) (row_key r) ≡ true) table
   all_known all = all_weaker (λ r. OnRoll roll (row_key r)) (λ r. has (map first (map show (by_key roll))) (row_key r) ≡ true)
       (λ r h. subst (λ ks. has ks (row_key r) ≡ true) (sym keys_are) (put_there roll (row_key r) h)) table all

@@ -12,3 +12,6 @@ pub mod Rolls
 pub mod Shown
 pub mod Cuts
 pub mod Owners
+pub mod Names
+pub mod Putting
+pub mod Lines

@@ -1,5 +1,5 @@
 -- What the rows that a query shows are decoded to: the cells of a roll or of a list, without the number of the row.
-use Rattle.std.specs.Prelude.{◌≡◌, ℕ, true, [], Option, Some, None, option_map, IfSome}
+use Rattle.std.specs.Prelude.{◌≡◌, ℕ, true, List, [], ◌∷◌, Option, Some, None, option_map, IfSome}
 use Rattle.sqlite.specs.declared.types.Value.{Value}
 use Rattle.sqlite.specs.declared.types.Value.TheVariants.{Null, Int, Real, Blob, Text as Words}
 use Rattle.sqlite.specs.Order.{Row, column, bytes}
@@ -17,6 +17,11 @@ text_or_none (Int n) = Some []
 text_or_none (Real x) = Some []
 text_or_none (Blob b) = Some []
 text_or_none (Words t) = Some t
+
+-- one thing or none, as a list
+abbrev pub as_list : {X : Type 0} → Option X → List X
+as_list None = []
+as_list (Some x) = x ∷ []
 
 -- the key that a shown row begins with
 abbrev pub first : Row → Key

@@ -7,7 +7,7 @@ ghost use Rattle.spa_rows.specs.Form.{is_key};
 ghost use Rattle.portal_core.specs.Good.{IsLecturer, IsProject, IsStudent};
 ghost use Rattle.portal_core.specs.Words.{Rise, is_before};
 ghost use Rattle.portal_tables.specs.Lists.{CountUp};
-ghost use Rattle.portal_tables.specs.Shown.{first, shown_lecturer, shown_project, shown_student, shown_pair, shown_place, shown_name, HasPlace};
+ghost use Rattle.portal_tables.specs.Shown.{as_list, first, shown_lecturer, shown_project, shown_student, shown_pair, shown_place, shown_name, HasPlace};
 
 use crate::cells::{assigned_at, bytes_at, capacity_at, code_at, key_at, name_at, number_at};
 use crate::fault::TableFault;
@@ -96,6 +96,16 @@ pub fn decoded<T: FromCells>(alloc: Global, rows: &[Row]) -> Result<Vec<T>, Tabl
         all.push(T::from_cells(alloc, row)?)?;
     }
     Ok(all)
+}
+
+/// The row, if there is one. The fault is `Damaged` where there are more.
+pub fn only(mut rows: Vec<Row>) -> Result<Option<Row>, TableFault>
+    ensures { IfOk result (λ row. as_list row ≡ rows.items) }
+{
+    if rows.len() > 1 {
+        return Err(TableFault::Damaged);
+    }
+    Ok(rows.pop())
 }
 
 fn is_lower(a: &Row, b: &Row) -> bool

@@ -12,7 +12,7 @@ mod lists;
 mod rolls;
 
 use crate::run::write;
-pub use lists::{NewChoice, NewRanking};
+pub use lists::{NewChoice, NewRanking, choices_of, rankings_of};
 pub use rolls::{NewLecturer, NewProject, NewStudent};
 use sqlite::types::ValueRef;
 use sqlite::{Alter, Error, Transaction};

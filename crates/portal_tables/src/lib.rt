@@ -1,6 +1,6 @@
 //! The six tables of the portal in a database of the crate `sqlite`: how they are made, what each statement does to one of
-//! them, what a query shows of one, and how what is shown is decoded into the portal's rows of rolls, the names of a list and the
-//! row of the office. It knows rows and numbers of trees and no world.
+//! them, what a query shows of one, and how what is shown is decoded into the portal's rows of rolls, the names of a list, the
+//! row of the office and what may be told of students. It knows rows and numbers of trees and no world.
 #![tactic(auto)]
 
 pub mod apart;
@@ -9,7 +9,10 @@ pub mod decode;
 pub mod entries;
 pub mod fault;
 pub mod insert;
+pub mod lines;
 pub mod make;
+pub mod named;
+pub mod names;
 pub mod office;
 pub mod own;
 pub mod remove;

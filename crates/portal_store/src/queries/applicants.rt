@@ -1,162 +1,21 @@
 //! Applicants and placed students of a lecturer's projects.
 
-ghost use Rattle.std.specs.Prelude.{◌≡◌, [], ◌∷◌, ◌++◌, false, IfOk, OnOk, IsTrue, Some, if◌then◌else◌, map, filter};
-ghost use Rattle.sqlite.specs.Order.{Row as Cells};
+ghost use Rattle.std.specs.Prelude.{◌≡◌, [], ◌∷◌, ◌++◌, false, IfOk, OnOk, IsTrue, if◌then◌else◌, map, filter};
 ghost use Rattle.sqlite.specs.State.{HasCleanDisk};
 ghost use Rattle.sqlite.specs.Held.{state};
-ghost use Rattle.portal_core.specs.Words.{has, Rise};
 ghost use Rattle.portal_core.specs.Good.{Good};
-ghost use Rattle.portal_core.specs.World.{is_at, is_from_ranking, is_published, applicants_to};
+ghost use Rattle.portal_core.specs.World.{is_at, is_from_ranking, is_published};
 ghost use Rattle.portal_store.specs.World.{world_of};
 ghost use Rattle.portal_store.specs.Kept.{Holds};
-ghost use Rattle.portal_tables.specs.Own.{IsOwn};
 ghost use Rattle.portal_tables.specs.Reading.{Reads};
-ghost use Rattle.portal_tables.specs.Rolls.{students_shown};
-ghost use Rattle.portal_tables.specs.Shown.{first};
-ghost use Rattle.portal_store.specs.Queried.{line_of, shown_line, line_at, lines_shown, with_persons, applicants_told, placed_told};
+ghost use Rattle.portal_store.specs.Queried.{lines_shown, with_persons, applicants_told, placed_told};
 
-use super::office::is_named;
-use super::student::person_at;
 use portal_core::{Person, Phase};
-use portal_tables::cells::{assigned_at, bytes_at};
-use portal_tables::decode::{FromCells, do_rise};
 use portal_tables::fault::TableFault;
-use portal_tables::rolls::student_roll;
-use portal_tables::select::{choosers_of, student_by_key};
+use portal_tables::lines::{Line, lines_to, person_of, persons_of};
 use spa_rows::Key;
-use sqlite::{Alter, Connection, Row};
+use sqlite::{Alter, Connection};
 use std::alloc::{AllocError, Global};
-
-/// What a lecturer may be told of a student.
-#[derive(Drop)]
-pub(crate) struct Line {
-    pub person: Person,
-    pub placed: Option<Key>,
-}
-
-impl FromCells for Line {
-    ghost shown = { shown_line };
-
-    // which rows are refused is left open
-    ghost is_fine = { λ c. ⊥ };
-
-    fn from_cells(alloc: Global, row: &Row) -> Result<Line, TableFault> {
-        Ok(Line {
-            person: person_at(alloc, row)?,
-            placed: assigned_at(alloc, row, 3)?,
-        })
-    }
-}
-
-/// The line of a student, of the only row.
-fn line_from(alloc: Global, rows: &[Row]) -> Result<Line, TableFault>
-    ensures { IfOk result (λ l. (c : Cells) × (rows.now ≡ c ∷ []) × (l ≡ shown_line c)) }
-{
-    match rows {
-        [row] => Line::from_cells(alloc, row),
-        _ => Err(TableFault::Damaged),
-    }
-}
-
-/// The line of the student with the key.
-fn line_in<S: Alter>(
-    alloc: Global,
-    conn: &mut Connection<S>,
-    key: &[u8],
-) -> Result<Line, TableFault>
-    ensures told { Holds (state S.Store conn.old).now → HasCleanDisk (state S.Store conn.new) → IfOk result (λ l. Some l ≡ line_at (world_of (state S.Store conn.old).now.trees) key.now) }
-    ensures reads { Reads result (state S.Store conn.old) (state S.Store conn.new) }
-    ensures mode { conn.old.in_transaction ≡ false → conn.new.in_transaction ≡ false }
-{
-    let rows = student_by_key(conn, key)?;
-    line_from(alloc, &rows)
-}
-
-/// The lines of the students with whose keys the rows begin.
-fn lines_from<S: Alter>(
-    alloc: Global,
-    conn: &mut Connection<S>,
-    rows: &[Row],
-) -> Result<Vec<Line>, TableFault>
-    ensures told { Holds (state S.Store conn.old).now → HasCleanDisk (state S.Store conn.new) → IsTrue (state S.Store conn.old).is_open → IfOk result (λ v. map Some v.items ≡ map (λ c. line_at (world_of (state S.Store conn.old).now.trees) (first c)) rows.now) }
-    ensures reads { Reads result (state S.Store conn.old) (state S.Store conn.new) }
-    ensures mode { conn.old.in_transaction ≡ false → conn.new.in_transaction ≡ false }
-{
-    let mut lines = Vec::new(alloc);
-    for row in rows {
-        lines.push(line_in(alloc, conn, bytes_at(row, 0))?)?;
-    }
-    Ok(lines)
-}
-
-/// The same, where the keys of the rows rise.
-fn rising_lines<S: Alter>(
-    alloc: Global,
-    conn: &mut Connection<S>,
-    rows: &[Row],
-) -> Result<Vec<Line>, TableFault>
-    ensures rise { IfOk result (λ v. Rise (map first rows.now)) }
-    ensures told { Holds (state S.Store conn.old).now → HasCleanDisk (state S.Store conn.new) → IsTrue (state S.Store conn.old).is_open → IfOk result (λ v. map Some v.items ≡ map (λ c. line_at (world_of (state S.Store conn.old).now.trees) (first c)) rows.now) }
-    ensures reads { Reads result (state S.Store conn.old) (state S.Store conn.new) }
-    ensures mode { conn.old.in_transaction ≡ false → conn.new.in_transaction ≡ false }
-{
-    if !do_rise(rows) {
-        return Err(TableFault::Damaged);
-    }
-    lines_from(alloc, conn, rows)
-}
-
-/// The lines of those students whose keys the other rows begin with.
-fn lines_among(alloc: Global, students: &[Row], named: &[Row]) -> Result<Vec<Line>, TableFault>
-    requires { Rise (map first named.now) }
-    ensures { IfOk result (λ v. v.items ≡ map shown_line (filter (λ c. has (map first named.now) (first c)) students.now)) }
-{
-    let mut lines = Vec::new(alloc);
-    for student in students {
-        if is_named(named, bytes_at(student, 0)) {
-            lines.push(Line::from_cells(alloc, student)?)?;
-        }
-    }
-    Ok(lines)
-}
-
-/// The lines of the students on the roll with whose keys the rows begin, by one query of the roll.
-fn lines_on_roll<S: Alter>(
-    alloc: Global,
-    conn: &mut Connection<S>,
-    named: &[Row],
-) -> Result<Vec<Line>, TableFault>
-    ensures told { IsOwn conn.old.schema → HasCleanDisk (state S.Store conn.new) → IfOk result (λ v. v.items ≡ map shown_line (filter (λ c. has (map first named.now) (first c)) (students_shown (state S.Store conn.old).now.trees))) }
-    ensures reads { Reads result (state S.Store conn.old) (state S.Store conn.new) }
-    ensures mode { conn.old.in_transaction ≡ false → conn.new.in_transaction ≡ false }
-{
-    let students = student_roll(conn)?;
-    if !do_rise(named) {
-        return Err(TableFault::Damaged);
-    }
-    lines_among(alloc, &students, named)
-}
-
-/// From how many applicants on the roll is read as a whole: it has at most 2,000 students, so that at most four rows are read for
-/// each who is told of.
-const MANY: usize = 500;
-
-/// The lines of the students whose list holds the project.
-fn lines_to<S: Alter>(
-    alloc: Global,
-    conn: &mut Connection<S>,
-    project: &Key,
-) -> Result<Vec<Line>, TableFault>
-    ensures told { Holds (state S.Store conn.old).now → HasCleanDisk (state S.Store conn.new) → IsTrue (state S.Store conn.old).is_open → IfOk result (λ v. v.items ≡ map line_of (applicants_to (world_of (state S.Store conn.old).now.trees) project.now)) }
-    ensures reads { Reads result (state S.Store conn.old) (state S.Store conn.new) }
-    ensures mode { conn.old.in_transaction ≡ false → conn.new.in_transaction ≡ false }
-{
-    let rows = choosers_of(conn, project.as_bytes())?;
-    if rows.len() < MANY {
-        return rising_lines(alloc, conn, &rows);
-    }
-    lines_on_roll(alloc, conn, &rows)
-}
 
 /// Whether the students' lists are closed.
 pub(super) fn are_closed(phase: Phase) -> bool
@@ -183,26 +42,6 @@ fn lines_in<S: Alter>(
         return lines_to(alloc, conn, project);
     }
     Ok(Vec::new(alloc))
-}
-
-fn person_of(alloc: Global, person: &Person) -> Result<Person, AllocError>
-    ensures { IfOk result (λ p. p ≡ person.now) }
-{
-    Ok(Person {
-        key: person.key.copy(alloc)?,
-        name: person.name.copy(alloc)?,
-    })
-}
-
-/// The persons of the lines.
-fn persons_of(alloc: Global, lines: &[Line]) -> Result<Vec<Person>, AllocError>
-    ensures { IfOk result (λ v. v.items ≡ map (λ l. l.person) lines.now) }
-{
-    let mut found = Vec::with_capacity(alloc, lines.len())?;
-    for line in lines {
-        found.push(person_of(alloc, &line.person)?)?;
-    }
-    Ok(found)
 }
 
 /// Whether the result gives this project.

@@ -7,21 +7,12 @@ ghost use Rattle.portal_core.specs.View.{lecturer_with, student_with};
 ghost use Rattle.portal_store.specs.World.{world_of};
 ghost use Rattle.portal_store.specs.Kept.{Holds};
 ghost use Rattle.portal_tables.specs.Reading.{Reads};
-ghost use Rattle.portal_store.specs.Queried.{as_list, lecturer_from, student_from};
+ghost use Rattle.portal_store.specs.Queried.{lecturer_from, student_from};
 
+use portal_tables::decode::only;
 use portal_tables::fault::TableFault;
 use portal_tables::select::{lecturer_by_code, student_by_code};
 use sqlite::{Alter, Connection, Row};
-
-/// The row, if there is one; two are damage.
-fn only(mut rows: Vec<Row>) -> Result<Option<Row>, TableFault>
-    ensures { IfOk result (λ row. as_list row ≡ rows.items) }
-{
-    if rows.len() > 1 {
-        return Err(TableFault::Damaged);
-    }
-    Ok(rows.pop())
-}
 
 /// The row of the lecturer with the code.
 pub(super) fn lecturer_in<S: Alter>(

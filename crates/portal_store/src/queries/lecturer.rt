@@ -18,11 +18,11 @@ ghost use Rattle.portal_tables.specs.Shown.{first};
 ghost use Rattle.portal_store.specs.Queried.{lecturer_from, with_persons};
 
 use super::applicants::{Told, told_in};
-use super::student::person_at;
 use portal_core::{LecturerView, Listing, Phase};
 use portal_tables::cells::{capacity_at, key_at, number_at};
 use portal_tables::entries::{Lists, list_in};
 use portal_tables::fault::TableFault;
+use portal_tables::lines::person_at;
 use spa_rows::Key;
 use sqlite::{Alter, Connection, Row};
 use std::alloc::{AllocError, Global};

@@ -1,12 +1,10 @@
 //! What the office sees.
 
-ghost use Rattle.std.specs.Prelude.{◌≡◌, ◌∷◌, [], pos, ◌&&◌, false, IfOk, IsTrue, if◌then◌else◌, not, map, filter};
+ghost use Rattle.std.specs.Prelude.{◌≡◌, ◌∷◌, [], pos, ◌&&◌, false, IfOk, IsTrue, if◌then◌else◌, map};
 ghost use Rattle.std.specs.List.{list_any, filter_map};
-ghost use Rattle.std.specs.Cmp.Lexicographic.{slice_cmp};
-ghost use Rattle.std.specs.Ordering.{nat_cmp};
 ghost use Rattle.sqlite.specs.State.{HasCleanDisk};
 ghost use Rattle.sqlite.specs.Held.{state};
-ghost use Rattle.portal_core.specs.Words.{is, has, Rise};
+ghost use Rattle.portal_core.specs.Words.{is, has};
 ghost use Rattle.portal_core.specs.World.{is_from_ranking, is_published};
 ghost use Rattle.portal_core.specs.View as seen;
 ghost use Rattle.portal_list.specs.Shown.{is_wanted};
@@ -22,55 +20,15 @@ ghost use Rattle.portal_store.specs.Queried.{unlisted, waiting_key, office_from}
 use super::applicants::are_closed;
 use portal_core::{Listing, OfficeView, Phase};
 use portal_tables::cells::{bytes_at, key_at, number_at};
-use portal_tables::decode::do_rise;
 use portal_tables::fault::TableFault;
+use portal_tables::named::keys_without;
 use portal_tables::office::Office;
 use portal_tables::rolls::{Rolls, parts_of, rolls_in};
 use portal_tables::select::{choosers_of, listed_students};
 use spa_rows::Key;
 use sqlite::{Alter, Connection, Row};
 use std::alloc::Global;
-use std::cmp::Ordering;
 use std::rc::Rc;
-
-/// Whether a row begins with the key, among rows whose keys rise.
-pub(super) fn is_named(rows: &[Row], key: &[u8]) -> bool
-    requires { Rise (map first rows.now) }
-    ensures { result ≡ has (map first rows.now) key.now }
-{
-    match rows.binary_search_by(
-        |row: &Row| -> Ordering
-            ensures { result ≡ slice_cmp nat_cmp (first row.now) key.entry.now }
-        { bytes_at(row, 0).cmp(key) },
-    ) {
-        Ok(_) => true,
-        Err(_) => false,
-    }
-}
-
-/// The keys that students' rows begin with, but for those of the listed, whose keys rise.
-fn keys_but(alloc: Global, students: &[Row], listed: &[Row]) -> Result<Vec<Key>, TableFault>
-    requires { Rise (map first listed.now) }
-    ensures { IfOk result (λ v. v.items ≡ map first (filter (λ c. not (has (map first listed.now) (first c))) students.now)) }
-{
-    let mut keys = Vec::new(alloc);
-    for student in students {
-        if !is_named(listed, bytes_at(student, 0)) {
-            keys.push(key_at(alloc, student, 0)?)?;
-        }
-    }
-    Ok(keys)
-}
-
-/// The keys that students' rows begin with, but for those of the listed.
-fn keys_without(alloc: Global, students: &[Row], listed: &[Row]) -> Result<Vec<Key>, TableFault>
-    ensures { IfOk result (λ v. v.items ≡ map first (filter (λ c. not (has (map first listed.now) (first c))) students.now)) }
-{
-    if !do_rise(listed) {
-        return Err(TableFault::Damaged);
-    }
-    keys_but(alloc, students, listed)
-}
 
 /// The students who have no list.
 fn without_list<S: Alter>(

@@ -15,24 +15,15 @@ ghost use Rattle.portal_store.specs.Kept.{Holds};
 ghost use Rattle.portal_tables.specs.Reading.{Reads};
 ghost use Rattle.portal_store.specs.Queried.{student_from};
 
-use portal_core::{Listing, Person, Phase, StudentView};
-use portal_tables::cells::{assigned_at, key_at, name_at};
+use portal_core::{Listing, Phase, StudentView};
+use portal_tables::cells::{assigned_at, key_at};
 use portal_tables::entries::{Lists, list_in};
 use portal_tables::fault::TableFault;
+use portal_tables::lines::person_at;
 use spa_rows::Key;
 use sqlite::{Alter, Connection, Row};
 use std::alloc::Global;
 use std::rc::Rc;
-
-/// The person whose row of a roll this is.
-pub(super) fn person_at(alloc: Global, row: &Row) -> Result<Person, TableFault>
-    ensures { IfOk result (λ p. p ≡ record { key = first row.now; name = bytes (column row.now 1) }) }
-{
-    Ok(Person {
-        key: key_at(alloc, row, 0)?,
-        name: name_at(alloc, row, 1)?,
-    })
-}
 
 /// The student's project, once the result is shown.
 fn result_at(alloc: Global, phase: Phase, row: &Row) -> Result<Option<Key>, TableFault>

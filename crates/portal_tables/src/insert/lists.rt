@@ -1,13 +1,16 @@
 //! Rows of the lists.
 
-ghost use Rattle.std.specs.Prelude.{pos};
+ghost use Rattle.std.specs.Prelude.{◌≡◌, ◌≤◌, pos, length, map, IfOk};
 ghost use Rattle.portal_tables.specs.Tables.{choice_tree, ranking_tree};
 ghost use Rattle.portal_tables.specs.Rows.{choice_cells, ranking_cells};
+ghost use Rattle.portal_tables.specs.Putting.{list_cells};
 
 use super::NewRow;
 use crate::run::write;
+use spa_rows::Key;
 use sqlite::types::{ToSql, ValueRef};
 use sqlite::{Alter, Error, Transaction};
+use std::alloc::{AllocError, Global};
 
 /// One place of a student's list.
 #[derive(Clone, Copy)]
@@ -78,6 +81,28 @@ impl NewRow for NewChoice<'_> {
     }
 }
 
+/// The rows of a student's list: its projects at the places from 1 on. The error is want of memory.
+pub fn choices_of<'a>(
+    alloc: Global,
+    student: &'a Key,
+    projects: &'a [Key],
+) -> Result<Vec<NewChoice<'a>>, AllocError>
+    requires few { length projects.now ≤ 2000 }
+    ensures { IfOk result (λ v. map (λ r. choice_cells r.student.now (pos r.place) r.project.now) v.items ≡ list_cells student.now projects.now) }
+{
+    let mut rows = Vec::with_capacity(alloc, projects.len())?;
+    let mut place = 0u32;
+    'rows: for project in projects {
+        place += 1;
+        rows.push(NewChoice {
+            student: student.as_bytes(),
+            place,
+            project: project.as_bytes(),
+        })?;
+    }
+    Ok(rows)
+}
+
 /// One place of a lecturer's ranking.
 #[derive(Clone, Copy)]
 pub struct NewRanking<'a> {
@@ -145,4 +170,26 @@ impl NewRow for NewRanking<'_> {
             ],
         )
     }
+}
+
+/// The rows of a lecturer's ranking: its students at the places from 1 on. The error is want of memory.
+pub fn rankings_of<'a>(
+    alloc: Global,
+    lecturer: &'a Key,
+    students: &'a [Key],
+) -> Result<Vec<NewRanking<'a>>, AllocError>
+    requires few { length students.now ≤ 2000 }
+    ensures { IfOk result (λ v. map (λ r. ranking_cells r.lecturer.now (pos r.place) r.student.now) v.items ≡ list_cells lecturer.now students.now) }
+{
+    let mut rows = Vec::with_capacity(alloc, students.len())?;
+    let mut rank = 0u32;
+    'rows: for student in students {
+        rank += 1;
+        rows.push(NewRanking {
+            lecturer: lecturer.as_bytes(),
+            place: rank,
+            student: student.as_bytes(),
+        })?;
+    }
+    Ok(rows)
 }

@@ -6,7 +6,7 @@ use Rattle.portal_tables.specs.declared.insert.lists.NewChoice.{NewChoice}
 use Rattle.portal_tables.specs.Tables.{choice_tree}
 use Rattle.portal_tables.specs.Steps.{Made, GoesOn}
 use Rattle.portal_tables.specs.Rows.{Adds, Clears, choice_cells}
-use Rattle.portal_store.proofs.Putting.{list_put}
+use Rattle.portal_tables.proofs.Putting.{list_put}
 use Rattle.portal_store.proofs.ChoiceTurns.{choice_made}
 use Rattle.portal_store.proofs.lists.PutChoicesStep.take.Goals as goal
 

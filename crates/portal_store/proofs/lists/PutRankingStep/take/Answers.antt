@@ -6,7 +6,7 @@ use Rattle.portal_tables.specs.declared.insert.lists.NewRanking.{NewRanking}
 use Rattle.portal_tables.specs.Tables.{ranking_tree}
 use Rattle.portal_tables.specs.Steps.{Made, GoesOn}
 use Rattle.portal_tables.specs.Rows.{Adds, Clears, Ranks, ranking_cells}
-use Rattle.portal_store.proofs.Putting.{list_put}
+use Rattle.portal_tables.proofs.Putting.{list_put}
 use Rattle.portal_store.proofs.RankTurns.{rank_made}
 use Rattle.portal_store.proofs.lists.PutRankingStep.take.Goals as goal
 

@@ -7,7 +7,7 @@ use Rattle.portal_core.specs.World.{is_at, is_published}
 use Rattle.std.specs.Prelude.{if◌then◌else◌, filter}
 use Rattle.portal_store.specs.Kept.{Holds}
 use Rattle.portal_store.specs.World.{world_of}
-use Rattle.portal_store.specs.declared.queries.applicants.Line.{Line}
+use Rattle.portal_tables.specs.declared.lines.Line.{Line}
 use Rattle.portal_store.specs.Queried.{lines_shown}
 use Rattle.portal_tables.proofs.InTurn.{reads_then, reads_more, reads_handed, clean_before}
 use Rattle.portal_store.proofs.Applying.{persons_shown, placed_shown}

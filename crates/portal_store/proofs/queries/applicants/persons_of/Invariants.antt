@@ -1,5 +1,0 @@
-use Rattle.std.proofs.Common.{◌≡◌, map, take}
-use Rattle.portal_store.proofs.queries.applicants.persons_of.Given as goal
-
-abbrev pub invariant-loop-line : goal.invariant-loop-line
-invariant-loop-line l = l.found.items ≡ map (λ x. x.person) (take l.line-index l.lines)

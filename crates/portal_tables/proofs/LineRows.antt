@@ -1,0 +1,110 @@
+-- The lines that are found by the keys of who names a project are those of its applicants.
+use Rattle.std.proofs.Common.{◌≡◌, inl, inr, Bool, true, false, cond, ◌||◌, Some, option_map, List, [], ◌∷◌, map, filter, refl, sym, ap, subst, ◌∙◌}
+use Rattle.std.specs.List.{AllByRecursion, find, filter_map}
+use Rattle.std.proofs.lemmas.Bool.{cases_Bool}
+use Rattle.std.proofs.lemmas.List.{map-id}
+use Rattle.sqlite.specs.Order.{Row}
+use Rattle.sqlite.specs.Effect.{Database}
+use Rattle.sqlite_rules.specs.Lists.{Has}
+use Rattle.portal_core.specs.Words.{Key, is, has, is_before, Rise}
+use Rattle.portal_core.proofs.AllLaws.{all_map, all_weaker}
+use Rattle.portal_core.proofs.Fills.{before_other, rise_kept}
+use Rattle.portal_core.proofs.Keys.{is_same, is_own, all_unmap}
+use Rattle.portal_tables.specs.Rolls.{row_key, students_shown}
+use Rattle.portal_tables.specs.Tables.{student_tree, choice_tree}
+use Rattle.portal_tables.specs.Changes.{ListsBy, columns, has_text}
+use Rattle.portal_tables.specs.Lists.{chosen}
+use Rattle.portal_tables.specs.Shown.{first}
+use Rattle.portal_tables.specs.Lines.{HasTables, shown_line, line_at, lines_named, applicant_lines}
+use Rattle.portal_tables.specs.declared.lines.Line.{Line}
+use Rattle.portal_tables.proofs.Choosers.{chooser, choosers_known}
+use Rattle.portal_tables.proofs.Listed.{for_each}
+use Rattle.portal_tables.proofs.OneFound.{found, filter_alike}
+use Rattle.portal_tables.proofs.OneKey.{student_keys_rise}
+use Rattle.portal_tables.proofs.Owners.{roll_columns, keys_rise}
+use Rattle.portal_tables.proofs.Shapes.{IsStudentRow, student_test, student_rows_formed}
+use Rattle.portal_tables.proofs.Sorted.{at, has_of, one_order, map_alike_on, map_twice}
+
+-- the only row of a key tells the line of its student
+pub line_told : (db : Database) → HasTables db → (key : Key) (shown : List Row) → ListsBy (1 ∷ []) (has_text 1 key) (columns (1 ∷ 2 ∷ 3 ∷ 4 ∷ [])) (db.trees student_tree) shown
+    → (l : Line) (c : Row) → shown ≡ c ∷ [] → l ≡ shown_line c → Some l ≡ line_at db.trees key
+line_told db tables key shown lists l c only is_line =
+    ap Some is_line ∙ ap (option_map shown_line)
+    (found (1 ∷ []) (has_text 1 key) roll_columns roll_columns (λ c. c) (λ c. is (first c) key) (λ r. refl) (db.trees student_tree) shown
+    (all_weaker IsStudentRow (λ r. has_text 1 key r ≡ is (row_key r) key) (student_test key) (db.trees student_tree) (student_rows_formed db tables.own tables.sound tables.apart.1.1.1.0)) lists (Some c) (sym only))
+
+some_back : (ls : List Line) → filter_map (λ o. o) (map Some ls) ≡ ls
+some_back [] = refl
+some_back (l ∷ ls) = ap (λ r. l ∷ r) (some_back ls)
+
+-- a key that stands among keys
+there : (ks : List Key) (k : Key) → has ks k ≡ true → Has ks k
+there [] k h = absurd (cc)
+there (x ∷ ks) k h = elim (cases_Bool (is k x)) [ inl same ↦ inl (is_same k x same) | inr other ↦ inr (there ks k (ap (λ b. b || has ks k) (sym other) ∙ h)) ]
+
+-- of rows some pass, those whose keys are among these
+module _ (ks : List Key) (q : Row → Bool) where
+  abbrev Agree : Row → Type 0
+  Agree s = has ks (first s) ≡ q s
+
+  passed : (ss : List Row) → AllByRecursion Agree ss → AllByRecursion (λ s. has ks (first s) ≡ true) (filter q ss)
+  passed [] all = tt
+  passed (s ∷ ss) all =
+      (elim (q s) as (λ b. has ks (first s) ≡ b → AllByRecursion (λ s. has ks (first s) ≡ true) (cond b (s ∷ filter q ss) (filter q ss))) [
+        | true ↦ λ e. (e, passed ss all.1)
+        | false ↦ λ e. passed ss all.1
+      ]) all.0
+
+  kept : (ss : List Row) (k : Key) → AllByRecursion Agree ss → has (map first ss) k ≡ true → has ks k ≡ true → Has (map first (filter q ss)) k
+  kept [] k all on h = absurd (cc)
+  kept (s ∷ ss) k all on h = elim (cases_Bool (is k (first s))) [
+    | inl same ↦
+        let e : k ≡ (first s) = is_same k (first s) same in
+        let passes : true ≡ q s = sym (subst (λ x. has ks x ≡ true) e h) ∙ all.0 in
+        subst (λ b. Has (map first (cond b (s ∷ filter q ss) (filter q ss))) k) passes (inl e)
+    | inr other ↦
+        let rest = kept ss k all.1 (ap (λ b. b || has (map first ss) k) (sym other) ∙ on) h in
+        elim (q s) as (λ b. Has (map first (cond b (s ∷ filter q ss) (filter q ss))) k) [ true ↦ inr rest | false ↦ rest ]
+  ]
+
+has_kept : (q : Row → Bool) (ss : List Row) (s : Row) → Has (filter q ss) s → Has ss s
+has_kept q [] s h = absurd h
+has_kept q (x ∷ ss) s h =
+    (elim (q x) as (λ b. Has (cond b (x ∷ filter q ss) (filter q ss)) s → Has (x ∷ ss) s) [
+      | true ↦ λ h. elim h [ inl e ↦ inl e | inr on ↦ inr (has_kept q ss s on) ]
+      | false ↦ λ h. inr (has_kept q ss s h)
+    ]) h
+
+-- where the keys rise, a student is found by the own key
+found_own : (ss : List Row) → Rise (map first ss) → (s : Row) → Has ss s → find (λ t. is (first t) (first s)) ss ≡ Some s
+found_own [] up s h = absurd h
+found_own (x ∷ ss) up s (inl e) =
+    ap (λ b. cond b (Some x) (find (λ t. is (first t) (first s)) ss)) (subst (λ y. is (first x) (first y) ≡ true) (sym e) (is_own (first x))) ∙ ap Some (sym e)
+found_own (x ∷ ss) up s (inr h) =
+    ap (λ b. cond b (Some x) (find (λ t. is (first t) (first s)) ss)) (before_other (first x) (first s) (at (λ t. is_before (first x) (first t) ≡ true) ss s (all_unmap (λ l. is_before (first x) l ≡ true) first ss up.0) h))
+    ∙ found_own ss up.1 s h
+
+pub lines_are : (db : Database) → HasTables db → (p : Key) (shown : List Row) → ListsBy (1 ∷ []) (has_text 3 p) (columns (1 ∷ [])) (db.trees choice_tree) shown → (lines : List Line) → Rise (map first shown)
+    → map Some lines ≡ map (λ c. line_at db.trees (first c)) shown → lines ≡ applicant_lines db.trees p
+lines_are db tables p shown lists lines up told =
+    let roll : List Row = students_shown db.trees in
+    let q : Row → Bool = λ c. has (chosen (db.trees choice_tree) (first c)) p in
+    let mine : List Row = filter q roll in
+    let rise : Rise (map first roll) = keys_rise roll_columns (λ r. refl) (db.trees student_tree) (db.trees choice_tree) (student_keys_rise db tables) in
+    let agree : AllByRecursion (Agree (map first shown) q) roll = for_each _ roll (λ c. chooser db tables p shown lists (first c)) in
+    let keys : map first shown ≡ map first mine =
+    one_order (λ (k : Key). k) (map first shown) (map first mine) (subst Rise (sym (map-id (map first shown))) up) (subst Rise (sym (map-id (map first mine))) (rise_kept first q roll rise))
+    (λ k h. kept (map first shown) q roll k agree (at (λ k. has (map first roll) k ≡ true) (map first shown) k (choosers_known db tables p shown lists) h) (has_of (map first shown) k h))
+    (λ k h. there (map first shown) k (at (λ k. has (map first shown) k ≡ true) (map first mine) k (all_map (λ k. has (map first shown) k ≡ true) first mine (passed (map first shown) q roll agree)) h)) in
+    let each : map (λ c. line_at db.trees (first c)) mine ≡ map (λ c. Some (shown_line c)) mine =
+    map_alike_on _ _ mine (λ c h. ap (λ o. option_map shown_line o) (found_own roll rise c (has_kept q roll c h))) in
+    let all : map Some lines ≡ map Some (map shown_line mine) =
+    told ∙ map_twice (line_at db.trees) first shown ∙ ap (map (line_at db.trees)) keys ∙ sym (map_twice (line_at db.trees) first mine) ∙ each ∙ map_twice Some shown_line mine in
+    sym (some_back lines) ∙ ap (filter_map (λ o. o)) all ∙ some_back (map shown_line mine)
+
+-- and so are the lines of those on the roll whose keys are shown
+pub roll_lines : (db : Database) → HasTables db → (p : Key) (shown : List Row) → ListsBy (1 ∷ []) (has_text 3 p) (columns (1 ∷ [])) (db.trees choice_tree) shown
+    → lines_named (students_shown db.trees) shown ≡ applicant_lines db.trees p
+roll_lines db tables p shown lists =
+    ap (map shown_line) (filter_alike (λ c. has (map first shown) (first c)) (λ c. has (chosen (db.trees choice_tree) (first c)) p) (students_shown db.trees)
+    (for_each _ (students_shown db.trees) (λ c. chooser db tables p shown lists (first c))))

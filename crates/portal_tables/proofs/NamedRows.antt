@@ -1,0 +1,37 @@
+-- A key that is looked for among rows whose keys rise.
+use Rattle.std.proofs.Common.{◌≡◌, ◌<◌, ◌≤◌, ◌||◌, inl, inr, zero, suc, ℕ, true, false, List, [], ◌∷◌, map, length, get_or, Less, Equal, Greater, refl, sym, subst, ◌∙◌, ap, arith}
+use Rattle.std.specs.Ordering.{nat_cmp}
+use Rattle.std.specs.Cmp.Lexicographic.{slice_cmp}
+use Rattle.std.proofs.Math.Bool.{or-true}
+use Rattle.std.proofs.lemmas.Bool.{cases_Bool, cases_lt}
+use Rattle.std.proofs.lemmas.Cmp.{nat_list_cmp_total, tied_itself}
+use Rattle.std.proofs.lemmas.Map.Lookups.{exact_bytes}
+use Rattle.sqlite.specs.Order.{Row}
+use Rattle.portal_core.specs.Words.{Key, is, has}
+use Rattle.portal_core.proofs.Keys.{is_same, is_own}
+use Rattle.portal_tables.specs.Shown.{first}
+
+-- a key that is found at a place is there
+there : (rows : List Row) (k : Key) (n : ℕ) (d : Row) → n < length rows → slice_cmp nat_cmp (first (get_or rows n d)) k ≡ Equal → has (map first rows) k ≡ true
+there [] k n d low equal = absurd (omega (arith, low))
+there (r ∷ rows) k zero d low equal = ap (λ b. b || has (map first rows) k) (subst (λ x. is k x ≡ true) (sym (exact_bytes (first r) k equal)) (is_own k))
+there (r ∷ rows) k (suc n) d low equal = ap (λ b. is k (first r) || b) (there rows k n d (omega (arith, low)) equal) ∙ or-true (is k (first r))
+
+-- one that is at no place is not
+nowhere : (rows : List Row) (k : Key) → ((i : ℕ) (d : Row) → i < length rows → slice_cmp nat_cmp (first (get_or rows i d)) k ≡ Equal → ⊥) → has (map first rows) k ≡ false
+nowhere [] k other = refl
+nowhere (r ∷ rows) k other = elim (cases_Bool (is k (first r))) [
+  | inl same ↦ absurd (other 0 r (omega arith) (subst (λ x. slice_cmp nat_cmp x k ≡ Equal) (is_same k (first r) same) (tied_itself nat_list_cmp_total k)))
+  | inr apart ↦ ap (λ b. b || has (map first rows) k) apart ∙ nowhere rows k (λ i d low equal. other (suc i) d (omega (arith, low)) equal)
+]
+
+pub known_at : (rows : List Row) (k : Key) (n : ℕ) → n < length rows → ((d : Row) → slice_cmp nat_cmp (first (get_or rows n d)) k ≡ Equal) → true ≡ has (map first rows) k
+known_at rows k n low equal = sym (there rows k n [] low (equal []))
+
+pub known_nowhere : (rows : List Row) (k : Key) (n : ℕ) → ((i : ℕ) (d : Row) → i < n → slice_cmp nat_cmp (first (get_or rows i d)) k ≡ Less)
+    → ((i : ℕ) (d : Row) → n ≤ i → i < length rows → slice_cmp nat_cmp (first (get_or rows i d)) k ≡ Greater) → false ≡ has (map first rows) k
+known_nowhere rows k n below above =
+    sym (nowhere rows k (λ i d low equal. elim (cases_lt i n) [
+      | inl before ↦ let wrong = below i d before in absurd (cc)
+      | inr after ↦ let wrong = above i d after low in absurd (cc)
+    ]))

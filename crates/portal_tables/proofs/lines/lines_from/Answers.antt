@@ -1,0 +1,40 @@
+use Rattle.std.proofs.Common.{◌≡◌, ◌∙◌, arith, subst, Some, ap}
+use Rattle.std.proofs.lemmas.Grind.{common_steps}
+use Rattle.sqlite.specs.Effect.{Database}
+use Rattle.sqlite.specs.State.{HasCleanDisk, IsUnchanged}
+use Rattle.sqlite.specs.Held.{state}
+use Rattle.portal_tables.specs.Lines.{HasTables, line_at}
+use Rattle.portal_tables.proofs.InTurn.{reads_then, reads_more, reads_handed, clean_before}
+use Rattle.portal_tables.proofs.lines.lines_from.Goals as goal
+
+pub returns-in_err-line_in-clause-reads : goal.returns-in_err-line_in-clause-reads
+returns-in_err-line_in-clause-reads g c =
+    let a = state g.S.Store c.args.conn.now in
+    let b = state g.S.Store c.loop-row.conn in
+    let d = state g.S.Store c.line_in.new.conn in
+    reads_handed c.in_err-line_in.field-0.0 c.from_residual.result a d c.from_residual.ensures.0 (reads_then c.loop-row.lines _ a b d c.loop-row.invariant.1 c.in_err-line_in.ensures.reads)
+
+pub returns-in_err-push-clause-reads : goal.returns-in_err-push-clause-reads
+returns-in_err-push-clause-reads g c =
+    let a = state g.S.Store c.args.conn.now in
+    let b = state g.S.Store c.loop-row.conn in
+    let d = state g.S.Store c.line_in.new.conn in
+    reads_more c.in_ok-line_in.field-0 _ a d (reads_then c.loop-row.lines _ a b d c.loop-row.invariant.1 c.in_ok-line_in.ensures.reads)
+
+pub loop-row-preserved : goal.loop-row-preserved
+loop-row-preserved g c =
+    let a = state g.S.Store c.args.conn.now in
+    let b = state g.S.Store c.loop-row.conn in
+    let d = state g.S.Store c.line_in.new.conn in
+    let inv = c.loop-row.invariant in
+    let row = c.row-item.result in (
+      λ tables clean on.
+          let back = clean_before b d _ c.in_ok-line_in.ensures.reads.crash clean in
+          let m : IsUnchanged a b = inv.1.same tables.own back on in
+          let before = inv.0 tables back on in
+          let there = subst (λ (x : Database). HasTables x → HasCleanDisk d → Some c.in_ok-line_in.field-0 ≡ line_at x.trees c.bytes_at.result.now) m.0.now_is c.in_ok-line_in.ensures.told in
+          let here = there tables clean ∙ ap (line_at (state g.S.Store c.args.conn.now).now.trees) c.bytes_at.ensures in
+          grind (arith, common_steps, before, here),
+      reads_more c.in_ok-line_in.field-0 _ a d (reads_then c.loop-row.lines _ a b d inv.1 c.in_ok-line_in.ensures.reads),
+      λ idle. c.in_ok-line_in.ensures.mode (inv.2 idle),
+    )

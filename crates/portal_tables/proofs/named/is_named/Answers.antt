@@ -1,0 +1,21 @@
+use Rattle.std.proofs.Common.{rules, arith}
+use Rattle.std.specs.Ordering.{nat_cmp}
+use Rattle.std.specs.Cmp.Lexicographic.{slice_cmp}
+use Rattle.std.proofs.lemmas.Cmp.{nat_list_cmp_total}
+use Rattle.std.proofs.lemmas.Fn.{always_returns_same}
+use Rattle.std.proofs.lemmas.List.Sorted.{searchable_from_sorted}
+use Rattle.portal_tables.specs.Shown.{first}
+use Rattle.portal_tables.proofs.Adjacent.{rows_sorted}
+use Rattle.portal_tables.proofs.NamedRows.{known_at, known_nowhere}
+use Rattle.portal_tables.proofs.named.is_named.Goals as goal
+
+pub returns-in-Ok : goal.returns-in-Ok
+returns-in-Ok c =
+    known_at c.args.rows.now c.args.key.now c.in-Ok.field-0 c.in-Ok.ensures.bound
+    (c.in-Ok.ensures.position (λ y. slice_cmp nat_cmp (first y) c.args.key.now) (always_returns_same _ _ _ (λ a r h k. search rules)))
+
+pub returns-in-Err : goal.returns-in-Err
+returns-in-Err c =
+    let part = c.in-Err.ensures.position (λ y. slice_cmp nat_cmp (first y) c.args.key.now) (always_returns_same _ _ _ (λ a r h k. search rules))
+    (searchable_from_sorted nat_list_cmp_total first c.args.rows.now c.args.key.now (rows_sorted first c.args.rows.now c.requires)) in
+    known_nowhere c.args.rows.now c.args.key.now c.in-Err.field-0 (λ k d h. part.0 k d (omega arith) h) part.1

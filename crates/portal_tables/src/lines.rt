@@ -1,0 +1,189 @@
+//! What may be told of a student: of one, of those whose keys rows begin with, and of those whose list holds a project.
+
+ghost use Rattle.std.specs.Prelude.{◌≡◌, ◌∷◌, [], false, IfOk, IsTrue, Some, map};
+ghost use Rattle.sqlite.specs.Order.{Row as Cells, column, bytes};
+ghost use Rattle.sqlite.specs.State.{HasCleanDisk};
+ghost use Rattle.sqlite.specs.Held.{state};
+ghost use Rattle.portal_core.specs.Words.{Rise};
+ghost use Rattle.portal_tables.specs.Own.{IsOwn};
+ghost use Rattle.portal_tables.specs.Reading.{Reads};
+ghost use Rattle.portal_tables.specs.Rolls.{students_shown};
+ghost use Rattle.portal_tables.specs.Shown.{first};
+ghost use Rattle.portal_tables.specs.Lines.{HasTables, shown_line, line_at, lines_named, applicant_lines};
+
+use crate::cells::{assigned_at, bytes_at, key_at, name_at};
+use crate::decode::{FromCells, do_rise};
+use crate::fault::TableFault;
+use crate::named::is_named;
+use crate::rolls::student_roll;
+use crate::select::{choosers_of, student_by_key};
+use portal_core::Person;
+use spa_rows::Key;
+use sqlite::{Alter, Connection, Row};
+use std::alloc::{AllocError, Global};
+
+/// The person whose row of a roll this is: key and name come first. The fault is `Damaged` where one of them has not its form,
+/// `Memory` where there is not enough memory.
+pub fn person_at(alloc: Global, row: &Row) -> Result<Person, TableFault>
+    ensures { IfOk result (λ p. p ≡ record { key = first row.now; name = bytes (column row.now 1) }) }
+{
+    Ok(Person {
+        key: key_at(alloc, row, 0)?,
+        name: name_at(alloc, row, 1)?,
+    })
+}
+
+/// What a lecturer may be told of a student.
+#[derive(Drop)]
+pub struct Line {
+    /// Key and name.
+    pub person: Person,
+    /// The assigned project, if there is one.
+    pub placed: Option<Key>,
+}
+
+impl FromCells for Line {
+    ghost shown = { shown_line };
+
+    // which rows are refused is left open
+    ghost is_fine = { λ c. ⊥ };
+
+    fn from_cells(alloc: Global, row: &Row) -> Result<Line, TableFault> {
+        Ok(Line {
+            person: person_at(alloc, row)?,
+            placed: assigned_at(alloc, row, 3)?,
+        })
+    }
+}
+
+/// The line of a student, of the only row.
+fn line_from(alloc: Global, rows: &[Row]) -> Result<Line, TableFault>
+    ensures { IfOk result (λ l. (c : Cells) × (rows.now ≡ c ∷ []) × (l ≡ shown_line c)) }
+{
+    match rows {
+        [row] => Line::from_cells(alloc, row),
+        _ => Err(TableFault::Damaged),
+    }
+}
+
+/// The line of the student with the key.
+fn line_in<S: Alter>(
+    alloc: Global,
+    conn: &mut Connection<S>,
+    key: &[u8],
+) -> Result<Line, TableFault>
+    ensures told { HasTables (state S.Store conn.old).now → HasCleanDisk (state S.Store conn.new) → IfOk result (λ l. Some l ≡ line_at (state S.Store conn.old).now.trees key.now) }
+    ensures reads { Reads result (state S.Store conn.old) (state S.Store conn.new) }
+    ensures mode { conn.old.in_transaction ≡ false → conn.new.in_transaction ≡ false }
+{
+    let rows = student_by_key(conn, key)?;
+    line_from(alloc, &rows)
+}
+
+/// The lines of the students with whose keys the rows begin.
+fn lines_from<S: Alter>(
+    alloc: Global,
+    conn: &mut Connection<S>,
+    rows: &[Row],
+) -> Result<Vec<Line>, TableFault>
+    ensures told { HasTables (state S.Store conn.old).now → HasCleanDisk (state S.Store conn.new) → IsTrue (state S.Store conn.old).is_open → IfOk result (λ v. map Some v.items ≡ map (λ c. line_at (state S.Store conn.old).now.trees (first c)) rows.now) }
+    ensures reads { Reads result (state S.Store conn.old) (state S.Store conn.new) }
+    ensures mode { conn.old.in_transaction ≡ false → conn.new.in_transaction ≡ false }
+{
+    let mut lines = Vec::new(alloc);
+    for row in rows {
+        lines.push(line_in(alloc, conn, bytes_at(row, 0))?)?;
+    }
+    Ok(lines)
+}
+
+/// The same, where the keys of the rows rise.
+fn rising_lines<S: Alter>(
+    alloc: Global,
+    conn: &mut Connection<S>,
+    rows: &[Row],
+) -> Result<Vec<Line>, TableFault>
+    ensures rise { IfOk result (λ v. Rise (map first rows.now)) }
+    ensures told { HasTables (state S.Store conn.old).now → HasCleanDisk (state S.Store conn.new) → IsTrue (state S.Store conn.old).is_open → IfOk result (λ v. map Some v.items ≡ map (λ c. line_at (state S.Store conn.old).now.trees (first c)) rows.now) }
+    ensures reads { Reads result (state S.Store conn.old) (state S.Store conn.new) }
+    ensures mode { conn.old.in_transaction ≡ false → conn.new.in_transaction ≡ false }
+{
+    if !do_rise(rows) {
+        return Err(TableFault::Damaged);
+    }
+    lines_from(alloc, conn, rows)
+}
+
+/// The lines of those students whose keys the other rows begin with.
+fn lines_among(alloc: Global, students: &[Row], named: &[Row]) -> Result<Vec<Line>, TableFault>
+    requires { Rise (map first named.now) }
+    ensures { IfOk result (λ v. v.items ≡ lines_named students.now named.now) }
+{
+    let mut lines = Vec::new(alloc);
+    for student in students {
+        if is_named(named, bytes_at(student, 0)) {
+            lines.push(Line::from_cells(alloc, student)?)?;
+        }
+    }
+    Ok(lines)
+}
+
+/// The lines of the students on the roll with whose keys the rows begin, by one query of the roll.
+fn lines_on_roll<S: Alter>(
+    alloc: Global,
+    conn: &mut Connection<S>,
+    named: &[Row],
+) -> Result<Vec<Line>, TableFault>
+    ensures told { IsOwn conn.old.schema → HasCleanDisk (state S.Store conn.new) → IfOk result (λ v. v.items ≡ lines_named (students_shown (state S.Store conn.old).now.trees) named.now) }
+    ensures reads { Reads result (state S.Store conn.old) (state S.Store conn.new) }
+    ensures mode { conn.old.in_transaction ≡ false → conn.new.in_transaction ≡ false }
+{
+    let students = student_roll(conn)?;
+    if !do_rise(named) {
+        return Err(TableFault::Damaged);
+    }
+    lines_among(alloc, &students, named)
+}
+
+/// From how many students on the roll is read as a whole: it has at most 2,000 students, so that at most four rows are read for
+/// each who is told of.
+const WHOLE_ROLL_FROM: usize = 500;
+
+/// The lines of the students whose list holds the project, by their keys. The fault is `Damaged` where rows are not as the portal
+/// writes them, `Store` where the store answered an error, `Memory` where there is not enough memory.
+pub fn lines_to<S: Alter>(
+    alloc: Global,
+    conn: &mut Connection<S>,
+    project: &Key,
+) -> Result<Vec<Line>, TableFault>
+    ensures told { HasTables (state S.Store conn.old).now → HasCleanDisk (state S.Store conn.new) → IsTrue (state S.Store conn.old).is_open → IfOk result (λ v. v.items ≡ applicant_lines (state S.Store conn.old).now.trees project.now) }
+    ensures reads { Reads result (state S.Store conn.old) (state S.Store conn.new) }
+    ensures mode { conn.old.in_transaction ≡ false → conn.new.in_transaction ≡ false }
+{
+    let rows = choosers_of(conn, project.as_bytes())?;
+    if rows.len() < WHOLE_ROLL_FROM {
+        return rising_lines(alloc, conn, &rows);
+    }
+    lines_on_roll(alloc, conn, &rows)
+}
+
+/// A copy of the person. The error is want of memory.
+pub fn person_of(alloc: Global, person: &Person) -> Result<Person, AllocError>
+    ensures { IfOk result (λ p. p ≡ person.now) }
+{
+    Ok(Person {
+        key: person.key.copy(alloc)?,
+        name: person.name.copy(alloc)?,
+    })
+}
+
+/// The persons of the lines, in their order. The error is want of memory.
+pub fn persons_of(alloc: Global, lines: &[Line]) -> Result<Vec<Person>, AllocError>
+    ensures { IfOk result (λ v. v.items ≡ map (λ l. l.person) lines.now) }
+{
+    let mut found = Vec::with_capacity(alloc, lines.len())?;
+    for line in lines {
+        found.push(person_of(alloc, &line.person)?)?;
+    }
+    Ok(found)
+}

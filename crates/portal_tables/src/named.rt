@@ -1,0 +1,55 @@
+//! Keys that rows begin with, looked for among rows whose keys rise.
+
+ghost use Rattle.std.specs.Prelude.{◌≡◌, IfOk, not, map, filter};
+ghost use Rattle.std.specs.Cmp.Lexicographic.{slice_cmp};
+ghost use Rattle.std.specs.Ordering.{nat_cmp};
+ghost use Rattle.portal_core.specs.Words.{has, Rise};
+ghost use Rattle.portal_tables.specs.Shown.{first};
+
+use crate::cells::{bytes_at, key_at};
+use crate::decode::do_rise;
+use crate::fault::TableFault;
+use spa_rows::Key;
+use sqlite::Row;
+use std::alloc::Global;
+use std::cmp::Ordering;
+
+/// Whether a row begins with the key, among rows whose keys rise.
+pub fn is_named(rows: &[Row], key: &[u8]) -> bool
+    requires { Rise (map first rows.now) }
+    ensures { result ≡ has (map first rows.now) key.now }
+{
+    match rows.binary_search_by(
+        |row: &Row| -> Ordering
+            ensures { result ≡ slice_cmp nat_cmp (first row.now) key.entry.now }
+        { bytes_at(row, 0).cmp(key) },
+    ) {
+        Ok(_) => true,
+        Err(_) => false,
+    }
+}
+
+/// The keys that the rows begin with, but for those of the others, whose keys rise.
+fn keys_but(alloc: Global, rows: &[Row], others: &[Row]) -> Result<Vec<Key>, TableFault>
+    requires { Rise (map first others.now) }
+    ensures { IfOk result (λ v. v.items ≡ map first (filter (λ c. not (has (map first others.now) (first c))) rows.now)) }
+{
+    let mut keys = Vec::new(alloc);
+    for row in rows {
+        if !is_named(others, bytes_at(row, 0)) {
+            keys.push(key_at(alloc, row, 0)?)?;
+        }
+    }
+    Ok(keys)
+}
+
+/// The keys that the rows begin with, in their order, but for those that the others begin with. The fault is `Damaged` where the
+/// keys of the others do not rise or one of the rows does not begin with a key, `Memory` where there is not enough memory.
+pub fn keys_without(alloc: Global, rows: &[Row], others: &[Row]) -> Result<Vec<Key>, TableFault>
+    ensures { IfOk result (λ v. v.items ≡ map first (filter (λ c. not (has (map first others.now) (first c))) rows.now)) }
+{
+    if !do_rise(others) {
+        return Err(TableFault::Damaged);
+    }
+    keys_but(alloc, rows, others)
+}
