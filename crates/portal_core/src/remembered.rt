@@ -97,15 +97,12 @@ fn after_ranking(view: OfficeView, lecturer: &Key, students: &[Key]) -> Option<O
     })
 }
 
-/// What the office sees after the missing rankings were made, where what it saw before tells that: nobody is still to rank.
-fn after_fill(mut view: OfficeView) -> Option<OfficeView>
-    ensures { IfSome result (λ seen. (w : World) → view ≡ office_sees w → seen ≡ office_sees (changed w Fill)) }
+/// What the office sees after the missing rankings were made: the same, but that nobody is still to rank.
+fn after_fill(mut view: OfficeView) -> OfficeView
+    ensures { (w : World) → view ≡ office_sees w → result ≡ office_sees (changed w Fill) }
 {
-    if view.phase != Phase::Ranking {
-        return None;
-    }
     view.still_to_rank.clear();
-    Some(view)
+    view
 }
 
 /// What the office sees after the change, where what it saw before tells that.
@@ -115,7 +112,7 @@ fn office_after(seen: Option<OfficeView>, change: &Change) -> Option<OfficeView>
     match change {
         Change::Choices { student, projects } => after_list(seen?, student, projects),
         Change::Ranking { lecturer, students } => after_ranking(seen?, lecturer, students),
-        Change::Fill => after_fill(seen?),
+        Change::Fill => Some(after_fill(seen?)),
         Change::Lecturers(_)
         | Change::Projects(_)
         | Change::Students(_)

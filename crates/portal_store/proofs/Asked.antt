@@ -20,7 +20,7 @@ use Rattle.portal_tables.specs.Steps.{Leaves}
 use Rattle.std.proofs.lemmas.Result.{on_ok_weaker, on_err_weaker}
 use Rattle.portal_core.specs.Words.{Key}
 use Rattle.portal_core.specs.declared.phase.Phase.{Phase}
-use Rattle.portal_tables.specs.Office.{number_of, HasOffice}
+use Rattle.portal_tables.specs.Office.{number_of}
 use Rattle.portal_store.specs.World.{world_of}
 use Rattle.portal_store.specs.Kept.{Holds, IsKept}
 use Rattle.portal_tables.proofs.InTurn.{unchanged_then, then_leaves}

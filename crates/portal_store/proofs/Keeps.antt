@@ -8,7 +8,6 @@ use Rattle.sqlite.specs.Held.{Held, state}
 use Rattle.portal_core.specs.Change.{Change, changed}
 use Rattle.portal_core.specs.World.{World}
 use Rattle.portal_core.specs.Good.{Good}
-use Rattle.portal_tables.specs.Tables.{portal_tree}
 use Rattle.portal_tables.specs.Own.{IsOwn}
 use Rattle.portal_tables.specs.Steps.{Commits, Stays, Leaves, IsAfter}
 use Rattle.portal_core.specs.Remembered.{Remembers}
