@@ -2,21 +2,14 @@
 use Rattle.std.proofs.Common.{◌≡◌, inl, inr, true, false, IsTrue, sym, ap, subst, ◌∙◌, arith}
 use Rattle.sqlite.specs.Effect.{Database}
 use Rattle.sqlite.specs.declared.error.Error.{Error}
-use Rattle.sqlite.specs.State.{State, HasCleanDisk, Survives, KeepsCommit, Shows, IsRolledBack}
+use Rattle.sqlite.specs.State.{HasCleanDisk, Survives, KeepsCommit, Shows, IsRolledBack}
 use Rattle.sqlite.specs.Steps.{FailsToCommit}
 use Rattle.sqlite.specs.Store.{Ghosts}
 use Rattle.sqlite.specs.Held.{Held, state}
-use Rattle.sqlite.proofs.StateLemmas.{survives_then, survives_weaker}
+use Rattle.sqlite.proofs.StateLemmas.{survives_then}
 use Rattle.sqlite.proofs.Callers.{survives_begin}
 use Rattle.portal_tables.specs.Steps.{Commits, IsAfter, Stays}
 use Rattle.portal_tables.specs.Steps.{GoesOn}
-
--- what was committed is so much more
-pub commits_more : (A B : Database → Database → Type 0) (old new : State) → (A old.now new.now → B old.now new.now) → Commits A old new → Commits B old new
-commits_more A B old new more h = record { was_open = h.was_open; is_open = h.is_open; settled = h.settled; changed = more h.changed }
-
-pub crash_more : (A B : Database → Database → Type 0) (old new : State) → ((after : Database) → A old.now after → B old.now after) → Survives old new (IsAfter A old) → Survives old new (IsAfter B old)
-crash_more A B old new more h = survives_weaker old new _ _ (λ clean db after. (after.0, more after.0 after.1, after.2)) h
 
 module _ {S : Type 0} (g : Ghosts S) (C : Database → Database → Type 0) (old begun mid last : Held S) (is : begun ≡ record old { in_transaction = true }) where
   pub ended_well : KeepsCommit (state g begun) (state g mid) → GoesOn C (state g begun) (state g mid) → Shows (state g mid) (state g last) (state g mid).now (state g mid).now false → Commits C (state g old) (state g last)
