@@ -1,6 +1,6 @@
 //! What is done in a transaction of its own.
 
-ghost use Rattle.std.specs.Prelude.{◌≡◌, false, OnOk, OnErr, IsTrue};
+ghost use Rattle.std.specs.Prelude.{◌≡◌, false, Err, OnOk, OnErr, IsTrue};
 ghost use Rattle.sqlite.specs.State.{HasCleanDisk, KeepsCommit, Survives};
 ghost use Rattle.sqlite.specs.Held.{state};
 ghost use Rattle.sqlite.specs.Effect.{Database};
@@ -35,6 +35,7 @@ pub fn commit<S: Alter, T: Step>(
     ensures ok { HasCleanDisk (state S.Store conn.new) → OnOk result (Commits (T.makes step) (state S.Store conn.old) (state S.Store conn.new)) }
     ensures err { HasCleanDisk (state S.Store conn.new) → IsTrue (state S.Store conn.new).is_open → OnErr result (Stays (state S.Store conn.old) (state S.Store conn.new)) }
     ensures durable { HasCleanDisk (state S.Store conn.new) → OnOk result (LeavesOnly (state S.Store conn.new)) }
+    ensures fault { result ≡ Err TableFault.Damaged → ⊥ }
     ensures crash { Survives (state S.Store conn.old) (state S.Store conn.new) (IsAfter (T.makes step) (state S.Store conn.old)) }
 {
     let _idle = conn.is_autocommit();
