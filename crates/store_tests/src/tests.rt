@@ -1,12 +1,15 @@
 //! A desk over a database in memory, by the bytes of its requests and replies, and databases that are opened again.
 
 mod damages;
+mod fills;
 mod halls;
 mod keeping;
 mod long;
+mod rolls;
 mod runs;
 mod steps;
 mod stops;
 mod streams;
 mod trial;
+mod watched;
 mod years;
