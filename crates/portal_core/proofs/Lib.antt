@@ -1,6 +1,7 @@
 pub mod Texts
 pub mod Keys
 pub mod AllLaws
+pub mod Adjacent
 pub mod Persons
 pub mod Puts
 pub mod Fills

@@ -3,6 +3,7 @@
 
 mod call;
 mod code;
+mod copies;
 mod deciding;
 mod decision;
 mod keeper;
@@ -17,6 +18,7 @@ mod view;
 
 pub use call::Call;
 pub use code::{Code, CodeFault};
+pub use copies::copy_keys;
 pub use deciding::decide;
 pub use decision::{Act, Body, Change, Decision, Reply, Sheet};
 pub use keeper::{KeepFault, Keeper};

@@ -3,6 +3,7 @@
 ghost use Rattle.std.specs.Prelude.{◌≡◌, IfOk};
 
 use crate::code::Code;
+use crate::copies::{copy_keys, copy_pairs};
 use crate::phase::Phase;
 use crate::rows::{LecturerRow, Listing, Person, ProjectRow, StudentRow};
 use spa_rows::Key;
@@ -86,28 +87,6 @@ impl Model for OfficeView {
     } };
 }
 
-/// The same keys again.
-fn keys_of(alloc: Global, keys: &[Key]) -> Result<Vec<Key>, AllocError>
-    ensures { IfOk result (λ v. v.items ≡ keys.now) }
-{
-    let mut copies = Vec::with_capacity(alloc, keys.len())?;
-    for key in keys {
-        copies.push(key.copy(alloc)?)?;
-    }
-    Ok(copies)
-}
-
-/// The same pairs again.
-fn pairs_of(alloc: Global, pairs: &[(Key, Key)]) -> Result<Vec<(Key, Key)>, AllocError>
-    ensures { IfOk result (λ v. v.items ≡ pairs.now) }
-{
-    let mut copies = Vec::with_capacity(alloc, pairs.len())?;
-    for (student, project) in pairs {
-        copies.push((student.copy(alloc)?, project.copy(alloc)?))?;
-    }
-    Ok(copies)
-}
-
 impl OfficeView {
     /// The same view again, of the same rolls and the same catalogue, which are shared.
     ///
@@ -124,9 +103,9 @@ impl OfficeView {
             projects: self.projects.clone()?,
             students: self.students.clone()?,
             catalogue: self.catalogue.clone()?,
-            without_list: keys_of(alloc, &self.without_list)?,
-            still_to_rank: keys_of(alloc, &self.still_to_rank)?,
-            pairs: pairs_of(alloc, &self.pairs)?,
+            without_list: copy_keys(alloc, &self.without_list)?,
+            still_to_rank: copy_keys(alloc, &self.still_to_rank)?,
+            pairs: copy_pairs(alloc, &self.pairs)?,
         })
     }
 }

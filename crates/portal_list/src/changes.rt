@@ -10,11 +10,11 @@ mod places;
 mod rolls;
 
 use crate::by_key::place_of;
-use crate::copies::keys_of;
 use crate::entries::{LecturerEntry, StudentEntry};
 pub(crate) use fill::{applicants_by_key, fill_rankings};
 pub(crate) use places::place_all;
 pub(crate) use rolls::{add_lecturers, add_projects, add_students};
+use portal_core::copy_keys;
 use spa_rows::Key;
 use std::alloc::{AllocError, Global};
 
@@ -29,7 +29,7 @@ pub(crate) fn replace_choice(
     ensures made { OnOk result (students.new ≡ map (with_choice key.now list.now) students.old) }
     ensures same { OnErr result (students.new ≡ students.old) }
 {
-    let list = keys_of(alloc, list)?;
+    let list = copy_keys(alloc, list)?;
     if let Some(place) = place_of(students, key) {
         let student = &mut students[place];
         student.choice = list;
@@ -48,7 +48,7 @@ pub(crate) fn replace_ranking(
     ensures made { OnOk result (lecturers.new ≡ map (with_ranking key.now list.now) lecturers.old) }
     ensures same { OnErr result (lecturers.new ≡ lecturers.old) }
 {
-    let list = keys_of(alloc, list)?;
+    let list = copy_keys(alloc, list)?;
     if let Some(place) = place_of(lecturers, key) {
         let lecturer = &mut lecturers[place];
         lecturer.ranking = Some(list);

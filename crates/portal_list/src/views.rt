@@ -10,14 +10,14 @@ mod by_project;
 mod catalogue;
 mod office;
 
-use crate::copies::{keys_of, person_of};
+use crate::copies::person_of;
 use crate::entries::{LecturerEntry, StudentEntry};
 use crate::keeper::ListKeeper;
 use by_project::{applicants_by_project, placed_by_project};
 pub(crate) use catalogue::catalogue_of;
 pub(crate) use office::waiting;
 use office::{lecturer_rows, pairs_of, project_rows, still_to_rank, student_rows, without_list};
-use portal_core::{LecturerView, OfficeView, Phase, StudentView};
+use portal_core::{LecturerView, OfficeView, Phase, StudentView, copy_keys};
 use spa_rows::Key;
 use std::alloc::{AllocError, Global};
 
@@ -92,7 +92,7 @@ pub(crate) fn student_view(
         phase: keeper.phase,
         me: person_of(alloc, &student.row.key, &student.row.name)?,
         catalogue: keeper.catalogue(alloc)?,
-        choices: keys_of(alloc, &student.choice)?,
+        choices: copy_keys(alloc, &student.choice)?,
         result: shown_place(alloc, keeper.phase, &student.placed)?,
     })
 }
@@ -102,7 +102,7 @@ fn ranking_of(alloc: Global, ranking: &Option<Vec<Key>>) -> Result<Option<Vec<Ke
     ensures { IfOk result (λ r. option_map (λ v. v.items) r ≡ option_map (λ v. v.items) ranking.now) }
 {
     match ranking {
-        Some(keys) => Ok(Some(keys_of(alloc, keys)?)),
+        Some(keys) => Ok(Some(copy_keys(alloc, keys)?)),
         None => Ok(None),
     }
 }

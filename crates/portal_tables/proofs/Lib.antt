@@ -15,7 +15,6 @@ pub mod Shows
 pub mod Keeping
 pub mod Owned
 pub mod Fresh
-pub mod Adjacent
 pub mod InTurn
 pub mod Listed
 pub mod OfficeRow

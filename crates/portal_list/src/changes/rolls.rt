@@ -6,7 +6,7 @@ ghost use Rattle.portal_core.specs.World.{student_key, lecturer_key, project_key
 ghost use Rattle.portal_core.specs.Change.{new_lecturer, new_student};
 
 use crate::by_key::put_rows;
-use crate::copies::{lecturer_row_of, project_rows_of, student_row_of};
+use crate::copies::project_rows_of;
 use crate::entries::{LecturerEntry, StudentEntry};
 use portal_core::{LecturerRow, ProjectRow, StudentRow};
 use std::alloc::{AllocError, Global};
@@ -18,7 +18,7 @@ fn new_lecturers(alloc: Global, rows: &[LecturerRow]) -> Result<Vec<LecturerEntr
     let mut fresh = Vec::with_capacity(alloc, rows.len())?;
     for row in rows {
         fresh.push(LecturerEntry {
-            row: lecturer_row_of(alloc, row)?,
+            row: row.copy(alloc)?,
             ranking: None,
         })?;
     }
@@ -32,7 +32,7 @@ fn new_students(alloc: Global, rows: &[StudentRow]) -> Result<Vec<StudentEntry>,
     let mut fresh = Vec::with_capacity(alloc, rows.len())?;
     for row in rows {
         fresh.push(StudentEntry {
-            row: student_row_of(alloc, row)?,
+            row: row.copy(alloc)?,
             choice: Vec::new(alloc),
             placed: None,
         })?;

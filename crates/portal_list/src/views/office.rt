@@ -5,7 +5,7 @@ ghost use Rattle.std.specs.List.{list_any};
 ghost use Rattle.portal_core.specs.Words.{has, is_empty};
 ghost use Rattle.portal_list.specs.Shown.{is_wanted, is_waiting, pairs_in};
 
-use crate::copies::{holds, lecturer_row_of, project_rows_of, student_row_of};
+use crate::copies::{holds, project_rows_of};
 use crate::entries::{LecturerEntry, StudentEntry};
 use portal_core::{LecturerRow, ProjectRow, StudentRow};
 use spa_rows::Key;
@@ -21,7 +21,7 @@ pub(super) fn lecturer_rows(
 {
     let mut rows = Vec::with_capacity(alloc, lecturers.len())?;
     for lecturer in lecturers {
-        rows.push(lecturer_row_of(alloc, &lecturer.row)?)?;
+        rows.push(lecturer.row.copy(alloc)?)?;
     }
     Ok(Rc::new(alloc, rows)?)
 }
@@ -46,7 +46,7 @@ pub(super) fn student_rows(
 {
     let mut rows = Vec::with_capacity(alloc, students.len())?;
     for student in students {
-        rows.push(student_row_of(alloc, &student.row)?)?;
+        rows.push(student.row.copy(alloc)?)?;
     }
     Ok(Rc::new(alloc, rows)?)
 }

@@ -5,7 +5,7 @@ use Rattle.std.proofs.lemmas.Cmp.{nat_list_cmp_total}
 use Rattle.std.proofs.lemmas.Fn.{always_returns_same}
 use Rattle.std.proofs.lemmas.List.Sorted.{searchable_from_sorted}
 use Rattle.portal_tables.specs.Shown.{first}
-use Rattle.portal_tables.proofs.Adjacent.{rows_sorted}
+use Rattle.portal_core.proofs.Adjacent.{rows_sorted}
 use Rattle.portal_tables.proofs.NamedRows.{known_at, known_nowhere}
 use Rattle.portal_tables.proofs.named.is_named.Goals as goal
 

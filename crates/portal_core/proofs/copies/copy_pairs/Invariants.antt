@@ -1,5 +1,5 @@
 use Rattle.std.proofs.Common.{◌≡◌, take}
-use Rattle.portal_core.proofs.view.pairs_of.Given as goal
+use Rattle.portal_core.proofs.copies.copy_pairs.Given as goal
 
 abbrev pub invariant-loop-student : goal.invariant-loop-student
 invariant-loop-student l = l.copies.items ≡ take l.student-index l.pairs

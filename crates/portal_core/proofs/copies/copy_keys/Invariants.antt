@@ -1,5 +1,5 @@
 use Rattle.std.proofs.Common.{◌≡◌, take}
-use Rattle.portal_core.proofs.view.keys_of.Given as goal
+use Rattle.portal_core.proofs.copies.copy_keys.Given as goal
 
 abbrev pub invariant-loop-key : goal.invariant-loop-key
 invariant-loop-key l = l.copies.items ≡ take l.key-index l.keys
