@@ -1,6 +1,7 @@
 -- The lists of all owners, of the rows of all.
-use Rattle.std.proofs.Common.{◌≡◌, true, cond, Ok, Err, Result, OnOk, IfOk, Vec, Some, None, Option, List, [], ◌∷◌, map, refl, sym, ap, subst, ◌∙◌}
+use Rattle.std.proofs.Common.{◌≡◌, true, cond, Ok, Err, Result, OnOk, IfOk, IfSome, OnSome, Vec, Some, None, Option, List, [], ◌∷◌, map, refl, sym, ap, subst, ◌∙◌}
 use Rattle.std.specs.List.{AllByRecursion, filter_map, cons_option}
+use Rattle.std.specs.List.Sorted.{IsPermutation}
 use Rattle.std.specs.declared.alloc.Global.{Global}
 use Rattle.sqlite.specs.Order.{Row, column}
 use Rattle.sqlite.specs.Effect.{Database, IsDatabase}
@@ -15,12 +16,12 @@ use Rattle.portal_tables.specs.declared.entries.Lists.{Lists}
 use Rattle.portal_tables.specs.declared.entries.Lists.TheVariants.{Choices, Rankings}
 use Rattle.portal_tables.specs.declared.fault.TableFault.{TableFault}
 use Rattle.portal_tables.specs.Lists.{list_of, chosen}
-use Rattle.portal_tables.specs.Cuts.{runs, left, run_name, run_entry, IsRunRead, IsRunFine}
+use Rattle.portal_tables.specs.Cuts.{own_rows, with_own, runs, left, run_name, run_entry, IsRunRead, IsRunFine}
 use Rattle.portal_tables.specs.Owners.{AreOwned, tree_of, has_list, entry, with_list, IsRead, IsFine}
 use Rattle.portal_tables.specs.Shown.{first}
 use Rattle.portal_tables.proofs.Listed.{IsText, some_mapped, none_chosen}
 use Rattle.portal_tables.proofs.CutLists.{all_columns, all_rows, owners_never_fall, own_whole, own_names, own_counts}
-use Rattle.portal_tables.proofs.Cuts.{own_rows, runs_own, none_left}
+use Rattle.portal_tables.proofs.Cuts.{runs_own, none_left}
 use Rattle.portal_tables.proofs.Sorted.{all_permuted}
 use Rattle.portal_tables.proofs.Texts.{choice_texts, ranking_texts}
 
@@ -35,29 +36,72 @@ pub list_texts : (lists : Lists) (db : Database) → IsOwn db.schema → IsDatab
 list_texts Choices db own sound = choice_texts db own sound
 list_texts Rankings db own sound = ranking_texts db own sound
 
-module _ (lists : Lists) (db : Trees) (owners shown : List Row)
-    (h : ListsBy (1 ∷ 2 ∷ []) every (columns (1 ∷ 2 ∷ 3 ∷ [])) (db (tree_of lists)) shown)
+-- of rows in any order
+module _ (lists : Lists) (db : Trees) (shown : List Row) (rows : IsPermutation (map all_columns (db (tree_of lists))) shown)
     (texts : AllByRecursion (λ r. IsText (column r 1)) (db (tree_of lists))) where
-  abbrev with_own : Row → Row × List Row
-  with_own c = (c, own_rows (first c) shown)
+  names_are : (c : Row) → IsRunRead lists (with_own shown c) → map run_name (own_rows (first c) shown) ≡ chosen (db (tree_of lists)) (first c)
+  names_are c read = own_names (db (tree_of lists)) shown rows texts (first c) read.whole
 
-  names_are : (c : Row) → IsRunRead lists (with_own c) → map run_name (own_rows (first c) shown) ≡ chosen (db (tree_of lists)) (first c)
-  names_are c read = own_names (db (tree_of lists)) shown h texts (first c) read.whole
-
-  entry_is : (c : Row) → IsRunRead lists (with_own c) → run_entry lists (with_own c) ≡ entry lists db c
+  entry_is : (c : Row) → IsRunRead lists (with_own shown c) → run_entry lists (with_own shown c) ≡ entry lists db c
   entry_is c read = ap (λ (names : List Key). cond {A = Option (Key × List Key)} (has_list lists c) (Some (first c, names)) None)
       (names_are c read)
 
-  is_read : (c : Row) → IsRunRead lists (with_own c) → IsRead lists db c
+  is_read : (c : Row) → IsRunRead lists (with_own shown c) → IsRead lists db c
   is_read c read = record {
-    whole = own_whole (db (tree_of lists)) shown h texts (first c) read.whole;
+    whole = own_whole (db (tree_of lists)) shown rows texts (first c) read.whole;
     none = λ no. none_chosen (first c) (db (tree_of lists)) (sym (names_are c read) ∙ read.none no);
   }
 
-  run_fine : (c : Row) → IsFine lists db c → IsRunFine lists (with_own c)
+  module _ (owners : List Row) (read : AllByRecursion (IsRunRead lists) (map (with_own shown) owners)) where
+    each_read : AllByRecursion (λ c. IsRunRead lists (with_own shown c)) owners
+    each_read = all_unmap (IsRunRead lists) (with_own shown) owners read
+
+    entries_are : filter_map (run_entry lists) (map (with_own shown) owners) ≡ filter_map (entry lists db) owners
+    entries_are =
+        some_mapped (run_entry lists) (with_own shown) owners
+        ∙ some_alike_on (λ c. IsRunRead lists (with_own shown c)) (λ c. run_entry lists (with_own shown c)) (entry lists db) owners
+        each_read entry_is
+
+    all_read : AllByRecursion (IsRead lists db) owners
+    all_read = all_weaker (λ c. IsRunRead lists (with_own shown c)) (IsRead lists db) is_read owners each_read
+
+  -- with an answer
+  pub own_told : (owners : List Row) (r : Result (Vec (Key × Vec Key Global) Global) TableFault)
+      → IfOk r (λ v. map with_list v.items ≡ filter_map (run_entry lists) (map (with_own shown) owners))
+      → OnOk r (AllByRecursion (IsRunRead lists) (map (with_own shown) owners))
+      → IfOk r (λ v. map with_list v.items ≡ filter_map (entry lists db) owners)
+  own_told owners (Ok v) is read = is ∙ entries_are owners read
+  own_told owners (Err e) is read = tt
+
+  pub own_read : {V E : Type 0} (owners : List Row) (r : Result V E) → OnOk r (AllByRecursion (IsRunRead lists) (map (with_own shown) owners))
+      → OnOk r (AllByRecursion (IsRead lists db) owners)
+  own_read owners (Ok v) read = all_read owners read
+  own_read owners (Err e) read = tt
+
+-- an answer that is kept, if there is one
+pub kept : {V E F : Type 0} (P : V → Type 0) (r : Result V E) (t : Result (Option V) F) → IfOk t (λ found. IfSome found (λ x. r ≡ Ok x)) → IfOk r P
+    → IfOk t (λ found. IfSome found P)
+kept P r (Ok (Some x)) is h = subst (λ s. IfOk s P) is h
+kept P r (Ok None) is h = tt
+kept P r (Err e) is h = tt
+
+pub kept_on : {V E F : Type 0} (A : Type 0) (r : Result V E) (t : Result (Option V) F) → IfOk t (λ found. IfSome found (λ x. r ≡ Ok x)) → OnOk r A
+    → IfOk t (λ found. OnSome found A)
+kept_on A r (Ok (Some x)) is h = subst (λ s. OnOk s A) is h
+kept_on A r (Ok None) is h = tt
+kept_on A r (Err e) is h = tt
+
+-- by owner and place
+module _ (lists : Lists) (db : Trees) (owners shown : List Row)
+    (h : ListsBy (1 ∷ 2 ∷ []) every (columns (1 ∷ 2 ∷ 3 ∷ [])) (db (tree_of lists)) shown)
+    (texts : AllByRecursion (λ r. IsText (column r 1)) (db (tree_of lists))) where
+  rows : IsPermutation (map all_columns (db (tree_of lists))) shown
+  rows = all_rows (1 ∷ 2 ∷ []) (db (tree_of lists)) shown h
+
+  run_fine : (c : Row) → IsFine lists db c → IsRunFine lists (with_own shown c)
   run_fine c fine =
       let up = own_counts (db (tree_of lists)) shown h texts (first c) fine.read.whole in
-      let names = own_names (db (tree_of lists)) shown h texts (first c) up in
+      let names = own_names (db (tree_of lists)) shown rows texts (first c) up in
       record {
         key = fine.key;
         read = record { whole = up; none = λ no. names ∙ ap list_of (fine.read.none no) };
@@ -66,37 +110,27 @@ module _ (lists : Lists) (db : Trees) (owners shown : List Row)
       }
 
   module _ (up : Rise (map first owners)) (none : left owners shown ≡ []) where
-    cut : runs owners shown ≡ map with_own owners
+    cut : runs owners shown ≡ map (with_own shown) owners
     cut = runs_own owners shown up none
-
-    each_read : AllByRecursion (IsRunRead lists) (runs owners shown) → AllByRecursion (λ c. IsRunRead lists (with_own c)) owners
-    each_read read = all_unmap (IsRunRead lists) with_own owners (subst (AllByRecursion (IsRunRead lists)) cut read)
-
-    entries_are : AllByRecursion (IsRunRead lists) (runs owners shown)
-        → filter_map (run_entry lists) (runs owners shown) ≡ filter_map (entry lists db) owners
-    entries_are read =
-        ap (filter_map (run_entry lists)) cut ∙ some_mapped (run_entry lists) with_own owners
-        ∙ some_alike_on (λ c. IsRunRead lists (with_own c)) (λ c. run_entry lists (with_own c)) (entry lists db) owners
-        (each_read read) entry_is
-
-    all_read : AllByRecursion (IsRunRead lists) (runs owners shown) → AllByRecursion (IsRead lists db) owners
-    all_read read = all_weaker (λ c. IsRunRead lists (with_own c)) (IsRead lists db) is_read owners (each_read read)
 
     all_fine : AllByRecursion (IsFine lists db) owners → AllByRecursion (IsRunFine lists) (runs owners shown)
     all_fine fine = subst (AllByRecursion (IsRunFine lists)) (sym cut)
-        (all_map (IsRunFine lists) with_own owners (all_weaker (IsFine lists db) (λ c. IsRunFine lists (with_own c)) run_fine owners fine))
+        (all_map (IsRunFine lists) (with_own shown) owners
+        (all_weaker (IsFine lists db) (λ c. IsRunFine lists (with_own shown c)) run_fine owners fine))
 
   -- with an answer
   pub entries_told : (r : Result (Vec (Key × Vec Key Global) Global) TableFault)
       → IfOk r (λ v. map with_list v.items ≡ filter_map (run_entry lists) (runs owners shown))
       → OnOk r (Rise (map first owners)) → OnOk r (left owners shown ≡ []) → OnOk r (AllByRecursion (IsRunRead lists) (runs owners shown))
       → IfOk r (λ v. map with_list v.items ≡ filter_map (entry lists db) owners)
-  entries_told (Ok v) is up none read = is ∙ entries_are up none read
+  entries_told (Ok v) is up none read =
+      is ∙ ap (filter_map (run_entry lists)) (cut up none)
+      ∙ entries_are lists db shown rows texts owners (subst (AllByRecursion (IsRunRead lists)) (cut up none) read)
   entries_told (Err e) is up none read = tt
 
   pub entries_read : {V E : Type 0} (r : Result V E) → OnOk r (Rise (map first owners)) → OnOk r (left owners shown ≡ [])
       → OnOk r (AllByRecursion (IsRunRead lists) (runs owners shown)) → OnOk r (AllByRecursion (IsRead lists db) owners)
-  entries_read (Ok v) up none read = all_read up none read
+  entries_read (Ok v) up none read = all_read lists db shown rows texts owners (subst (AllByRecursion (IsRunRead lists)) (cut up none) read)
   entries_read (Err e) up none read = tt
 
   -- where each row is of an owner, the reading meets nothing that is wrong
@@ -105,7 +139,7 @@ module _ (lists : Lists) (db : Trees) (owners shown : List Row)
     nothing_left =
         let table = db (tree_of lists) in
         none_left owners shown owned.rise (owners_never_fall table shown h texts)
-        (all_permuted (λ c. has (map first owners) (first c) ≡ true) (map all_columns table) shown (all_rows table shown h)
+        (all_permuted (λ c. has (map first owners) (first c) ≡ true) (map all_columns table) shown rows
         (all_map (λ c. has (map first owners) (first c) ≡ true) all_columns table owned.known))
 
     pub runs_fine : AllByRecursion (IsFine lists db) owners → AllByRecursion (IsRunFine lists) (runs owners shown)

@@ -24,10 +24,9 @@ use Rattle.portal_core.proofs.Keys.{is_same, all_unmap}
 use Rattle.portal_tables.specs.Changes.{ListsBy, every, columns, has_text}
 use Rattle.portal_tables.proofs.Lists.{filter_all as filter_every}
 use Rattle.portal_tables.specs.Lists.{of_key, chosen, CountUp, IsWhole}
-use Rattle.portal_tables.specs.Cuts.{is_of, run_place, run_name}
+use Rattle.portal_tables.specs.Cuts.{is_of, own_rows, run_place, run_name}
 use Rattle.portal_tables.specs.Shown.{first, shown_place, shown_name}
 use Rattle.portal_tables.proofs.Listed.{IsText, IsCount, all_map_on, permuted, falls, texts_agree, counts_agree, list_columns, shown_key, whole_of, names_of, counts_of}
-use Rattle.portal_tables.proofs.Cuts.{own_rows}
 use Rattle.portal_tables.proofs.Shapes.{has_text_of}
 use Rattle.portal_tables.proofs.Sorted.{NeverFall, all_permuted}
 
@@ -58,9 +57,49 @@ passes p (r ∷ rows) =
       | false ↦ λ e. passes p rows
     ]) refl
 
+-- all rows of a table, by a query in the order of some columns
+pub all_rows : (keys : List ℕ) (table shown : List Row) → ListsBy keys every (columns (1 ∷ 2 ∷ 3 ∷ [])) table shown → IsPermutation (map all_columns table) shown
+all_rows keys table shown h = subst (λ rows. IsPermutation (map all_columns rows) shown) (filter_every table) (permuted _ _ _ table shown h)
+
+-- in any order
+module _ (table shown : List Row) (rows : IsPermutation (map all_columns table) shown) (texts : AllByRecursion (λ r. IsText (column r 1)) table) where
+  texts_shown : AllByRecursion (λ c. IsText (column c 0)) shown
+  texts_shown = all_permuted (λ c. IsText (column c 0)) (map all_columns table) shown rows
+      (all_map (λ c. IsText (column c 0)) all_columns table texts)
+
+  own_test : (key : Key) (r : Row) → IsText (column r 1) → is_of key (all_columns r) ≡ has_text 1 key r
+  own_test key r t = ap (λ v. is (bytes v) key) t.1 ∙ sym (has_text_of 1 key r t.0 t.1)
+
+  -- the rows of an owner are those of the table
+  own_same : (key : Key) → IsPermutation (map list_columns (of_key key table)) (map behind (own_rows key shown))
+  own_same key =
+      let mine : filter (is_of key) (map all_columns table) ≡ map all_columns (of_key key table) =
+      filter-map (is_of key) all_columns table ∙ ap (map all_columns)
+      (filter_same (λ r. is_of key (all_columns r)) (has_text 1 key) table (all_weaker _ _ (own_test key) table texts)) in
+      subst (λ own. IsPermutation own (map behind (own_rows key shown)))
+      (ap (map behind) mine ∙ map-map behind all_columns (of_key key table))
+      (IsPermutation-map behind _ _ (IsPermutation-filter (is_of key) _ _ rows))
+
+  places_are : (key : Key) → map shown_place (map behind (own_rows key shown)) ≡ map run_place (own_rows key shown)
+  places_are key = map-map shown_place behind (own_rows key shown)
+
+  pub own_whole : (key : Key) → CountUp 1 (map run_place (own_rows key shown)) → IsWhole (of_key key table)
+  own_whole key up = whole_of key table _ (own_same key) (subst (CountUp 1) (sym (places_are key)) up)
+
+  pub own_names : (key : Key) → CountUp 1 (map run_place (own_rows key shown)) → map run_name (own_rows key shown) ≡ chosen table key
+  own_names key up = sym (map-map shown_name behind (own_rows key shown))
+      ∙ names_of key table _ (own_same key) (subst (CountUp 1) (sym (places_are key)) up)
+
+  own_texts : (key : Key) → AllByRecursion (λ c. column c 0 ≡ Words key) (own_rows key shown)
+  own_texts key =
+      all_both (λ c. IsText (column c 0)) (λ c. is_of key c ≡ true) (λ c. column c 0 ≡ Words key)
+      (λ c t own. t.1 ∙ ap Words (is_same t.0 key (ap (λ v. is (bytes v) key) (sym t.1) ∙ own))) (own_rows key shown)
+      (all-filter (λ c. IsText (column c 0)) (is_of key) shown texts_shown) (passes (is_of key) shown)
+
+-- by owner and place
 module _ (table shown : List Row) (h : ListsBy (1 ∷ 2 ∷ []) every (columns (1 ∷ 2 ∷ 3 ∷ [])) table shown) where
-  pub all_rows : IsPermutation (map all_columns table) shown
-  all_rows = subst (λ rows. IsPermutation (map all_columns rows) shown) (filter_every table) (permuted _ _ _ table shown h)
+  rows : IsPermutation (map all_columns table) shown
+  rows = all_rows (1 ∷ 2 ∷ []) table shown h
 
   ascends : IsAscending Later shown
   ascends =
@@ -82,43 +121,10 @@ module _ (table shown : List Row) (h : ListsBy (1 ∷ 2 ∷ []) every (columns (
       (then-Equal (value_cmp (column c 1) (column d 1)))) ∙ less) shown there
 
   module _ (texts : AllByRecursion (λ r. IsText (column r 1)) table) where
-    texts_shown : AllByRecursion (λ c. IsText (column c 0)) shown
-    texts_shown = all_permuted (λ c. IsText (column c 0)) (map all_columns table) shown all_rows
-        (all_map (λ c. IsText (column c 0)) all_columns table texts)
-
     -- the owners of the rows never fall
     pub owners_never_fall : NeverFall (map first shown)
     owners_never_fall = falls Later first (λ c. IsText (column c 0))
-        (λ c d s t less. texts_agree (column c 0) (column d 0) s t (first_of _ _ less)) shown ascends texts_shown
-
-    own_test : (key : Key) (r : Row) → IsText (column r 1) → is_of key (all_columns r) ≡ has_text 1 key r
-    own_test key r t = ap (λ v. is (bytes v) key) t.1 ∙ sym (has_text_of 1 key r t.0 t.1)
-
-    -- the rows of an owner are those of the table
-    own_same : (key : Key) → IsPermutation (map list_columns (of_key key table)) (map behind (own_rows key shown))
-    own_same key =
-        let mine : filter (is_of key) (map all_columns table) ≡ map all_columns (of_key key table) =
-        filter-map (is_of key) all_columns table ∙ ap (map all_columns)
-        (filter_same (λ r. is_of key (all_columns r)) (has_text 1 key) table (all_weaker _ _ (own_test key) table texts)) in
-        subst (λ rows. IsPermutation rows (map behind (own_rows key shown)))
-        (ap (map behind) mine ∙ map-map behind all_columns (of_key key table))
-        (IsPermutation-map behind _ _ (IsPermutation-filter (is_of key) _ _ all_rows))
-
-    places_are : (key : Key) → map shown_place (map behind (own_rows key shown)) ≡ map run_place (own_rows key shown)
-    places_are key = map-map shown_place behind (own_rows key shown)
-
-    pub own_whole : (key : Key) → CountUp 1 (map run_place (own_rows key shown)) → IsWhole (of_key key table)
-    own_whole key up = whole_of key table _ (own_same key) (subst (CountUp 1) (sym (places_are key)) up)
-
-    pub own_names : (key : Key) → CountUp 1 (map run_place (own_rows key shown)) → map run_name (own_rows key shown) ≡ chosen table key
-    own_names key up = sym (map-map shown_name behind (own_rows key shown))
-        ∙ names_of key table _ (own_same key) (subst (CountUp 1) (sym (places_are key)) up)
-
-    own_texts : (key : Key) → AllByRecursion (λ c. column c 0 ≡ Words key) (own_rows key shown)
-    own_texts key =
-        all_both (λ c. IsText (column c 0)) (λ c. is_of key c ≡ true) (λ c. column c 0 ≡ Words key)
-        (λ c t own. t.1 ∙ ap Words (is_same t.0 key (ap (λ v. is (bytes v) key) (sym t.1) ∙ own))) (own_rows key shown)
-        (all-filter (λ c. IsText (column c 0)) (is_of key) shown texts_shown) (passes (is_of key) shown)
+        (λ c d s t less. texts_agree (column c 0) (column d 0) s t (first_of _ _ less)) shown ascends (texts_shown table shown rows texts)
 
     -- their places never fall
     never_fall : (key : Key) → AllByRecursion (λ c. IsCount (column c 0)) (map behind (own_rows key shown))
@@ -126,7 +132,7 @@ module _ (table shown : List Row) (h : ListsBy (1 ∷ 2 ∷ []) every (columns (
     never_fall key counts =
         let own = own_rows key shown in
         let good = all_both (λ c. column c 0 ≡ Words key) (λ c. IsCount (column c 1)) (λ c. (column c 0 ≡ Words key) × IsCount (column c 1))
-        (λ c s t. (s, t)) own (own_texts key) (all_unmap (λ c. IsCount (column c 0)) behind own counts) in
+        (λ c s t. (s, t)) own (own_texts table shown rows texts key) (all_unmap (λ c. IsCount (column c 0)) behind own counts) in
         subst NeverFall (sym (map-map shown_key behind own))
         (falls Later (λ c. shown_key (behind c)) (λ c. (column c 0 ≡ Words key) × IsCount (column c 1))
         (λ c d s t less. counts_agree (column c 1) (column d 1) s.1 t.1
@@ -135,4 +141,4 @@ module _ (table shown : List Row) (h : ListsBy (1 ∷ 2 ∷ []) every (columns (
         (ascending-filter Later (is_of key) shown ascends) good)
 
     pub own_counts : (key : Key) → IsWhole (of_key key table) → CountUp 1 (map run_place (own_rows key shown))
-    own_counts key whole = subst (CountUp 1) (places_are key) (counts_of key table _ (own_same key) (never_fall key) whole)
+    own_counts key whole = subst (CountUp 1) (places_are table shown rows texts key) (counts_of key table _ (own_same table shown rows texts key) (never_fall key) whole)

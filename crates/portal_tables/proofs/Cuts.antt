@@ -1,5 +1,5 @@
 -- The rows of all lists, cut into those of each owner.
-use Rattle.std.proofs.Common.{◌≡◌, inl, inr, ℕ, suc, ◌+◌, ◌<◌, Bool, true, false, ◌||◌, cond, List, [], ◌∷◌, ◌++◌, map, filter, length, drop, get_or, refl, sym, ap, ap₂, subst, ◌∙◌, arith, add-one, drop-cons}
+use Rattle.std.proofs.Common.{◌≡◌, inl, inr, ℕ, suc, ◌+◌, ◌<◌, Bool, true, false, ◌||◌, cond, List, [], ◌∷◌, ◌++◌, map, length, drop, get_or, refl, sym, ap, ap₂, subst, ◌∙◌, arith, add-one, drop-cons}
 use Rattle.std.specs.List.{AllByRecursion, prefix_len}
 use Rattle.std.proofs.Math.Bool.{or-true}
 use Rattle.std.proofs.lemmas.Bool.{cases_Bool}
@@ -12,14 +12,10 @@ use Rattle.portal_core.specs.Words.{Key, is, has, is_before, Rise}
 use Rattle.portal_core.proofs.AllLaws.{all_append, all_weaker, is_sym}
 use Rattle.portal_core.proofs.Fills.{before_other}
 use Rattle.portal_core.proofs.Keys.{is_same, all_unmap}
-use Rattle.portal_tables.specs.Cuts.{is_of, run, after, runs, left}
+use Rattle.portal_tables.specs.Cuts.{is_of, own_rows, with_own, run, after, runs, left}
 use Rattle.portal_tables.specs.Shown.{first}
 use Rattle.portal_tables.proofs.Listed.{all_map_on}
 use Rattle.portal_tables.proofs.Sorted.{NeverFall}
-
--- the rows of an owner, wherever they stand
-abbrev pub own_rows : Key → List Row → List Row
-own_rows key = filter (is_of key)
 
 -- one owner more
 module _ (cs : List Row) (i : ℕ) (c : Row) (low : i < length cs) (at : get_or cs i c ≡ c) (rest own others : List Row)
@@ -84,27 +80,31 @@ none_of k l other rows own = filter_none (is_of l) rows
     (all_weaker (λ r. is_of k r ≡ true) (λ r. is_of l r ≡ false)
     (λ r h. subst (λ x. is x l ≡ false) (sym (is_same (first r) k h)) other) rows own)
 
+-- the run in front has all of its owner's rows but those behind it, and none of another's
+own_parts : (key k : Key) (rows : List Row) → own_rows key rows ≡ own_rows key (run k rows) ++ own_rows key (after k rows)
+own_parts key k rows = ap (own_rows key) (sym (whole k rows)) ∙ filter-append (is_of key) (run k rows) (after k rows)
+
+pub own_run : (k : Key) (rows : List Row) → own_rows k rows ≡ run k rows ++ own_rows k (after k rows)
+own_run k rows = own_parts k k rows ∙ ap (λ l. l ++ own_rows k (after k rows)) (filter_all (is_of k) (run k rows) (all_own k rows))
+
+pub own_after : (key k : Key) (rows : List Row) → is k key ≡ false → own_rows key (after k rows) ≡ own_rows key rows
+own_after key k rows other =
+    sym (own_parts key k rows ∙ ap (λ l. l ++ own_rows key (after k rows)) (none_of k key other (run k rows) (all_own k rows)))
+
 -- and each owner has found all of the own rows
-pub runs_own : (cs rows : List Row) → Rise (map first cs) → left cs rows ≡ [] → runs cs rows ≡ map (λ c. (c, own_rows (first c) rows)) cs
+pub runs_own : (cs rows : List Row) → Rise (map first cs) → left cs rows ≡ [] → runs cs rows ≡ map (with_own rows) cs
 runs_own [] rows up e = refl
 runs_own (c ∷ cs) rows up e =
     let k : Key = first c in
-    let front : List Row = run k rows in
     let back : List Row = after k rows in
-    let parts : (key : Key) → own_rows key rows ≡ own_rows key front ++ own_rows key back = λ key. ap (own_rows key) (sym (whole k rows))
-    ∙ filter-append (is_of key) front back in
-    let mine : own_rows k front ≡ front = filter_all (is_of k) front (all_own k rows) in
     let none : own_rows k back ≡ [] =
     filter_none (is_of k) back (all_weaker (λ r. has (map first cs) (first r) ≡ true) (λ r. is_of k r ≡ false)
     (λ r h. apart k (map first cs) (first r) up.0 h) back (known cs back e)) in
-    let here : front ≡ own_rows k rows = sym (parts k ∙ ap₂ (λ a b. a ++ b) mine none ∙ append-nil front) in
-    let later : (d : Row) → is_before k (first d) ≡ true → own_rows (first d) back ≡ own_rows (first d) rows =
-    λ d h. sym (parts (first d) ∙ ap (λ l. l ++ own_rows (first d) back)
-    (none_of k (first d) (before_other k (first d) h) front (all_own k rows))) in
+    let here : run k rows ≡ own_rows k rows = sym (own_run k rows ∙ ap (λ l. run k rows ++ l) none ∙ append-nil (run k rows)) in
     ap₂ (λ (a : List Row) (b : List (Row × List Row)). (c, a) ∷ b) here
-    (runs_own cs back up.1 e ∙ all_map_on (λ d. is_before k (first d) ≡ true) (λ d. (d, own_rows (first d) back))
-    (λ d. (d, own_rows (first d) rows)) cs
-    (all_unmap (λ x. is_before k x ≡ true) first cs up.0) (λ d h. ap (λ (l : List Row). (d, l)) (later d h)))
+    (runs_own cs back up.1 e ∙ all_map_on (λ d. is_before k (first d) ≡ true) (with_own back) (with_own rows) cs
+    (all_unmap (λ x. is_before k x ≡ true) first cs up.0)
+    (λ d h. ap (λ (l : List Row). (d, l)) (own_after (first d) k rows (before_other k (first d) h))))
 
 -- where the keys of the rows never fall, and each is an owner's, nothing is left
 never_after : (k : Key) (rows : List Row) → NeverFall (map first rows) → NeverFall (map first (after k rows))

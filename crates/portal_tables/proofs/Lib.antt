@@ -25,6 +25,7 @@ pub mod AllRead
 pub mod Asking
 pub mod CutLists
 pub mod Cuts
+pub mod Gathered
 pub mod Owners
 pub mod Parents
 pub mod Shapes

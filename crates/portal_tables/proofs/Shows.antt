@@ -16,7 +16,7 @@ use Rattle.portal_tables.proofs.Query.{passes, shown_as}
 use Rattle.portal_tables.proofs.Tests.{has_key, same_key, is_number, same_number}
 use Rattle.portal_tables.proofs.Queries.{by_columns, listed}
 
--- a text that reads one table, in the order of some columns
+-- a text that reads one table, in the order of some columns, or of none
 pub record Reads (sql : List ℕ) (tree : ℕ) (keys : List ℕ) (tests project : List Term) (names : List (List ℕ)) : Type 0 where
   pub command : (checks more : ℕ → List Term) → command_of (understood (portal_with checks more) sql) ≡ Select (record { lets = []; body = by_columns tree tests project keys }) names
   pub plain : (checks more : ℕ → List Term) → IsPlain (understood (portal_with checks more) sql)
@@ -110,6 +110,32 @@ ranking_rows_plain = known_plain _ _ _ _ _ _ ranking_rows_is
 
 pub ranking_rows_listed : (old new : State) → IsOwn old.now.schema → (rows : List Row) → Shown ranking_rows [] old new rows → ListsBy (1 ∷ 2 ∷ []) every (columns (1 ∷ 2 ∷ 3 ∷ [])) (old.now.trees 12) rows
 ranking_rows_listed old new own rows h = listed_own _ _ _ _ _ _ ranking_rows_is [] old new rows own h
+
+abbrev pub stored_choices : List ℕ
+stored_choices = codes "SELECT student, place, project FROM choice"
+
+stored_choices_is : Reads stored_choices 9 [] [] (col 1 1 ∷ col 1 2 ∷ col 1 3 ∷ []) (codes "student" ∷ codes "place" ∷ codes "project" ∷ [])
+unfolding understood everything
+stored_choices_is = record { command = λ checks more. refl; plain = λ checks more. (refl, refl); unlisted = λ checks more. refl }
+
+pub stored_choices_plain : (s : Schema) → IsOwn s → IsPlain (understood s stored_choices)
+stored_choices_plain = known_plain _ _ _ _ _ _ stored_choices_is
+
+pub stored_choices_listed : (old new : State) → IsOwn old.now.schema → (rows : List Row) → Shown stored_choices [] old new rows → ListsBy [] every (columns (1 ∷ 2 ∷ 3 ∷ [])) (old.now.trees 9) rows
+stored_choices_listed old new own rows h = listed_own _ _ _ _ _ _ stored_choices_is [] old new rows own h
+
+abbrev pub stored_rankings : List ℕ
+stored_rankings = codes "SELECT lecturer, place, student FROM ranking"
+
+stored_rankings_is : Reads stored_rankings 12 [] [] (col 1 1 ∷ col 1 2 ∷ col 1 3 ∷ []) (codes "lecturer" ∷ codes "place" ∷ codes "student" ∷ [])
+unfolding understood everything
+stored_rankings_is = record { command = λ checks more. refl; plain = λ checks more. (refl, refl); unlisted = λ checks more. refl }
+
+pub stored_rankings_plain : (s : Schema) → IsOwn s → IsPlain (understood s stored_rankings)
+stored_rankings_plain = known_plain _ _ _ _ _ _ stored_rankings_is
+
+pub stored_rankings_listed : (old new : State) → IsOwn old.now.schema → (rows : List Row) → Shown stored_rankings [] old new rows → ListsBy [] every (columns (1 ∷ 2 ∷ 3 ∷ [])) (old.now.trees 12) rows
+stored_rankings_listed old new own rows h = listed_own _ _ _ _ _ _ stored_rankings_is [] old new rows own h
 
 abbrev pub list_of : List ℕ
 list_of = codes "SELECT place, project FROM choice WHERE student = ?1 ORDER BY place"

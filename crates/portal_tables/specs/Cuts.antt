@@ -1,5 +1,6 @@
--- The rows of all lists, by owner and place, cut where the owner changes.
-use Rattle.std.specs.Prelude.{◌≡◌, ℕ, Bool, false, true, if◌then◌else◌, List, [], ◌∷◌, map, drop, Option, Some, None}
+-- The rows of all lists: those of each owner, wherever they stand, and the rows by owner and place, cut where the owner changes.
+use Rattle.std.specs.Prelude.{◌≡◌, ℕ, Bool, false, true, if◌then◌else◌, List, [], ◌∷◌, map, filter, drop, Option, Some, None}
+use Rattle.std.specs.Borrow.{Bor}
 use Rattle.std.specs.List.{AllByRecursion, take_while, prefix_len}
 use Rattle.sqlite.specs.Order.{Row, column, bytes}
 use Rattle.sqlite_trees.specs.Objects.{number_in}
@@ -19,6 +20,18 @@ run_place c = number_in (column c 1)
 
 abbrev pub run_name : Row → Key
 run_name c = bytes (column c 2)
+
+-- the rows of an owner, wherever they stand
+abbrev pub own_rows : Key → List Row → List Row
+own_rows key = filter (is_of key)
+
+-- an owner with the own rows
+abbrev pub with_own : List Row → Row → Row × List Row
+with_own rows c = (c, own_rows (first c) rows)
+
+-- an owner and rows, behind references
+abbrev pub lent_own : Bor Row × Bor (List Row) → Row × List Row
+lent_own own = (own.0.now, own.1.now)
 
 -- the rows in front that are the owner's, and those behind them
 abbrev pub run : Key → List Row → List Row

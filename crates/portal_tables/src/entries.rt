@@ -1,8 +1,8 @@
-//! The lists of the owners whose rows are shown: all of a table by one query, or one owner's.
+//! The lists of the owners whose rows are shown: all of a table, or one owner's.
 
-ghost use Rattle.std.specs.Prelude.{◌≡◌, ◌∷◌, [], false, true, Err, IfOk, OnOk, Some, None, option_map, if◌then◌else◌, map};
-ghost use Rattle.std.specs.List.{AllByRecursion, filter_map, prefix_len};
-ghost use Rattle.sqlite.specs.State.{HasCleanDisk};
+ghost use Rattle.std.specs.Prelude.{◌≡◌, ◌∷◌, [], false, true, Ok, Err, IfOk, OnOk, Some, None, IfSome, OnSome, option_map, if◌then◌else◌, map};
+ghost use Rattle.std.specs.List.{AllByRecursion, filter_map};
+ghost use Rattle.sqlite.specs.State.{HasCleanDisk, IsUnchanged};
 ghost use Rattle.sqlite.specs.Effect.{IsDatabase};
 ghost use Rattle.sqlite.specs.Held.{state};
 ghost use Rattle.spa_rows.specs.Form.{is_key};
@@ -11,14 +11,17 @@ ghost use Rattle.portal_tables.specs.Own.{IsOwn};
 ghost use Rattle.portal_tables.specs.Changes.{ListsBy, every, has_text, columns};
 ghost use Rattle.portal_tables.specs.Lists.{of_key, IsWhole, CountUp, chosen};
 ghost use Rattle.portal_tables.specs.Reading.{Reads};
-ghost use Rattle.portal_tables.specs.Cuts.{is_of, run, after, runs, left, run_place, run_name, run_entry, IsRunRead, IsRunFine};
+ghost use Rattle.portal_tables.specs.Cuts.{with_own, lent_own, runs, left, run_place, run_name, run_entry, IsRunRead, IsRunFine};
 ghost use Rattle.portal_tables.specs.Owners.{AreOwned, tree_of, has_list, entry, with_list, IsRead, IsFine};
 ghost use Rattle.portal_tables.specs.Shown.{first};
 
-use crate::cells::{bytes_at, key_at, number_at};
+use crate::cells::{key_at, number_at};
 use crate::decode::{do_rise, list_from};
 use crate::fault::TableFault;
-use crate::select::{choice_rows, list_of, ranking_of, ranking_rows};
+use crate::gather::{gathered, split_run};
+use crate::select::{
+    choice_rows, list_of, ranking_of, ranking_rows, stored_choices, stored_rankings,
+};
 use spa_rows::Key;
 use sqlite::{Alter, Connection, Error, Row};
 use std::alloc::Global;
@@ -96,23 +99,6 @@ fn kept_entry(
     Ok(None)
 }
 
-/// How many rows in front begin with this key.
-fn run_length(rows: &[Row], key: &[u8]) -> usize
-    ensures { result ≡ prefix_len (is_of key.now) rows.now }
-{
-    rows.iter()
-        .take_while(|row| bytes_at(row, 0) == key)
-        .count()
-}
-
-/// The rows in front that are the owner's, and those behind them.
-fn split_run<'a>(rows: &'a [Row], owner: &Row) -> (&'a [Row], &'a [Row])
-    ensures own { result.0.now ≡ run (first owner.now) rows.now }
-    ensures others { result.1.now ≡ after (first owner.now) rows.now }
-{
-    rows.split_at(run_length(rows, bytes_at(owner, 0)))
-}
-
 /// The list that an owner's rows are, whose places are 1, 2 and so on.
 fn list_of_run(alloc: Global, rows: &[Row]) -> Result<Vec<Key>, TableFault>
     ensures names { IfOk result (λ v. v.items ≡ map run_name rows.now) }
@@ -176,6 +162,42 @@ fn entries_of(
     Ok(entries)
 }
 
+/// The lists of the owners, of the rows that each has.
+fn entries_of_own(
+    alloc: Global,
+    lists: Lists,
+    gathered: &[(&Row, &[Row])],
+) -> Result<Vec<(Key, Vec<Key>)>, TableFault>
+    ensures ok { IfOk result (λ v. map with_list v.items ≡ filter_map (run_entry lists) (map lent_own gathered.now)) }
+    ensures read { OnOk result (AllByRecursion (IsRunRead lists) (map lent_own gathered.now)) }
+{
+    let mut entries = Vec::new(alloc);
+    for own in gathered {
+        if let Some(entry) = entry_of(alloc, lists, own.0, own.1)? {
+            entries.push(entry)?;
+        }
+    }
+    Ok(entries)
+}
+
+/// The lists of the owners, of the rows of all lists, in any order of owners. The fault is `Damaged` where the owners' keys do not rise, a row
+/// is of none of them, or the rows of one are not one run whose places are 1, 2 and so on.
+fn entries_gathered(
+    alloc: Global,
+    lists: Lists,
+    owners: &[Row],
+    rows: &[Row],
+) -> Result<Vec<(Key, Vec<Key>)>, TableFault>
+    ensures ok { IfOk result (λ v. map with_list v.items ≡ filter_map (run_entry lists) (map (with_own rows.now) owners.now)) }
+    ensures read { OnOk result (AllByRecursion (IsRunRead lists) (map (with_own rows.now) owners.now)) }
+{
+    if !do_rise(owners) {
+        return Err(TableFault::Damaged);
+    }
+    let own = gathered(alloc, owners, rows)?;
+    entries_of_own(alloc, lists, &own)
+}
+
 /// The rows of all lists, by owner and place.
 fn all_rows<S: Alter>(conn: &mut Connection<S>, lists: Lists) -> Result<Vec<Row>, Error>
     ensures rows { IsOwn conn.old.schema → HasCleanDisk (state S.Store conn.new) → IfOk result (λ rows. ListsBy (1 ∷ 2 ∷ []) every (columns (1 ∷ 2 ∷ 3 ∷ [])) ((state S.Store conn.old).now.trees (tree_of lists)) rows.items) }
@@ -188,9 +210,8 @@ fn all_rows<S: Alter>(conn: &mut Connection<S>, lists: Lists) -> Result<Vec<Row>
     }
 }
 
-/// The lists of the owners whose rows are shown, by one query of the table. The fault is `Damaged` where the owners' keys do not rise, a
-/// row is of none of them, or a list is not one that `list_in` would give; else as there.
-pub fn entries_in<S: Alter>(
+/// The lists of the owners whose rows are shown, by a query in the order of owner and place. The faults are those of `entries_in`.
+fn entries_in_order<S: Alter>(
     alloc: Global,
     conn: &mut Connection<S>,
     lists: Lists,
@@ -204,4 +225,69 @@ pub fn entries_in<S: Alter>(
 {
     let rows = all_rows(conn, lists)?;
     entries_of(alloc, lists, owners, &rows)
+}
+
+/// The rows of all lists, in whatever order they stand.
+fn stored_rows<S: Alter>(conn: &mut Connection<S>, lists: Lists) -> Result<Vec<Row>, Error>
+    ensures rows { IsOwn conn.old.schema → HasCleanDisk (state S.Store conn.new) → IfOk result (λ rows. ListsBy [] every (columns (1 ∷ 2 ∷ 3 ∷ [])) ((state S.Store conn.old).now.trees (tree_of lists)) rows.items) }
+    ensures same { IsOwn conn.old.schema → HasCleanDisk (state S.Store conn.new) → OnOk result (IsUnchanged (state S.Store conn.old) (state S.Store conn.new)) }
+    ensures reads { Reads result (state S.Store conn.old) (state S.Store conn.new) }
+    ensures mode { conn.old.in_transaction ≡ false → conn.new.in_transaction ≡ false }
+{
+    match lists {
+        Lists::Choices => stored_choices(conn),
+        Lists::Rankings => stored_rankings(conn),
+    }
+}
+
+/// What was made of rows, or none where they are not fit for it.
+fn unless_damaged<T: Drop>(made: Result<T, TableFault>) -> Result<Option<T>, TableFault>
+    ensures made { IfOk result (λ found. IfSome found (λ x. made ≡ Ok x)) }
+    ensures undamaged { result ≡ Err TableFault.Damaged → ⊥ }
+{
+    match made {
+        Ok(x) => Ok(Some(x)),
+        Err(TableFault::Damaged) => Ok(None),
+        Err(fault) => Err(fault),
+    }
+}
+
+/// The lists of the owners whose rows are shown, by a query in no order, which the store answers by a scan of the table. None where the rows
+/// do not stand as `entries_gathered` asks.
+fn entries_as_stored<S: Alter>(
+    alloc: Global,
+    conn: &mut Connection<S>,
+    lists: Lists,
+    owners: &[Row],
+) -> Result<Option<Vec<(Key, Vec<Key>)>>, TableFault>
+    ensures ok { IsOwn conn.old.schema → IsDatabase (state S.Store conn.old).now → HasCleanDisk (state S.Store conn.new) → IfOk result (λ found. IfSome found (λ v. map with_list v.items ≡ filter_map (entry lists (state S.Store conn.old).now.trees) owners.now)) }
+    ensures read { IsOwn conn.old.schema → IsDatabase (state S.Store conn.old).now → HasCleanDisk (state S.Store conn.new) → IfOk result (λ found. OnSome found (AllByRecursion (IsRead lists (state S.Store conn.old).now.trees) owners.now)) }
+    ensures undamaged { result ≡ Err TableFault.Damaged → ⊥ }
+    ensures same { IsOwn conn.old.schema → HasCleanDisk (state S.Store conn.new) → OnOk result (IsUnchanged (state S.Store conn.old) (state S.Store conn.new)) }
+    ensures reads { Reads result (state S.Store conn.old) (state S.Store conn.new) }
+    ensures mode { conn.old.in_transaction ≡ false → conn.new.in_transaction ≡ false }
+{
+    let rows = stored_rows(conn, lists)?;
+    unless_damaged(entries_gathered(alloc, lists, owners, &rows))
+}
+
+/// The lists of the owners whose rows are shown: by one query that shows the rows of the table as they stand, and by one more, in order, only
+/// where an owner's rows are no run by place. The fault is `Damaged` where the owners' keys do not rise, a row is of none of them, or a list is
+/// not one that `list_in` would give; else as there.
+pub fn entries_in<S: Alter>(
+    alloc: Global,
+    conn: &mut Connection<S>,
+    lists: Lists,
+    owners: &[Row],
+) -> Result<Vec<(Key, Vec<Key>)>, TableFault>
+    ensures ok { IsOwn conn.old.schema → IsDatabase (state S.Store conn.old).now → HasCleanDisk (state S.Store conn.new) → IfOk result (λ v. map with_list v.items ≡ filter_map (entry lists (state S.Store conn.old).now.trees) owners.now) }
+    ensures read { IsOwn conn.old.schema → IsDatabase (state S.Store conn.old).now → HasCleanDisk (state S.Store conn.new) → OnOk result (AllByRecursion (IsRead lists (state S.Store conn.old).now.trees) owners.now) }
+    ensures damaged { IsOwn conn.old.schema → IsDatabase (state S.Store conn.old).now → HasCleanDisk (state S.Store conn.new) → result ≡ Err TableFault.Damaged → AreOwned lists (state S.Store conn.old).now.trees owners.now → AllByRecursion (IsFine lists (state S.Store conn.old).now.trees) owners.now → ⊥ }
+    ensures reads { Reads result (state S.Store conn.old) (state S.Store conn.new) }
+    ensures mode { conn.old.in_transaction ≡ false → conn.new.in_transaction ≡ false }
+{
+    match entries_as_stored(alloc, conn, lists, owners)? {
+        Some(entries) => Ok(entries),
+        None => entries_in_order(alloc, conn, lists, owners),
+    }
 }

@@ -8,6 +8,7 @@ pub mod cells;
 pub mod decode;
 pub mod entries;
 pub mod fault;
+mod gather;
 pub mod insert;
 pub mod lines;
 pub mod make;

@@ -1,8 +1,9 @@
 //! Keys that rows begin with, looked for among rows whose keys rise.
 
-ghost use Rattle.std.specs.Prelude.{◌≡◌, IfOk, not, map, filter};
+ghost use Rattle.std.specs.Prelude.{◌≡◌, ◌<◌, IfOk, IfSome, is_some, not, map, filter, length, slice_index_or};
 ghost use Rattle.std.specs.Cmp.Lexicographic.{slice_cmp};
 ghost use Rattle.std.specs.Ordering.{nat_cmp};
+ghost use Rattle.sqlite.specs.Order.{Row as Cells};
 ghost use Rattle.portal_core.specs.Words.{has, Rise};
 ghost use Rattle.portal_tables.specs.Shown.{first};
 
@@ -14,19 +15,29 @@ use sqlite::Row;
 use std::alloc::Global;
 use std::cmp::Ordering;
 
-/// Whether a row begins with the key, among rows whose keys rise.
-pub fn is_named(rows: &[Row], key: &[u8]) -> bool
+/// Where a row begins with the key, among rows whose keys rise.
+pub(crate) fn place_named(rows: &[Row], key: &[u8]) -> Option<usize>
     requires { Rise (map first rows.now) }
-    ensures { result ≡ has (map first rows.now) key.now }
+    ensures within { IfSome result (λ i. i < length rows.now) }
+    ensures there { IfSome result (λ i. (c : Cells) → first (slice_index_or rows.now i c) ≡ key.now) }
+    ensures known { is_some result ≡ has (map first rows.now) key.now }
 {
     match rows.binary_search_by(
         |row: &Row| -> Ordering
             ensures { result ≡ slice_cmp nat_cmp (first row.now) key.entry.now }
         { bytes_at(row, 0).cmp(key) },
     ) {
-        Ok(_) => true,
-        Err(_) => false,
+        Ok(i) => Some(i),
+        Err(_) => None,
     }
+}
+
+/// Whether a row begins with the key, among rows whose keys rise.
+pub fn is_named(rows: &[Row], key: &[u8]) -> bool
+    requires { Rise (map first rows.now) }
+    ensures { result ≡ has (map first rows.now) key.now }
+{
+    place_named(rows, key).is_some()
 }
 
 /// The keys that the rows begin with, but for those of the others, whose keys rise.

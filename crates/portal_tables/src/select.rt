@@ -109,6 +109,30 @@ pub fn ranking_rows<S: Alter>(conn: &mut Connection<S>) -> Result<Vec<Row>, Erro
     )
 }
 
+/// All lists, in whatever order their rows stand: student, place and project.
+pub fn stored_choices<S: Alter>(conn: &mut Connection<S>) -> Result<Vec<Row>, Error>
+    ensures rows { IsOwn conn.old.schema → HasCleanDisk (state S.Store conn.new) → IfOk result (λ rows. ListsBy [] every (columns (1 ∷ 2 ∷ 3 ∷ [])) ((state S.Store conn.old).now.trees choice_tree) rows.items) }
+    ensures same { IsOwn conn.old.schema → HasCleanDisk (state S.Store conn.new) → OnOk result (IsUnchanged (state S.Store conn.old) (state S.Store conn.new)) }
+    ensures err { IsOwn conn.old.schema → HasCleanDisk (state S.Store conn.new) → OnErr result (Leaves (state S.Store conn.old) (state S.Store conn.new)) }
+    ensures mode { conn.old.in_transaction ≡ false → conn.new.in_transaction ≡ false }
+    ensures crash { IsOwn conn.old.schema → Survives (state S.Store conn.old) (state S.Store conn.new) (λ _. ⊥) }
+    ensures survives { Survives (state S.Store conn.old) (state S.Store conn.new) (λ _. IsOwn conn.old.schema → ⊥) }
+{
+    read(conn, "SELECT student, place, project FROM choice", &[])
+}
+
+/// All rankings, in whatever order their rows stand: lecturer, place and student.
+pub fn stored_rankings<S: Alter>(conn: &mut Connection<S>) -> Result<Vec<Row>, Error>
+    ensures rows { IsOwn conn.old.schema → HasCleanDisk (state S.Store conn.new) → IfOk result (λ rows. ListsBy [] every (columns (1 ∷ 2 ∷ 3 ∷ [])) ((state S.Store conn.old).now.trees ranking_tree) rows.items) }
+    ensures same { IsOwn conn.old.schema → HasCleanDisk (state S.Store conn.new) → OnOk result (IsUnchanged (state S.Store conn.old) (state S.Store conn.new)) }
+    ensures err { IsOwn conn.old.schema → HasCleanDisk (state S.Store conn.new) → OnErr result (Leaves (state S.Store conn.old) (state S.Store conn.new)) }
+    ensures mode { conn.old.in_transaction ≡ false → conn.new.in_transaction ≡ false }
+    ensures crash { IsOwn conn.old.schema → Survives (state S.Store conn.old) (state S.Store conn.new) (λ _. ⊥) }
+    ensures survives { Survives (state S.Store conn.old) (state S.Store conn.new) (λ _. IsOwn conn.old.schema → ⊥) }
+{
+    read(conn, "SELECT lecturer, place, student FROM ranking", &[])
+}
+
 /// One student's list by place: place and project.
 pub fn list_of<S: Alter>(conn: &mut Connection<S>, student: &[u8]) -> Result<Vec<Row>, Error>
     ensures rows { IsOwn conn.old.schema → HasCleanDisk (state S.Store conn.new) → IfOk result (λ rows. ListsBy (2 ∷ []) (has_text 1 student.now) (columns (2 ∷ 3 ∷ [])) ((state S.Store conn.old).now.trees choice_tree) rows.items) }

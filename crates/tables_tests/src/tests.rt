@@ -4,6 +4,7 @@ use portal_tables::apart::{
     has_apart_choices, has_apart_lecturers, has_apart_portal, has_apart_projects,
     has_apart_rankings, has_apart_students,
 };
+use portal_tables::entries::{Lists, entries_in};
 use portal_tables::insert::{
     NewChoice, NewLecturer, NewProject, NewRanking, NewRow, NewStudent, add_all,
 };
@@ -12,10 +13,11 @@ use portal_tables::own::is_own;
 use portal_tables::remove::{clear_choices, clear_rankings};
 use portal_tables::select::{
     choice_rows, choosers_of, lecturer_by_code, lecturer_rows, list_of, listed_students,
-    portal_rows, project_rows, ranking_of, ranking_rows, student_by_code, student_by_key,
-    student_rows,
+    portal_rows, project_rows, ranking_of, ranking_rows, stored_choices, stored_rankings,
+    student_by_code, student_by_key, student_rows,
 };
 use portal_tables::update::{set_assigned, set_phase, set_ranked};
+use spa_rows::Key;
 use sqlite::types::ValueRef;
 use sqlite::{Connection, Error, MemStore, Row, Transaction};
 use std::process::Abort;
@@ -45,6 +47,34 @@ fn shows(
     for row in rows.expect(rt, "rows") {
         for at in 0..columns {
             put_value(rt, &mut text, &row, at);
+        }
+        text.push('/').expect(rt, "memory");
+    }
+    assert_eq!(rt; text.as_str(), wanted);
+}
+
+fn put_key(rt: &impl Abort, text: &mut String, key: &Key) {
+    text.push_str(key.as_str()).expect(rt, "memory");
+    text.push(' ').expect(rt, "memory");
+}
+
+/// The lists of the owners are these, each told by its owner and whom or what it names, with a stroke behind it.
+fn tells(
+    rt: &(impl Abort + AllocGlobal),
+    conn: &mut Connection<MemStore>,
+    lists: Lists,
+    owners: Result<Vec<Row>, Error>,
+    wanted: &str,
+) {
+    let owners = owners.expect(rt, "owners");
+    let Ok(entries) = entries_in(rt.alloc(), conn, lists, &owners) else {
+        panic!(rt; "no lists");
+    };
+    let mut text = String::new(rt.alloc());
+    for (owner, list) in entries {
+        put_key(rt, &mut text, &owner);
+        for key in list {
+            put_key(rt, &mut text, &key);
         }
         text.push('/').expect(rt, "memory");
     }
@@ -168,6 +198,27 @@ fn department(rt: &(impl Abort + AllocGlobal)) -> Connection<MemStore> {
     create(&mut conn).expect(rt, "tables");
     fill(&mut conn).expect(rt, "rows");
     conn
+}
+
+/// The same lists, whose rows stand neither by owner nor by place; the lecturer has a ranking.
+fn add_mixed(tx: &mut Transaction<'_, MemStore>) -> Result<(), Error> {
+    choice(b"S1", 2, b"P1").add(tx)?;
+    choice(b"S2", 1, b"P1").add(tx)?;
+    choice(b"S1", 1, b"P2").add(tx)?;
+    ranking(b"L1", 2, b"S1").add(tx)?;
+    ranking(b"L1", 1, b"S2").add(tx)?;
+    set_ranked(tx, b"L1")?;
+    Ok(())
+}
+
+fn fill_mixed(conn: &mut Connection<MemStore>) -> Result<(), Error> {
+    if !conn.is_autocommit() {
+        return Ok(());
+    }
+    let mut tx = conn.transaction();
+    add_rolls(&mut tx)?;
+    add_mixed(&mut tx)?;
+    tx.commit()
 }
 
 /// Nine keys, so that a statement of eight rows and one of one row are made.
@@ -317,6 +368,44 @@ fn lists_are_shown(rt: HostRuntime) {
     shows(&rt, ranking_rows(&mut conn), 3, "L1 1 S2 /L1 2 S1 /");
     shows(&rt, list_of(&mut conn, b"S1"), 2, "1 P2 /2 P1 /");
     shows(&rt, ranking_of(&mut conn, b"L1"), 2, "1 S2 /2 S1 /");
+}
+
+#[test]
+fn lists_are_told(rt: HostRuntime) {
+    let mut conn = department(&rt);
+    let students = student_rows(&mut conn);
+    tells(
+        &rt,
+        &mut conn,
+        Lists::Choices,
+        students,
+        "S1 P2 P1 /S2 P1 /",
+    );
+}
+
+#[test]
+fn lists_are_told_of_rows_in_any_order(rt: HostRuntime) -> Result<(), Fail> {
+    let mut conn = Connection::open_in_memory(rt.alloc())?;
+    create(&mut conn)?;
+    fill_mixed(&mut conn)?;
+    shows(
+        &rt,
+        stored_choices(&mut conn),
+        3,
+        "S1 2 P1 /S2 1 P1 /S1 1 P2 /",
+    );
+    shows(&rt, stored_rankings(&mut conn), 3, "L1 2 S1 /L1 1 S2 /");
+    let students = student_rows(&mut conn);
+    tells(
+        &rt,
+        &mut conn,
+        Lists::Choices,
+        students,
+        "S1 P2 P1 /S2 P1 /",
+    );
+    let lecturers = lecturer_rows(&mut conn);
+    tells(&rt, &mut conn, Lists::Rankings, lecturers, "L1 S2 S1 /");
+    Ok(())
 }
 
 #[test]

@@ -4,18 +4,27 @@ use Rattle.std.specs.Cmp.Lexicographic.{slice_cmp}
 use Rattle.std.proofs.lemmas.Cmp.{nat_list_cmp_total}
 use Rattle.std.proofs.lemmas.Fn.{always_returns_same}
 use Rattle.std.proofs.lemmas.List.Sorted.{searchable_from_sorted}
+use Rattle.std.proofs.lemmas.Map.Lookups.{exact_bytes}
 use Rattle.portal_tables.specs.Shown.{first}
 use Rattle.portal_core.proofs.Adjacent.{rows_sorted}
 use Rattle.portal_tables.proofs.NamedRows.{known_at, known_nowhere}
-use Rattle.portal_tables.proofs.named.is_named.Goals as goal
+use Rattle.portal_tables.proofs.named.place_named.Goals as goal
 
-pub returns-in-Ok : goal.returns-in-Ok
-returns-in-Ok c =
-    known_at c.args.rows.now c.args.key.now c.in-Ok.field-0 c.in-Ok.ensures.bound
+pub returns-in-Ok-clause-within : goal.returns-in-Ok-clause-within
+returns-in-Ok-clause-within c = c.in-Ok.ensures.bound
+
+pub returns-in-Ok-clause-there : goal.returns-in-Ok-clause-there
+returns-in-Ok-clause-there c d =
+    exact_bytes _ c.args.key.now
+    (c.in-Ok.ensures.position (λ y. slice_cmp nat_cmp (first y) c.args.key.now) (always_returns_same _ _ _ (λ a r h k. search rules)) d)
+
+pub returns-in-Ok-clause-known : goal.returns-in-Ok-clause-known
+returns-in-Ok-clause-known c =
+    known_at c.args.rows.now c.args.key.now c.in-Ok.i c.in-Ok.ensures.bound
     (c.in-Ok.ensures.position (λ y. slice_cmp nat_cmp (first y) c.args.key.now) (always_returns_same _ _ _ (λ a r h k. search rules)))
 
-pub returns-in-Err : goal.returns-in-Err
-returns-in-Err c =
+pub returns-in-Err-clause-known : goal.returns-in-Err-clause-known
+returns-in-Err-clause-known c =
     let part = c.in-Err.ensures.position (λ y. slice_cmp nat_cmp (first y) c.args.key.now) (always_returns_same _ _ _ (λ a r h k. search rules))
     (searchable_from_sorted nat_list_cmp_total first c.args.rows.now c.args.key.now (rows_sorted first c.args.rows.now c.requires)) in
     known_nowhere c.args.rows.now c.args.key.now c.in-Err.field-0 (λ k d h. part.0 k d (omega arith) h) part.1
