@@ -9,10 +9,9 @@ use Rattle.sqlite_trees.proofs.ListLemmas.{filter-map, map-map}
 use Rattle.portal_core.specs.declared.phase.Phase.{Phase}
 use Rattle.portal_core.specs.declared.phase.Phase.TheVariants.{Setup, Choosing, Ranking, Published}
 use Rattle.portal_core.specs.declared.rows.Listing.{Listing}
-use Rattle.portal_core.specs.declared.rows.Person.{Person}
-use Rattle.portal_core.specs.Sight.{LecturerSees}
+use Rattle.portal_core.specs.declared.rows.ProjectRow.{ProjectRow}
 use Rattle.portal_core.specs.Words.{Key, has}
-use Rattle.portal_core.specs.World.{World, Lecturer, Student, project_key, projects_of, applicants_to, placed_at, is_at, is_from_ranking, is_published}
+use Rattle.portal_core.specs.World.{World, Student, project_key, projects_of, applicants_to, placed_at, is_at, is_from_ranking, is_published}
 use Rattle.portal_core.specs.View.{persons, catalogue, lecturer_sees}
 use Rattle.portal_core.specs.Good.{Good}
 use Rattle.portal_core.proofs.Keys.{is_same}
@@ -26,13 +25,15 @@ use Rattle.portal_tables.specs.Lines.{shown_line, applicant_lines}
 use Rattle.portal_tables.specs.Rolls.{row_key, by_key}
 use Rattle.portal_store.specs.World.{world_of, student_of}
 use Rattle.portal_tables.specs.Shown.{first}
-use Rattle.portal_store.specs.Queried.{line_of, lines_shown, applicants_told, placed_told}
+use Rattle.portal_tables.specs.Callers.{lines_shown, placed_among, applicants_told, placed_told, own_keys, lecturer_shown}
+use Rattle.portal_store.specs.Queried.{lecturer_from}
 use Rattle.portal_tables.proofs.Choosers.{chooser}
 use Rattle.portal_tables.proofs.Listed.{for_each}
 use Rattle.portal_tables.proofs.Owners.{roll_columns}
 use Rattle.portal_store.proofs.Holding.{has_tables}
 use Rattle.portal_store.proofs.Loaded.{students_are}
 use Rattle.portal_store.proofs.Fine.{placed_listed}
+use Rattle.portal_store.proofs.Remembered.{own_listed}
 
 -- a student of the world is among those who name the project where the student's list names it
 pub choosers : (db : Database) → Holds db → (p : Key) (shown : List Row) → ListsBy (1 ∷ []) (has_text 3 p) (columns (1 ∷ [])) (db.trees choice_tree) shown
@@ -43,8 +44,12 @@ choosers db holds p shown lists =
     (all_map (λ (s : Student). has (map first shown) s.row.key ≡ has s.choice p) (student_of (db.trees choice_tree)) (by_key (db.trees student_tree))
     (for_each _ (by_key (db.trees student_tree)) (λ r. chooser db (has_tables db holds) p shown lists (row_key r))))
 
+-- what a lecturer may be told of a student
+abbrev line_of : Student → Line
+line_of s = record { person = record { key = s.row.key; name = s.row.name }; placed = s.placed }
+
 -- the lines that the tables tell of a project are those of its applicants
-pub lines_told : (db : Trees) (p : Key) → applicant_lines db p ≡ map line_of (applicants_to (world_of db) p)
+lines_told : (db : Trees) (p : Key) → applicant_lines db p ≡ map line_of (applicants_to (world_of db) p)
 unfolding world_of
 lines_told db p =
     let rows = by_key (db student_tree) in
@@ -81,36 +86,35 @@ placed_by_lines w good k =
 
 -- told of one project, by the lines that the phase shows
 
-pub persons_shown : (w : World) (phase : Phase) (k : Key) → phase ≡ w.phase → map (λ (l : Line). l.person) (lines_shown w phase k) ≡ (if is_from_ranking w.phase then persons (applicants_to w k) else [])
-persons_shown w phase k at =
-    (elim (is_from_ranking phase) as (λ b. map (λ (l : Line). l.person) (if b then map line_of (applicants_to w k) else []) ≡ (if b then persons (applicants_to w k) else [])) [
+persons_shown : (w : World) (k : Key) → map (λ (l : Line). l.person) (if is_from_ranking w.phase then map line_of (applicants_to w k) else []) ≡ (if is_from_ranking w.phase then persons (applicants_to w k) else [])
+persons_shown w k =
+    elim (is_from_ranking w.phase) as (λ b. map (λ (l : Line). l.person) (if b then map line_of (applicants_to w k) else []) ≡ (if b then persons (applicants_to w k) else [])) [
       | true ↦ map-map (λ (l : Line). l.person) line_of (applicants_to w k)
       | false ↦ refl
-    ])
-    ∙ ap (λ (f : Phase). if is_from_ranking f then persons (applicants_to w k) else []) at
+    ]
 
-pub placed_shown : (w : World) → Good w → (phase : Phase) (k : Key) → phase ≡ w.phase
-    → (if is_published phase then map (λ (l : Line). l.person) (filter (λ (l : Line). is_at k l.placed) (lines_shown w phase k)) else []) ≡ (if is_published w.phase then persons (placed_at w k) else [])
-placed_shown w good phase k at =
-    (elim phase as (λ (f : Phase). (if is_published f then map (λ (l : Line). l.person) (filter (λ (l : Line). is_at k l.placed) (lines_shown w f k)) else []) ≡ (if is_published f then persons (placed_at w k) else [])) [
+placed_shown : (w : World) → Good w → (k : Key) → placed_among w.phase k (if is_from_ranking w.phase then map line_of (applicants_to w k) else []) ≡ (if is_published w.phase then persons (placed_at w k) else [])
+placed_shown w good k =
+    elim w.phase as (λ (f : Phase). placed_among f k (if is_from_ranking f then map line_of (applicants_to w k) else []) ≡ (if is_published f then persons (placed_at w k) else [])) [
       | Setup ↦ refl
       | Choosing ↦ refl
       | Ranking ↦ refl
       | Published ↦ placed_by_lines w good k
-    ])
-    ∙ ap (λ (f : Phase). if is_published f then persons (placed_at w k) else []) at
-
--- told of a lecturer's projects
-
-pub own_applicants : (w : World) (l : Lecturer) (own : List Key) → own ≡ map project_key (projects_of w l.row.key) → applicants_told w own ≡ (lecturer_sees w l).applicants
-own_applicants w l own e = ap (applicants_told w) e ∙ map-map (λ k. (k, if is_from_ranking w.phase then persons (applicants_to w k) else [])) project_key (projects_of w l.row.key)
-
-pub own_placed : (w : World) (l : Lecturer) (own : List Key) → own ≡ map project_key (projects_of w l.row.key) → placed_told w own ≡ (lecturer_sees w l).placed
-own_placed w l own e = ap (placed_told w) e ∙ map-map (λ k. (k, if is_published w.phase then persons (placed_at w k) else [])) project_key (projects_of w l.row.key)
+    ]
 
 -- what a lecturer sees, of what was read
-pub lecturer_told : (w : World) (l : Lecturer) (phase : Phase) (shown : List Listing) (applicants placed : List (Key × List Person)) (ranking : Option (List Key))
-    → phase ≡ w.phase → shown ≡ catalogue w → applicants ≡ (lecturer_sees w l).applicants → placed ≡ (lecturer_sees w l).placed → ranking ≡ l.ranking
-    → ◌≡◌ {A = LecturerSees} (record { phase = phase; me = record { key = l.row.key; name = l.row.name }; capacity = l.row.capacity; catalogue = shown; applicants = applicants; ranking = ranking; placed = placed }) (lecturer_sees w l)
-lecturer_told w l phase shown applicants placed ranking at_phase all at_applicants at_placed at_ranking =
-    λ i. record { phase = at_phase i; me = record { key = l.row.key; name = l.row.name }; capacity = l.row.capacity; catalogue = all i; applicants = at_applicants i; ranking = at_ranking i; placed = at_placed i }
+pub lecturer_told : (db : Trees) → Good (world_of db) → (row : Row) (phase : Phase) (offers : List Listing) → phase ≡ (world_of db).phase → offers ≡ catalogue (world_of db)
+    → lecturer_shown db phase row offers ≡ lecturer_sees (world_of db) (lecturer_from db row)
+lecturer_told db good row phase offers at_phase all =
+    let w = world_of db in
+    let own = projects_of w (first row) in
+    let listed : own_keys (catalogue w) (first row) ≡ map project_key own = own_listed w (first row) good in
+    let shown : Key → List Line → List Line = λ k ls. if is_from_ranking w.phase then ls else [] in
+    let applicants = ap (applicants_told db w.phase) listed ∙ map-map (λ k. (k, map (λ (l : Line). l.person) (lines_shown db w.phase k))) project_key own
+    ∙ (λ i. map (λ (p : ProjectRow). (p.key, map (λ (l : Line). l.person) (shown p.key (lines_told db p.key i)))) own)
+    ∙ (λ i. map (λ (p : ProjectRow). (p.key, persons_shown w p.key i)) own) in
+    let placed = ap (placed_told db w.phase) listed ∙ map-map (λ k. (k, placed_among w.phase k (lines_shown db w.phase k))) project_key own
+    ∙ (λ i. map (λ (p : ProjectRow). (p.key, placed_among w.phase p.key (shown p.key (lines_told db p.key i)))) own)
+    ∙ (λ i. map (λ (p : ProjectRow). (p.key, placed_shown w good p.key i)) own) in
+    let from = lecturer_shown db w.phase row (catalogue w) in
+    (λ i. lecturer_shown db (at_phase i) row (all i)) ∙ (λ i. record from { applicants = applicants i; placed = placed i })

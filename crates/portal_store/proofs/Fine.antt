@@ -31,7 +31,7 @@ use Rattle.portal_tables.specs.Lists.{of_key, chosen, list_of, IsWhole}
 use Rattle.portal_store.specs.Kept.{Stands}
 use Rattle.portal_tables.specs.Shown.{shown_lecturer, shown_project, shown_student, HasPlace}
 use Rattle.portal_tables.specs.Owners.{IsFine}
-use Rattle.portal_store.specs.Shown.{AreFine}
+use Rattle.portal_tables.specs.Contents.{AreFine}
 use Rattle.portal_tables.proofs.Choosers.{all_filtered}
 use Rattle.portal_tables.proofs.Owners.{lecturer_columns, roll_columns}
 use Rattle.portal_store.proofs.Loaded.{lecturers_are, projects_are, students_are}

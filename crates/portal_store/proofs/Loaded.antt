@@ -1,5 +1,5 @@
 -- From what was read to the world.
-use Rattle.std.proofs.Common.{◌≡◌, pos, Bool, true, false, cond, Ok, Err, Result, IfOk, OnOk, Option, Some, None, option_map, List, [], ◌∷◌, map, refl, sym, ap, subst, ◌∙◌}
+use Rattle.std.proofs.Common.{◌≡◌, pos, Bool, true, false, cond, Ok, Err, Result, Option, Some, None, option_map, List, [], ◌∷◌, map, refl, sym, ap, subst, ◌∙◌}
 use Rattle.std.specs.Result.{IsErrAnd}
 use Rattle.std.specs.Prelude.{slice_index_or}
 use Rattle.std.specs.List.{AllByRecursion, filter_map}
@@ -17,7 +17,6 @@ use Rattle.portal_list.specs.Rows.{Rows, rows_of}
 use Rattle.portal_tables.specs.Tables.{portal_tree, lecturer_tree, project_tree, student_tree, choice_tree, ranking_tree}
 use Rattle.portal_tables.specs.Rows.{portal_row}
 use Rattle.portal_tables.specs.declared.entries.Lists.TheVariants.{Choices, Rankings}
-use Rattle.portal_tables.specs.declared.fault.TableFault.{TableFault}
 use Rattle.portal_tables.specs.Office.{number_of}
 use Rattle.portal_tables.specs.Rolls.{row_key, by_key, lecturers_shown, projects_shown, students_shown}
 use Rattle.portal_store.specs.World.{world_of, phase_of, is_ranked, lecturer_of, project_row, student_of}
@@ -26,11 +25,25 @@ use Rattle.portal_store.specs.Kept.{Whole}
 use Rattle.portal_store.specs.Loads.{Loads}
 use Rattle.portal_tables.specs.Shown.{shown_lecturer, shown_project, shown_student, shown_pair}
 use Rattle.portal_tables.specs.Owners.{entry, IsRead}
-use Rattle.portal_store.specs.Shown.{AreRead, rows_from}
+use Rattle.portal_tables.specs.Contents.{AllRows, AreRead, rows_from}
 use Rattle.portal_tables.proofs.Listed.{some_mapped, some_alike}
 use Rattle.portal_tables.proofs.Owners.{lecturer_columns, roll_columns}
 use Rattle.portal_tables.proofs.Sorted.{all_permuted, permutes, put_all_map}
 use Rattle.portal_store.proofs.Holding.{phase_back}
+
+-- the rows of a world: that of the office, and the others
+abbrev pub with_office : Phase → Key → AllRows → Rows
+with_office phase code rows =
+    record {
+      phase = phase;
+      office = code;
+      lecturers = rows.lecturers;
+      projects = rows.projects;
+      students = rows.students;
+      choices = rows.choices;
+      rankings = rows.rankings;
+      pairs = rows.pairs;
+    }
 
 each_some : {X Z : Type 0} (f : X → Z) (xs : List X) → filter_map (λ x. Some (f x)) xs ≡ map f xs
 each_some f [] = refl
@@ -63,7 +76,7 @@ module _ (db : Trees) where
   placed_pair s = option_map (λ p. (s.row.key, p)) s.placed
 
   pub rows_are : (phase : Phase) (code : Key) → db portal_tree ≡ portal_row (pos 1) (pos (number_of phase)) code ∷ []
-      → rows_from db phase code (lecturers_shown db) (projects_shown db) (students_shown db) ≡ rows_of (world_of db)
+      → with_office phase code (rows_from db (lecturers_shown db) (projects_shown db) (students_shown db)) ≡ rows_of (world_of db)
   unfolding world_of
   rows_are phase code office =
       let phase_is : phase ≡ phase_of (number_in (column (slice_index_or (db portal_tree) 0 []) 3)) = sym (ap (λ rows. phase_of (number_in (column (slice_index_or rows 0 []) 3))) office ∙ phase_back phase) in
@@ -103,16 +116,15 @@ module _ (db : Trees) where
             (all_weaker (λ r. IsRead Rankings db (lecturer_columns r)) (λ r. is_ranked r ≡ false → of_key (row_key r) (db ranking_tree) ≡ []) (λ r x. x.none) by_lecturer ranks);
       }
 
-  pub loads : (phase : Phase) (code : Key) → db portal_tree ≡ portal_row (pos 1) (pos (number_of phase)) code ∷ [] → (r : Result Rows TableFault)
-      → IfOk r (λ rows. rows ≡ rows_from db phase code (lecturers_shown db) (projects_shown db) (students_shown db)) → OnOk r (AreRead db (lecturers_shown db) (students_shown db)) → IfOk r (Loads db)
-  loads phase code office (Ok rows) is read = record { office = record { phase = phase; office = code; is = office }; whole = whole_is read; rows_are = is ∙ rows_are phase code office }
-  loads phase code office (Err e) is read = tt
+  loads : (phase : Phase) (code : Key) → db portal_tree ≡ portal_row (pos 1) (pos (number_of phase)) code ∷ [] → (rows : AllRows)
+      → rows ≡ rows_from db (lecturers_shown db) (projects_shown db) (students_shown db) → AreRead db (lecturers_shown db) (students_shown db) → Loads db (with_office phase code rows)
+  loads phase code office rows is read = record { office = record { phase = phase; office = code; is = office }; whole = whole_is read; rows_are = ap (with_office phase code) is ∙ rows_are phase code office }
 
--- the same, where it was read later
-pub answered : (db there : Trees) → there ≡ db → (phase : Phase) (code : Key) → db portal_tree ≡ portal_row (pos 1) (pos (number_of phase)) code ∷ [] → (r : Result Rows TableFault)
-    → IfOk r (λ rows. rows ≡ rows_from there phase code (lecturers_shown there) (projects_shown there) (students_shown there)) → OnOk r (AreRead there (lecturers_shown there) (students_shown there)) → IfOk r (Loads db)
-answered db there same phase code office r is read =
-    loads db phase code office r (subst (λ t. IfOk r (λ rows. rows ≡ rows_from t phase code (lecturers_shown t) (projects_shown t) (students_shown t))) same is) (subst (λ t. OnOk r (AreRead t (lecturers_shown t) (students_shown t))) same read)
+-- the same, where they were read later
+pub loaded : (db there : Trees) → there ≡ db → (phase : Phase) (code : Key) → db portal_tree ≡ portal_row (pos 1) (pos (number_of phase)) code ∷ [] → (rows : AllRows)
+    → rows ≡ rows_from there (lecturers_shown there) (projects_shown there) (students_shown there) → AreRead there (lecturers_shown there) (students_shown there) → Loads db (with_office phase code rows)
+loaded db there same phase code office rows is read =
+    loads db phase code office rows (subst (λ t. rows ≡ rows_from t (lecturers_shown t) (projects_shown t) (students_shown t)) same is) (subst (λ t. AreRead t (lecturers_shown t) (students_shown t)) same read)
 
 -- an error that is handed on is the one that was answered
 pub same_error : {V U E : Type 0} (r : Result V E) (e want : E) → IsErrAnd r (λ f. f ≡ e) → r ≡ Err want → ◌≡◌ {A = Result U E} (Err e) (Err want)

@@ -33,14 +33,14 @@ use Rattle.portal_tables.specs.Rolls.{row_key, by_key, lecturers_shown, projects
 use Rattle.portal_store.specs.World.{world_of, is_ranked, lecturer_of, student_of}
 use Rattle.portal_tables.specs.Lists.{chosen, of_key, place_of, place_key, named_by, by_place, CountUp, IsWhole}
 use Rattle.portal_tables.specs.Shown.{first, shown_project}
-use Rattle.portal_store.specs.Shown.{rows_from}
+use Rattle.portal_tables.specs.Contents.{rows_from}
 use Rattle.portal_store.specs.Queried.{unlisted, waiting_key, office_from}
 use Rattle.portal_store.proofs.Applying.{choosers}
 use Rattle.portal_store.proofs.Holding.{has_tables}
 use Rattle.portal_tables.proofs.Choosers.{all_filtered, any_alike, named_where, choosers_known as shown_known}
 use Rattle.portal_tables.proofs.Listed.{for_each, some_mapped}
 use Rattle.portal_tables.proofs.Owners.{lecturer_columns, roll_columns}
-use Rattle.portal_store.proofs.Loaded.{lecturers_are, students_are, rows_are}
+use Rattle.portal_store.proofs.Loaded.{lecturers_are, students_are, rows_are, with_office}
 use Rattle.portal_tables.proofs.Parents.{choice_parents, none_of}
 use Rattle.portal_tables.proofs.Sorted.{permutes, all_permuted}
 use Rattle.portal_tables.proofs.OneFound.{filter_alike}
@@ -172,7 +172,7 @@ pub office_told : (db : Trees) (phase : Phase) (code : Key) (offers : List Listi
     → office_from db phase code offers (lecturers_shown db) (projects_shown db) (students_shown db) ≡ office_sees (world_of db)
 office_told db phase code offers office listed =
     let w = world_of db in
-    let same : rows_from db phase code (lecturers_shown db) (projects_shown db) (students_shown db) ≡ rows_of w = rows_are db phase code office in
+    let same : with_office phase code (rows_from db (lecturers_shown db) (projects_shown db) (students_shown db)) ≡ rows_of w = rows_are db phase code office in
     let without = unlisted_told db in
     let still : (if is_from_ranking phase then filter_map (waiting_key w (map shown_project (projects_shown db))) (lecturers_shown db) else []) ≡ (if is_from_ranking w.phase then map (λ (l : Lecturer). l.row.key) (filter (is_still_to_rank w) w.lecturers) else [])
     = ap (λ (r : Rows). if is_from_ranking r.phase then filter_map (waiting_key w r.projects) (lecturers_shown db) else []) same

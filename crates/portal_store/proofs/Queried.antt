@@ -1,6 +1,6 @@
 -- From what queries show of one caller to what the world says.
 use Rattle.std.proofs.Common.{◌≡◌, pos, Option, Some, None, option_map, List, [], ◌∷◌, map, refl, sym, ap, ap₂, ◌∙◌}
-use Rattle.std.specs.Prelude.{if◌then◌else◌, slice_index_or}
+use Rattle.std.specs.Prelude.{slice_index_or}
 use Rattle.std.specs.List.{find}
 use Rattle.sqlite.specs.Order.{Row, column, bytes}
 use Rattle.sqlite.specs.Tree.{Trees}
@@ -10,10 +10,8 @@ use Rattle.portal_core.specs.declared.rows.LecturerRow.{LecturerRow}
 use Rattle.portal_core.specs.declared.rows.Listing.{Listing}
 use Rattle.portal_core.specs.declared.rows.ProjectRow.{ProjectRow}
 use Rattle.portal_core.specs.Words.{Key, is}
-use Rattle.portal_core.specs.World.{World, Lecturer, Student, is_published}
+use Rattle.portal_core.specs.World.{Lecturer, Student}
 use Rattle.portal_core.specs.declared.phase.Phase.{Phase}
-use Rattle.portal_core.specs.declared.rows.Person.{Person}
-use Rattle.portal_core.specs.Sight.{StudentSees}
 use Rattle.portal_core.specs.View.{name_in, listing_with, listings, catalogue, student_sees, lecturer_with, student_with}
 use Rattle.portal_core.proofs.AllLaws.{all_weaker}
 use Rattle.portal_core.proofs.Keys.{find_map}
@@ -26,7 +24,9 @@ use Rattle.portal_tables.specs.Office.{number_of}
 use Rattle.portal_tables.specs.Rolls.{by_key, lecturers_shown, projects_shown}
 use Rattle.portal_store.specs.World.{world_of, phase_of, lecturer_of, student_of}
 use Rattle.portal_tables.specs.Shown.{as_list, shown_lecturer, shown_project}
-use Rattle.portal_store.specs.Queried.{lecturer_from, student_from, name_of, offered}
+use Rattle.portal_tables.specs.Offers.{name_of, offered, catalogue_shown}
+use Rattle.portal_tables.specs.Callers.{student_shown}
+use Rattle.portal_store.specs.Queried.{lecturer_from, student_from}
 use Rattle.portal_tables.proofs.Listed.{some_alike}
 use Rattle.portal_tables.proofs.OneFound.{found}
 use Rattle.portal_store.proofs.Holding.{phase_back}
@@ -59,11 +59,11 @@ module _ (db : Database) (holds : Holds db) where
 
 -- the rolls that are shown are those of the world
 
-pub lecturers_told : (db : Trees) → map shown_lecturer (lecturers_shown db) ≡ map (λ (l : Lecturer). l.row) (world_of db).lecturers
+lecturers_told : (db : Trees) → map shown_lecturer (lecturers_shown db) ≡ map (λ (l : Lecturer). l.row) (world_of db).lecturers
 unfolding world_of
 lecturers_told db = map-map shown_lecturer lecturer_columns (by_key (db lecturer_tree)) ∙ sym (ap (map (λ (l : Lecturer). l.row)) (lecturers_are db) ∙ map-map (λ (l : Lecturer). l.row) (lecturer_of (db ranking_tree)) (by_key (db lecturer_tree)))
 
-pub projects_told : (db : Trees) → map shown_project (projects_shown db) ≡ (world_of db).projects
+projects_told : (db : Trees) → map shown_project (projects_shown db) ≡ (world_of db).projects
 unfolding world_of
 projects_told db = map-map shown_project roll_columns (by_key (db project_tree)) ∙ sym (projects_are db)
 
@@ -79,15 +79,13 @@ all_offered ls ps =
     ap (option_map (listing_with p)) (ap (option_map (λ (r : LecturerRow). r.name)) (find_map (λ (l : Lecturer). l.row) (λ (l : Lecturer). is l.row.key p.lecturer) (λ (r : LecturerRow). is r.key p.lecturer) (λ l. refl) ls)
     ∙ name_row (find (λ (l : Lecturer). is l.row.key p.lecturer) ls)))
 
-pub catalogue_told : (w : World) (ls : List LecturerRow) (ps : List ProjectRow) → ls ≡ map (λ (l : Lecturer). l.row) w.lecturers → ps ≡ w.projects → offered ls ps ≡ catalogue w
-catalogue_told w ls ps by of = ap₂ offered by of ∙ all_offered w.lecturers w.projects
+pub catalogue_told : (db : Trees) → catalogue_shown db ≡ catalogue (world_of db)
+catalogue_told db = ap₂ offered (lecturers_told db) (projects_told db) ∙ all_offered (world_of db).lecturers (world_of db).projects
 
 -- what a student sees, of what was read
-pub student_told : (w : World) (s : Student) (phase : Phase) (me : Person) (result : Option Key) (shown : List Listing) (choices : List Key)
-    → phase ≡ w.phase → me ≡ record { key = s.row.key; name = s.row.name } → result ≡ (if is_published w.phase then s.placed else None) → shown ≡ catalogue w → choices ≡ s.choice
-    → ◌≡◌ {A = StudentSees} (record { phase = phase; me = me; catalogue = shown; choices = choices; result = result }) (student_sees w s)
-student_told w s phase me result shown choices at_phase at_me at_result all listed =
-    λ i. record { phase = at_phase i; me = at_me i; catalogue = all i; choices = listed i; result = at_result i }
+pub student_told : (db : Trees) (row : Row) (phase : Phase) (offers : List Listing) → phase ≡ (world_of db).phase → offers ≡ catalogue (world_of db)
+    → student_shown db phase row offers ≡ student_sees (world_of db) (student_from db row)
+student_told db row phase offers at_phase all = λ i. student_shown db (at_phase i) row (all i)
 
 -- the office
 module _ (db : Trees) (phase : Phase) (code : Key) (office : db portal_tree ≡ portal_row (pos 1) (pos (number_of phase)) code ∷ []) where

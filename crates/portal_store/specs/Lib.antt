@@ -7,6 +7,5 @@ pub mod Made
 pub mod Placing
 pub mod Putting
 pub mod Reading
-pub mod Shown
 pub mod World
 pub mod Queried

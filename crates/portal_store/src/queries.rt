@@ -18,23 +18,20 @@ ghost use Rattle.portal_store.specs.Kept.{Holds};
 ghost use Rattle.portal_tables.specs.Reading.{Reads};
 ghost use Rattle.portal_store.specs.Reading.{KeepsInMind};
 
-mod applicants;
 mod caller;
-mod lecturer;
 mod offers;
 mod office;
-mod student;
 
 use caller::{lecturer_in, student_in};
-use lecturer::lecturer_view;
 use offers::shared_catalogue;
 use office::office_view;
 use portal_core::{KeepFault, OfficeView, Phase, Remembered, View};
 use portal_tables::fault::TableFault;
+use portal_tables::lecturer::lecturer_view;
 use portal_tables::office::{Office, office_in};
+use portal_tables::student::student_view;
 use sqlite::{Alter, Connection};
 use std::alloc::Global;
-use student::student_view;
 
 /// What the office sees whose row this is, read of the tables with the catalogue.
 fn office_read<S: Alter>(

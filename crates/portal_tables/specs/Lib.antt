@@ -15,3 +15,6 @@ pub mod Owners
 pub mod Names
 pub mod Putting
 pub mod Lines
+pub mod Contents
+pub mod Offers
+pub mod Callers

@@ -17,8 +17,8 @@ ghost use Rattle.portal_tables.specs.Reading.{Reads};
 ghost use Rattle.portal_tables.specs.Shown.{first, shown_lecturer, shown_project, shown_student, shown_pair};
 ghost use Rattle.portal_store.specs.Queried.{unlisted, waiting_key, office_from};
 
-use super::applicants::are_closed;
 use portal_core::{Listing, OfficeView, Phase};
+use portal_tables::applicants::are_closed;
 use portal_tables::cells::{bytes_at, key_at, number_at};
 use portal_tables::fault::TableFault;
 use portal_tables::named::keys_without;
@@ -44,16 +44,6 @@ fn without_list<S: Alter>(
     keys_without(alloc, students, &listed)
 }
 
-/// Whether a student's list holds the project.
-fn is_chosen<S: Alter>(conn: &mut Connection<S>, project: &[u8]) -> Result<bool, TableFault>
-    ensures told { Holds (state S.Store conn.old).now → HasCleanDisk (state S.Store conn.new) → IfOk result (λ yes. yes ≡ list_any (λ s. has s.choice project.now) (world_of (state S.Store conn.old).now.trees).students) }
-    ensures reads { Reads result (state S.Store conn.old) (state S.Store conn.new) }
-    ensures mode { conn.old.in_transaction ≡ false → conn.new.in_transaction ≡ false }
-{
-    let rows = choosers_of(conn, project)?;
-    Ok(!rows.is_empty())
-}
-
 /// Whether the project is this lecturer's, and a student's list holds it.
 fn is_chosen_of<S: Alter>(
     conn: &mut Connection<S>,
@@ -67,7 +57,8 @@ fn is_chosen_of<S: Alter>(
     if bytes_at(project, 1) != bytes_at(lecturer, 0) {
         return Ok(false);
     }
-    is_chosen(conn, bytes_at(project, 0))
+    let choosers = choosers_of(conn, bytes_at(project, 0))?;
+    Ok(!choosers.is_empty())
 }
 
 /// Whether a student's list holds a project of the lecturer.

@@ -1,0 +1,13 @@
+use Rattle.std.proofs.Common.{◌≡◌, ◌∙◌, true, [], rules, sym, ap}
+use Rattle.std.specs.Prelude.{if◌then◌else◌}
+use Rattle.std.proofs.lemmas.Result.{IfOk-weaker}
+use Rattle.sqlite.specs.Held.{state}
+use Rattle.portal_core.specs.World.{is_from_ranking}
+use Rattle.portal_tables.specs.Lines.{applicant_lines}
+use Rattle.portal_tables.proofs.applicants.lines_in.Goals as goal
+
+pub returns-then-are_closed-clause-told : goal.returns-then-are_closed-clause-told
+returns-then-are_closed-clause-told g c tables clean on =
+    let db = (state g.S.Store c.args.conn.now).now.trees in
+    let closed : is_from_ranking c.args.phase ≡ true = search rules in
+    IfOk-weaker c.lines_to.result _ _ (λ v told. told ∙ sym (ap (λ b. if b then applicant_lines db c.args.project.now else []) closed)) (c.lines_to.ensures.told tables clean on)

@@ -1,0 +1,6 @@
+use Rattle.std.proofs.Common.{◌≡◌, take}
+use Rattle.portal_tables.specs.Offers.{offered}
+use Rattle.portal_tables.proofs.offers.listings_of.Given as goal
+
+abbrev pub invariant-loop-project : goal.invariant-loop-project
+invariant-loop-project l = l.found.items ≡ offered l.lecturers (take l.project-index l.projects)

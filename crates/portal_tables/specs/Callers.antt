@@ -1,0 +1,64 @@
+-- What a lecturer or a student sees, of the own row and of what the tables hold.
+use Rattle.std.specs.Prelude.{Vec, ◌==◌, if◌then◌else◌, List, [], map, filter, Some, None}
+use Rattle.std.specs.declared.alloc.Global.{Global}
+use Rattle.sqlite.specs.Order.{Row, column, bytes}
+use Rattle.sqlite.specs.Tree.{Trees}
+use Rattle.sqlite_trees.specs.Objects.{number_in}
+use Rattle.portal_core.specs.declared.phase.Phase.{Phase}
+use Rattle.portal_core.specs.declared.rows.Listing.{Listing}
+use Rattle.portal_core.specs.declared.rows.Person.{Person}
+use Rattle.portal_core.specs.Sight.{StudentSees, LecturerSees}
+use Rattle.portal_core.specs.Words.{Key, is}
+use Rattle.portal_core.specs.World.{is_at, is_from_ranking, is_published}
+use Rattle.portal_tables.specs.Tables.{choice_tree, ranking_tree}
+use Rattle.portal_tables.specs.declared.lines.Line.{Line}
+use Rattle.portal_tables.specs.Lines.{applicant_lines}
+use Rattle.portal_tables.specs.Lists.{chosen}
+use Rattle.portal_tables.specs.Shown.{first, text_or_none}
+
+-- a project with persons
+abbrev pub with_persons : Key × Vec Person Global → Key × List Person
+with_persons e = (e.0, e.1.items)
+
+-- the lines of the project's applicants, once the phase shows them
+abbrev pub lines_shown : Trees → Phase → Key → List Line
+lines_shown db phase k = if is_from_ranking phase then applicant_lines db k else []
+
+-- of these lines the persons whom a published result places at the project
+abbrev pub placed_among : Phase → Key → List Line → List Person
+placed_among phase k lines = if is_published phase then map (λ l. l.person) (filter (λ l. is_at k l.placed) lines) else []
+
+-- applicants and placed students of the projects with these keys, each once the phase shows them
+abbrev pub applicants_told : Trees → Phase → List Key → List (Key × List Person)
+applicants_told db phase keys = map (λ k. (k, map (λ l. l.person) (lines_shown db phase k))) keys
+
+abbrev pub placed_told : Trees → Phase → List Key → List (Key × List Person)
+placed_told db phase keys = map (λ k. (k, placed_among phase k (lines_shown db phase k))) keys
+
+-- the keys of the projects that the catalogue shows of a lecturer
+abbrev pub own_keys : List Listing → Key → List Key
+own_keys offers lecturer = map (λ p. p.key) (filter (λ p. is p.lecturer lecturer) offers)
+
+-- what the lecturer sees whose row is shown, with the catalogue
+abbrev pub lecturer_shown : Trees → Phase → Row → List Listing → LecturerSees
+lecturer_shown db phase c offers =
+    record {
+      phase = phase;
+      me = record { key = first c; name = bytes (column c 1) };
+      capacity = number_in (column c 3);
+      catalogue = offers;
+      applicants = applicants_told db phase (own_keys offers (first c));
+      ranking = if number_in (column c 4) == 1 then Some (chosen (db ranking_tree) (first c)) else None;
+      placed = placed_told db phase (own_keys offers (first c));
+    }
+
+-- what the student sees whose row is shown, with the catalogue
+abbrev pub student_shown : Trees → Phase → Row → List Listing → StudentSees
+student_shown db phase c offers =
+    record {
+      phase = phase;
+      me = record { key = first c; name = bytes (column c 1) };
+      catalogue = offers;
+      choices = chosen (db choice_tree) (first c);
+      result = if is_published phase then text_or_none (column c 3) else None;
+    }

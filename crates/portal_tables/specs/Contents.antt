@@ -1,0 +1,63 @@
+-- The rows of the rolls and lists, of the rolls that queries show and the lists in the tables.
+use Rattle.std.specs.Prelude.{List, map}
+use Rattle.std.specs.List.{AllByRecursion, filter_map}
+use Rattle.sqlite.specs.Order.{Row}
+use Rattle.sqlite.specs.Tree.{Trees}
+use Rattle.portal_core.specs.Good.{IsLecturer, IsProject, IsStudent}
+use Rattle.portal_core.specs.Words.{Key}
+use Rattle.portal_core.specs.declared.rows.LecturerRow.{LecturerRow}
+use Rattle.portal_core.specs.declared.rows.ProjectRow.{ProjectRow}
+use Rattle.portal_core.specs.declared.rows.StudentRow.{StudentRow}
+use Rattle.portal_tables.specs.Owners.{entry, with_list, IsRead, IsFine}
+use Rattle.portal_tables.specs.Shown.{shown_lecturer, shown_project, shown_student, shown_pair, HasPlace}
+use Rattle.portal_tables.specs.declared.contents.Contents.{Contents}
+use Rattle.portal_tables.specs.declared.entries.Lists.TheVariants.{Choices, Rankings}
+
+pub record AllRows : Type 0 where
+  pub lecturers : List LecturerRow
+  pub projects : List ProjectRow
+  pub students : List StudentRow
+  -- each student's list, by student
+  pub choices : List (Key × List Key)
+  -- the rankings that are there, by lecturer
+  pub rankings : List (Key × List Key)
+  -- the result, by student
+  pub pairs : List (Key × Key)
+
+-- those that were read
+abbrev pub rows_held : Contents → AllRows
+rows_held c =
+    record {
+      lecturers = c.lecturers.items;
+      projects = c.projects.items;
+      students = c.students.items;
+      choices = map with_list c.choices.items;
+      rankings = map with_list c.rankings.items;
+      pairs = c.pairs.items;
+    }
+
+-- those of shown rows and the lists in the tables
+abbrev pub rows_from : Trees → List Row → List Row → List Row → AllRows
+rows_from db lecturers projects students =
+    record {
+      lecturers = map shown_lecturer lecturers;
+      projects = map shown_project projects;
+      students = map shown_student students;
+      choices = filter_map (entry Choices db) students;
+      rankings = filter_map (entry Rankings db) lecturers;
+      pairs = filter_map shown_pair students;
+    }
+
+-- what was found while they were read
+pub record AreRead (db : Trees) (lecturers students : List Row) : Type 0 where
+  pub choices : AllByRecursion (IsRead Choices db) students
+  pub rankings : AllByRecursion (IsRead Rankings db) lecturers
+
+-- what the decoding of shown rows asks
+pub record AreFine (db : Trees) (lecturers projects students : List Row) : Type 0 where
+  pub lecturer_forms : AllByRecursion (λ c. IsLecturer (shown_lecturer c)) lecturers
+  pub project_forms : AllByRecursion (λ c. IsProject (shown_project c)) projects
+  pub student_forms : AllByRecursion (λ c. IsStudent (shown_student c)) students
+  pub places : AllByRecursion HasPlace students
+  pub choices : AllByRecursion (IsFine Choices db) students
+  pub rankings : AllByRecursion (IsFine Rankings db) lecturers

@@ -1,0 +1,97 @@
+//! What a lecturer sees, by queries of the own list and of the own projects' applicants.
+
+ghost use Rattle.std.specs.Prelude.{◌≡◌, ◌==◌, false, IfOk, IsTrue, if◌then◌else◌, Some, None, option_map, map};
+ghost use Rattle.sqlite.specs.Order.{column, bytes};
+ghost use Rattle.sqlite.specs.State.{HasCleanDisk};
+ghost use Rattle.sqlite.specs.Held.{state};
+ghost use Rattle.sqlite_trees.specs.Objects.{number_in};
+ghost use Rattle.portal_tables.specs.Own.{IsOwn};
+ghost use Rattle.portal_tables.specs.Tables.{ranking_tree};
+ghost use Rattle.portal_tables.specs.Callers.{with_persons, own_keys, lecturer_shown};
+ghost use Rattle.portal_tables.specs.Lines.{HasTables};
+ghost use Rattle.portal_tables.specs.Lists.{chosen};
+ghost use Rattle.portal_tables.specs.Reading.{Reads};
+ghost use Rattle.portal_tables.specs.Shown.{first};
+
+use crate::applicants::{Told, told_in};
+use crate::cells::{bytes_at, capacity_at, key_at, number_at};
+use crate::entries::{Lists, list_in};
+use crate::fault::TableFault;
+use crate::lines::person_at;
+use portal_core::{LecturerView, Listing, Phase};
+use spa_rows::Key;
+use sqlite::{Alter, Connection, Row};
+use std::alloc::{AllocError, Global};
+use std::rc::Rc;
+
+/// The keys of the projects of the lecturer whose row this is.
+fn own_projects(alloc: Global, catalogue: &[Listing], row: &Row) -> Result<Vec<Key>, AllocError>
+    ensures { IfOk result (λ v. v.items ≡ own_keys catalogue.now (first row.now)) }
+{
+    let mut own = Vec::new(alloc);
+    for project in catalogue {
+        if project.lecturer.as_bytes() == bytes_at(row, 0) {
+            own.push(project.key.copy(alloc)?)?;
+        }
+    }
+    Ok(own)
+}
+
+/// The ranking of the lecturer whose row this is, if one is there.
+fn ranking_in<S: Alter>(
+    alloc: Global,
+    conn: &mut Connection<S>,
+    row: &Row,
+) -> Result<Option<Vec<Key>>, TableFault>
+    ensures names { IsOwn conn.old.schema → HasCleanDisk (state S.Store conn.new) → IfOk result (λ o. option_map (λ v. v.items) o ≡ (if number_in (column row.now 4) == 1 then Some (chosen ((state S.Store conn.old).now.trees ranking_tree) (first row.now)) else None)) }
+    ensures reads { Reads result (state S.Store conn.old) (state S.Store conn.new) }
+    ensures mode { conn.old.in_transaction ≡ false → conn.new.in_transaction ≡ false }
+{
+    if number_at(row, 4) != 1 {
+        return Ok(None);
+    }
+    let lecturer = key_at(alloc, row, 0)?;
+    let ranking = list_in(alloc, conn, Lists::Rankings, &lecturer)?;
+    Ok(Some(ranking))
+}
+
+/// What was read, put together.
+fn put_together(
+    alloc: Global,
+    phase: Phase,
+    row: &Row,
+    catalogue: Rc<Vec<Listing>>,
+    ranking: Option<Vec<Key>>,
+    told: Told,
+) -> Result<LecturerView, TableFault>
+    ensures { IfOk result (λ v. v ≡ record { phase = phase; me = record { key = first row.now; name = bytes (column row.now 1) }; capacity = number_in (column row.now 3); catalogue = catalogue.value.items; applicants = map with_persons told.applicants.items; ranking = option_map (λ r. r.items) ranking; placed = map with_persons told.placed.items }) }
+{
+    Ok(LecturerView {
+        phase,
+        me: person_at(alloc, row)?,
+        capacity: capacity_at(row, 3)?,
+        catalogue,
+        applicants: told.applicants,
+        ranking,
+        placed: told.placed,
+    })
+}
+
+/// What the lecturer sees whose row this is, with the catalogue. The fault is `Damaged` where rows are not as the portal writes them,
+/// `Store` where the store answered an error, `Memory` where there is not enough memory.
+pub fn lecturer_view<S: Alter>(
+    alloc: Global,
+    conn: &mut Connection<S>,
+    phase: Phase,
+    row: &Row,
+    catalogue: Rc<Vec<Listing>>,
+) -> Result<LecturerView, TableFault>
+    ensures shows { HasTables (state S.Store conn.old).now → HasCleanDisk (state S.Store conn.new) → IsTrue (state S.Store conn.old).is_open → IfOk result (λ v. v ≡ lecturer_shown (state S.Store conn.old).now.trees phase row.now catalogue.value.items) }
+    ensures reads { Reads result (state S.Store conn.old) (state S.Store conn.new) }
+    ensures mode { conn.old.in_transaction ≡ false → conn.new.in_transaction ≡ false }
+{
+    let own = own_projects(alloc, &catalogue, row)?;
+    let ranking = ranking_in(alloc, conn, row)?;
+    let told = told_in(alloc, conn, phase, &own)?;
+    put_together(alloc, phase, row, catalogue, ranking, told)
+}

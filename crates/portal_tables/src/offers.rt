@@ -1,0 +1,101 @@
+//! The catalogue of the projects: each with its lecturer's name.
+
+ghost use Rattle.std.specs.Prelude.{◌≡◌, false, IfOk, IsTrue, option_map, map};
+ghost use Rattle.sqlite.specs.State.{HasCleanDisk};
+ghost use Rattle.sqlite.specs.Held.{state};
+ghost use Rattle.portal_core.specs.View.{listing_with};
+ghost use Rattle.portal_tables.specs.Offers.{name_of, offered, catalogue_shown};
+ghost use Rattle.portal_tables.specs.Own.{IsOwn};
+ghost use Rattle.portal_tables.specs.Reading.{Reads};
+ghost use Rattle.portal_tables.specs.Shown.{shown_lecturer, shown_project};
+
+use crate::decode::decoded;
+use crate::fault::TableFault;
+use crate::rolls::{lecturer_roll, project_roll};
+use portal_core::{LecturerRow, Listing, Name, ProjectRow};
+use spa_rows::Key;
+use sqlite::{Alter, Connection, Row};
+use std::alloc::{AllocError, Global};
+use std::rc::Rc;
+
+/// The name of the lecturer with this key.
+fn name_among<'a>(lecturers: &'a [LecturerRow], key: &Key) -> Option<&'a Name>
+    ensures { option_map (λ n. n.now) result ≡ name_of lecturers.now key.now }
+{
+    for lecturer in lecturers {
+        if lecturer.key == *key {
+            return Some(&lecturer.name);
+        }
+    }
+    None
+}
+
+fn listing_of(alloc: Global, project: &ProjectRow, name: &Name) -> Result<Listing, AllocError>
+    ensures { IfOk result (λ l. l ≡ listing_with project.now name.now) }
+{
+    Ok(Listing {
+        key: project.key.copy(alloc)?,
+        title: project.title.copy(alloc)?,
+        lecturer: project.lecturer.copy(alloc)?,
+        lecturer_name: name.copy(alloc)?,
+        capacity: project.capacity,
+    })
+}
+
+fn listing_among(
+    alloc: Global,
+    lecturers: &[LecturerRow],
+    project: &ProjectRow,
+) -> Result<Option<Listing>, AllocError>
+    ensures { IfOk result (λ o. o ≡ option_map (listing_with project.now) (name_of lecturers.now project.now.lecturer)) }
+{
+    match name_among(lecturers, &project.lecturer) {
+        Some(name) => Ok(Some(listing_of(alloc, project, name)?)),
+        None => Ok(None),
+    }
+}
+
+/// Each project with its lecturer's name.
+fn listings_of(
+    alloc: Global,
+    lecturers: &[LecturerRow],
+    projects: &[ProjectRow],
+) -> Result<Vec<Listing>, AllocError>
+    ensures { IfOk result (λ v. v.items ≡ offered lecturers.now projects.now) }
+{
+    let mut found = Vec::with_capacity(alloc, projects.len())?;
+    for project in projects {
+        if let Some(listing) = listing_among(alloc, lecturers, project)? {
+            found.push(listing)?;
+        }
+    }
+    Ok(found)
+}
+
+/// The catalogue of the rows that the rolls show.
+fn catalogue_of(
+    alloc: Global,
+    lecturers: &[Row],
+    projects: &[Row],
+) -> Result<Rc<Vec<Listing>>, TableFault>
+    ensures { IfOk result (λ shared. shared.value.items ≡ offered (map shown_lecturer lecturers.now) (map shown_project projects.now)) }
+{
+    let lecturers: Vec<LecturerRow> = decoded(alloc, lecturers)?;
+    let projects: Vec<ProjectRow> = decoded(alloc, projects)?;
+    Ok(Rc::new(alloc, listings_of(alloc, &lecturers, &projects)?)?)
+}
+
+/// The catalogue of the rolls in the tables, by the projects' keys. The fault is `Damaged` where the keys of a roll do not rise or a
+/// cell has not its form, `Store` where the store answered an error, `Memory` where there is not enough memory.
+pub fn catalogue_in<S: Alter>(
+    alloc: Global,
+    conn: &mut Connection<S>,
+) -> Result<Rc<Vec<Listing>>, TableFault>
+    ensures shows { IsOwn conn.old.schema → HasCleanDisk (state S.Store conn.new) → IsTrue (state S.Store conn.old).is_open → IfOk result (λ shared. shared.value.items ≡ catalogue_shown (state S.Store conn.old).now.trees) }
+    ensures reads { Reads result (state S.Store conn.old) (state S.Store conn.new) }
+    ensures mode { conn.old.in_transaction ≡ false → conn.new.in_transaction ≡ false }
+{
+    let lecturers = lecturer_roll(conn)?;
+    let projects = project_roll(conn)?;
+    catalogue_of(alloc, &lecturers, &projects)
+}
