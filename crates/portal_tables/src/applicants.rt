@@ -9,7 +9,7 @@ ghost use Rattle.portal_tables.specs.Lines.{HasTables};
 ghost use Rattle.portal_tables.specs.Reading.{Reads};
 
 use crate::fault::TableFault;
-use crate::lines::{Line, lines_to, person_of, persons_of};
+use crate::lines::{Line, lines_to, persons_of};
 use portal_core::{Person, Phase};
 use spa_rows::Key;
 use sqlite::{Alter, Connection};
@@ -59,7 +59,7 @@ fn placed_at(alloc: Global, lines: &[Line], project: &Key) -> Result<Vec<Person>
     let mut found = Vec::new(alloc);
     for line in lines {
         if is_placed_at(&line.placed, project) {
-            found.push(person_of(alloc, &line.person)?)?;
+            found.push(line.person.copy(alloc)?)?;
         }
     }
     Ok(found)

@@ -167,23 +167,13 @@ pub fn lines_to<S: Alter>(
     lines_on_roll(alloc, conn, &rows)
 }
 
-/// A copy of the person. The error is want of memory.
-pub fn person_of(alloc: Global, person: &Person) -> Result<Person, AllocError>
-    ensures { IfOk result (λ p. p ≡ person.now) }
-{
-    Ok(Person {
-        key: person.key.copy(alloc)?,
-        name: person.name.copy(alloc)?,
-    })
-}
-
 /// The persons of the lines, in their order. The error is want of memory.
 pub fn persons_of(alloc: Global, lines: &[Line]) -> Result<Vec<Person>, AllocError>
     ensures { IfOk result (λ v. v.items ≡ map (λ l. l.person) lines.now) }
 {
     let mut found = Vec::with_capacity(alloc, lines.len())?;
     for line in lines {
-        found.push(person_of(alloc, &line.person)?)?;
+        found.push(line.person.copy(alloc)?)?;
     }
     Ok(found)
 }

@@ -30,18 +30,6 @@ fn name_among<'a>(lecturers: &'a [LecturerRow], key: &Key) -> Option<&'a Name>
     None
 }
 
-fn listing_of(alloc: Global, project: &ProjectRow, name: &Name) -> Result<Listing, AllocError>
-    ensures { IfOk result (λ l. l ≡ listing_with project.now name.now) }
-{
-    Ok(Listing {
-        key: project.key.copy(alloc)?,
-        title: project.title.copy(alloc)?,
-        lecturer: project.lecturer.copy(alloc)?,
-        lecturer_name: name.copy(alloc)?,
-        capacity: project.capacity,
-    })
-}
-
 fn listing_among(
     alloc: Global,
     lecturers: &[LecturerRow],
@@ -50,7 +38,7 @@ fn listing_among(
     ensures { IfOk result (λ o. o ≡ option_map (listing_with project.now) (name_of lecturers.now project.now.lecturer)) }
 {
     match name_among(lecturers, &project.lecturer) {
-        Some(name) => Ok(Some(listing_of(alloc, project, name)?)),
+        Some(name) => Ok(Some(Listing::of(alloc, project, name)?)),
         None => Ok(None),
     }
 }
