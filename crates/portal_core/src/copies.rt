@@ -17,10 +17,7 @@ pub fn copy_keys(alloc: Global, keys: &[Key]) -> Result<Vec<Key>, AllocError>
 }
 
 /// The same pairs again.
-pub(crate) fn copy_pairs(
-    alloc: Global,
-    pairs: &[(Key, Key)],
-) -> Result<Vec<(Key, Key)>, AllocError>
+pub(crate) fn copy_pairs(alloc: Global, pairs: &[(Key, Key)]) -> Result<Vec<(Key, Key)>, AllocError>
     ensures { IfOk result (λ v. v.items ≡ pairs.now) }
 {
     let mut copies = Vec::with_capacity(alloc, pairs.len())?;

@@ -13,8 +13,8 @@ use crate::by_key::place_of;
 use crate::entries::{LecturerEntry, StudentEntry};
 pub(crate) use fill::{applicants_by_key, fill_rankings};
 pub(crate) use places::place_all;
-pub(crate) use rolls::{add_lecturers, add_projects, add_students};
 use portal_core::copy_keys;
+pub(crate) use rolls::{add_lecturers, add_projects, add_students};
 use spa_rows::Key;
 use std::alloc::{AllocError, Global};
 

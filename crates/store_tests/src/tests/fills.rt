@@ -1,6 +1,8 @@
 //! Rankings that are filled, replaced or not owed, over a database in memory and over lists.
 
-use crate::tests::steps::{ANN, BEA, CYR, LEE, LISTS, MOE, OFFICE, ROLLS, Step, TO_RANKING, play_both};
+use crate::tests::steps::{
+    ANN, BEA, CYR, LEE, LISTS, MOE, OFFICE, ROLLS, Step, TO_RANKING, play_both,
+};
 
 /// One lecturer has ranked, and the office fills what is missing.
 const ONE_RANKED: &[Step] = &[

@@ -1,6 +1,8 @@
 //! Whole years, over a database in memory and over lists.
 
-use crate::tests::steps::{ANN, BEA, CYR, LEE, LISTS, OFFICE, PUBLICATION, ROLLS, Step, TO_RANKING, play_both};
+use crate::tests::steps::{
+    ANN, BEA, CYR, LEE, LISTS, OFFICE, PUBLICATION, ROLLS, Step, TO_RANKING, play_both,
+};
 
 /// In setup: rolls that come again, and who is who.
 const SETUP: &[Step] = &[
