@@ -1,15 +1,19 @@
-"""The portal's routes as a plain program, by Flask or by http.server, over sqlite3 with its default durability and the same six tables.
-It looks at callers, roles and phases, and at little else. Usage: flask_portal.py DB PORT flask, gunicorn for Flask under gunicorn, or http
-for http.server; makes the file."""
+"""The portal's routes as a plain program, by Flask or by http.server, over sqlite3 with its default durability and the same six tables,
+whose foreign keys sqlite3 tests where it is told to, as here; PLAIN_FOREIGN_KEYS=OFF leaves these rules out. It looks at callers, roles and
+phases, and at little else. Usage: flask_portal.py DB PORT flask, gunicorn for Flask under gunicorn, or http for http.server; makes the file."""
 import csv
 import io
 import json
+import os
 import sqlite3
 import sys
 
 from asking import OFFICE, PHASES
 from tables import TABLES
 from year import best
+
+
+FOREIGN_KEYS = os.environ.get("PLAIN_FOREIGN_KEYS", "ON")
 
 
 class Refused(Exception):
@@ -190,6 +194,7 @@ def phase_of(db):
 def answer(path, method, route, code, body):
     """The status and the text of the answer to a request, in one transaction."""
     db = sqlite3.connect(path)
+    db.execute(f"PRAGMA foreign_keys = {FOREIGN_KEYS}")
     try:
         if (method, route) not in ROUTES:
             raise Refused(404, "no_route")

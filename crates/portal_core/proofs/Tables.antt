@@ -16,6 +16,8 @@ use Rattle.portal_core.specs.declared.rows.Person.{Person}
 use Rattle.portal_core.specs.declared.rows.ProjectRow.{ProjectRow}
 use Rattle.portal_core.specs.declared.rows.StudentRow.{StudentRow}
 use Rattle.portal_core.specs.Sight.{OfficeSees}
+use Rattle.portal_core.specs.Bodies.{is_assigned}
+use Rattle.portal_core.specs.Change.{place_in}
 use Rattle.portal_core.specs.Sheets.{project_with, project_of}
 use Rattle.portal_core.specs.Tables.{HasTexts, HasRows, HasKeys, HasPlacings}
 use Rattle.portal_core.proofs.Keys.{is_same}
@@ -70,12 +72,16 @@ module _ {X : Type 0} (xs : List X) (text : X → Key) where
 pub before_seen : {X : Type 0} (seen : List (Bor X)) (row : Bor X) → row.now ∷ reverse (map (λ r. r.now) seen) ≡ reverse (map (λ r. r.now) (seen ++ row ∷ []))
 before_seen seen row = sym (ap reverse (map-append (λ r. r.now) seen (row ∷ [])) ∙ reverse-append (map (λ r. r.now) seen) (row.now ∷ []))
 
--- the pair of a student and its project were found
-pub project_found : {S T : Type 0} (v : OfficeSees) (s : StudentRow) (pairs : HashMap (Bor Key) (Bor (Key × Key)) S) (projects : HashMap (Bor Key) (Bor ProjectRow) T) → HasPlacings v pairs projects
-    → (q : Bor Key) → q.now ≡ s.key → (pair : Bor (Key × Key)) → hash.get text_eq pairs q ≡ Some pair → (k : Bor Key) → k.now ≡ pair.now.1 → option_map (λ row. row.now) (hash.get text_eq projects k) ≡ project_of v s
-project_found v s pairs projects has_all q is_student pair got k is_project =
-    let pair_found : find (λ x. is x.0 s.key) v.pairs ≡ Some pair.now = ap (λ key. find (λ x. is x.0 key) v.pairs) (sym is_student) ∙ sym (has_all.0 q) ∙ ap (option_map (λ row. row.now)) got in
-    has_all.1 k ∙ ap (λ key. find (λ p. is p.key key) v.projects) is_project ∙ sym (ap (λ o. project_with v.projects (option_map (λ x. x.1) o)) pair_found)
+-- the project of the pair that was found
+pub looked_up : {S : Type 0} (pairs : List (Key × Key)) (table : HashMap (Bor Key) (Bor (Key × Key)) S) → HasRows (λ pair. pair.0) pairs table
+    → (q : Bor Key) (found : Option (Bor (Key × Key))) → found ≡ hash.get text_eq table q → option_map (λ (x : Key × Key). x.1) (option_map (λ row. row.now) found) ≡ place_in pairs q.now
+looked_up pairs table has_all q found got = ap (option_map (λ (x : Key × Key). x.1)) (ap (option_map (λ row. row.now)) got ∙ has_all q)
+
+-- the project of a student was found
+pub project_found : {S : Type 0} (v : OfficeSees) (s : StudentRow) (pairs : List (Key × Key)) (projects : HashMap (Bor Key) (Bor ProjectRow) S) → HasPlacings v pairs projects
+    → (k : Bor Key) → Some k.now ≡ place_in pairs s.key → option_map (λ row. row.now) (hash.get text_eq projects k) ≡ project_of v s
+project_found v s pairs projects has_all k is_project =
+    has_all.1 k ∙ ap (project_with v.projects) (is_project ∙ ap (λ all. place_in all s.key) has_all.0)
 
 -- whether a row has the key
 some_found : {X : Type 0} (p : X → Bool) (xs : List X) → is_some (find p xs) ≡ list_any p xs
@@ -89,9 +95,10 @@ some_mapped : {X Y : Type 0} (f : X → Y) (o : Option X) → is_some o ≡ is_s
 some_mapped f None = refl
 some_mapped f (Some x) = refl
 
-pub is_there : {X S : Type 0} (key : X → Key) (rows : List X) (table : HashMap (Bor Key) (Bor X) S) → HasRows key rows table → (q : Bor Key) (k : Key) → q.now ≡ k → is_some (hash.get text_eq table q) ≡ list_any (λ x. is (key x) k) rows
-is_there key rows table has_all q k is_key =
-    some_mapped (λ row. row.now) (hash.get text_eq table q) ∙ ap is_some (has_all q) ∙ some_found (λ x. is (key x) q.now) rows ∙ ap (λ text. list_any (λ x. is (key x) text) rows) is_key
+-- whether the pairs give the student a project
+pub is_placed : (pairs : List (Key × Key)) (k : Key) (project : Option (Bor Key)) → option_map (λ p. p.now) project ≡ place_in pairs k → is_some project ≡ is_assigned pairs k
+is_placed pairs k project given =
+    some_mapped (λ p. p.now) project ∙ ap is_some given ∙ sym (some_mapped (λ (x : Key × Key). x.1) (find (λ x. is x.0 k) pairs)) ∙ some_found (λ x. is x.0 k) pairs
 
 -- the key of one more text was put in
 known_put : {S : Type 0} (known : Key → Bool) (s t : HashMap (Bor Key) (Bor Key) S) (k v : Bor Key) (x : Key) → hash.Updates text_eq s t k (Some v) → k.now ≡ x → v.now ≡ x → HasKeys known s → HasKeys (λ q. known q || is x q) t

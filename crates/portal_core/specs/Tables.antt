@@ -23,6 +23,6 @@ HasRows key rows table = (q : Bor Key) → option_map (λ row. row.now) (map.get
 abbrev pub HasKeys : {S : Type 0} → (Key → Bool) → HashMap (Bor Key) (Bor Key) S → Type 0
 HasKeys known table = (q : Bor Key) → (is_some (map.get text_eq table q) ≡ known q.now) × IfSome (map.get text_eq table q) (λ key. key.now ≡ q.now)
 
--- the tables have the pairs of the result by their students, and the projects by their keys
-abbrev pub HasPlacings : {S T : Type 0} → OfficeSees → HashMap (Bor Key) (Bor (Key × Key)) S → HashMap (Bor Key) (Bor ProjectRow) T → Type 0
-HasPlacings v pairs projects = HasRows (λ pair. pair.0) v.pairs pairs × HasRows (λ row. row.key) v.projects projects
+-- the pairs are those of the result, and the table has the projects by their keys
+abbrev pub HasPlacings : {S : Type 0} → OfficeSees → List (Key × Key) → HashMap (Bor Key) (Bor ProjectRow) S → Type 0
+HasPlacings v pairs projects = (pairs ≡ v.pairs) × HasRows (λ row. row.key) v.projects projects

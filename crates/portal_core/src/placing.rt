@@ -5,9 +5,9 @@ ghost use Rattle.portal_core.specs.Bodies.{is_assigned};
 ghost use Rattle.portal_core.specs.Sheets as sheet;
 
 use crate::keyed::{row_at, rows_by_key};
+use crate::pairs::Pairs;
 use crate::rows::{ProjectRow, StudentRow};
 use crate::view::OfficeView;
-use spa_rows::Key;
 use std::alloc::{AllocError, Global};
 use std::collections::HashMap;
 use std::marker::Model;
@@ -17,7 +17,7 @@ use std::marker::Model;
 #[derive(Drop)]
 pub struct Placings<'a> {
     view: &'a OfficeView,
-    pairs: HashMap<&'a [u8], &'a (Key, Key)>,
+    pairs: Pairs<'a>,
     projects: HashMap<&'a [u8], &'a ProjectRow>,
 }
 
@@ -37,7 +37,7 @@ impl<'a> Placings<'a> {
     pub fn of(alloc: Global, view: &'a OfficeView) -> Result<Placings<'a>, AllocError>
         ensures { IfOk result (λ placings. placings ≡ view.now) }
     {
-        let pairs = rows_by_key(alloc, &view.pairs)?;
+        let pairs = Pairs::of(alloc, &view.pairs)?;
         let projects = rows_by_key(alloc, &view.projects)?;
         Ok(Placings {
             view,
@@ -50,14 +50,14 @@ impl<'a> Placings<'a> {
     pub fn is_placed(&self, student: &StudentRow) -> bool
         ensures { result ≡ is_assigned self.now.pairs student.now.key }
     {
-        row_at(&self.pairs, student.key.as_bytes()).is_some()
+        self.pairs.project_of(student.key.as_bytes()).is_some()
     }
 
     /// The project that the result gives to the student.
     pub fn project_of(&self, student: &StudentRow) -> Option<&'a ProjectRow>
         ensures { option_map (λ row. row.now) result ≡ sheet.project_of self.now student.now }
     {
-        let (_, project) = row_at(&self.pairs, student.key.as_bytes())?;
+        let project = self.pairs.project_of(student.key.as_bytes())?;
         row_at(&self.projects, project.as_bytes())
     }
 }

@@ -1,70 +1,54 @@
 //! The result: each student's project, and the phase.
 
-ghost use Rattle.std.specs.Prelude.{◌≡◌, false, OnOk, OnErr, IsTrue, option_map};
-ghost use Rattle.sqlite.specs.State.{HasCleanDisk, KeepsCommit, Survives};
+ghost use Rattle.std.specs.Prelude.{◌≡◌, false, map, IfOk, OnOk, OnErr, IsTrue, option_map};
+ghost use Rattle.sqlite.specs.State.{HasCleanDisk, Survives};
 ghost use Rattle.sqlite.specs.Held.{state};
 ghost use Rattle.portal_core.specs.Change.{Places, place_in};
 ghost use Rattle.portal_tables.specs.Own.{IsOwn};
-ghost use Rattle.portal_tables.specs.Steps.{Commits, GoesOn, IsAfter, LeavesOnly, Stays};
+ghost use Rattle.portal_tables.specs.Steps.{Commits, IsAfter, LeavesOnly, Stays};
 ghost use Rattle.portal_store.specs.Kept.{Turns};
-ghost use Rattle.portal_store.specs.Placing.{PlacesRow, PlacesShown, TurnsShown};
+ghost use Rattle.portal_store.specs.Placing.{TurnsShown, assigned_of};
 
+use portal_core::Pairs;
+use portal_tables::assign::{Assignment, assign_all};
+use portal_tables::cells::bytes_at;
+use portal_tables::decode::do_rise;
 use portal_tables::fault::TableFault;
 use portal_tables::step::{Step, commit};
 use portal_tables::{select, update};
 use spa_rows::Key;
-use sqlite::types::{Type, ValueRef};
-use sqlite::{Alter, Connection, Error, Row, Transaction};
-use std::alloc::Global;
+use sqlite::{Alter, Connection, Error, ErrorCode, Row, Transaction};
+use std::alloc::{AllocError, Global};
 
 /// The project that the pairs give to the student with this key.
-fn project_in<'a>(pairs: &'a [(Key, Key)], student: &[u8]) -> Option<&'a [u8]>
+fn project_in<'a>(pairs: &Pairs<'a>, student: &[u8]) -> Option<&'a [u8]>
     ensures { option_map (λ p. p.now) result ≡ place_in pairs.now student.now }
 {
-    for (owner, project) in pairs {
-        if owner.as_bytes() == student {
-            return Some(project.as_bytes());
-        }
-    }
-    None
+    let project = pairs.project_of(student)?;
+    Some(project.as_bytes())
 }
 
-/// Writes the place of the student of whom this is the row, as a step of a transaction.
-fn put_place<S: Alter>(
-    tx: &mut Transaction<'_, S>,
-    row: &Row,
-    pairs: &[(Key, Key)],
-) -> Result<(), Error>
-    ensures same_reference { tx.new.conn.ghost_name ≡ tx.old.conn.ghost_name }
-    ensures done { HasCleanDisk (state S.Store tx.new.conn.now) → OnOk result (GoesOn (PlacesRow pairs.now row.now) (state S.Store tx.old.conn.now) (state S.Store tx.new.conn.now)) }
-    ensures kept { HasCleanDisk (state S.Store tx.new.conn.now) → KeepsCommit (state S.Store tx.old.conn.now) (state S.Store tx.new.conn.now) }
-    ensures survives { Survives (state S.Store tx.old.conn.now) (state S.Store tx.new.conn.now) (λ _. ⊥) }
+/// What the pairs say of the students of whom these rows are shown.
+fn assignments<'a>(
+    alloc: Global,
+    rows: &'a [Row],
+    pairs: &Pairs<'a>,
+) -> Result<Vec<Assignment<'a>>, AllocError>
+    ensures { IfOk result (λ v. v.items ≡ map (assigned_of pairs.now) rows.now) }
 {
-    let key = row.get_ref(0)?;
-    let ValueRef::Text(student) = key else {
-        return Err(Error::InvalidColumnType(0, Type::of(key)));
-    };
-    update::set_assigned(tx, student, project_in(pairs, student))
-}
-
-/// Writes the place of each student, as steps of a transaction.
-fn put_places<S: Alter>(
-    tx: &mut Transaction<'_, S>,
-    rows: &[Row],
-    pairs: &[(Key, Key)],
-) -> Result<(), Error>
-    ensures same_reference { tx.new.conn.ghost_name ≡ tx.old.conn.ghost_name }
-    ensures done { HasCleanDisk (state S.Store tx.new.conn.now) → OnOk result (GoesOn (PlacesShown pairs.now rows.now) (state S.Store tx.old.conn.now) (state S.Store tx.new.conn.now)) }
-    ensures kept { HasCleanDisk (state S.Store tx.new.conn.now) → KeepsCommit (state S.Store tx.old.conn.now) (state S.Store tx.new.conn.now) }
-    ensures survives { Survives (state S.Store tx.old.conn.now) (state S.Store tx.new.conn.now) (λ _. ⊥) }
-{
+    let mut all = Vec::with_capacity(alloc, rows.len())?;
     for row in rows {
-        put_place(tx, row, pairs)?;
+        let student = bytes_at(row, 0);
+        all.push(Assignment {
+            student,
+            project: project_in(pairs, student),
+        })?;
     }
-    Ok(())
+    Ok(all)
 }
 
-/// The result is made public, where the rows are the roll of students: their places, and then the phase.
+/// The result is made public, where the rows are the roll of students: their places, and then the phase. Rows whose keys do not rise are
+/// refused as corrupt.
 struct PutResult<'a> {
     rows: &'a [Row],
     pairs: &'a [(Key, Key)],
@@ -73,9 +57,14 @@ struct PutResult<'a> {
 impl Step for PutResult<'_> {
     ghost makes = { λ s. TurnsShown s.pairs.now s.rows.now };
 
-    fn take<S: Alter>(self, _alloc: Global, tx: &mut Transaction<'_, S>) -> Result<(), Error> {
+    fn take<S: Alter>(self, alloc: Global, tx: &mut Transaction<'_, S>) -> Result<(), Error> {
         let PutResult { rows, pairs } = self;
-        put_places(tx, rows, pairs)?;
+        if !do_rise(rows) {
+            return Err(Error::SqliteFailure(ErrorCode::DatabaseCorrupt));
+        }
+        let pairs = Pairs::of(alloc, pairs)?;
+        let all = assignments(alloc, rows, &pairs)?;
+        assign_all(tx, &all)?;
         update::set_phase(tx, 3)
     }
 }

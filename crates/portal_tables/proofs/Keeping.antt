@@ -1,14 +1,16 @@
 -- What each change leaves of what a store knows between two calls: the tables are its own, and rows have numbers of their own.
-use Rattle.std.proofs.Common.{◌≡◌, ◌≢◌, ℕ, ℤ, ◌+◌, ◌<◌, List, [], ◌∷◌, ◌++◌, map, take, get_or, length, Bool, false, refl, sym, ap, ap₂, subst, ◌∙◌}
+use Rattle.std.proofs.Common.{◌≡◌, ◌≢◌, ℕ, ℤ, ◌+◌, ◌<◌, List, [], ◌∷◌, ◌++◌, map, take, get_or, length, Bool, true, false, not, refl, sym, ap, ap₂, subst, subst₂, ◌∙◌}
 use Rattle.std.specs.List.{AllByRecursion}
 use Rattle.std.specs.Ordering.{is_eq, match_ordering}
 use Rattle.std.specs.declared.cmp.Ordering.{Ordering}
 use Rattle.std.specs.declared.cmp.Ordering.TheVariants.{Less, Equal, Greater}
-use Rattle.std.proofs.lemmas.Bool.{or_parts}
+use Rattle.std.proofs.lemmas.Bool.{and_parts, or_parts}
+use Rattle.std.specs.List.Sorted.{IsPermutation}
+use Rattle.std.proofs.lemmas.List.Sorted.{IsPermutation-refl, IsPermutation-trans, IsPermutation-sym, IsPermutation-middle, IsPermutation-append_right}
 use Rattle.std.proofs.lemmas.List.{map-append, take_more}
 use Rattle.sqlite.specs.declared.types.Value.TheVariants.{Int}
 use Rattle.sqlite.specs.Order.{Row, value_cmp}
-use Rattle.sqlite.specs.Edit.{next_rowid, is_taken, id_in}
+use Rattle.sqlite.specs.Edit.{next_rowid, is_taken, id_in, are_fresh, put_all}
 use Rattle.sqlite.specs.Tree.{put_row, rowid}
 use Rattle.sqlite.specs.Effect.{Database}
 use Rattle.sqlite_trees.proofs.TreeLemmas.{all-put_row}
@@ -16,7 +18,7 @@ use Rattle.portal_tables.specs.Changes.{Puts, Drops, Sets, IsApart, Keeps, with_
 use Rattle.portal_tables.specs.Tables.{own_trees}
 use Rattle.portal_tables.specs.Own.{IsOwn}
 use Rattle.portal_tables.specs.Rows.{Adds}
-use Rattle.portal_tables.proofs.Lists.{apart_filter, eq_flips}
+use Rattle.portal_tables.proofs.Lists.{apart_filter, eq_flips, put_splits, not_true}
 
 pub apart_put : (new : Row) (rows : List Row) (n : _) → rowid new ≡ Int n → IsApart rows → is_taken rows new ≡ false → IsApart (put_row new rows)
 apart_put new [] n is apart free = (is ∙ ap Int (sym (ap id_in is)), tt, tt)
@@ -42,6 +44,20 @@ rows_apart table (c ∷ cells) new apart =
 pub puts_apart : (tree : ℕ) (cells : List Row) (old new : Database) → Puts tree cells old new → IsApart (old.trees tree) → IsApart (new.trees tree)
 puts_apart tree cells old new h apart = subst IsApart (sym h.rows) (rows_apart (old.trees tree) cells h.free apart)
 
+-- rows are put, each with a number that no other row has
+pub rows_put : (rows news : List Row) → are_fresh rows news ≡ true → AllByRecursion (λ r. rowid r ≡ Int (id_in (rowid r))) news → IsApart rows
+    → IsPermutation (news ++ rows) (put_all rows news) × IsApart (put_all rows news)
+rows_put rows [] fresh numbers apart = (IsPermutation-refl rows, apart)
+rows_put rows (x ∷ news) fresh numbers apart =
+    let two = and_parts (not (is_taken rows x)) (are_fresh (put_row x rows) news) fresh in
+    let free : is_taken rows x ≡ false = not_true (is_taken rows x) two.0 in
+    let split = put_splits x rows free in
+    let one : IsPermutation (x ∷ rows) (put_row x rows) = subst₂ IsPermutation (ap (λ l. x ∷ l) (sym split.2)) (sym split.3) (IsPermutation-sym _ _ (IsPermutation-middle split.0 x split.1)) in
+    let rest = rows_put (put_row x rows) news two.1 numbers.1 (apart_put x rows _ numbers.0 apart free) in (
+      IsPermutation-trans _ _ _ (IsPermutation-sym _ _ (IsPermutation-middle news x rows)) (IsPermutation-trans _ _ _ (IsPermutation-append_right news _ _ one) rest.0),
+      rest.1,
+    )
+
 -- no table but this one is touched by two changes in turn
 pub keeps_then : (tree : ℕ) (a b c : Database) → Keeps tree a b → Keeps tree b c → Keeps tree a c
 keeps_then tree a b c p q = each own_trees p q
@@ -51,13 +67,17 @@ keeps_then tree a b c p q = each own_trees p q
     each [] p q = tt
     each (t ∷ trees) p q = (λ other. q.0 other ∙ p.0 other, each trees p.1 q.1)
 
--- no row comes
-puts_none : (tree : ℕ) (db : Database) → Puts tree [] db db
-puts_none tree db = record { schema_is = refl; free = tt; rows = refl; others = each own_trees; sound = λ h. h refl }
+-- every table is as it was
+pub keeps_all : {tree : ℕ} (db : Database) → Keeps tree db db
+keeps_all {tree} db = each own_trees
   where
     each : (trees : List ℕ) → AllByRecursion (λ t. t ≢ tree → db.trees t ≡ db.trees t) trees
     each [] = tt
     each (t ∷ trees) = (λ _. refl, each trees)
+
+-- no row comes
+puts_none : (tree : ℕ) (db : Database) → Puts tree [] db db
+puts_none tree db = record { schema_is = refl; free = tt; rows = refl; others = keeps_all db; sound = λ h. h refl }
 
 pub adds_none : (tree : ℕ) (db : Database) → Adds tree [] db db
 adds_none tree db own = puts_none tree db

@@ -35,3 +35,4 @@ pub mod OneFound
 pub mod Choosers
 pub mod OneKey
 pub mod LineRows
+pub mod Assigning

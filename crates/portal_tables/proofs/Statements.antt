@@ -1,5 +1,5 @@
 -- The texts that write, and what each does to its table, whatever the checks are.
-use Rattle.std.proofs.Common.{◌≡◌, ℕ, ℤ, pos, Option, Some, None, List, [], ◌∷◌, filter, codes, length, ◌==◌, true, false, refl, sym, ap, subst, subst₂, ◌∙◌}
+use Rattle.std.proofs.Common.{◌≡◌, ℕ, pos, List, [], ◌∷◌, filter, codes, length, ◌==◌, true, false, refl, sym, ap, subst, subst₂, ◌∙◌}
 use Rattle.sqlite.specs.declared.types.Value.TheVariants.{Null, Int, Text}
 use Rattle.sqlite.specs.Collation.TheVariants.{Binary}
 use Rattle.sqlite.specs.Order.{Row, column}
@@ -16,16 +16,14 @@ use Rattle.sqlite.proofs.Callers.{IsPlain, command_of}
 use Rattle.portal_tables.specs.Tables.{student, portal_tree, lecturer_tree, project_tree, student_tree, choice_tree, ranking_tree}
 use Rattle.portal_tables.specs.Changes.{has_text}
 use Rattle.portal_tables.specs.Steps.{Ran, Made}
-use Rattle.portal_tables.specs.Rows.{portal_cells, lecturer_cells, project_cells, student_cells, choice_cells, ranking_cells, Adds, Clears, MovesTo, Ranks, Assigns, portal_row, text_or_null}
+use Rattle.portal_tables.specs.Rows.{portal_cells, lecturer_cells, project_cells, student_cells, choice_cells, ranking_cells, Adds, Clears, MovesTo, Ranks, portal_row}
 use Rattle.portal_tables.proofs.Weak.{portal_with, own_is}
-use Rattle.portal_tables.proofs.Query.{one_table, passes, shown_as}
+use Rattle.portal_tables.proofs.Query.{one_table, passes}
 use Rattle.std.specs.List.{flat_map, filter_map}
 use Rattle.sqlite_rules.specs.Action.{works, work_by, deed_for, pairs}
 use Rattle.sqlite_schema.specs.Rules.{parent_key}
 use Rattle.sqlite_schema.specs.declared.schema.Keys.TheVariants.{Enforced}
-use Rattle.sqlite.specs.Cast.{cast_row}
-use Rattle.sqlite.specs.Values.{bound_value}
-use Rattle.portal_tables.proofs.Tests.{param, has_key, same_key, same_key_of, equals_int}
+use Rattle.portal_tables.proofs.Tests.{param, has_key, same_key, equals_int}
 use Rattle.portal_tables.proofs.Lists.{eq_self}
 use Rattle.portal_tables.specs.Changes.{IsApart}
 use Rattle.std.proofs.Common.{not}
@@ -215,40 +213,6 @@ lecturer_ranked old new key h = record {
       (Text key ∷ []) r old new h.count w.is apart (ap (λ p. filter p (old.now.trees 1)) (same_key 1 key) ∙ one) h.runs in
       sets_own w.checks w.terms 1 old.now new.now w.is (has_text 1 key) (Int number ∷ lecturer_cells key name code capacity (pos 1))
       (subst₂ (λ p row. SetsIn s 1 p row old.now new.now) (same_key 1 key) (rw (cast_int number, cast_int capacity, cast_int (pos 1)) refl) set);
-}
-
-abbrev pub update_assigned : List ℕ
-update_assigned = codes "UPDATE student SET assigned = ?2 WHERE key = ?1"
-
-abbrev update_assigned_row : List Term
-update_assigned_row = col 1 0 ∷ col 1 1 ∷ col 1 2 ∷ col 1 3 ∷ param 1 ∷ []
-
-update_assigned_is : Updates update_assigned 3 6 (has_key 1) update_assigned_row
-unfolding understood everything
-update_assigned_is = record { command = λ checks more. refl; plain = λ checks more. (refl, refl) }
-
--- as it is bound
-pub assigned_bound : (project : Option (List ℕ)) → bound_value (text_or_null project) ≡ text_or_null project
-assigned_bound None = refl
-assigned_bound (Some t) = refl
-
-assigned_row : (number : ℤ) (key name code : List ℕ) (last : Row) (project : Option (List ℕ))
-    → cast_row (student 6) (shown_as update_assigned_row (Text key ∷ text_or_null project ∷ []) (Int number ∷ Text key ∷ Text name ∷ Text code ∷ last)) ≡ Int number ∷ student_cells key name code (text_or_null project)
-assigned_row number key name code last None = rw (cast_int number) refl
-assigned_row number key name code last (Some t) = rw (cast_int number) refl
-
-pub student_assigned : (old new : State) (key : List ℕ) (project : Option (List ℕ)) → Ran update_assigned (Text key ∷ text_or_null project ∷ []) old new → Made (Assigns key project) old new
-student_assigned old new key project h = record {
-  shown = h.shown;
-  changed = λ own apart number name code last one.
-      let w = own_is old.now.schema own in
-      let s = portal_with w.checks w.terms in
-      let v = text_or_null project in
-      let r = Int number ∷ Text key ∷ Text name ∷ Text code ∷ last in
-      let set = updated s update_assigned 3 _ 6 _ _ _ _ _ _ _ _ refl (has_key 1) update_assigned_row (update_assigned_is.command w.checks w.terms) (update_assigned_is.plain w.checks w.terms) (λ was row. refl)
-      (Text key ∷ v ∷ []) r old new h.count w.is apart (ap (λ p. filter p (old.now.trees 6)) (same_key_of 1 key (v ∷ [])) ∙ one) h.runs in
-      sets_own w.checks w.terms 6 old.now new.now w.is (has_text 1 key) (Int number ∷ student_cells key name code v)
-      (subst₂ (λ p row. SetsIn s 6 p row old.now new.now) (same_key_of 1 key (v ∷ [])) (assigned_row number key name code last project) set);
 }
 
 abbrev pub update_phase : List ℕ

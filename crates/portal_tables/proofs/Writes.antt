@@ -29,9 +29,11 @@ use Rattle.sqlite_value.specs.declared.keys.Order.{Order}
 use Rattle.portal_tables.proofs.Weak.{portal_with}
 use Rattle.portal_tables.specs.Changes.{Puts, Drops, Sets, IsApart, with_rows, AreNew}
 use Rattle.portal_tables.proofs.Query.{one_table, passes, shown_as}
-use Rattle.portal_tables.proofs.Lists.{looped, filter_same, without_is, found_once}
+use Rattle.portal_tables.proofs.Lists.{looped, not_true, filter_same, without_is, found_once, apart_filter}
+use Rattle.portal_tables.proofs.Keeping.{rows_put}
 use Rattle.std.specs.List.Sorted.{IsPermutation}
-use Rattle.std.proofs.lemmas.List.Sorted.{IsPermutation-map, list_any-IsPermutation}
+use Rattle.std.proofs.lemmas.List.Sorted.{IsPermutation-map, IsPermutation-trans, IsPermutation-append_left, list_any-IsPermutation}
+use Rattle.portal_tables.proofs.Sorted.{all_permuted}
 use Rattle.sqlite.specs.Program.{IsProgramAnswer}
 use Rattle.sqlite.specs.Query.{IsAnswer, output, Output}
 use Rattle.sqlite_exec.proofs.RunLemmas.{answer_alone}
@@ -60,6 +62,14 @@ pub record SetsIn (schema : Schema) (tree : ℕ) (p : Row → Bool) (row : Row) 
   pub schema_is : new.schema ≡ schema
   pub free : is_taken (filter (λ r. not (p r)) (old.trees tree)) row ≡ false
   pub rows : new.trees tree ≡ put_row row (filter (λ r. not (p r)) (old.trees tree))
+  pub others : KeepsIn schema tree old new
+  pub sound : IsDatabase new
+
+-- in place of each row that passes stands what is made of it
+pub record AltersIn (schema : Schema) (tree : ℕ) (p : Row → Bool) (made : Row → Row) (old new : Database) : Type 0 where
+  pub schema_is : new.schema ≡ schema
+  pub apart : IsApart (new.trees tree)
+  pub rows : IsPermutation (map made (filter p (old.trees tree)) ++ filter (λ r. not (p r)) (old.trees tree)) (new.trees tree)
   pub others : KeepsIn schema tree old new
   pub sound : IsDatabase new
 
@@ -93,10 +103,6 @@ went (inr on) = on
 
 pub same_value : {B E : Type 0} {a b : B} → ◌≡◌ {A = Result B E} (Ok a) (Ok b) → a ≡ b
 same_value e = cc
-
-not_true : (b : Bool) → not b ≡ true → b ≡ false
-not_true true h = absurd (cc)
-not_true false h = refl
 
 only_new : (b : Bool) → (not b && true) ≡ true → b ≡ false
 only_new true h = absurd (cc)
@@ -140,6 +146,15 @@ left_is p rest rows shown apart same =
     any_map : {X Y : Type 0} (p : Y → Bool) (f : X → Y) (xs : List X) → list_any p (map f xs) ≡ list_any (λ x. p (f x)) xs
     any_map p f [] = refl
     any_map p f (x ∷ xs) = ap (λ b. p (f x) || b) (any_map p f xs)
+
+-- rows that have numbers of their own are given none
+rows_stay : (table rows : List Row) → numbered Given table rows ≡ rows
+rows_stay table [] = refl
+rows_stay table (r ∷ rows) = ap (λ l. r ∷ l) (rows_stay (put_row r table) rows)
+
+-- the number of a row
+abbrev pub HasNumber : Row → Type 0
+HasNumber r = rowid r ≡ Int (id_in (rowid r))
 
 module _ (schema : Schema) (sql : List ℕ) (at : ℕ) (name : List ℕ) (tree : ℕ) (columns : List Column) (key : Option ℕ) (primary : List ℕ) (uniques : List (List ℕ)) (orders : List Order) (checks : List Term)
     (references : List Reference) (terms_of : List Term) where
@@ -252,6 +267,46 @@ module _ (schema : Schema) (sql : List ℕ) (at : ℕ) (name : List ℕ) (tree :
           schema_is = ap (λ (d : Database). d.schema) now;
           free = only_new (is_taken (filter (λ x. not (passes tests params x)) (db tree)) fresh) (subst (λ l. are_fresh l (fresh ∷ []) ≡ true) left wrote.fresh);
           rows = ap (λ (t : Trees). t tree) after ∙ wrote.rows ∙ ap (put_row fresh) left;
+          others = subst (λ (t : Trees). AllByRecursion (λ s. s.tree ≢ tree → t s.tree ≡ db s.tree) schema.tables) (sym after) wrote.tables;
+          sound = w.sound;
+        }
+
+    -- an UPDATE of all rows that pass
+    pub altered : (tests project : List Term) (command : command_of (understood schema sql) ≡ Update at (record { lets = []; body = one_table tree tests (col 1 0 ∷ project) })) (plain : IsPlain (understood schema sql))
+        → ((olds news : List Row) → works schema Enforced 0 tree olds news ≡ [])
+        → (params : Row) (old new : State) (count : ℕ) → old.now.schema ≡ schema → IsApart (old.now.trees tree)
+        → AllByRecursion HasNumber (map (λ r. cast_row table (shown_as project params r)) (filter (passes tests params) (old.now.trees tree))) → Executes sql params old new (Ok count)
+        → AltersIn schema tree (passes tests params) (λ r. cast_row table (shown_as project params r)) old.now new.now
+    altered tests project command plain idle params old new count has apart numbers h =
+        let db = old.now.trees in
+        let p = passes tests params in
+        let q : Program = record { lets = []; body = one_table tree tests (col 1 0 ∷ project) } in
+        let w = runs_as sql params old new schema has _ command plain count h in
+        let text = statement_of sql (understood schema sql) in
+        let changed = subst (λ s. Does old.step_limit (mode_of old) params (record old.now { schema = s }) text None (Update at q) (Ok (w.tally, new.now))) has w.changed in
+        let done = went (rw place at changed) in
+        let now = ap (λ (p : Tally × Database). p.1) (same_value (went (went done.2).2).2) in
+        let queried = went done.1 in
+        let written = went queried.2 in
+        let trees : done.0.trees ≡ written.0 = ap (λ (it : Written). it.trees) (same_value written.2) in
+        let shown : IsPermutation (map (shown_as (col 1 0 ∷ project) params) (filter p (db tree))) queried.0 = answered tree tests (col 1 0 ∷ project) db params queried.0 (queried.1.answer) in
+        let cut : Row → Row = λ s. cast_row table (drop 1 s) in
+        let news = map cut queried.0 in
+        let left = filter (λ r. not (p r)) (db tree) in
+        let edit : Edit = record { table = table; gone = ids_of queried.0; news = news } in
+        let edit_is : edit_of db table (ids_of queried.0) Given 1 queried.0 ≡ edit = ap (λ rows. record { table = table; gone = ids_of queried.0; news = rows }) (rows_stay (without_all (db tree) (ids_of queried.0)) news) in
+        let wrote = one_step schema Enforced db written.0 edit (idle (taken_by db edit) news) (subst (λ e. Edited schema Enforced db e (Ok written.0)) edit_is written.1) in
+        let after : new.now.trees ≡ written.0 = ap (λ (d : Database). d.trees) now ∙ trees in
+        let left_is_so : without_all (db tree) (ids_of queried.0) ≡ left = left_is p (shown_as project params) (db tree) queried.0 apart shown in
+        let made : IsPermutation (map (λ r. cast_row table (shown_as project params r)) (filter p (db tree))) news =
+        subst (λ l. IsPermutation l news) (map-map cut (shown_as (col 1 0 ∷ project) params) (filter p (db tree))) (IsPermutation-map cut _ queried.0 shown) in
+        let put = rows_put left news (subst (λ l. are_fresh l news ≡ true) left_is_so wrote.fresh) (all_permuted HasNumber _ news made numbers) (apart_filter _ _ apart) in
+        let tree_is : put_all left news ≡ new.now.trees tree = sym (ap (λ (t : Trees). t tree) after ∙ wrote.rows ∙ ap (λ l. put_all l news) left_is_so) in
+        record {
+          schema_is = ap (λ (d : Database). d.schema) now;
+          apart = subst IsApart tree_is put.1;
+          rows = subst (IsPermutation (map (λ r. cast_row table (shown_as project params r)) (filter p (db tree)) ++ left)) tree_is
+              (IsPermutation-trans _ _ _ (IsPermutation-append_left left _ _ made) put.0);
           others = subst (λ (t : Trees). AllByRecursion (λ s. s.tree ≢ tree → t s.tree ≡ db s.tree) schema.tables) (sym after) wrote.tables;
           sound = w.sound;
         }

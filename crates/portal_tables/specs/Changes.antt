@@ -50,17 +50,25 @@ pub record Sets (tree : ℕ) (p : Row → Bool) (row : Row) (old new : Database)
   pub others : Keeps tree old new
   pub sound : IsDatabase new
 
+-- each row has a number, and no two have one number
+abbrev pub IsApart : List Row → Type 0
+IsApart [] = ⊤
+IsApart (r ∷ rs) = (rowid r ≡ Int (id_in (rowid r))) × AllByRecursion (λ s. is_eq (value_cmp (rowid r) (rowid s)) ≡ false) rs × IsApart rs
+
+-- each row of the table shows what is made of a row that was there, one for one, and nothing else has changed
+pub record Alters (tree : ℕ) (show made : Row → Row) (old new : Database) : Type 0 where
+  pub schema_is : new.schema ≡ old.schema
+  pub apart : IsApart (new.trees tree)
+  pub rows : IsPermutation (map made (old.trees tree)) (map show (new.trees tree))
+  pub others : Keeps tree old new
+  pub sound : IsDatabase new
+
 -- the table has this row alone, and nothing else has changed
 pub record Becomes (tree : ℕ) (row : Row) (old new : Database) : Type 0 where
   pub schema_is : new.schema ≡ old.schema
   pub rows : new.trees tree ≡ row ∷ []
   pub others : Keeps tree old new
   pub sound : IsDatabase new
-
--- each row has a number, and no two have one number
-abbrev pub IsApart : List Row → Type 0
-IsApart [] = ⊤
-IsApart (r ∷ rs) = (rowid r ≡ Int (id_in (rowid r))) × AllByRecursion (λ s. is_eq (value_cmp (rowid r) (rowid s)) ≡ false) rs × IsApart rs
 
 -- the text in a column is these bytes
 abbrev pub has_text : ℕ → List ℕ → Row → Bool

@@ -1,12 +1,13 @@
 -- What the statements put into the six tables.
-use Rattle.std.specs.Prelude.{◌≡◌, ℕ, ℤ, pos, List, [], ◌∷◌, filter, Option, Some, None}
+use Rattle.std.specs.Prelude.{◌≡◌, ℕ, ℤ, pos, if◌then◌else◌, List, [], ◌∷◌, map, filter, Option, Some, None}
 use Rattle.sqlite.specs.declared.types.Value.{Value}
 use Rattle.sqlite.specs.declared.types.Value.TheVariants.{Null, Int, Text as Words}
-use Rattle.sqlite.specs.Order.{Row}
-use Rattle.sqlite.specs.Effect.{Database}
+use Rattle.sqlite.specs.Order.{Row, column}
+use Rattle.sqlite.specs.Effect.{Database, IsDatabase}
+use Rattle.portal_core.specs.Words.{Rise}
 use Rattle.portal_tables.specs.Tables.{portal_tree, lecturer_tree, student_tree}
 use Rattle.portal_tables.specs.Own.{IsOwn}
-use Rattle.portal_tables.specs.Changes.{Puts, Drops, Sets, Becomes, IsApart, has_text}
+use Rattle.portal_tables.specs.Changes.{Puts, Drops, Sets, Alters, Becomes, IsApart, has_text, columns}
 
 -- the cells of a row after its number; that of `portal` has its id for a number, and nothing in the column
 abbrev pub portal_cells : ℤ → ℤ → List ℕ → Row
@@ -55,8 +56,22 @@ abbrev pub text_or_null : Option (List ℕ) → Value
 text_or_null None = Null
 text_or_null (Some t) = Words t
 
--- the student's one row names this project or none, whatever stood in its last column
-abbrev pub Assigns : List ℕ → Option (List ℕ) → Database → Database → Type 0
-Assigns key project old new = IsOwn old.schema → IsApart (old.trees student_tree) → (number : ℤ) (name code : List ℕ) (last : Row)
-    → filter (has_text 1 key) (old.trees student_tree) ≡ (Int number ∷ Words key ∷ Words name ∷ Words code ∷ last) ∷ []
-    → Sets student_tree (has_text 1 key) (Int number ∷ student_cells key name code (text_or_null project)) old new
+-- what a student's row shows: its number and its four columns
+abbrev pub student_shown : Row → Row
+student_shown = columns (0 ∷ 1 ∷ 2 ∷ 3 ∷ 4 ∷ [])
+
+-- a student's key, and the project that the student is to be assigned to, or none
+abbrev pub Assigned : Type 0
+Assigned = List ℕ × Option (List ℕ)
+
+-- what the first of these says of the row's student, or this value where none does
+abbrev pub assigned_by : List Assigned → Value → Row → Value
+assigned_by [] otherwise r = otherwise
+assigned_by (a ∷ all) otherwise r = if has_text 1 a.0 r then text_or_null a.1 else assigned_by all otherwise r
+
+abbrev pub with_assigned : List Assigned → Row → Row
+with_assigned all r = column r 0 ∷ column r 1 ∷ column r 2 ∷ column r 3 ∷ assigned_by all (column r 4) r ∷ []
+
+-- each of these students, whose keys rise, is assigned to the project or to none, and no other student's row has changed
+abbrev pub Assigns : List Assigned → Database → Database → Type 0
+Assigns all old new = Rise (map (λ a. a.0) all) → IsOwn old.schema → IsDatabase old → IsApart (old.trees student_tree) → Alters student_tree student_shown (with_assigned all) old new

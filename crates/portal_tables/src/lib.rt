@@ -6,6 +6,7 @@
 
 pub mod apart;
 pub mod applicants;
+pub mod assign;
 pub mod cells;
 pub mod contents;
 pub mod decode;

@@ -1,11 +1,10 @@
 //! One column of one row changes.
 
-ghost use Rattle.std.specs.Prelude.{◌≡◌, OnOk, option_map};
+ghost use Rattle.std.specs.Prelude.{◌≡◌, OnOk};
 ghost use Rattle.sqlite.specs.State.{HasCleanDisk, KeepsCommit, Survives};
 ghost use Rattle.sqlite.specs.Held.{state};
 ghost use Rattle.portal_tables.specs.Steps.{Made};
-ghost use Rattle.portal_tables.specs.Rows.{MovesTo, Ranks, Assigns, text_or_null as text_or_null_of};
-ghost use Rattle.sqlite_value.specs.Value.{owned};
+ghost use Rattle.portal_tables.specs.Rows.{MovesTo, Ranks};
 
 use crate::run::write;
 use sqlite::types::{ToSql, ValueRef};
@@ -36,33 +35,5 @@ pub fn set_ranked<S: Alter>(tx: &mut Transaction<'_, S>, lecturer: &[u8]) -> Res
         tx,
         "UPDATE lecturer SET ranked = 1 WHERE key = ?1",
         &[ValueRef::Text(lecturer)],
-    )
-}
-
-/// The text, or NULL where there is none.
-fn text_or_null(text: Option<&[u8]>) -> ValueRef<'_>
-    ensures { owned result ≡ text_or_null_of (option_map (λ t. t.now) text.entry) }
-{
-    match text {
-        Some(text) => ValueRef::Text(text),
-        None => ValueRef::Null,
-    }
-}
-
-/// Writes the project that a student is assigned to, or that there is none.
-pub fn set_assigned<S: Alter>(
-    tx: &mut Transaction<'_, S>,
-    student: &[u8],
-    project: Option<&[u8]>,
-) -> Result<(), Error>
-    ensures same_reference { tx.new.conn.ghost_name ≡ tx.old.conn.ghost_name }
-    ensures done { HasCleanDisk (state S.Store tx.new.conn.now) → OnOk result (Made (Assigns student.now (option_map (λ p. p.now) project.entry)) (state S.Store tx.old.conn.now) (state S.Store tx.new.conn.now)) }
-    ensures kept { HasCleanDisk (state S.Store tx.new.conn.now) → KeepsCommit (state S.Store tx.old.conn.now) (state S.Store tx.new.conn.now) }
-    ensures survives { Survives (state S.Store tx.old.conn.now) (state S.Store tx.new.conn.now) (λ _. ⊥) }
-{
-    write(
-        tx,
-        "UPDATE student SET assigned = ?2 WHERE key = ?1",
-        &[ValueRef::Text(student), text_or_null(project)],
     )
 }

@@ -4,6 +4,7 @@ use portal_tables::apart::{
     has_apart_choices, has_apart_lecturers, has_apart_portal, has_apart_projects,
     has_apart_rankings, has_apart_students,
 };
+use portal_tables::assign::{Assignment, assign_all};
 use portal_tables::entries::{Lists, entries_in};
 use portal_tables::insert::{
     NewChoice, NewLecturer, NewProject, NewRanking, NewRow, NewStudent, add_all,
@@ -16,7 +17,7 @@ use portal_tables::select::{
     portal_rows, project_rows, ranking_of, ranking_rows, stored_choices, stored_rankings,
     student_by_code, student_by_key, student_rows,
 };
-use portal_tables::update::{set_assigned, set_phase, set_ranked};
+use portal_tables::update::{set_phase, set_ranked};
 use spa_rows::Key;
 use sqlite::types::ValueRef;
 use sqlite::{Connection, Error, MemStore, Row, Transaction};
@@ -160,10 +161,14 @@ fn fill(conn: &mut Connection<MemStore>) -> Result<(), Error> {
     tx.commit()
 }
 
+fn assignment<'a>(student: &'a [u8], project: Option<&'a [u8]>) -> Assignment<'a> {
+    Assignment { student, project }
+}
+
 fn set_all(tx: &mut Transaction<'_, MemStore>) -> Result<(), Error> {
     set_phase(tx, 3)?;
     set_ranked(tx, b"L1")?;
-    set_assigned(tx, b"S2", Some(b"P1".as_slice()))?;
+    assign_all(tx, &[assignment(b"S2", Some(b"P1".as_slice()))])?;
     clear_choices(tx, b"S1")?;
     clear_rankings(tx, b"L1")?;
     Ok(())
@@ -315,6 +320,44 @@ fn rows_come_by_the_eight(rt: HostRuntime) -> Result<(), Fail> {
         ranking_of(&mut conn, b"K1"),
         2,
         "1 K1 /2 K2 /3 K3 /4 K4 /5 K5 /6 K6 /7 K7 /8 K8 /9 K9 /",
+    );
+    are_apart(&rt, &mut conn);
+    Ok(())
+}
+
+/// Each of the nine students is assigned to the project of the same key, but for the fifth, who has none.
+fn assign_nine(
+    rt: &(impl Abort + AllocGlobal),
+    conn: &mut Connection<MemStore>,
+) -> Result<(), Error> {
+    if !conn.is_autocommit() {
+        return Ok(());
+    }
+    let mut tx = conn.transaction();
+    let mut all = Vec::new(rt.alloc());
+    for key in nine() {
+        let project = if key == b"K5".as_slice() {
+            None
+        } else {
+            Some(key)
+        };
+        all.push(assignment(key, project))?;
+    }
+    assign_all(&mut tx, &all)?;
+    tx.commit()
+}
+
+#[test]
+fn students_are_assigned_by_the_eight(rt: HostRuntime) -> Result<(), Fail> {
+    let mut conn = Connection::open_in_memory(rt.alloc())?;
+    create(&mut conn)?;
+    fill_nine(&rt, &mut conn)?;
+    assign_nine(&rt, &mut conn)?;
+    shows(
+        &rt,
+        student_rows(&mut conn),
+        4,
+        "K1 K1 K1 K1 /K2 K2 K2 K2 /K3 K3 K3 K3 /K4 K4 K4 K4 /K5 K5 K5 - /K6 K6 K6 K6 /K7 K7 K7 K7 /K8 K8 K8 K8 /K9 K9 K9 K9 /",
     );
     are_apart(&rt, &mut conn);
     Ok(())

@@ -4,20 +4,9 @@ ghost use Rattle.std.specs.Prelude.{◌≡◌, IfOk, OnOk, OnErr, map, option_ma
 ghost use Rattle.portal_core.specs.Change.{place_in, with_place};
 
 use crate::entries::StudentEntry;
+use portal_core::Pairs;
 use spa_rows::Key;
 use std::alloc::{AllocError, Global};
-
-/// The project that the pairs give to the student.
-fn project_in<'a>(pairs: &'a [(Key, Key)], student: &Key) -> Option<&'a Key>
-    ensures { option_map (λ p. p.now) result ≡ place_in pairs.now student.now }
-{
-    for (owner, project) in pairs {
-        if owner == student {
-            return Some(project);
-        }
-    }
-    None
-}
 
 /// The same project again, if there is one.
 fn place_copy(alloc: Global, project: Option<&Key>) -> Result<Option<Key>, AllocError>
@@ -37,9 +26,11 @@ fn places_of(
 ) -> Result<Vec<Option<Key>>, AllocError>
     ensures { IfOk result (λ v. v.items ≡ map (λ s. place_in pairs.now s.row.key) students.now) }
 {
+    let pairs = Pairs::of(alloc, pairs)?;
     let mut places = Vec::with_capacity(alloc, students.len())?;
     for student in students {
-        places.push(place_copy(alloc, project_in(pairs, &student.row.key))?)?;
+        let project = pairs.project_of(student.row.key.as_bytes());
+        places.push(place_copy(alloc, project)?)?;
     }
     Ok(places)
 }

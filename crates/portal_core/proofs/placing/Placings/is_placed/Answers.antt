@@ -1,7 +1,11 @@
-use Rattle.portal_core.proofs.Tables.{is_there}
+use Rattle.std.proofs.Common.{ap, ◌∙◌}
+use Rattle.portal_core.specs.Sight.{OfficeSees}
+use Rattle.portal_core.specs.Change.{place_in}
+use Rattle.portal_core.proofs.Tables.{is_placed}
 use Rattle.portal_core.proofs.placing.Placings.is_placed.Goals as goal
 
 pub returns : goal.returns
 returns c =
-    rw (← c.self.view_is, c.is_some.ensures, c.row_at.ensures)
-    (is_there (λ pair. pair.0) c.self.inside.view.now.pairs c.self.inside.pairs c.self.invariant.0 c.as_bytes.result c.args.student.now.key c.as_bytes.ensures.bytes)
+    c.is_some.ensures
+    ∙ is_placed c.args.self.now.pairs c.args.student.now.key c.project_of.result
+    (c.project_of.ensures ∙ ap (place_in c.self.inside.pairs) c.as_bytes.ensures.bytes ∙ ap (λ pairs. place_in pairs c.args.student.now.key) (c.self.invariant.0 ∙ ap (λ (v : OfficeSees). v.pairs) c.self.view_is))

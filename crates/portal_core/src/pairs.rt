@@ -1,0 +1,48 @@
+//! The pairs of a result, as they are looked up by their students.
+
+ghost use Rattle.std.specs.Prelude.{◌≡◌, IfOk, option_map};
+ghost use Rattle.portal_core.specs.Change.{place_in};
+
+use crate::keyed::{row_at, rows_by_key};
+use spa_rows::Key;
+use std::alloc::{AllocError, Global};
+use std::collections::HashMap;
+use std::marker::Model;
+
+/// The pairs of a result, each a student and a project, to be asked for a student's project. Where a student stands twice, the first pair
+/// counts. Keys can be made that its table tells apart one by one; a search then looks at each pair once at most.
+#[derive(Drop)]
+pub struct Pairs<'a> {
+    pairs: &'a [(Key, Key)],
+    by_student: HashMap<&'a [u8], &'a (Key, Key)>,
+}
+
+impl<'a> Model for Pairs<'a> {
+    ghost use Rattle.std.specs.Prelude.{List};
+    ghost use Rattle.portal_core.specs.Words.{Key};
+    ghost use Rattle.portal_core.specs.Tables.{HasRows};
+
+    ghost Value = { List (Key × Key) };
+
+    ghost view = { λ p. p.pairs.now };
+
+    ghost invariant = { λ p. HasRows (λ pair. pair.0) p.pairs.now p.by_student };
+}
+
+impl<'a> Pairs<'a> {
+    /// These pairs.
+    pub fn of(alloc: Global, pairs: &'a [(Key, Key)]) -> Result<Pairs<'a>, AllocError>
+        ensures { IfOk result (λ p. p ≡ pairs.now) }
+    {
+        let by_student = rows_by_key(alloc, pairs)?;
+        Ok(Pairs { pairs, by_student })
+    }
+
+    /// The project that the pairs give to the student with this key.
+    pub fn project_of(&self, student: &[u8]) -> Option<&'a Key>
+        ensures { option_map (λ key. key.now) result ≡ place_in self.now student.now }
+    {
+        let (_, project) = row_at(&self.by_student, student)?;
+        Some(project)
+    }
+}
