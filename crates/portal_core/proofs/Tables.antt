@@ -13,13 +13,9 @@ use Rattle.std.specs.HashSet.{HashSet}
 use Rattle.spa_rows.specs.Index.{text_eq}
 use Rattle.portal_core.specs.Words.{Key, is, has}
 use Rattle.portal_core.specs.declared.rows.Person.{Person}
-use Rattle.portal_core.specs.declared.rows.ProjectRow.{ProjectRow}
-use Rattle.portal_core.specs.declared.rows.StudentRow.{StudentRow}
-use Rattle.portal_core.specs.Sight.{OfficeSees}
 use Rattle.portal_core.specs.Bodies.{is_assigned}
 use Rattle.portal_core.specs.Change.{place_in}
-use Rattle.portal_core.specs.Sheets.{project_with, project_of}
-use Rattle.portal_core.specs.Tables.{HasTexts, HasRows, HasKeys, HasPlacings}
+use Rattle.portal_core.specs.Tables.{HasTexts, HasRows, HasKeys}
 use Rattle.portal_core.proofs.Keys.{is_same}
 use Rattle.portal_core.proofs.AllLaws.{any_alike, is_sym, or_swap}
 
@@ -76,12 +72,6 @@ before_seen seen row = sym (ap reverse (map-append (λ r. r.now) seen (row ∷ [
 pub looked_up : {S : Type 0} (pairs : List (Key × Key)) (table : HashMap (Bor Key) (Bor (Key × Key)) S) → HasRows (λ pair. pair.0) pairs table
     → (q : Bor Key) (found : Option (Bor (Key × Key))) → found ≡ hash.get text_eq table q → option_map (λ (x : Key × Key). x.1) (option_map (λ row. row.now) found) ≡ place_in pairs q.now
 looked_up pairs table has_all q found got = ap (option_map (λ (x : Key × Key). x.1)) (ap (option_map (λ row. row.now)) got ∙ has_all q)
-
--- the project of a student was found
-pub project_found : {S : Type 0} (v : OfficeSees) (s : StudentRow) (pairs : List (Key × Key)) (projects : HashMap (Bor Key) (Bor ProjectRow) S) → HasPlacings v pairs projects
-    → (k : Bor Key) → Some k.now ≡ place_in pairs s.key → option_map (λ row. row.now) (hash.get text_eq projects k) ≡ project_of v s
-project_found v s pairs projects has_all k is_project =
-    has_all.1 k ∙ ap (project_with v.projects) (is_project ∙ ap (λ all. place_in all s.key) has_all.0)
 
 -- whether a row has the key
 some_found : {X : Type 0} (p : X → Bool) (xs : List X) → is_some (find p xs) ≡ list_any p xs

@@ -1,6 +1,6 @@
 -- What was written of one reply.
-use Rattle.std.proofs.Common.{◌≡◌, ℕ, Bool, true, false, List, [], sym, subst, append-nil}
-use Rattle.std.specs.Prelude.{Option, Some, None, ◌||◌}
+use Rattle.std.proofs.Common.{◌≡◌, ℕ, Bool, true, false, List, subst}
+use Rattle.std.specs.Prelude.{Option, ◌||◌}
 use Rattle.std.specs.Io.KnownBytes.{Appends}
 use Rattle.portal_core.specs.Answer.{Answer}
 use Rattle.portal_core.specs.Run.{unavailable}
@@ -8,10 +8,6 @@ use Rattle.portal_desk.specs.declared.served.Cause.{Cause}
 use Rattle.portal_desk.specs.declared.served.Cause.TheVariants as cause
 use Rattle.portal_wire.specs.Text.{reply_text}
 use Rattle.portal_desk.specs.Serving.{Partly, Broke}
-
-pub Appends-nil : (a : Option (List ℕ)) → Appends a a []
-Appends-nil None = tt
-Appends-nil (Some a) = sym (append-nil a)
 
 pub broke : (why : Cause) (failed : Bool) (reply : Answer) (head closes : Bool) (before after : Option (List ℕ))
     → Partly why before after (reply_text reply head (closes || failed)) → Broke why failed reply head closes before after

@@ -19,9 +19,6 @@ Run-snoc w u v (x ∷ es) e [] run same step = absurd run
 Run-snoc w u v (x ∷ es) e (y ∷ worlds) run same step =
     let r = Run-snoc y u v es e worlds run.1 same step in ((run.0, r.0), r.1)
 
-pub Reaches-none : (w : World) → Reaches w [] w
-Reaches-none w = ([], tt, refl)
-
 pub Reaches-snoc : (w u v : World) (es : List Exchange) (e : Exchange) → Reaches w es u → Serves u e.request e.reply v → Reaches w (es ++ e ∷ []) v
 Reaches-snoc w u v es e (worlds, run, same) step = let r = Run-snoc w u v es e worlds run same step in (worlds ++ v ∷ [], r.0, r.1)
 

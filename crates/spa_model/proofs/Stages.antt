@@ -3,7 +3,7 @@ use Rattle.std.proofs.Common.{◌≡◌, ℕ, ◌<◌, List, length, get_or, Opt
 use Rattle.std.specs.List.{AllZip}
 use Rattle.std.proofs.lemmas.List.{get_or_default, length-map}
 use Rattle.spa_rows.specs.Lines
-use Rattle.spa_rows.specs.Lines.{Text, Rows}
+use Rattle.spa_rows.specs.Lines.{Rows}
 use Rattle.spa_rows.specs.Least.{IsLeastOf}
 use Rattle.spa_rows.specs.Faults.{HasFault, HasNoneBefore, NamesNone}
 use Rattle.spa_rows.specs.declared.faults.InstanceFault.TheVariants.{NotApplicant, ApplicantMissing}
