@@ -17,4 +17,5 @@ pub mod Fresh
 pub mod Shared
 pub mod Filled
 pub mod Missing
+pub mod Noted
 pub mod Stable

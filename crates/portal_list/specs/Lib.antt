@@ -4,3 +4,4 @@ pub mod Rows
 pub mod Fit
 pub mod Parts
 pub mod Fill
+pub mod Wanted

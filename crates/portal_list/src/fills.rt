@@ -13,6 +13,7 @@ use crate::entries::StudentEntry;
 use crate::fit::entries_of;
 use crate::from_rows::{RowsFault, WorldRows};
 use crate::views::waiting;
+use crate::wanted::Wanted;
 use portal_core::ProjectRow;
 use spa_rows::Key;
 use std::alloc::{AllocError, Global};
@@ -26,9 +27,10 @@ fn with_applicants(
 ) -> Result<Vec<(Key, Vec<Key>)>, AllocError>
     ensures { IfOk result (λ v. map {B = words.Key × List words.Key} (λ f. (f.0, f.1.items)) v.items ≡ map (λ k. (k, applicant_keys projects.now students.now k)) lecturers.now) }
 {
+    let wanted = Wanted::of(alloc, students)?;
     let mut fills = Vec::with_capacity(alloc, lecturers.len())?;
     for lecturer in lecturers {
-        let keys = applicants_by_key(alloc, projects, students, lecturer)?;
+        let keys = applicants_by_key(alloc, projects, &wanted, lecturer)?;
         fills.push((lecturer.copy(alloc)?, keys))?;
     }
     Ok(fills)

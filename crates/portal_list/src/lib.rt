@@ -16,6 +16,7 @@ mod keyed;
 mod lists;
 mod rolls;
 mod views;
+mod wanted;
 
 pub use fills::fills_of_rows;
 pub use from_rows::{RowsFault, WorldRows};

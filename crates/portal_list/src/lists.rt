@@ -1,15 +1,16 @@
 //! Whether lists, rankings and the result are those of a sound world.
 
 ghost use Rattle.std.specs.Prelude.{◌≡◌, ◌↔◌, IfOk, IsTrue, true, map, option_map, [], None};
-ghost use Rattle.std.specs.List.{AllByRecursion, list_any};
+ghost use Rattle.std.specs.List.{AllByRecursion};
 ghost use Rattle.portal_core.specs.Words.{has, Rise};
 ghost use Rattle.portal_core.specs.World.{project_key, student_key, is_published};
 ghost use Rattle.portal_core.specs.Good.{IsChoice, IsRanking};
-ghost use Rattle.portal_list.specs.Parts.{PhaseFits, wanting, own_keys, applicant_keys, IsRanked, ListsFit};
+ghost use Rattle.portal_list.specs.Parts.{PhaseFits, own_keys, applicant_keys, IsRanked, ListsFit};
 
 use crate::distinct::keys_are_distinct;
 use crate::entries::{LecturerEntry, StudentEntry};
 use crate::keyed::is_known;
+use crate::wanted::Wanted;
 use portal_core::{Phase, ProjectRow};
 use spa_rows::Key;
 use std::alloc::{AllocError, Global};
@@ -122,52 +123,17 @@ fn own_projects<'a>(
     Ok(own)
 }
 
-fn is_on(choice: &[Key], project: &Key) -> bool
-    ensures { result ≡ has choice.now project.now }
-{
-    choice.iter().any(|key| project == key)
-}
-
-/// Whether the list holds one of the projects.
-fn holds_one(choice: &[Key], projects: &[&Key]) -> bool
-    ensures { result ≡ list_any (λ p. has choice.now p) (map (λ k. k.now) projects.now) }
-{
-    for project in projects {
-        if is_on(choice, *project) {
-            return true;
-        }
-    }
-    false
-}
-
-/// The keys of the students whose list holds one of the projects.
-fn wanting_students<'a>(
-    alloc: Global,
-    projects: &[&Key],
-    students: &'a [StudentEntry],
-) -> Result<Vec<&'a Key>, AllocError>
-    ensures { IfOk result (λ keys. map (λ k. k.now) keys.items ≡ map student_key (wanting (map (λ k. k.now) projects.now) students.now)) }
-{
-    let mut keys = Vec::new(alloc);
-    for student in students {
-        if holds_one(&student.choice, projects) {
-            keys.push(&student.row.key)?;
-        }
-    }
-    Ok(keys)
-}
-
 /// The keys of the lecturer's applicants.
 pub(crate) fn applicants<'a>(
     alloc: Global,
     projects: &[ProjectRow],
-    students: &'a [StudentEntry],
+    wanted: &Wanted<'a>,
     lecturer: &Key,
 ) -> Result<Vec<&'a Key>, AllocError>
-    ensures { IfOk result (λ keys. map (λ k. k.now) keys.items ≡ applicant_keys projects.now students.now lecturer.now) }
+    ensures { IfOk result (λ keys. map (λ k. k.now) keys.items ≡ applicant_keys projects.now wanted.now lecturer.now) }
 {
     let own = own_projects(alloc, projects, lecturer)?;
-    wanting_students(alloc, &own, students)
+    wanted.wanting(alloc, &own)
 }
 
 /// Whether each is an applicant.
@@ -214,16 +180,16 @@ fn ranking_fits(
     alloc: Global,
     asked: bool,
     projects: &[ProjectRow],
-    students: &[StudentEntry],
+    wanted: &Wanted<'_>,
     lecturer: &LecturerEntry,
 ) -> Result<bool, AllocError>
-    requires { Rise (map student_key students.now) }
-    ensures { IfOk result (λ yes. IsTrue yes ↔ IsRanked asked (applicant_keys projects.now students.now lecturer.now.row.key) lecturer.now.ranking) }
+    requires { Rise (map student_key wanted.now) }
+    ensures { IfOk result (λ yes. IsTrue yes ↔ IsRanked asked (applicant_keys projects.now wanted.now lecturer.now.row.key) lecturer.now.ranking) }
 {
     if !asked && lecturer.ranking.is_none() {
         return Ok(true);
     }
-    let applicants = applicants(alloc, projects, students, &lecturer.row.key)?;
+    let applicants = applicants(alloc, projects, wanted, &lecturer.row.key)?;
     is_ranked(alloc, asked, &applicants, &lecturer.ranking)
 }
 
@@ -237,8 +203,9 @@ fn rankings_fit(
     requires { Rise (map student_key students.now) }
     ensures { IfOk result (λ yes. IsTrue yes ↔ AllByRecursion (λ l. IsRanked asked (applicant_keys projects.now students.now l.row.key) l.ranking) lecturers.now) }
 {
+    let wanted = Wanted::of(alloc, students)?;
     for lecturer in lecturers {
-        if !ranking_fits(alloc, asked, projects, students, lecturer)? {
+        if !ranking_fits(alloc, asked, projects, &wanted, lecturer)? {
             return Ok(false);
         }
     }

@@ -6,6 +6,7 @@ ghost use Rattle.portal_list.specs.Fill.{unless_empty, missing, with_missing, fi
 
 use crate::entries::{LecturerEntry, StudentEntry};
 use crate::lists::applicants;
+use crate::wanted::Wanted;
 use portal_core::ProjectRow;
 use spa_rows::Key;
 use std::alloc::{AllocError, Global};
@@ -41,12 +42,12 @@ fn copies(alloc: Global, keys: &[&Key]) -> Result<Vec<Key>, AllocError>
 pub(crate) fn applicants_by_key(
     alloc: Global,
     projects: &[ProjectRow],
-    students: &[StudentEntry],
+    wanted: &Wanted<'_>,
     lecturer: &Key,
 ) -> Result<Vec<Key>, AllocError>
-    ensures { IfOk result (λ v. v.items ≡ applicant_keys projects.now students.now lecturer.now) }
+    ensures { IfOk result (λ v. v.items ≡ applicant_keys projects.now wanted.now lecturer.now) }
 {
-    let applicants = applicants(alloc, projects, students, lecturer)?;
+    let applicants = applicants(alloc, projects, wanted, lecturer)?;
     copies(alloc, &applicants)
 }
 
@@ -64,15 +65,15 @@ fn ranking_of(keys: Vec<Key>) -> Option<Ranking>
 fn missing_ranking(
     alloc: Global,
     projects: &[ProjectRow],
-    students: &[StudentEntry],
+    wanted: &Wanted<'_>,
     lecturer: &LecturerEntry,
 ) -> Result<Option<Ranking>, AllocError>
-    ensures { IfOk result (λ o. o ≡ missing projects.now students.now lecturer.now) }
+    ensures { IfOk result (λ o. o ≡ missing projects.now wanted.now lecturer.now) }
 {
     if lecturer.ranking.is_some() {
         return Ok(None);
     }
-    let keys = applicants_by_key(alloc, projects, students, &lecturer.row.key)?;
+    let keys = applicants_by_key(alloc, projects, wanted, &lecturer.row.key)?;
     Ok(ranking_of(keys))
 }
 
@@ -85,9 +86,10 @@ fn missing_rankings(
 ) -> Result<Vec<Option<Ranking>>, AllocError>
     ensures { IfOk result (λ v. v.items ≡ map (missing projects.now students.now) lecturers.now) }
 {
+    let wanted = Wanted::of(alloc, students)?;
     let mut rankings = Vec::with_capacity(alloc, lecturers.len())?;
     for lecturer in lecturers {
-        rankings.push(missing_ranking(alloc, projects, students, lecturer)?)?;
+        rankings.push(missing_ranking(alloc, projects, &wanted, lecturer)?)?;
     }
     Ok(rankings)
 }

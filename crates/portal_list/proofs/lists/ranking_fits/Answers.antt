@@ -10,12 +10,12 @@ use Rattle.portal_list.proofs.lists.ranking_fits.Goals as goal
 pub is_ranked-requires : goal.is_ranked-requires
 is_ranked-requires c =
     subst Rise (sym (ap (map (λ k. k.now)) c.deref.ensures.value ∙ c.in_ok-applicants.ensures))
-    (rise_kept student_key (λ s. list_any (λ p. has s.choice p) (own_keys c.args.projects.now c.lecturer.inside.row.key)) c.args.students.now c.requires)
+    (rise_kept student_key (λ s. list_any (λ p. has s.choice p) (own_keys c.args.projects.now c.lecturer.inside.row.key)) c.args.wanted.now c.requires)
 
 pub returns : goal.returns
 returns c =
-    let keys : map (λ k. k.now) c.deref.result.now ≡ applicant_keys c.args.projects.now c.args.students.now c.args.lecturer.now.row.key
-    = ap (map (λ k. k.now)) c.deref.ensures.value ∙ c.in_ok-applicants.ensures ∙ ap (λ l. applicant_keys c.args.projects.now c.args.students.now l.row.key) c.lecturer.view_is in
+    let keys : map (λ k. k.now) c.deref.result.now ≡ applicant_keys c.args.projects.now c.args.wanted.now c.args.lecturer.now.row.key
+    = ap (map (λ k. k.now)) c.deref.ensures.value ∙ c.in_ok-applicants.ensures ∙ ap (λ l. applicant_keys c.args.projects.now c.args.wanted.now l.row.key) c.lecturer.view_is in
     let ranking : option_map (λ r. r.items) c.lecturer.inside.ranking ≡ c.args.lecturer.now.ranking = ap (λ l. l.ranking) c.lecturer.view_is in
-    subst (λ r. IfOk c.is_ranked.result (λ yes. IsTrue yes ↔ IsRanked c.args.asked (applicant_keys c.args.projects.now c.args.students.now c.args.lecturer.now.row.key) r)) ranking
+    subst (λ r. IfOk c.is_ranked.result (λ yes. IsTrue yes ↔ IsRanked c.args.asked (applicant_keys c.args.projects.now c.args.wanted.now c.args.lecturer.now.row.key) r)) ranking
     (subst (λ ks. IfOk c.is_ranked.result (λ yes. IsTrue yes ↔ IsRanked c.args.asked ks (option_map (λ r. r.items) c.lecturer.inside.ranking))) keys c.is_ranked.ensures)
