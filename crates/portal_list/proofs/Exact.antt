@@ -13,7 +13,8 @@ use Rattle.portal_core.specs.World.{World, Lecturer, Student, is_still_to_rank}
 use Rattle.portal_core.specs.declared.rows.ProjectRow.{ProjectRow}
 use Rattle.portal_core.specs.Instance.{instance, lecturer_keys, project_keys, student_keys}
 use Rattle.portal_core.specs.Good.{Sound}
-use Rattle.portal_list.specs.Lines.{lecturer_line, project_line, student_line, lines_of, HasEntries}
+use Rattle.portal_list.specs.Entries.{HasEntries, entries_of}
+use Rattle.portal_list.specs.Lines.{lecturer_line, project_line, student_line, lines_of}
 use Rattle.portal_list.proofs.Rising.{map_map, pairs_rise}
 use Rattle.portal_list.proofs.Standing.{spa_of_rows, only_instance}
 use Rattle.portal_list.proofs.Faultless.{faultless}
@@ -52,7 +53,7 @@ exact w i sound lawful for =
     ∙ same_instance w
 
 -- of the entries of a sound world
-module _ (ls : List Lecturer) (ps : List ProjectRow) (ss : List Student) (w : World) (has : HasEntries ls ps ss w) (sound : Sound w) where
+module _ (ls : List Lecturer) (ps : List ProjectRow) (ss : List Student) (w : World) (has : HasEntries (entries_of ls ps ss) w) (sound : Sound w) where
   same_lines : lines_of w.lecturers w.projects w.students ≡ lines_of ls ps ss
   same_lines = λ j. lines_of (has.lecturers_there j) (has.projects_there j) (has.students_there j)
 

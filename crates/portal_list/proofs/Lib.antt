@@ -16,6 +16,7 @@ pub mod Parted
 pub mod Fresh
 pub mod Shared
 pub mod Filled
+pub mod Followed
 pub mod Missing
 pub mod Noted
 pub mod Stable

@@ -12,7 +12,7 @@ use Rattle.portal_core.proofs.Keys.{all_unmap}
 use Rattle.portal_core.proofs.AllLaws as laws
 use Rattle.portal_list.specs.Rows.{Rows, rows_of}
 use Rattle.portal_list.specs.Fit.{lecturers_fitting, students_fitting}
-use Rattle.portal_list.specs.Lines.{HasEntries}
+use Rattle.portal_list.specs.Entries.{HasEntries, entries_of}
 use Rattle.portal_list.specs.Parts.{codes_in, lecturer_row_keys, student_row_keys, applicant_keys, IsRanked, RollsFit, ListsFit}
 use Rattle.portal_list.proofs.Rising.{map_map}
 use Rattle.portal_list.proofs.Fitting.{lecturers_back, lecturers_rows, students_back, students_rows}
@@ -138,7 +138,7 @@ module _ (rows : Rows) where
   students_of_sound w e sound = ap (λ r. students_fitting r.students r.choices r.pairs) e ∙ students_back w.students sound.students_rise
 
   pub entries_of_sound : (w : World) → rows ≡ rows_of w → Sound w → (ls : List Lecturer) (ps : List ProjectRow) (ss : List Student)
-      → lecturers_fitting rows.lecturers rows.rankings ≡ Some ls → rows.projects ≡ ps → students_fitting rows.students rows.choices rows.pairs ≡ Some ss → HasEntries ls ps ss w
+      → lecturers_fitting rows.lecturers rows.rankings ≡ Some ls → rows.projects ≡ ps → students_fitting rows.students rows.choices rows.pairs ≡ Some ss → HasEntries (entries_of ls ps ss) w
   entries_of_sound w e sound ls ps ss lecturers projects students =
       let l : Some w.lecturers ≡ Some ls = sym (lecturers_of_sound w e sound) ∙ lecturers in
       let s : Some w.students ≡ Some ss = sym (students_of_sound w e sound) ∙ students in

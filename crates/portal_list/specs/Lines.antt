@@ -1,8 +1,8 @@
 -- The lines that entries stand for: keys as texts, a missing ranking as the empty list.
-use Rattle.std.specs.Prelude.{◌≡◌, List, [], map, unwrap_or}
+use Rattle.std.specs.Prelude.{List, [], map, unwrap_or}
 use Rattle.spa_rows.specs.Lines
 use Rattle.spa_rows.specs.Lines.{Rows}
-use Rattle.portal_core.specs.World.{World, Lecturer, Student}
+use Rattle.portal_core.specs.World.{Lecturer, Student}
 use Rattle.portal_core.specs.declared.rows.ProjectRow.{ProjectRow}
 
 -- no fault of these lines is ever told, so that they need no row
@@ -18,9 +18,3 @@ student_line s = record { row = 0; key = s.row.key; list = s.choice }
 abbrev pub lines_of : List Lecturer → List ProjectRow → List Student → Rows
 lines_of lecturers projects students =
     record { lecturers = map lecturer_line lecturers; projects = map project_line projects; students = map student_line students }
-
--- the world has these entries
-pub record HasEntries (lecturers : List Lecturer) (projects : List ProjectRow) (students : List Student) (w : World) : Type 0 where
-  pub lecturers_there : w.lecturers ≡ lecturers
-  pub projects_there : w.projects ≡ projects
-  pub students_there : w.students ≡ students

@@ -1,7 +1,16 @@
 //! The rows of a keeper, each with what its owner has made.
 
-use portal_core::{LecturerRow, StudentRow};
+ghost use Rattle.std.specs.Prelude.{◌≡◌, true, false, Ok, IfOk, OnErr};
+ghost use Rattle.portal_core.specs.World.{World};
+ghost use Rattle.portal_core.specs.Change.{changed};
+ghost use Rattle.portal_core.specs.Good.{Sound};
+ghost use Rattle.portal_core.specs.Meaning.{meant};
+ghost use Rattle.portal_list.specs.Entries.{HasEntries, is_followed};
+
+use crate::changes::{fill_rankings, replace_choice, replace_ranking};
+use portal_core::{Change, LecturerRow, ProjectRow, StudentRow};
 use spa_rows::Key;
+use std::alloc::{AllocError, Global};
 use std::marker::Model;
 
 /// A lecturer's row, and the ranking if one is there.
@@ -34,4 +43,49 @@ impl Model for StudentEntry {
     ghost Value = { Student };
 
     ghost view = { λ e. record { row = e.row; choice = e.choice.items; placed = e.placed } };
+}
+
+/// The entries of a world, in the order of its rolls.
+#[derive(Drop)]
+pub struct Entries {
+    pub(crate) lecturers: Vec<LecturerEntry>,
+    pub(crate) projects: Vec<ProjectRow>,
+    pub(crate) students: Vec<StudentEntry>,
+}
+
+impl Model for Entries {
+    ghost use Rattle.portal_list.specs.Entries.{AllEntries};
+
+    ghost Value = { AllEntries };
+
+    ghost view = { λ e. record { lecturers = e.lecturers.items; projects = e.projects.items; students = e.students.items } };
+}
+
+impl Entries {
+    /// Follows a change of a list, a ranking, the phase, or a fill, and says so. New rolls and the result are not followed; then, and where
+    /// memory is short, all stays as it was.
+    pub fn follow(&mut self, alloc: Global, change: &Change) -> Result<bool, AllocError>
+        ensures followed { IfOk result (λ yes. yes ≡ is_followed (meant change.now)) }
+        ensures made { result ≡ Ok true → (w : World) → Sound w → HasEntries self.old w → HasEntries self.new (changed w (meant change.now)) }
+        ensures not_made { result ≡ Ok false → self.new ≡ self.old }
+        ensures same { OnErr result (self.new ≡ self.old) }
+    {
+        match change {
+            Change::Choices { student, projects } => {
+                replace_choice(alloc, &mut self.students, student, projects)?;
+                Ok(true)
+            }
+            Change::Ranking { lecturer, students } => {
+                replace_ranking(alloc, &mut self.lecturers, lecturer, students)?;
+                Ok(true)
+            }
+            Change::Fill => {
+                fill_rankings(alloc, &mut self.lecturers, &self.projects, &self.students)?;
+                Ok(true)
+            }
+            Change::Phase(_) => Ok(true),
+            Change::Lecturers(_) | Change::Projects(_) | Change::Students(_) | Change::Result(_) =>
+                Ok(false),
+        }
+    }
 }

@@ -1,17 +1,14 @@
 //! What a fill would put.
 
-ghost use Rattle.std.specs.Prelude.{◌≡◌, Err, IfOk, List, map};
+ghost use Rattle.std.specs.Prelude.{◌≡◌, IfOk, List, map};
 ghost use Rattle.portal_core.specs.Words as words;
 ghost use Rattle.portal_core.specs.World.{World};
-ghost use Rattle.portal_core.specs.Good.{Sound};
+ghost use Rattle.portal_list.specs.Entries.{HasEntries};
 ghost use Rattle.portal_list.specs.Parts.{applicant_keys};
 ghost use Rattle.portal_list.specs.Fill.{fills};
-ghost use Rattle.portal_list.specs.Rows.{rows_of};
 
 use crate::changes::applicants_by_key;
-use crate::entries::StudentEntry;
-use crate::fit::entries_of;
-use crate::from_rows::{RowsFault, WorldRows};
+use crate::entries::{Entries, StudentEntry};
 use crate::views::waiting;
 use crate::wanted::Wanted;
 use portal_core::ProjectRow;
@@ -36,20 +33,13 @@ fn with_applicants(
     Ok(fills)
 }
 
-/// The lecturers who are still to rank in the sound world of these rows, in the order of the roll, each with the keys of the
-/// applicants in their order: the rankings that a fill would put. No list is judged: of other rows anything may come, or
-/// `NotGood`.
-pub fn fills_of_rows(alloc: Global, rows: WorldRows) -> Result<Vec<(Key, Vec<Key>)>, RowsFault>
-    ensures fills { IfOk result (λ v. (w : World) → rows ≡ rows_of w → Sound w → map {B = words.Key × List words.Key} (λ f. (f.0, f.1.items)) v.items ≡ fills w) }
-    ensures refused { result ≡ Err RowsFault.NotGood → (w : World) → rows ≡ rows_of w → Sound w → ⊥ }
-{
-    let entries = entries_of(alloc, rows)?;
-    let lecturers = waiting(
-        alloc,
-        &entries.lecturers,
-        &entries.projects,
-        &entries.students,
-    )?;
-    let rankings = with_applicants(alloc, &lecturers, &entries.projects, &entries.students)?;
-    Ok(rankings)
+impl Entries {
+    /// The lecturers who are still to rank, in the order of the roll, each with the keys of the applicants in their order: the
+    /// rankings that a fill would put.
+    pub fn fills(&self, alloc: Global) -> Result<Vec<(Key, Vec<Key>)>, AllocError>
+        ensures { IfOk result (λ v. (w : World) → HasEntries self.now w → map {B = words.Key × List words.Key} (λ f. (f.0, f.1.items)) v.items ≡ fills w) }
+    {
+        let lecturers = waiting(alloc, &self.lecturers, &self.projects, &self.students)?;
+        with_applicants(alloc, &lecturers, &self.projects, &self.students)
+    }
 }

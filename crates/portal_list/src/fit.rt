@@ -4,12 +4,12 @@ ghost use Rattle.std.specs.Prelude.{◌≡◌, Err, IfOk, map, option_map};
 ghost use Rattle.portal_core.specs.World.{World};
 ghost use Rattle.portal_core.specs.Good.{Sound};
 ghost use Rattle.portal_list.specs.Fit.{next_for, rest_for, lecturers_fitting, students_fitting};
-ghost use Rattle.portal_list.specs.Lines.{HasEntries};
+ghost use Rattle.portal_list.specs.Entries.{HasEntries};
 ghost use Rattle.portal_list.specs.Rows.{rows_of};
 
-use crate::entries::{LecturerEntry, StudentEntry};
+use crate::entries::{Entries, LecturerEntry, StudentEntry};
 use crate::from_rows::{RowsFault, WorldRows};
-use portal_core::{LecturerRow, ProjectRow, StudentRow};
+use portal_core::{LecturerRow, StudentRow};
 use spa_rows::Key;
 use std::alloc::{AllocError, Global};
 use std::collections::VecDeque;
@@ -78,38 +78,33 @@ pub(crate) fn student_entries(
     })
 }
 
-/// The entries of a world.
-#[derive(Drop)]
-pub(crate) struct Entries {
-    pub lecturers: Vec<LecturerEntry>,
-    pub projects: Vec<ProjectRow>,
-    pub students: Vec<StudentEntry>,
-}
-
-/// The entries of the rows of a sound world. No list is judged: of other rows entries may come that mean nothing, or `NotGood`.
-pub(crate) fn entries_of(alloc: Global, rows: WorldRows) -> Result<Entries, RowsFault>
-    ensures entries { IfOk result (λ e. (w : World) → rows ≡ rows_of w → Sound w → HasEntries e.lecturers.items e.projects.items e.students.items w) }
-    ensures refused { result ≡ Err RowsFault.NotGood → (w : World) → rows ≡ rows_of w → Sound w → ⊥ }
-{
-    let WorldRows {
-        phase: _,
-        office: _,
-        lecturers,
-        projects,
-        students,
-        choices,
-        rankings,
-        pairs,
-    } = rows;
-    let Some(lecturers) = lecturer_entries(alloc, lecturers, rankings)? else {
-        return Err(RowsFault::NotGood);
-    };
-    let Some(students) = student_entries(alloc, students, choices, pairs)? else {
-        return Err(RowsFault::NotGood);
-    };
-    Ok(Entries {
-        lecturers,
-        projects,
-        students,
-    })
+impl Entries {
+    /// The entries of the rows of a sound world. No list is judged: of other rows entries may come that mean nothing, or
+    /// `NotGood`.
+    pub fn from_rows(alloc: Global, rows: WorldRows) -> Result<Entries, RowsFault>
+        ensures entries { IfOk result (λ e. (w : World) → rows ≡ rows_of w → Sound w → HasEntries e w) }
+        ensures refused { result ≡ Err RowsFault.NotGood → (w : World) → rows ≡ rows_of w → Sound w → ⊥ }
+    {
+        let WorldRows {
+            phase: _,
+            office: _,
+            lecturers,
+            projects,
+            students,
+            choices,
+            rankings,
+            pairs,
+        } = rows;
+        let Some(lecturers) = lecturer_entries(alloc, lecturers, rankings)? else {
+            return Err(RowsFault::NotGood);
+        };
+        let Some(students) = student_entries(alloc, students, choices, pairs)? else {
+            return Err(RowsFault::NotGood);
+        };
+        Ok(Entries {
+            lecturers,
+            projects,
+            students,
+        })
+    }
 }

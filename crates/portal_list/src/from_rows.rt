@@ -4,10 +4,12 @@ ghost use Rattle.std.specs.Prelude.{◌≡◌, ◌↔◌, Err, IfOk, IsTrue, Mat
 ghost use Rattle.portal_core.specs.Words.{Rise};
 ghost use Rattle.portal_core.specs.World.{World, project_key, student_key};
 ghost use Rattle.portal_core.specs.Good.{Sound};
+ghost use Rattle.portal_list.specs.Entries.{HasEntries};
 ghost use Rattle.portal_list.specs.Parts.{lecturer_row_keys, student_row_keys, RollsFit, ListsFit};
 ghost use Rattle.portal_list.specs.Rows.{rows_of};
 ghost use Rattle.portal_list.specs.declared.from_rows.RowsFault.TheVariants.{Memory};
 
+use crate::entries::Entries;
 use crate::fit::{lecturer_entries, student_entries};
 use crate::keeper::ListKeeper;
 use crate::lists::lists_fit;
@@ -136,5 +138,24 @@ impl ListKeeper {
             return Err(RowsFault::NotGood);
         }
         Ok(keeper)
+    }
+
+    /// The entries of its world.
+    pub fn into_entries(self) -> Entries
+        ensures { HasEntries result self }
+    {
+        let ListKeeper {
+            phase: _,
+            office: _,
+            lecturers,
+            projects,
+            students,
+            catalogue: _,
+        } = self;
+        Entries {
+            lecturers,
+            projects,
+            students,
+        }
     }
 }

@@ -1,16 +1,15 @@
-//! The instance of entries, and of rows.
+//! The instance of entries.
 
 ghost use Rattle.std.specs.Prelude.{◌≡◌, false, Err, IfOk, map};
 ghost use Rattle.std.specs.List.{AllByRecursion};
 ghost use Rattle.portal_core.specs.World.{World, is_still_to_rank};
 ghost use Rattle.portal_core.specs.Good.{Sound};
 ghost use Rattle.portal_core.specs.Instance as meant_by;
-ghost use Rattle.portal_list.specs.Lines.{lecturer_line, project_line, student_line, lines_of, HasEntries};
-ghost use Rattle.portal_list.specs.Rows.{rows_of as of_world};
+ghost use Rattle.portal_list.specs.Entries.{HasEntries, entries_of};
+ghost use Rattle.portal_list.specs.Lines.{lecturer_line, project_line, student_line, lines_of};
 
-use crate::entries::{LecturerEntry, StudentEntry};
-use crate::fit::entries_of;
-use crate::from_rows::{RowsFault, WorldRows};
+use crate::entries::{Entries, LecturerEntry, StudentEntry};
+use crate::from_rows::RowsFault;
 use portal_core::ProjectRow;
 use spa_model::{Instance, InstanceFault, InstanceRows, LecturerLine, ProjectLine, StudentLine};
 use spa_rows::Key;
@@ -123,8 +122,8 @@ fn instance_among(
     projects: &[ProjectRow],
     students: &[StudentEntry],
 ) -> Result<Instance, RowsFault>
-    ensures instance { IfOk result (λ instance. (w : World) → HasEntries lecturers.now projects.now students.now w → Sound w → instance ≡ meant_by.instance w) }
-    ensures refused { result ≡ Err RowsFault.NotGood → (w : World) → HasEntries lecturers.now projects.now students.now w → Sound w → AllByRecursion (λ l. is_still_to_rank w l ≡ false) w.lecturers → ⊥ }
+    ensures instance { IfOk result (λ instance. (w : World) → HasEntries (entries_of lecturers.now projects.now students.now) w → Sound w → instance ≡ meant_by.instance w) }
+    ensures refused { result ≡ Err RowsFault.NotGood → (w : World) → HasEntries (entries_of lecturers.now projects.now students.now) w → Sound w → AllByRecursion (λ l. is_still_to_rank w l ≡ false) w.lecturers → ⊥ }
 {
     let rows = rows_of(alloc, lecturers, projects, students)?;
     match Instance::build(alloc, rows) {
@@ -146,8 +145,8 @@ pub(crate) fn instance_of(
     projects: &[ProjectRow],
     students: &[StudentEntry],
 ) -> Result<Instance, AllocError>
-    requires ready { (w : World) × HasEntries lecturers.now projects.now students.now w × Sound w × AllByRecursion (λ l. is_still_to_rank w l ≡ false) w.lecturers }
-    ensures instance { IfOk result (λ instance. (w : World) → HasEntries lecturers.now projects.now students.now w → Sound w → instance ≡ meant_by.instance w) }
+    requires ready { (w : World) × HasEntries (entries_of lecturers.now projects.now students.now) w × Sound w × AllByRecursion (λ l. is_still_to_rank w l ≡ false) w.lecturers }
+    ensures instance { IfOk result (λ instance. (w : World) → HasEntries (entries_of lecturers.now projects.now students.now) w → Sound w → instance ≡ meant_by.instance w) }
 {
     match instance_among(alloc, lecturers, projects, students) {
         Ok(instance) => Ok(instance),
@@ -156,17 +155,13 @@ pub(crate) fn instance_of(
     }
 }
 
-/// The instance of the rows of a sound world in which nobody is still to rank. No list is judged: of other rows an instance may
-/// come that means nothing, or `NotGood`.
-pub fn instance_of_rows(alloc: Global, rows: WorldRows) -> Result<Instance, RowsFault>
-    ensures instance { IfOk result (λ instance. (w : World) → rows ≡ of_world w → Sound w → instance ≡ meant_by.instance w) }
-    ensures refused { result ≡ Err RowsFault.NotGood → (w : World) → rows ≡ of_world w → Sound w → AllByRecursion (λ l. is_still_to_rank w l ≡ false) w.lecturers → ⊥ }
-{
-    let entries = entries_of(alloc, rows)?;
-    instance_among(
-        alloc,
-        &entries.lecturers,
-        &entries.projects,
-        &entries.students,
-    )
+impl Entries {
+    /// The instance of the entries of a sound world in which nobody is still to rank. They are not judged: of others an
+    /// instance may come that means nothing, or `NotGood`.
+    pub fn instance(&self, alloc: Global) -> Result<Instance, RowsFault>
+        ensures instance { IfOk result (λ instance. (w : World) → HasEntries self.now w → Sound w → instance ≡ meant_by.instance w) }
+        ensures refused { result ≡ Err RowsFault.NotGood → (w : World) → HasEntries self.now w → Sound w → AllByRecursion (λ l. is_still_to_rank w l ≡ false) w.lecturers → ⊥ }
+    {
+        instance_among(alloc, &self.lecturers, &self.projects, &self.students)
+    }
 }

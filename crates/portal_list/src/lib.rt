@@ -18,7 +18,6 @@ mod rolls;
 mod views;
 mod wanted;
 
-pub use fills::fills_of_rows;
+pub use entries::Entries;
 pub use from_rows::{RowsFault, WorldRows};
-pub use instance::instance_of_rows;
 pub use keeper::ListKeeper;

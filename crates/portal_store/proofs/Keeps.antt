@@ -1,5 +1,5 @@
 -- What a change that was committed, or left all as it was, is to the store: whatever the change.
-use Rattle.std.proofs.Common.{inl, inr, ◌≡◌, Bool, IsTrue, Ok, Err, Result, IfOk, OnOk, OnErr, false, sym, ap, subst, ◌∙◌}
+use Rattle.std.proofs.Common.{inl, inr, ◌≡◌, Bool, IsTrue, Ok, Err, Result, Option, IfOk, OnOk, OnErr, false, sym, ap, subst, ◌∙◌}
 use Rattle.sqlite.specs.Effect.{Database}
 use Rattle.sqlite.specs.State.{HasCleanDisk, IsUnchanged, Survives}
 use Rattle.sqlite.specs.Tree.{Trees}
@@ -7,15 +7,16 @@ use Rattle.sqlite.specs.Store.{Ghosts}
 use Rattle.sqlite.specs.Held.{Held, state}
 use Rattle.portal_core.specs.Change.{Change, changed}
 use Rattle.portal_core.specs.World.{World}
-use Rattle.portal_core.specs.Good.{Good}
+use Rattle.portal_core.specs.Good.{Good, Sound}
 use Rattle.portal_tables.specs.Own.{IsOwn}
 use Rattle.portal_tables.specs.Steps.{Commits, Stays, Leaves, IsAfter}
 use Rattle.portal_core.specs.Remembered.{Remembers}
 use Rattle.portal_core.specs.declared.remembered.Remembered.{Remembered}
 use Rattle.portal_store.specs.World.{world_of}
-use Rattle.portal_store.specs.Kept.{Holds, Turned, Turns, Seen, IsKept, IsCleanStore, kept_world}
+use Rattle.portal_list.specs.Entries.{AllEntries}
+use Rattle.portal_store.specs.Kept.{AreEntries, Holds, Turned, Turns, Seen, IsKept, IsCleanStore, kept_world}
 use Rattle.portal_store.specs.Crash.{IsLeft}
-use Rattle.portal_store.specs.Reading.{KeepsInMind}
+use Rattle.portal_store.specs.Reading.{KeepsInMind, KeepsEntries}
 
 -- nothing is changed
 pub still : {S : Type 0} (g : Ghosts S) (old new : Held S) (own : Bool) → IsKept g (record { conn = old; own = own }) → new.in_transaction ≡ false
@@ -119,6 +120,27 @@ module _
         → IsCleanStore g (record { conn = new; own = own }) → Remembers n (world_of (state g new).now.trees)
     change_shown m n was follows stayed = shown_by m n was r follows stayed done stays
 
+    told_by : (before m n : Option AllEntries) → (IsCleanStore g seen → AreEntries before (kept_world g seen)) → KeepsEntries before m (state g old) (state g new) → (r : Result V E)
+        → OnOk r ((w : World) → Sound w → AreEntries m w → AreEntries n (changed w change)) → OnErr r (n ≡ m)
+        → (IsTrue own → IsTrue (state g new).is_open → OnOk r (Commits (Turns change) (state g old) (state g new)))
+        → (IsTrue own → IsTrue (state g new).is_open → OnErr r (Stays (state g old) (state g new))) → IsCleanStore g (record { conn = new; own = own }) → AreEntries n (world_of (state g new).now.trees)
+    told_by before m n was keeps (Ok v) follows stayed did same on =
+        let d = did on.0 on.1 in
+        let fine = subst (λ s. IsCleanStore g s → Good (kept_world g s)) (sym is) good (on.0, d.was_open) in
+        subst (AreEntries n) (sym (turned on.0 d).world)
+        (follows (kept_world g seen) fine.sound (keeps (kept.ready on.0 d.was_open).holds fine (law on.1) (was (on.0, d.was_open))))
+    told_by before m n was keeps (Err e) follows stayed did same on =
+        let s = same on.0 on.1 in
+        let fine = subst (λ s. IsCleanStore g s → Good (kept_world g s)) (sym is) good (on.0, s.0) in
+        subst (λ k. AreEntries k (world_of (state g new).now.trees)) (sym stayed)
+        (subst (AreEntries m) (sym (same_by (Err e) same on)) (keeps (kept.ready on.0 s.0).holds fine (law on.1) (was (on.0, s.0))))
+
+    -- the entries are the world's: after a change that was made what follows, and otherwise those at hand
+    pub change_told : (before m n : Option AllEntries) → (IsCleanStore g seen → AreEntries before (kept_world g seen)) → (IsOwn old.schema → KeepsEntries before m (state g old) (state g new))
+        → OnOk r ((w : World) → Sound w → AreEntries m w → AreEntries n (changed w change)) → OnErr r (n ≡ m)
+        → IsCleanStore g (record { conn = new; own = own }) → AreEntries n (world_of (state g new).now.trees)
+    change_told before m n was keeps follows stayed on = told_by before m n was (keeps (known on.0)) r follows stayed done stays on
+
     pub change_keeps : IsKept g (record { conn = new; own = own })
     change_keeps = kept_by r done stays
 
@@ -178,6 +200,13 @@ module _
   read_shown m n was mind on =
       let same = rest on.0 on.1 in
       subst (λ (d : Database). Remembers n (world_of d.trees)) (sym same.1) (mind (kept.ready on.0 same.0).holds (law on.1) same.0 (was (on.0, same.0)))
+
+  -- the entries stay the world's
+  pub read_still : (n : Option AllEntries) → (IsCleanStore g (record { conn = old; own = own }) → AreEntries n (world_of (state g old).now.trees))
+      → IsCleanStore g (record { conn = new; own = own }) → AreEntries n (world_of (state g new).now.trees)
+  read_still n was on =
+      let same = rest on.0 on.1 in
+      subst (λ (d : Database). AreEntries n (world_of d.trees)) (sym same.1) (was (on.0, same.0))
 
   -- what is known where a call may rely on what is kept
   pub read_holds : (P : Type 0) → (IsOwn old.schema → HasCleanDisk (state g new) → Holds (state g old).now → P) → IsCleanStore g (record { conn = new; own = own }) → P

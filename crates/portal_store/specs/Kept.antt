@@ -1,5 +1,5 @@
 -- What a store keeps true between two calls, and what a change of the world is to the tables.
-use Rattle.std.specs.Prelude.{◌≡◌, Bool, false, [], IsTrue, refl}
+use Rattle.std.specs.Prelude.{◌≡◌, Bool, false, [], Option, IfSome, IsTrue, refl}
 use Rattle.std.specs.Coded.{Coded, code_by, coded×, coded_bool}
 use Rattle.std.specs.List.{AllByRecursion}
 use Rattle.sqlite.specs.Tree.{Trees}
@@ -12,6 +12,7 @@ use Rattle.portal_core.specs.Change.{Change, changed}
 use Rattle.portal_core.specs.Good.{Good}
 use Rattle.portal_core.specs.Remembered.{Remembers}
 use Rattle.portal_core.specs.declared.remembered.Remembered.{Remembered}
+use Rattle.portal_list.specs.Entries.{AllEntries, HasEntries}
 use Rattle.portal_tables.specs.Tables.{portal_tree, lecturer_tree, student_tree, choice_tree, ranking_tree, own_trees}
 use Rattle.portal_tables.specs.Own.{IsOwn}
 use Rattle.portal_tables.specs.Changes.{IsApart}
@@ -73,7 +74,12 @@ IsCleanStore g s = IsTrue s.own × IsTrue (state g s.conn).is_open
 abbrev pub kept_world : {S : Type 0} → Ghosts S → Seen S → World
 kept_world g s = world_of (state g s.conn).now.trees
 
+-- the entries, if there are any, are the world's
+abbrev pub AreEntries : Option AllEntries → World → Type 0
+AreEntries entries w = IfSome entries (λ e. HasEntries e w)
+
 -- a store between two calls; what it remembers is of its world
-pub record IsAtRest {S : Type 0} (g : Ghosts S) (s : Seen S) (mind : Remembered) : Type 0 where
+pub record IsAtRest {S : Type 0} (g : Ghosts S) (s : Seen S) (mind : Remembered) (entries : Option AllEntries) : Type 0 where
   pub kept : IsKept g s
   pub shown : IsCleanStore g s → Remembers mind (kept_world g s)
+  pub entered : IsCleanStore g s → AreEntries entries (kept_world g s)

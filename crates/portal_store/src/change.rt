@@ -7,29 +7,33 @@ ghost use Rattle.portal_core.specs.Meaning.{meant};
 ghost use Rattle.portal_tables.specs.Own.{IsOwn};
 ghost use Rattle.portal_tables.specs.Steps.{Commits, IsAfter, LeavesOnly, Stays};
 ghost use Rattle.portal_store.specs.Kept.{Turns};
+ghost use Rattle.portal_store.specs.Reading.{KeepsEntries};
 
 use crate::fill::fill_rankings;
 use crate::lists::{PutChoices, replace_ranking};
-use crate::phase::SetPhase;
+use crate::phase::set_phase;
 use crate::placing::publish;
 use crate::rolls::{AddLecturers, AddProjects, AddStudents};
 use portal_core::{Change, KeepFault};
+use portal_list::Entries;
 use portal_tables::fault::TableFault;
 use portal_tables::step::commit;
 use sqlite::{Alter, Connection};
 use std::alloc::Global;
 
-/// Takes the step of the change and commits it, or leaves all as it was. The fault is `Damaged` only where rows are read and are those of no
-/// good world.
+/// Takes the step of the change and commits it, or leaves all as it was; the entries stay those of the world before. The fault is `Damaged`
+/// only where rows are read and are those of no good world.
 fn take<S: Alter>(
     alloc: Global,
     conn: &mut Connection<S>,
+    entries: &mut Option<Entries>,
     change: &Change,
 ) -> Result<(), TableFault>
     requires idle { conn.old.in_transaction ≡ false }
     ensures idle { conn.new.in_transaction ≡ false }
     ensures ok { IsOwn conn.old.schema → HasCleanDisk (state S.Store conn.new) → OnOk result (Commits (Turns (meant change.now)) (state S.Store conn.old) (state S.Store conn.new)) }
     ensures err { IsOwn conn.old.schema → HasCleanDisk (state S.Store conn.new) → IsTrue (state S.Store conn.new).is_open → OnErr result (Stays (state S.Store conn.old) (state S.Store conn.new)) }
+    ensures entries { IsOwn conn.old.schema → KeepsEntries entries.old entries.new (state S.Store conn.old) (state S.Store conn.new) }
     ensures durable { IsOwn conn.old.schema → HasCleanDisk (state S.Store conn.new) → OnOk result (LeavesOnly (state S.Store conn.new)) }
     ensures crash { IsOwn conn.old.schema → Survives (state S.Store conn.old) (state S.Store conn.new) (IsAfter (Turns (meant change.now)) (state S.Store conn.old)) }
 {
@@ -43,27 +47,29 @@ fn take<S: Alter>(
         Change::Lecturers(rows) => commit(alloc, conn, AddLecturers { rows }),
         Change::Projects(rows) => commit(alloc, conn, AddProjects { rows }),
         Change::Students(rows) => commit(alloc, conn, AddStudents { rows }),
-        Change::Phase(phase) => commit(alloc, conn, SetPhase { phase: *phase }),
+        Change::Phase(phase) => set_phase(alloc, conn, entries, *phase),
         Change::Result(pairs) => publish(alloc, conn, pairs),
-        Change::Fill => fill_rankings(alloc, conn),
+        Change::Fill => fill_rankings(alloc, conn, entries),
     }
 }
 
-/// Makes the change and commits it, or leaves all as it was. The store fault also where rows that
+/// Makes the change and commits it, or leaves all as it was; the entries stay those of the world before. The store fault also where rows that
 /// are read are those of no good world.
 pub(crate) fn make<S: Alter>(
     alloc: Global,
     conn: &mut Connection<S>,
+    entries: &mut Option<Entries>,
     change: &Change,
 ) -> Result<(), KeepFault>
     requires idle { conn.old.in_transaction ≡ false }
     ensures idle { conn.new.in_transaction ≡ false }
     ensures ok { IsOwn conn.old.schema → HasCleanDisk (state S.Store conn.new) → OnOk result (Commits (Turns (meant change.now)) (state S.Store conn.old) (state S.Store conn.new)) }
     ensures err { IsOwn conn.old.schema → HasCleanDisk (state S.Store conn.new) → IsTrue (state S.Store conn.new).is_open → OnErr result (Stays (state S.Store conn.old) (state S.Store conn.new)) }
+    ensures entries { IsOwn conn.old.schema → KeepsEntries entries.old entries.new (state S.Store conn.old) (state S.Store conn.new) }
     ensures durable { IsOwn conn.old.schema → HasCleanDisk (state S.Store conn.new) → OnOk result (LeavesOnly (state S.Store conn.new)) }
     ensures crash { IsOwn conn.old.schema → Survives (state S.Store conn.old) (state S.Store conn.new) (IsAfter (Turns (meant change.now)) (state S.Store conn.old)) }
 {
-    match take(alloc, conn, change) {
+    match take(alloc, conn, entries, change) {
         Ok(()) => Ok(()),
         Err(fault) => Err(KeepFault::from(fault)),
     }

@@ -72,6 +72,7 @@ impl<S: Alter> Store<S> {
             own,
             pattern,
             mind: Remembered::nothing(),
+            entries: None,
         })
     }
 }

@@ -4,19 +4,31 @@ ghost use Rattle.std.specs.Prelude.{◌≡◌, false, IfOk, OnOk, OnErr};
 ghost use Rattle.sqlite.specs.State.{HasCleanDisk, IsUnchanged};
 ghost use Rattle.sqlite.specs.Held.{state};
 ghost use Rattle.sqlite.specs.Effect.{IsDatabase};
+ghost use Rattle.portal_core.specs.World.{World};
 ghost use Rattle.portal_core.specs.Good.{Sound};
 ghost use Rattle.portal_core.specs.Instance as meant_by;
+ghost use Rattle.portal_list.specs.Entries.{HasEntries};
 ghost use Rattle.portal_tables.specs.Own.{IsOwn};
 ghost use Rattle.portal_tables.specs.Steps.{Leaves};
 ghost use Rattle.portal_store.specs.World.{world_of};
 
 use crate::fault::rows_fault_of;
-use crate::load::load;
+use crate::load::load_entries;
 use portal_core::KeepFault;
-use portal_list::instance_of_rows;
+use portal_list::Entries;
 use spa_model::Instance;
 use sqlite::{Alter, Connection};
 use std::alloc::Global;
+
+/// The instance of these entries, which are not judged. `Store` where they have none.
+pub(crate) fn instance_of(alloc: Global, entries: &Entries) -> Result<Instance, KeepFault>
+    ensures { IfOk result (λ i. (w : World) → HasEntries entries.now w → Sound w → i ≡ meant_by.instance w) }
+{
+    match entries.instance(alloc) {
+        Ok(instance) => Ok(instance),
+        Err(fault) => Err(KeepFault::from(rows_fault_of(fault))),
+    }
+}
 
 /// The instance of the rolls, the lists and the rankings, as they stand in the tables: no list is judged.
 pub(crate) fn instance_in<S: Alter>(
@@ -29,9 +41,6 @@ pub(crate) fn instance_in<S: Alter>(
     ensures same { IsOwn conn.old.schema → HasCleanDisk (state S.Store conn.new) → OnOk result (IsUnchanged (state S.Store conn.old) (state S.Store conn.new)) }
     ensures err { IsOwn conn.old.schema → HasCleanDisk (state S.Store conn.new) → OnErr result (Leaves (state S.Store conn.old) (state S.Store conn.new)) }
 {
-    let rows = load(alloc, conn)?;
-    match instance_of_rows(alloc, rows) {
-        Ok(instance) => Ok(instance),
-        Err(fault) => Err(KeepFault::from(rows_fault_of(fault))),
-    }
+    let entries = load_entries(alloc, conn)?;
+    instance_of(alloc, &entries)
 }

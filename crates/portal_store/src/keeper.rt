@@ -15,7 +15,8 @@ ghost use Rattle.portal_store.specs.Kept.{IsCleanStore, kept_world, Turns};
 ghost use Rattle.portal_store.specs.Crash.{IsLeft};
 
 use crate::change::make;
-use crate::instance::instance_in;
+use crate::follow::follow;
+use crate::instance::{instance_in, instance_of};
 use crate::office::office_of;
 use crate::queries::view_with;
 use crate::store::Store;
@@ -50,19 +51,23 @@ impl<S: Alter> Store<S> {
         ensures left { IsCleanStore S.Store self.old → HasCleanDisk (state S.Store self.new.conn) → (db : Trees) → (state S.Store self.new.conn).may_leave db → IsLeft (meant change.now) (state S.Store self.old.conn).now db }
     {
         self.check_own()?;
-        let made = make(alloc, &mut self.conn, change);
+        let made = make(alloc, &mut self.conn, &mut self.entries, change);
         self.mind.follow(change, &made);
+        follow(alloc, &mut self.entries, change, &made);
         made
     }
 
-    /// The instance of the world of the tables, where that is good.
+    /// The instance of the world of the tables, where that is good: of the entries that are remembered, or of what is read.
     fn meant(&mut self, alloc: Global) -> Result<Instance, KeepFault>
         ensures clean { IsCleanStore S.Store self.new → IsCleanStore S.Store self.old }
         ensures instance { IfOk result (λ i. IsCleanStore S.Store self.new → Good (kept_world S.Store self.old) → i ≡ meant_by.instance (kept_world S.Store self.old)) }
         ensures same { IsCleanStore S.Store self.new → kept_world S.Store self.new ≡ kept_world S.Store self.old }
     {
         self.check_own()?;
-        instance_in(alloc, &mut self.conn)
+        match &self.entries {
+            Some(entries) => instance_of(alloc, entries),
+            None => instance_in(alloc, &mut self.conn),
+        }
     }
 
     /// What the caller with this code sees, by queries of what that caller may see.

@@ -5,6 +5,7 @@ mod change;
 mod create;
 mod fault;
 mod fill;
+mod follow;
 mod instance;
 mod keeper;
 pub mod laws;

@@ -13,14 +13,16 @@ ghost use Rattle.portal_tables.specs.Tables.{lecturer_tree, project_tree, studen
 ghost use Rattle.portal_tables.specs.Own.{IsOwn};
 ghost use Rattle.portal_tables.specs.Changes.{IsApart};
 ghost use Rattle.portal_tables.specs.Steps.{Stays};
+ghost use Rattle.portal_list.specs.Entries.{HasEntries};
 ghost use Rattle.portal_store.specs.Kept.{Stands, IsCleanStore, kept_world};
+ghost use Rattle.portal_store.specs.World.{world_of};
 ghost use Rattle.portal_store.specs.Asked.{Asks, Refutes, Admits};
 
 use crate::fault::{load_open_fault_of, open_fault_of, table_fault_of};
 use crate::sound::load_keeper;
 use crate::store::{NotOpened, OpenFault, Store};
 use portal_core::Remembered;
-use portal_list::ListKeeper;
+use portal_list::{Entries, ListKeeper};
 use portal_tables::apart::{
     has_apart_choices, has_apart_lecturers, has_apart_projects, has_apart_rankings,
     has_apart_students,
@@ -148,27 +150,32 @@ fn judge_world(alloc: Global, keeper: &ListKeeper) -> Result<(), OpenFault>
     }
 }
 
-/// Whether the rows stand for a good world.
-fn see_world<S: Alter>(alloc: Global, conn: &mut Connection<S>) -> Result<(), OpenFault>
+/// The entries of the world that the rows stand for, where it is good.
+fn see_world<S: Alter>(alloc: Global, conn: &mut Connection<S>) -> Result<Entries, OpenFault>
     requires idle { conn.old.in_transaction ≡ false }
     ensures idle { conn.new.in_transaction ≡ false }
     ensures asks { Asks result (state S.Store conn.old) (state S.Store conn.new) }
     ensures refused { IsOwn conn.old.schema → IsDatabase (state S.Store conn.old).now → HasCleanDisk (state S.Store conn.new) → IfErr result (λ fault. Refutes fault (state S.Store conn.old).now.trees) }
     ensures stands { IsOwn conn.old.schema → IsDatabase (state S.Store conn.old).now → HasCleanDisk (state S.Store conn.new) → OnOk result (Stands (state S.Store conn.old).now.trees) }
+    ensures entries { IsOwn conn.old.schema → IsDatabase (state S.Store conn.old).now → HasCleanDisk (state S.Store conn.new) → IfOk result (λ e. HasEntries e (world_of (state S.Store conn.old).now.trees)) }
 {
     match load_keeper(alloc, conn) {
-        Ok(keeper) => judge_world(alloc, &keeper),
+        Ok(keeper) => {
+            judge_world(alloc, &keeper)?;
+            Ok(keeper.into_entries())
+        }
         Err(fault) => Err(load_open_fault_of(fault)),
     }
 }
 
-/// What is tested of the six tables, in this order: the version, the numbers of rows, and the world.
-fn judge<S: Alter>(alloc: Global, conn: &mut Connection<S>) -> Result<(), OpenFault>
+/// What is tested of the six tables, in this order: the version, the numbers of rows, and the world, whose entries come.
+fn judge<S: Alter>(alloc: Global, conn: &mut Connection<S>) -> Result<Entries, OpenFault>
     requires idle { conn.old.in_transaction ≡ false }
     ensures idle { conn.new.in_transaction ≡ false }
     ensures asks { Asks result (state S.Store conn.old) (state S.Store conn.new) }
     ensures refused { IsOwn conn.old.schema → IsLive (state S.Store conn.old) → HasCleanDisk (state S.Store conn.new) → IfErr result (λ fault. Refutes fault (state S.Store conn.old).now.trees) }
     ensures admits { IsOwn conn.old.schema → IsLive (state S.Store conn.old) → HasCleanDisk (state S.Store conn.new) → OnOk result (Admits (state S.Store conn.old).now.trees) }
+    ensures entries { IsOwn conn.old.schema → IsLive (state S.Store conn.old) → HasCleanDisk (state S.Store conn.new) → IfOk result (λ e. HasEntries e (world_of (state S.Store conn.old).now.trees)) }
 {
     see_office(conn)?;
     see_rolls_apart(conn)?;
@@ -176,13 +183,18 @@ fn judge<S: Alter>(alloc: Global, conn: &mut Connection<S>) -> Result<(), OpenFa
     see_world(alloc, conn)
 }
 
-/// Whether the tables can be queried, and what they show; `own` says that they are the portal's own.
-fn examine<S: Alter>(alloc: Global, conn: &mut Connection<S>, own: bool) -> Result<(), OpenFault>
+/// Whether the tables can be queried, and what they show; `own` says that they are the portal's own. The entries of their world come.
+fn examine<S: Alter>(
+    alloc: Global,
+    conn: &mut Connection<S>,
+    own: bool,
+) -> Result<Entries, OpenFault>
     requires idle { conn.old.in_transaction ≡ false }
     ensures idle { conn.new.in_transaction ≡ false }
     ensures asks { IsTrue own → Asks result (state S.Store conn.old) (state S.Store conn.new) }
     ensures refused { IsTrue own → IsOwn conn.old.schema → IsLive (state S.Store conn.old) → HasCleanDisk (state S.Store conn.new) → IfErr result (λ fault. Refutes fault (state S.Store conn.old).now.trees) }
     ensures admits { IsTrue own → IsOwn conn.old.schema → IsLive (state S.Store conn.old) → HasCleanDisk (state S.Store conn.new) → OnOk result (Admits (state S.Store conn.old).now.trees) }
+    ensures entries { IsTrue own → IsOwn conn.old.schema → IsLive (state S.Store conn.old) → HasCleanDisk (state S.Store conn.new) → IfOk result (λ e. HasEntries e (world_of (state S.Store conn.old).now.trees)) }
 {
     see_tables(conn, own)?;
     judge(alloc, conn)
@@ -217,17 +229,21 @@ impl<S: Alter> Store<S> {
             }
         };
         let own = pattern.fits(&conn);
-        if let Err(fault) = examine(alloc, &mut conn, own) {
-            return Err(NotOpened {
-                fault,
-                connection: conn,
-            });
-        }
+        let entries = match examine(alloc, &mut conn, own) {
+            Ok(entries) => entries,
+            Err(fault) => {
+                return Err(NotOpened {
+                    fault,
+                    connection: conn,
+                });
+            }
+        };
         Ok(Store {
             conn,
             own,
             pattern,
             mind: Remembered::nothing(),
+            entries: Some(entries),
         })
     }
 }

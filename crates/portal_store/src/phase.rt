@@ -1,14 +1,22 @@
 //! The phase of the portal, in the row of the office.
 
-ghost use Rattle.std.specs.Prelude.{◌≡◌};
+ghost use Rattle.std.specs.Prelude.{◌≡◌, false, OnOk, OnErr, IsTrue};
+ghost use Rattle.sqlite.specs.State.{HasCleanDisk, Survives};
+ghost use Rattle.sqlite.specs.Held.{state};
 ghost use Rattle.portal_core.specs.Change.{To};
 ghost use Rattle.portal_tables.specs.Office.{number_of};
+ghost use Rattle.portal_tables.specs.Own.{IsOwn};
+ghost use Rattle.portal_tables.specs.Steps.{Commits, IsAfter, LeavesOnly, Stays};
 ghost use Rattle.portal_store.specs.Kept.{Turns};
+ghost use Rattle.portal_store.specs.Reading.{KeepsEntries};
 
+use crate::load::load_entries;
 use portal_core::Phase;
-use portal_tables::step::Step;
+use portal_list::Entries;
+use portal_tables::fault::TableFault;
+use portal_tables::step::{Step, commit};
 use portal_tables::update;
-use sqlite::{Alter, Error, Transaction};
+use sqlite::{Alter, Connection, Error, Transaction};
 use std::alloc::Global;
 
 /// The number that stands for a phase in the table.
@@ -24,8 +32,8 @@ fn phase_number(phase: Phase) -> u32
 }
 
 /// The portal moves to this phase.
-pub(crate) struct SetPhase {
-    pub phase: Phase,
+struct SetPhase {
+    phase: Phase,
 }
 
 impl Step for SetPhase {
@@ -35,4 +43,29 @@ impl Step for SetPhase {
         let SetPhase { phase } = self;
         update::set_phase(tx, phase_number(phase))
     }
+}
+
+/// Moves the portal to this phase. Where no entries are at hand they are read first, so that a publication finds them. `Damaged` where the
+/// rows that are read are those of no sound world.
+pub(crate) fn set_phase<S: Alter>(
+    alloc: Global,
+    conn: &mut Connection<S>,
+    entries: &mut Option<Entries>,
+    phase: Phase,
+) -> Result<(), TableFault>
+    requires idle { conn.old.in_transaction ≡ false }
+    ensures idle { conn.new.in_transaction ≡ false }
+    ensures ok { IsOwn conn.old.schema → HasCleanDisk (state S.Store conn.new) → OnOk result (Commits (Turns (To phase)) (state S.Store conn.old) (state S.Store conn.new)) }
+    ensures entries { IsOwn conn.old.schema → KeepsEntries entries.old entries.new (state S.Store conn.old) (state S.Store conn.new) }
+    ensures err { IsOwn conn.old.schema → HasCleanDisk (state S.Store conn.new) → IsTrue (state S.Store conn.new).is_open → OnErr result (Stays (state S.Store conn.old) (state S.Store conn.new)) }
+    ensures durable { IsOwn conn.old.schema → HasCleanDisk (state S.Store conn.new) → OnOk result (LeavesOnly (state S.Store conn.new)) }
+    ensures crash { IsOwn conn.old.schema → Survives (state S.Store conn.old) (state S.Store conn.new) (IsAfter (Turns (To phase)) (state S.Store conn.old)) }
+{
+    let _idle = conn.is_autocommit();
+    if entries.is_some() {
+        return commit(alloc, conn, SetPhase { phase });
+    }
+    let read = load_entries(alloc, conn)?;
+    *entries = Some(read);
+    commit(alloc, conn, SetPhase { phase })
 }

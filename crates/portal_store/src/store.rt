@@ -3,6 +3,7 @@
 ghost use Rattle.std.specs.Prelude.{◌≡◌, false};
 
 use portal_core::Remembered;
+use portal_list::Entries;
 use portal_tables::own::Pattern;
 use sqlite::{Alter, Connection};
 use std::marker::Model;
@@ -17,6 +18,8 @@ pub struct Store<S: Alter> {
     pub(crate) pattern: Pattern,
     /// What was shown of the world, until that is changed.
     pub(crate) mind: Remembered,
+    /// The entries of the world, once they were read and as long as they follow its changes.
+    pub(crate) entries: Option<Entries>,
 }
 
 impl<S: Alter> Model for Store<S> {
@@ -28,7 +31,7 @@ impl<S: Alter> Model for Store<S> {
 
     ghost view = { λ s. record { conn = s.conn; own = s.own } };
 
-    ghost invariant = { λ s. IsAtRest S.Store (record { conn = s.conn; own = s.own }) s.mind };
+    ghost invariant = { λ s. IsAtRest S.Store (record { conn = s.conn; own = s.own }) s.mind s.entries };
 }
 
 /// Why there is no store, and the connection that was handed in.
@@ -74,6 +77,7 @@ impl<S: Alter> Store<S> {
             own: _,
             pattern: _,
             mind: _,
+            entries: _,
         } = self;
         conn
     }

@@ -1,8 +1,9 @@
 use Rattle.std.proofs.Common.{◌≡◌, List, map, sym, ap, ◌∙◌, subst}
 use Rattle.std.specs.Prelude.{IfSome}
-use Rattle.std.proofs.lemmas.Result.{IfOk-weaker}
+use Rattle.std.proofs.lemmas.Result.{IfOk-weaker, on_ok_weaker}
 use Rattle.std.proofs.lemmas.List.{take_at}
-use Rattle.portal_core.specs.World.{World, Lecturer}
+use Rattle.portal_core.specs.Words.{Rise}
+use Rattle.portal_core.specs.World.{World, Lecturer, lecturer_key}
 use Rattle.portal_core.specs.Change.{changed}
 use Rattle.portal_core.specs.Meaning.{meant}
 use Rattle.portal_list.specs.Fill.{filled}
@@ -16,8 +17,10 @@ invariant_of-self-in-Ranking c =
     let old : List Lecturer = c.deref_mut-in-Ranking.result.now in
     let new : List Lecturer = c.replace_ranking.new.lecturers in
     let done = c.replace_ranking.ensures in
-    let kept = same_listings old new _ _ c.replace_ranking.result c.self.inside.projects.items done.made done.same ∙ ap (λ ls. listings ls c.self.inside.projects.items) c.deref_mut-in-Ranking.ensures.value in
-    let whole = take_at new _ c.self.inside.lecturers.len (same_length old new _ _ c.replace_ranking.result done.made done.same ∙ c.deref_mut-in-Ranking.ensures.len) in
+    let rise : Rise (map lecturer_key old) = subst (λ (ls : List Lecturer). Rise (map lecturer_key ls)) (sym (c.deref_mut-in-Ranking.ensures.value ∙ ap (λ (v : World). v.lecturers) c.self.view_is)) c.requires.lecturers in
+    let made = on_ok_weaker c.replace_ranking.result (λ is. is rise) done.made in
+    let kept = same_listings old new _ _ c.replace_ranking.result c.self.inside.projects.items made done.same ∙ ap (λ ls. listings ls c.self.inside.projects.items) c.deref_mut-in-Ranking.ensures.value in
+    let whole = take_at new _ c.self.inside.lecturers.len (same_length old new _ _ c.replace_ranking.result made done.same ∙ c.deref_mut-in-Ranking.ensures.len) in
     subst (λ shown. IfSome c.self.inside.catalogue (λ shared. shared.value.items ≡ shown)) (sym (ap (λ ls. listings ls c.self.inside.projects.items) whole ∙ kept)) c.self.invariant
 
 pub invariant_of-self-in-Fill : goal.invariant_of-self-in-Fill

@@ -3,7 +3,7 @@ use Rattle.sqlite.specs.State.{HasCleanDisk}
 use Rattle.sqlite.specs.Held.{Held, state}
 use Rattle.portal_core.specs.Meaning.{meant}
 use Rattle.portal_tables.proofs.Runs.{clean_if_open}
-use Rattle.portal_store.proofs.Keeps.{change_keeps, change_shown, change_left, change_clean, change_made, change_same}
+use Rattle.portal_store.proofs.Keeps.{change_keeps, change_shown, change_told, change_left, change_clean, change_made, change_same}
 use Rattle.portal_store.proofs.store.Store.change.Given.{Over}
 use Rattle.portal_store.proofs.store.Store.change.Goals as goal
 
@@ -16,6 +16,8 @@ invariant_of-self g c = record {
       c.make-made.result c.make-made.ensures.ok c.make-made.ensures.err;
   shown = change_shown g.S.Store (meant c.args.change.now) c.self.inside.conn c.make-made.new.conn c.self.inside.own c.args.self.now c.self.view_is c.self.invariant.kept c.make-made.ensures.idle c.in_ok-check_own.ensures (law g c.make-made.new.conn) c.requires.good c.requires.leaves_good
       c.make-made.result c.make-made.ensures.ok c.make-made.ensures.err c.self.inside.mind c.follow.new.self c.self.invariant.shown c.follow.ensures.made c.follow.ensures.not_made;
+  entered = change_told g.S.Store (meant c.args.change.now) c.self.inside.conn c.make-made.new.conn c.self.inside.own c.args.self.now c.self.view_is c.self.invariant.kept c.make-made.ensures.idle c.in_ok-check_own.ensures (law g c.make-made.new.conn) c.requires.good c.requires.leaves_good
+      c.make-made.result c.make-made.ensures.ok c.make-made.ensures.err c.self.inside.entries c.make-made.new.entries c.follow-2.new.entries c.self.invariant.entered c.make-made.ensures.entries c.follow-2.ensures.made c.follow-2.ensures.not_made;
 }
 
 pub returns-clause-clean : goal.returns-clause-clean

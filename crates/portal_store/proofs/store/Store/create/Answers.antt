@@ -16,6 +16,7 @@ invariant_of-result g c =
     record {
       kept = first_kept g.S.Store c.as_bytes.result.now c.is_empty-own.result c.args.conn new c.create_portal.ensures.idle (λ own. sym c.schema.ensures.value ∙ c.is_empty-own.ensures.0 own) (λ on. c.in_default.ensures.ok (law g new on));
       shown = λ on. c.nothing.ensures _;
+      entered = λ on. tt;
     }
 
 pub returns-clause-world : goal.returns-clause-world

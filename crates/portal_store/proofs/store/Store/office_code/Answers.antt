@@ -4,7 +4,7 @@ use Rattle.sqlite.specs.Held.{Held, state}
 use Rattle.portal_tables.proofs.Runs.{clean_if_open}
 use Rattle.std.proofs.lemmas.Result.{IfOk-weaker}
 use Rattle.portal_store.specs.Kept.{kept_world}
-use Rattle.portal_store.proofs.Keeps.{read_keeps, read_shown, read_clean, read_same, read_holds}
+use Rattle.portal_store.proofs.Keeps.{read_keeps, read_shown, read_still, read_clean, read_same, read_holds}
 use Rattle.portal_store.proofs.store.Store.office_code.Given.{Over}
 use Rattle.portal_store.proofs.store.Store.office_code.Goals as goal
 
@@ -17,6 +17,8 @@ invariant_of-self g c = record {
       c.office_of.result c.office_of.ensures.same c.office_of.ensures.err;
   shown = read_shown g.S.Store c.self.inside.conn c.office_of.new.conn c.self.inside.own c.args.self.now c.self.view_is c.self.invariant.kept c.office_of.ensures.idle c.in_ok-check_own.ensures (law g c.office_of.new.conn)
       c.office_of.result c.office_of.ensures.same c.office_of.ensures.err c.self.inside.mind c.self.inside.mind c.self.invariant.shown (λ _ _ _ told. told);
+  entered = read_still g.S.Store c.self.inside.conn c.office_of.new.conn c.self.inside.own c.args.self.now c.self.view_is c.self.invariant.kept c.office_of.ensures.idle c.in_ok-check_own.ensures (law g c.office_of.new.conn)
+      c.office_of.result c.office_of.ensures.same c.office_of.ensures.err c.self.inside.entries c.self.invariant.entered;
 }
 
 pub returns-clause-clean : goal.returns-clause-clean

@@ -8,7 +8,7 @@ use Rattle.portal_core.specs.Good.{Good}
 use Rattle.portal_core.specs.View as seen
 use Rattle.portal_store.specs.World.{world_of}
 use Rattle.portal_store.specs.Kept.{IsCleanStore, kept_world}
-use Rattle.portal_store.proofs.Keeps.{read_keeps, read_shown, read_clean, read_same, read_holds, when_ok}
+use Rattle.portal_store.proofs.Keeps.{read_keeps, read_shown, read_still, read_clean, read_same, read_holds, when_ok}
 use Rattle.portal_store.proofs.store.Store.shown.Given.{Over}
 use Rattle.portal_store.proofs.store.Store.shown.Goals as goal
 
@@ -21,6 +21,8 @@ invariant_of-self g c = record {
       c.view_with.result c.view_with.ensures.same c.view_with.ensures.err;
   shown = read_shown g.S.Store c.self.inside.conn c.view_with.new.conn c.self.inside.own c.args.self.now c.self.view_is c.self.invariant.kept c.view_with.ensures.idle c.in_ok-check_own.ensures (law g c.view_with.new.conn)
       c.view_with.result c.view_with.ensures.same c.view_with.ensures.err c.self.inside.mind c.view_with.new.remembered c.self.invariant.shown c.view_with.ensures.mind;
+  entered = read_still g.S.Store c.self.inside.conn c.view_with.new.conn c.self.inside.own c.args.self.now c.self.view_is c.self.invariant.kept c.view_with.ensures.idle c.in_ok-check_own.ensures (law g c.view_with.new.conn)
+      c.view_with.result c.view_with.ensures.same c.view_with.ensures.err c.self.inside.entries c.self.invariant.entered;
 }
 
 pub returns-clause-clean : goal.returns-clause-clean

@@ -2,7 +2,7 @@ use Rattle.std.proofs.Common.{◌∙◌, sym, ap}
 use Rattle.std.specs.Prelude.{option_map}
 use Rattle.portal_list.specs.Fit.{lecturers_fitting, students_fitting}
 use Rattle.portal_list.proofs.Parted.{lecturers_of_sound, students_of_sound, entries_of_sound, nothing_made}
-use Rattle.portal_list.proofs.fit.entries_of.Goals as goal
+use Rattle.portal_list.proofs.entries.Entries.from_rows.Goals as goal
 
 pub returns-in_default-clause-refused : goal.returns-in_default-clause-refused
 returns-in_default-clause-refused c e w is sound =

@@ -1,0 +1,25 @@
+use Rattle.std.proofs.Common.{◌≡◌, List, map, sym, ap, ◌∙◌}
+use Rattle.std.specs.Prelude.{filter}
+use Rattle.std.proofs.lemmas.Result.{IfOk-weaker}
+use Rattle.portal_core.specs.Words.{Key}
+use Rattle.portal_core.specs.World.{Lecturer}
+use Rattle.portal_list.specs.Entries.{AllEntries}
+use Rattle.portal_list.specs.Shown.{is_waiting}
+use Rattle.portal_list.specs.Parts.{applicant_keys}
+use Rattle.portal_list.proofs.Missing.{fills_are}
+use Rattle.portal_list.proofs.entries.Entries.fills.Goals as goal
+
+pub returns : goal.returns
+returns c =
+    IfOk-weaker c.with_applicants.result _ _ (λ v made w e.
+    let lecturers = c.deref.ensures.value ∙ ap (λ (a : AllEntries). a.lecturers) c.self.view_is ∙ sym e.lecturers_there in
+    let projects = c.deref-2.ensures.value ∙ ap (λ (a : AllEntries). a.projects) c.self.view_is ∙ sym e.projects_there in
+    let students = c.deref-3.ensures.value ∙ ap (λ (a : AllEntries). a.students) c.self.view_is ∙ sym e.students_there in
+    let again_projects = c.deref-5.ensures.value ∙ ap (λ (a : AllEntries). a.projects) c.self.view_is ∙ sym e.projects_there in
+    let again_students = c.deref-6.ensures.value ∙ ap (λ (a : AllEntries). a.students) c.self.view_is ∙ sym e.students_there in
+    let keys = c.in_ok-lecturers.lecturers.items in
+    let waiting : keys ≡ map (λ (l : Lecturer). l.row.key) (filter (is_waiting w.students w.projects) w.lecturers) =
+    c.in_ok-lecturers.ensures ∙ (λ i. map (λ (l : Lecturer). l.row.key) (filter (is_waiting (students i) (projects i)) (lecturers i))) in
+    fills_are w keys (map {B = Key × List Key} (λ f. (f.0, f.1.items)) v.items) waiting
+    (made ∙ (λ i. map (λ key. (key, applicant_keys (again_projects i) (again_students i) key)) (c.deref-4.ensures.value i))))
+    c.with_applicants.ensures
