@@ -4,7 +4,7 @@ use crate::tests::steps::{
     ANN, BEA, CYR, LEE, LISTS, MOE, OFFICE, ROLLS, Step, TO_RANKING, play_both,
 };
 
-/// One lecturer has ranked, and the office fills what is missing.
+/// One lecturer has ranked the second student first, and the office fills what is missing.
 const ONE_RANKED: &[Step] = &[
     (
         "POST",
@@ -54,6 +54,10 @@ const ONE_RANKED: &[Step] = &[
         "200 OK",
         r#"{"students":["S2","S1"]}"#,
     ),
+];
+
+/// The result, where the first lecturer ranks the second student first.
+const BEA_FIRST: &[Step] = &[
     (
         "POST",
         "/phase",
@@ -185,7 +189,7 @@ const NO_APPLICANT: &[Step] = &[
 
 #[test]
 fn what_is_missing_is_filled(rt: HostRuntime) {
-    play_both(&rt, &[ROLLS, LISTS, TO_RANKING, ONE_RANKED]);
+    play_both(&rt, &[ROLLS, LISTS, TO_RANKING, ONE_RANKED, BEA_FIRST]);
 }
 
 #[test]
@@ -194,8 +198,8 @@ fn all_is_filled(rt: HostRuntime) {
 }
 
 #[test]
-fn what_was_filled_is_replaced(rt: HostRuntime) {
-    play_both(&rt, &[ROLLS, LISTS, TO_RANKING, REPLACED]);
+fn what_was_filled_is_replaced_and_counts(rt: HostRuntime) {
+    play_both(&rt, &[ROLLS, LISTS, TO_RANKING, REPLACED, BEA_FIRST]);
 }
 
 #[test]
