@@ -466,5 +466,5 @@ fn a_write_is_in_doubt_in_ranking(rt: HostRuntime) {
 
 #[test]
 fn a_read_fails_in_ranking(rt: HostRuntime) {
-    comes_in_ranking(&rt, Fault::Read, 100);
+    comes_in_ranking(&rt, Fault::Read, 60);
 }
