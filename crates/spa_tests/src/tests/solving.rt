@@ -2,9 +2,9 @@
 //! generated instances.
 
 use super::chance::{Chance, generated, words};
-use super::made::instance_of;
+use super::made::{instance_of, matching_of};
 use super::plain::Board;
-use spa_check::is_stable;
+use spa_check::{better_off, is_stable};
 use spa_student::solve;
 use std::alloc::Global;
 use std::process::Abort;
@@ -48,6 +48,20 @@ fn two_stable_matchings_and_a_full_lecturer(rt: HostRuntime) -> Result<(), Fail>
     assert!(rt; solved(&rt, alloc, two).as_slice() == [Some(0), Some(1)].as_slice());
     let full = "L,L1,2,S3 S1 S2\nP,P1,5,L1\nS,S1,,P1\nS,S2,,P1\nS,S3,,P1\n";
     assert!(rt; solved(&rt, alloc, full).as_slice() == [Some(0), None, Some(0)].as_slice());
+    Ok(())
+}
+
+/// The solved matching leaves nobody better off in the other stable one; of that one the first student is better off.
+#[test]
+fn better_off_in_the_solved_matching(rt: HostRuntime) -> Result<(), Fail> {
+    let alloc = rt.alloc();
+    let records = "L,L1,1,S2 S1\nL,L2,1,S1 S2\nP,P1,1,L1\nP,P2,1,L2\nS,S1,,P1 P2\nS,S2,,P2 P1\n";
+    let instance = instance_of(&rt, alloc, records);
+    let matching = solve(alloc, &instance).expect(&rt, "memory");
+    let other = matching_of(&rt, alloc, &instance, "M,S1,P2,\nM,S2,P1,\n");
+    assert!(rt; instance.fits(&other));
+    assert!(rt; better_off(&instance, &matching, &other) == None);
+    assert!(rt; better_off(&instance, &other, &matching) == Some(0));
     Ok(())
 }
 

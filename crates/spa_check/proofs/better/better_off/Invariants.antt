@@ -1,0 +1,7 @@
+use Rattle.std.proofs.Common.{ℕ, ◌<◌}
+use Rattle.spa_check.specs.Better.{IsBetterOff}
+use Rattle.spa_check.proofs.better.better_off.Given as goal
+
+-- no student so far is better off
+abbrev pub invariant-loop-s : goal.invariant-loop-s
+invariant-loop-s l = (t : ℕ) → t < l.s → IsBetterOff l.instance l.matching l.other t → ⊥

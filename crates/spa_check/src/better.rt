@@ -1,0 +1,36 @@
+//! Who is better off in another matching.
+
+ghost use Rattle.std.specs.Prelude.{◌<◌, ◌↔◌, ℕ, IsTrue, MatchOption, length};
+ghost use Rattle.spa_model.specs.Spa.{IsMatching};
+ghost use Rattle.spa_check.specs.Better.{IsBetterOff, IsFirstBetterOff};
+
+use crate::wants::wanted;
+use spa_model::{Instance, Matching};
+
+/// Whether the student has a project in `other` and a less preferred one or none in the matching.
+fn is_better_off(instance: &Instance, matching: &Matching, other: &Matching, s: usize) -> bool
+    requires fits { IsMatching instance.now matching.now }
+    requires other_fits { IsMatching instance.now other.now }
+    requires in_range { s < length instance.now.choices }
+    ensures { IsTrue result ↔ IsBetterOff instance.now matching.now other.now s }
+{
+    match instance.project_of(other, s) {
+        Some(p) => wanted(instance, matching, s).contains(&p),
+        None => false,
+    }
+}
+
+/// The least student who has a project in `other` and a less preferred one or none in the matching.
+pub fn better_off(instance: &Instance, matching: &Matching, other: &Matching) -> Option<usize>
+    requires fits { IsMatching instance.now matching.now }
+    requires other_fits { IsMatching instance.now other.now }
+    ensures { MatchOption result ((s : ℕ) → IsBetterOff instance.now matching.now other.now s → ⊥)
+        (IsFirstBetterOff instance.now matching.now other.now) }
+{
+    for s in 0..instance.students() {
+        if is_better_off(instance, matching, other, s) {
+            return Some(s);
+        }
+    }
+    None
+}
