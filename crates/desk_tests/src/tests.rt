@@ -5,6 +5,7 @@ mod failing;
 mod frames;
 mod heads;
 mod longest;
+mod order;
 mod portal;
 mod requests;
 mod streams;

@@ -8,3 +8,4 @@ pub mod Taking
 pub mod Sent
 pub mod Telling
 pub mod Heeding
+pub mod Failing

@@ -1,5 +1,5 @@
 -- What came of a request.
-use Rattle.std.specs.Prelude.{◌≡◌, ◌⊎◌, Bool, true, false, Result, Ok, Err}
+use Rattle.std.specs.Prelude.{◌≡◌, ◌⊎◌, ℕ, ◌+◌, Bool, true, false, Result, Ok, Err}
 use Rattle.portal_core.specs.declared.decision.Reply.{Reply}
 use Rattle.portal_core.specs.declared.keeper.KeepFault.{KeepFault}
 use Rattle.portal_core.specs.declared.keeper.KeepFault.TheVariants.{Memory, Store}
@@ -18,3 +18,10 @@ is_store (Err Store) = true
 -- the reply to a refusal, or 503
 abbrev pub TurnsAway : Refusal → Answer → Type 0
 TurnsAway refusal reply = (reply ≡ answer_to (refused refusal)) ⊎ (reply ≡ unavailable)
+
+-- whether the desk had failed and has, and the faults of its keeper then and now: it fails exactly where they rise, by one,
+-- and once it has failed it stays so and leaves the keeper alone
+abbrev pub FailsByCount : Bool → Bool → ℕ → ℕ → Type 0
+FailsByCount true after old new = (after ≡ true) × (new ≡ old)
+FailsByCount false false old new = new ≡ old
+FailsByCount false true old new = new ≡ old + 1

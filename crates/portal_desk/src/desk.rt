@@ -10,9 +10,9 @@ ghost use Rattle.portal_wire.specs.Conversation.{request_of, closes_at, last, la
 ghost use Rattle.portal_wire.specs.Text.{reply_text};
 ghost use Rattle.portal_core.specs.Answer.{IsWhole};
 ghost use Rattle.portal_desk.specs.Devices.{FailsAfter, TakesAtMost};
-ghost use Rattle.portal_desk.specs.Outcome.{is_store, TurnsAway};
+ghost use Rattle.portal_desk.specs.Outcome.{is_store, TurnsAway, FailsByCount};
 ghost use Rattle.portal_desk.specs.Serving.{Tells, Stops, Blames, Broke, Replied, AtFirst};
-ghost use Rattle.portal_desk.specs.declared.served.Cause.TheVariants.{Write as WriteFailed};
+ghost use Rattle.portal_desk.specs.declared.served.Cause.TheVariants.{Read as ReadFailed, Write as WriteFailed, Store as StoreFailed};
 
 use crate::devices::{Sink, Source};
 use crate::playing::play;
@@ -98,6 +98,7 @@ impl<K: Keeper> Desk<K> {
         ensures same { K.clean self.new.keeper → told result ≡ unavailable → K.world self.new.keeper ≡ K.world self.old.keeper }
         ensures stays { self.old.failed ≡ true → self.new ≡ self.old }
         ensures failed { self.new.failed ≡ true → told result ≡ unavailable }
+        ensures counts { FailsByCount self.old.failed self.new.failed (K.faults self.old.keeper) (K.faults self.new.keeper) }
         ensures whole { IsWhole (said result.body) }
     {
         if self.failed {
@@ -127,7 +128,10 @@ impl<K: Keeper> Desk<K> {
             (λ reply. Broke cause self.new.failed reply (is_head request.now.method.items) closes (W.contents sink.old) (W.contents sink.new))) }
         ensures stays { self.old.failed ≡ true → self.new ≡ self.old }
         ensures calm { OnOk result (W.failed sink.new ≡ W.failed sink.old) }
-        ensures counts { IfErr result (λ cause. cause ≡ WriteFailed → FailsAfter (W.failed sink.old) (W.failed sink.new)) }
+        ensures blames { IfErr result (λ cause. cause ≡ WriteFailed → FailsAfter (W.failed sink.old) (W.failed sink.new)) }
+        ensures counts { FailsByCount self.old.failed self.new.failed (K.faults self.old.keeper) (K.faults self.new.keeper) }
+        ensures unread { IfErr result (λ cause. cause ≡ ReadFailed → ⊥) }
+        ensures store { IfErr result (λ cause. cause ≡ StoreFailed → self.new.failed ≡ true) }
         ensures same_device { W.name sink.new ≡ W.name sink.old }
     {
         let reply = self.respond(alloc, request);
@@ -165,6 +169,10 @@ impl<K: Keeper> Desk<K> {
         ensures stays { self.old.failed ≡ true → self.new ≡ self.old }
         ensures none { IfOk result (λ served. self.old.failed ≡ true → served.requests ≡ 0) }
         ensures first { IfErr result (λ fault. self.old.failed ≡ true → AtFirst fault.cause fault.requests) }
+        ensures counts { FailsByCount self.old.failed self.new.failed (K.faults self.old.keeper) (K.faults self.new.keeper) }
+        ensures calm { OnOk result (self.new.failed ≡ self.old.failed) }
+        ensures unread { IfErr result (λ fault. fault.cause ≡ ReadFailed → self.new.failed ≡ self.old.failed) }
+        ensures store { IfErr result (λ fault. fault.cause ≡ StoreFailed → self.new.failed ≡ true) }
         ensures same_source { R.name source.new ≡ R.name source.old }
         ensures same_sink { W.name sink.new ≡ W.name sink.old }
     {

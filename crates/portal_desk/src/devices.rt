@@ -5,6 +5,7 @@ ghost use Rattle.std.specs.Io.KnownBytes.{ReadConsumes, WriteAppends, Appends};
 ghost use Rattle.std.specs.Io.{ReadsAtMost, WritesAtMost};
 ghost use Rattle.portal_desk.specs.Devices.{Counts, FailsAfter};
 
+use crate::again::{read_again, write_again};
 use std::io::{Read, Write};
 use std::marker::Model;
 
@@ -62,7 +63,8 @@ pub trait Sink {
 }
 
 /// A reader or a writer of std, with a count of the calls that failed: it passes on what the reader or
-/// writer answers, and only an error of it, or a write that takes none of some bytes, is `Failed`.
+/// writer answers, tries again where a signal interrupted it, and only another error of it, or a write
+/// that takes none of some bytes, is `Failed`.
 #[derive(Drop)]
 pub struct Counted<T> {
     inner: T,
@@ -101,7 +103,7 @@ impl<T: Read> Source for Counted<T> {
     ghost failed = { λ c. c.failures };
 
     fn read(&mut self, buf: &mut [u8]) -> Result<usize, Failed> {
-        match self.inner.read(buf) {
+        match read_again(&mut self.inner, buf) {
             Ok(n) => Ok(n),
             Err(_) => {
                 self.failures = self.failures.saturating_add(1);
@@ -121,7 +123,7 @@ impl<T: Write> Sink for Counted<T> {
     ghost failed = { λ c. c.failures };
 
     fn write(&mut self, buf: &[u8]) -> Result<usize, Failed> {
-        match self.inner.write(buf) {
+        match write_again(&mut self.inner, buf) {
             Ok(n) => {
                 if n == 0 && !buf.is_empty() {
                     self.failures = self.failures.saturating_add(1);

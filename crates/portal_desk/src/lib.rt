@@ -1,6 +1,7 @@
 //! The desk: acts on requests over any keeper of a world, and serves streams of them.
 #![tactic(auto)]
 
+mod again;
 mod desk;
 mod devices;
 pub mod laws;
@@ -9,6 +10,7 @@ mod reading;
 mod sending;
 mod served;
 
+pub use crate::again::{read_again, write_again};
 pub use crate::desk::Desk;
 pub use crate::devices::{Counted, Failed, Sink, Source};
 pub use crate::playing::play;

@@ -4,6 +4,7 @@ ghost use Rattle.std.specs.Prelude.{◌≡◌, IfOk, OnOk, OnErr};
 ghost use Rattle.spa_model.specs.Spa.{IsMatching};
 ghost use Rattle.portal_core.specs.Answer as answer;
 ghost use Rattle.portal_core.specs.Answer.{Publish};
+ghost use Rattle.portal_core.specs.Counting.{CountsFaults};
 ghost use Rattle.portal_core.specs.Good.{Good, CanPublish};
 ghost use Rattle.portal_core.specs.Instance.{pairs_by};
 ghost use Rattle.portal_core.specs.Meaning.{asked, decided, does, told, said};
@@ -72,6 +73,7 @@ fn ask<K: Keeper>(
     ensures decided { IfOk result (λ d. K.clean keeper.new → Good (K.world keeper.old) → decided d ≡ answer.decision (seen.view (K.world keeper.old) code.now) (asked call.now)) }
     ensures whole { IfOk result (λ d. IsTold (decided d).reply.body) }
     ensures same { K.clean keeper.new → K.world keeper.new ≡ K.world keeper.old }
+    ensures counts { CountsFaults result (K.faults keeper.old) (K.faults keeper.new) }
 {
     let view = keeper.view(alloc, code)?;
     match decide_whole(alloc, &view, call) {
@@ -115,6 +117,7 @@ fn publish<K: Keeper>(alloc: Global, keeper: &mut K) -> Result<(), KeepFault>
     ensures clean { K.clean keeper.new → K.clean keeper.old }
     ensures made { OnOk result (K.clean keeper.new → Leaves (K.world keeper.old) Publish (K.world keeper.new)) }
     ensures same { OnErr result (K.clean keeper.new → K.world keeper.new ≡ K.world keeper.old) }
+    ensures counts { CountsFaults result (K.faults keeper.old) (K.faults keeper.new) }
 {
     let instance = keeper.instance(alloc)?;
     match solved(alloc, &instance) {
@@ -130,6 +133,7 @@ fn carry_out<K: Keeper>(alloc: Global, keeper: &mut K, act: Act) -> Result<(), K
     ensures clean { K.clean keeper.new → K.clean keeper.old }
     ensures made { OnOk result (K.clean keeper.new → Leaves (K.world keeper.old) (does act) (K.world keeper.new)) }
     ensures same { OnErr result (K.clean keeper.new → K.world keeper.new ≡ K.world keeper.old) }
+    ensures counts { CountsFaults result (K.faults keeper.old) (K.faults keeper.new) }
 {
     match act {
         Act::Nothing | Act::Render(_) => Ok(()),
@@ -150,6 +154,7 @@ pub fn play<K: Keeper>(
     ensures clean { K.clean keeper.new → K.clean keeper.old }
     ensures step { IfOk result (λ r. K.clean keeper.new → Step (K.world keeper.old) code.now (asked call.now) (told r) (K.world keeper.new)) }
     ensures same { OnErr result (K.clean keeper.new → K.world keeper.new ≡ K.world keeper.old) }
+    ensures counts { CountsFaults result (K.faults keeper.old) (K.faults keeper.new) }
     ensures good { K.clean keeper.new → Good (K.world keeper.new) }
     ensures whole { IfOk result (λ r. IsTold (said r.body)) }
 {

@@ -159,6 +159,8 @@ impl Keeper for ListKeeper {
 
     ghost clean = { λ _. Unit {0} };
 
+    ghost faults = { λ _. 0 };
+
     fn view(&mut self, alloc: Global, code: &[u8]) -> Result<View, KeepFault>
         ensures shown { IfOk result (λ view. view ≡ seen.view self.old code.now) }
         ensures same { self.new ≡ self.old }

@@ -1,5 +1,8 @@
 //! A store that fails.
 
+ghost use Rattle.std.specs.Prelude.{length};
+ghost use Rattle.portal_core.specs.Counting.{CountsFaults};
+
 use crate::tests::portal::{NO_CALLER, fresh_keeper};
 use portal_core::{Change, KeepFault, Keeper, View};
 use portal_desk::{Cause, Counted, Desk};
@@ -13,6 +16,28 @@ use std::process::Abort;
 struct Failing {
     kept: ListKeeper,
     left: u32,
+    /// An entry for each fault that was told.
+    faults: Vec<u8>,
+}
+
+impl Failing {
+    fn new(rt: &(impl Abort + AllocGlobal), left: u32) -> Failing {
+        Failing {
+            kept: fresh_keeper(rt),
+            left,
+            faults: Vec::new(rt.alloc()),
+        }
+    }
+
+    /// Fails, and counts it.
+    fn fail<T: Drop>(&mut self) -> Result<T, KeepFault>
+        ensures { CountsFaults result (length self.old.faults.items) (length self.new.faults.items) }
+    {
+        match self.faults.push(0) {
+            Ok(()) => Err(KeepFault::Store),
+            Err(_) => Err(KeepFault::Memory),
+        }
+    }
 }
 
 impl Keeper for Failing {
@@ -20,9 +45,11 @@ impl Keeper for Failing {
 
     ghost clean = { λ failing. ⊥ };
 
+    ghost faults = { λ failing. length failing.faults.items };
+
     fn view(&mut self, alloc: Global, code: &[u8]) -> Result<View, KeepFault> {
         if self.left == 0 {
-            return Err(KeepFault::Store);
+            return self.fail();
         }
         self.left -= 1;
         self.kept.view(alloc, code)
@@ -30,13 +57,13 @@ impl Keeper for Failing {
 
     fn instance(&mut self, alloc: Global) -> Result<Instance, KeepFault> {
         let _alloc = alloc;
-        Err(KeepFault::Store)
+        self.fail()
     }
 
     fn apply(&mut self, alloc: Global, change: &Change) -> Result<(), KeepFault> {
         let _alloc = alloc;
         let _change = change;
-        Err(KeepFault::Store)
+        self.fail()
     }
 }
 
@@ -63,10 +90,7 @@ fn fails(rt: &(impl Abort + AllocGlobal), desk: &mut Desk<Failing>, requests: u3
 
 #[test]
 fn the_desk_has_failed_from_then_on(rt: HostRuntime) {
-    let mut desk = Desk::new(Failing {
-        kept: fresh_keeper(&rt),
-        left: 1,
-    });
+    let mut desk = Desk::new(Failing::new(&rt, 1));
     let mut both = Vec::new(rt.alloc());
     both.extend_from_slice(NO_CALLER.as_bytes())
         .expect(&rt, "memory");

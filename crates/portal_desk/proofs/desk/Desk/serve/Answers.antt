@@ -1,5 +1,6 @@
-use Rattle.std.proofs.Common.{◌∙◌}
+use Rattle.std.proofs.Common.{◌∙◌, sym}
 use Rattle.portal_frame.specs.Stream.{seen}
+use Rattle.portal_desk.proofs.Failing.{fails_then, calm_before}
 use Rattle.portal_desk.proofs.Taking.{follows_taken, ended_taken, cut_taken, cut_held}
 use Rattle.portal_desk.proofs.Telling.{end_known, bad_known, cut_known, closes_known, more_known, broke_known, goes_on, still_failed}
 use Rattle.portal_desk.proofs.desk.Desk.serve.Goals as goal
@@ -43,6 +44,8 @@ loop-found-preserved g c =
       writer = c.in-Ok-answer.ensures.calm ∙ x.writer;
       source = c.in-Ok.ensures.same_device ∙ x.source;
       sink = c.in-Ok-answer.ensures.same_device ∙ x.sink;
+      counts = fails_then _ _ _ _ _ _ x.counts c.answer.ensures.counts;
+      calm = c.in-Ok-answer.ensures.ok.2.0 ∙ sym (calm_before _ _ _ _ c.answer.ensures.counts c.in-Ok-answer.ensures.ok.2.0) ∙ x.calm;
       waits = λ f. absurd (still_failed _ _ _ (λ e. (x.waits e).1) c.answer.ensures.stays c.in-Ok-answer.ensures.ok.2.0 f);
       held = cut_held c.in-Request.used _ _ c.cut_front.ensures c.in-Ok.ensures.held;
       taken = cut_taken _ c.in-Request.used _ _ _ _ (rw c.in-Request.is at c.in-Ok.ensures.within).1 c.cut_front.ensures (follows_taken _ _ _ _ _ _ _ x.taken c.in-Ok.ensures.follows);

@@ -1,4 +1,5 @@
 use Rattle.std.proofs.Common.{◌≡◌, true, ◌-◌, ◌<◌, ◌≤◌, length}
+use Rattle.portal_desk.specs.Outcome.{FailsByCount}
 use Rattle.portal_desk.proofs.Taking.{TakenBy}
 use Rattle.portal_desk.proofs.Telling.{SoFar}
 use Rattle.portal_desk.proofs.desk.Desk.serve.Given as goal
@@ -14,6 +15,8 @@ invariant-loop-found g l = record {
   writer : g.W.Sink.failed l.sink ≡ g.W.Sink.failed l.initial.sink;
   source : g.R.Source.name l.source ≡ g.R.Source.name l.initial.source;
   sink : g.W.Sink.name l.sink ≡ g.W.Sink.name l.initial.sink;
+  counts : FailsByCount l.initial.self.failed l.self.failed (g.K.Keeper.faults l.initial.self.keeper) (g.K.Keeper.faults l.self.keeper);
+  calm : l.self.failed ≡ l.initial.self.failed;
   waits : l.initial.self.failed ≡ true → (l.done ≡ 0) × (l.self ≡ l.initial.self);
   held : length l.buffer.items ≤ 1064960;
   taken : TakenBy l.done (length l.buffer.items) (g.R.Source.remaining l.initial.source) (g.R.Source.remaining l.source);
