@@ -30,3 +30,4 @@ pub mod Published
 pub mod Scan
 pub mod Pieces
 pub mod Tables
+pub mod HonestLists

@@ -1,25 +1,30 @@
--- A step of a good world has one reply and one end, since there is one best matching.
-use Rattle.std.proofs.Common.{◌≡◌, ℕ, zero, suc, ◌+◌, ◌<◌, true, false, cond, List, [], ◌∷◌, map, length, get_or, refl, sym, ◌∙◌, ap, subst, arith, Contains}
+-- A step has one reply and one end, since there is one best matching; and so has a run.
+use Rattle.std.proofs.Common.{◌≡◌, ℕ, zero, suc, ◌+◌, ◌<◌, ◌≤◌, true, false, cond, List, [], ◌∷◌, map, length, get_or, refl, sym, ◌∙◌, ap, subst, arith, Contains}
 use Rattle.std.specs.Prelude.{◌==◌, ◌||◌, Option, Some, None, option_map}
 use Rattle.std.specs.List.{AllByRecursion}
+use Rattle.std.proofs.lemmas.Bool.{eq-eqb}
 use Rattle.std.proofs.lemmas.Bool.Decides.{nat_tests}
-use Rattle.spa_model.specs.Spa.{IsBest, IsOn, place}
+use Rattle.std.proofs.lemmas.List.{length-map}
+use Rattle.spa_model.specs.Spa.{IsBest, IsMatching, IsOn, place, project_of, is_project, at_project}
+use Rattle.spa_model.proofs.Counts.{one_if, count_by-cons}
 use Rattle.spa_model.specs.Pairs.{number_in}
 use Rattle.spa_model.proofs.Numbers.{number_is, number_known}
 use Rattle.spa_model.proofs.OneOnly.{best_is_one}
 use Rattle.portal_core.specs.Words.{Key, is, has}
 use Rattle.portal_core.specs.World as rows
-use Rattle.portal_core.specs.World.{World}
+use Rattle.portal_core.specs.World.{World, project_key}
 use Rattle.portal_core.specs.Change.{Places, place_in, with_place, changed}
 use Rattle.portal_core.specs.Instance.{instance, matching_of, project_keys}
 use Rattle.portal_core.specs.View.{view}
 use Rattle.portal_core.specs.Ask.{Ask}
 use Rattle.portal_core.specs.Answer.{Answer, Act, Nothing, Apply, Publish, Render, decision}
-use Rattle.portal_core.specs.Good.{Good, IsChoice}
-use Rattle.portal_core.specs.Run.{Leaves, Step}
+use Rattle.portal_core.specs.declared.rows.ProjectRow.{ProjectRow}
+use Rattle.portal_core.specs.Run.{Leaves, Step, Wish, Calls, Refused, Request, Answers, Run, AllAnswered}
+use Rattle.portal_core.specs.Good.{IsChoice}
 use Rattle.portal_core.proofs.Keys.{is_same}
+use Rattle.portal_core.proofs.Hearing.{really}
 
-has_contains : (ks : List Key) (c : Key) → has ks c ≡ true → Contains ks c
+pub has_contains : (ks : List Key) (c : Key) → has ks c ≡ true → Contains ks c
 has_contains [] c h = cc
 has_contains (k ∷ ks) c h =
     (elim (is c k) as (λ b. is c k ≡ b → (b || has ks c) ≡ true → Contains (k ∷ ks) c) [
@@ -63,20 +68,60 @@ module _ (keys : List Key) where
       let here : place_in p x.row.key ≡ place_in q x.row.key = same_key (place_in p x.row.key) (place_in q x.row.key) first (λ n f. low 0 n f) in
       λ i. record x { placed = here i } ∷ same_places p q ss rest (λ s n f. low (suc s) n f) i
 
-published_once : (w : World) (p q : List (Key × Key)) → Good w → IsBest (instance w) (matching_of (changed w (Places p))) → IsBest (instance w) (matching_of (changed w (Places q))) → changed w (Places p) ≡ changed w (Places q)
-published_once w p q g a b =
-    ap (λ ss. record (changed w (Places p)) { students = ss })
-    (same_places (project_keys w) p q w.students (best_is_one (instance w) _ _ a b)
-    (λ s n e. on_roll (project_keys w) w.students g.sound.choices s n (a.stable.matching.acceptable s n e)))
+-- who has a project is counted there, so that it has room, and is one of the roll
 
-one_end : (w v u : World) (a : Act) → Good w → Leaves w a v → Leaves w a u → v ≡ u
-one_end w v u Nothing g l m = l ∙ sym m
-one_end w v u (Apply change) g l m = l ∙ sym m
-one_end w v u (Render sheet) g l m = l ∙ sym m
-one_end w v u Publish g l m =
+counted : (m : List (Option ℕ)) (s n : ℕ) → project_of m s ≡ Some n → 1 ≤ at_project m n
+counted [] s n e = cc
+counted (o ∷ m) zero n e =
+    let here : is_project n o ≡ true = ap (is_project n) e ∙ eq-eqb n n refl in
+    omega (arith, count_by-cons (is_project n) o m, ap one_if here)
+counted (o ∷ m) (suc s) n e = omega (arith, count_by-cons (is_project n) o m, counted m s n e)
+
+with_room : (ns : List ℕ) (n : ℕ) → 1 ≤ get_or ns n 0 → n < length ns
+with_room [] n h = absurd (omega (arith, h))
+with_room (x ∷ ns) zero h = omega arith
+with_room (x ∷ ns) (suc n) h = let rest : n < length ns = with_room ns n h in omega arith
+
+placed_known : (w : World) (m : List (Option ℕ)) → IsMatching (instance w) m → (s n : ℕ) → project_of m s ≡ Some n → n < length (project_keys w)
+placed_known w m matching s n e =
+    let low : n < length (map (λ (p : ProjectRow). p.capacity) w.projects) = with_room _ n (omega (arith, counted m s n e, matching.projects n)) in
+    omega (arith, low, length-map w.projects (λ (p : ProjectRow). p.capacity), length-map w.projects project_key)
+
+published_once : (w : World) (p q : List (Key × Key)) → IsBest (instance w) (matching_of (changed w (Places p))) → IsBest (instance w) (matching_of (changed w (Places q))) → changed w (Places p) ≡ changed w (Places q)
+published_once w p q a b =
+    ap (λ ss. record (changed w (Places p)) { students = ss })
+    (same_places (project_keys w) p q w.students (best_is_one (instance w) _ _ a b) (placed_known w _ a.stable.matching))
+
+one_end : (w v u : World) (a : Act) → Leaves w a v → Leaves w a u → v ≡ u
+one_end w v u Nothing l m = l ∙ sym m
+one_end w v u (Apply change) l m = l ∙ sym m
+one_end w v u (Render sheet) l m = l ∙ sym m
+one_end w v u Publish l m =
     l.1
-    ∙ published_once w l.0 m.0 g (subst (λ x. IsBest (instance w) (matching_of x)) l.1 l.2) (subst (λ x. IsBest (instance w) (matching_of x)) m.1 m.2)
+    ∙ published_once w l.0 m.0 (subst (λ x. IsBest (instance w) (matching_of x)) l.1 l.2) (subst (λ x. IsBest (instance w) (matching_of x)) m.1 m.2)
     ∙ sym m.1
 
-pub step_once : (w v u : World) (code : Key) (ask : Ask) (a b : Answer) → Good w → Step w code ask a v → Step w code ask b u → (a ≡ b) × (v ≡ u)
-step_once w v u code ask a b g s t = (s.told ∙ sym t.told, one_end w v u (decision (view w code) ask).act g s.left t.left)
+pub step_once : (w v u : World) (code : Key) (ask : Ask) (a b : Answer) → Step w code ask a v → Step w code ask b u → (a ≡ b) × (v ≡ u)
+step_once w v u code ask a b s t = (s.told ∙ sym t.told, one_end w v u (decision (view w code) ask).act s.left t.left)
+
+-- one request, and a run
+
+answered_once : (w v u : World) (r : Request) (wish : Wish) (a b : Answer) → Answers w r wish a v → Answers w r wish b u → (a ≡ b) × (v ≡ u)
+answered_once w v u r (Calls ask) a b s t = step_once w v u r.code ask a b s t
+answered_once w v u r (Refused refusal) a b s t = (s.0 ∙ sym t.0, s.1 ∙ sym t.1)
+
+pub one_run : (w : World) (asked : List Request) (told said : List Answer) (after later : List World)
+    → Run w asked told after → AllAnswered told → Run w asked said later → AllAnswered said → (told ≡ said) × (after ≡ later)
+one_run w [] [] [] [] [] run all other all' = (refl, refl)
+one_run w (r ∷ rs) (a ∷ told) (b ∷ said) (v ∷ after) (u ∷ later) run all other all' =
+    let here : (a ≡ b) × (v ≡ u) = answered_once w v u r r.wish a b (really w v r a run.0 all.0) (really w u r b other.0 all'.0) in
+    let rest : (told ≡ said) × (after ≡ later) = one_run v rs told said after later run.1 all.1 (subst (λ x. Run x rs said later) (sym here.1) other.1) all'.1 in
+    (λ i. here.0 i ∷ rest.0 i, λ i. here.1 i ∷ rest.1 i)
+one_run w [] (a ∷ told) said after later run all other all' = absurd run
+one_run w [] [] said (v ∷ after) later run all other all' = absurd run
+one_run w [] [] (b ∷ said) [] later run all other all' = absurd other
+one_run w [] [] [] [] (u ∷ later) run all other all' = absurd other
+one_run w (r ∷ rs) [] said after later run all other all' = absurd run
+one_run w (r ∷ rs) (a ∷ told) said [] later run all other all' = absurd run
+one_run w (r ∷ rs) (a ∷ told) [] (v ∷ after) later run all other all' = absurd other
+one_run w (r ∷ rs) (a ∷ told) (b ∷ said) (v ∷ after) [] run all other all' = absurd other

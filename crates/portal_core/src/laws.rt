@@ -4,6 +4,7 @@ ghost use Rattle.std.specs.Prelude.{◌≡◌, ◌⊎◌, ◌++◌, ◌∷◌, [
 ghost use Rattle.portal_core.specs.Words.{Key, is, has};
 ghost use Rattle.portal_core.specs.World.{World, Lecturer, student_key, applicants_of, is_from_ranking};
 ghost use Rattle.portal_core.specs.Good.{Good, codes_of, IsChoice, IsRanking};
+ghost use Rattle.portal_core.specs.Honest.{HonestIsBest};
 ghost use Rattle.portal_core.specs.Faults.{ListFault, choice_fault, ranking_fault, lacks_one};
 ghost use Rattle.portal_core.specs.Rolls.{RollFault, Faulty, Took, take_rows, lecturer_roll, project_roll, student_roll};
 ghost use Rattle.portal_core.specs.Legal.{AreFresh, IsBadChoice, IsBadRank, NoneBad, IsFirstBad, IsFirstRefused};
@@ -68,10 +69,18 @@ pub fn run_good()
         → Good w → Run w asked told after → AllByRecursion Good after }
 {}
 
-/// A step of a good world has one reply and leaves one world.
+/// A step has one reply and leaves one world.
 pub fn step_once()
     ensures { (w v u : World) (code : Key) (ask : Ask) (a b : Answer)
-        → Good w → Step w code ask a v → Step w code ask b u → (a ≡ b) × (v ≡ u) }
+        → Step w code ask a v → Step w code ask b u → (a ≡ b) × (v ≡ u) }
+{}
+
+/// Two runs that nothing fails, from one world over one list of requests, give equal replies and leave
+/// equal worlds after each request.
+pub fn one_run()
+    ensures { (w : World) (asked : List Request) (told said : List Answer) (after later : List World)
+        → Run w asked told after → AllAnswered told → Run w asked said later → AllAnswered said
+        → (told ≡ said) × (after ≡ later) }
 {}
 
 /// What is legal is taken: a list of at most 20 known projects, none twice; a ranking that lists each
@@ -129,6 +138,13 @@ pub fn named_by_code()
     ensures lecturers { (w : World) → Good w → AllByRecursion (λ l. view w l.row.code ≡ sees.Lecturer (lecturer_sees w l)) w.lecturers }
     ensures students { (w : World) → Good w → AllByRecursion (λ s. view w s.row.code ≡ sees.Student (student_sees w s)) w.students }
     ensures others { (w : World) (c : Key) → Good w → has (codes_of w) c ≡ false → view w c ≡ sees.Nobody }
+{}
+
+/// What a student is shown with the honest list is, by that list, at least as good as what is shown with
+/// another: of two good worlds in published, of one round, each with its best result, that differ at most
+/// in the list of one student, where each lecturer orders the same students alike.
+pub fn honest_is_best()
+    ensures { HonestIsBest }
 {}
 
 /// There is a good world in each phase: the small world is one.

@@ -11,7 +11,7 @@ use Rattle.spa_student.specs.declared.cuts.Progress.{Progress}
 use Rattle.spa_student.specs.Machine.{rank_of, LecturerSpent, ProjectSpent, Holds}
 use Rattle.spa_student.specs.Cuts.{IsPastCut, IsCut, IsUncut, AreCounts, AreMarks, IsUnderWay, IsNextEntry, KeepsCuts, Puts, Leaves, IsSettled}
 use Rattle.spa_student.specs.Worst.{IsWorstAt, IsWorstWith}
-use Rattle.spa_student.proofs.Machine.{student_in_range, delete_holds, place_holds, swap_at_project_holds, swap_at_lecturer_holds, best_at_end, put_cases, put_at_project, put_at_lecturer, one_here, none_there}
+use Rattle.spa_student.proofs.Machine.{ranked_of, student_in_range, delete_holds, place_holds, swap_at_project_holds, swap_at_lecturer_holds, best_at_end, put_cases, put_at_project, put_at_lecturer, one_here, none_there}
 use Rattle.spa_student.proofs.Start.{nobody_matches, none_counted, none_there as none_there_yet}
 
 -- who finds a project acceptable is a student
@@ -310,11 +310,11 @@ module _ (i : Spa) (lawful : IsLawful i) (q placed : Progress) (state : IsUnderW
       → after.project_cuts.items ≡ set placed.project_cuts.items p (rank_of i (lecturer_of i p) w) → after.lecturer_cuts.items ≡ placed.lecturer_cuts.items → AreMarks i after → AreCounts i after → IsUnderWay i after
   project_state w after over worst leaves cut same marks after_counts =
       let worst_now : IsWorstAt i (set q.projects.items s (Some p)) p w = rw puts.projects at worst in
-      let done = swap_at_project_holds i q.projects.items (IsCut i q) lawful state.holds s p w in_range next.free next.acceptable (earlier_cut i q state.marks s p next) (omega (arith, now_at, state.holds.matching.projects p)) worst_now.at worst_now.worst in
+      let done = swap_at_project_holds i q.projects.items (IsCut i q) (ranked_of i lawful) state.holds s p w in_range next.free next.acceptable (earlier_cut i q state.marks s p next) (omega (arith, now_at, state.holds.matching.projects p)) worst_now.at worst_now.worst in
       record {
         marks = marks;
         counts = after_counts;
-        holds = subst (λ m. Holds i m (IsCut i after)) (sym (leaves.projects ∙ ap (λ k. set k w None) puts.projects)) (delete_holds i (set (set q.projects.items s (Some p)) w None) (IsCut i q) (IsCut i after) lawful done.0
+        holds = subst (λ m. Holds i m (IsCut i after)) (sym (leaves.projects ∙ ap (λ k. set k w None) puts.projects)) (delete_holds i (set (set q.projects.items s (Some p)) w None) (IsCut i q) (IsCut i after) (ranked_of i lawful) done.0
             (λ x u gone. (gone.0, project_cut_more i placed after p (rank_of i (lecturer_of i p) w) p_in less cut same x u (same_cut i q placed cuts x u gone.1)))
             (λ x u gone. elim (project_cut_new i placed after p (rank_of i (lecturer_of i p) w) p_in less cut same x u gone.1) [
               | inl old ↦ inl (gone.0, was_cut i q placed cuts x u old)
@@ -333,12 +333,12 @@ module _ (i : Spa) (lawful : IsLawful i) (q placed : Progress) (state : IsUnderW
       → after.project_cuts.items ≡ placed.project_cuts.items → after.lecturer_cuts.items ≡ set placed.lecturer_cuts.items (lecturer_of i p) (rank_of i (lecturer_of i p) w) → AreMarks i after → AreCounts i after → IsUnderWay i after
   lecturer_state w after room over worst leaves same cut marks after_counts =
       let worst_now : IsWorstWith i (set q.projects.items s (Some p)) (lecturer_of i p) w = rw puts.projects at worst in
-      let done = swap_at_lecturer_holds i q.projects.items (IsCut i q) lawful state.holds s p w worst_now.with_l.0 in_range next.free next.acceptable (earlier_cut i q state.marks s p next) (omega (arith, now_at)) (omega (arith, now_with, state.holds.matching.lecturers (lecturer_of i p))) worst_now.with_l.1 worst_now.with_l.2 worst_now.worst in
+      let done = swap_at_lecturer_holds i q.projects.items (IsCut i q) (ranked_of i lawful) state.holds s p w worst_now.with_l.0 in_range next.free next.acceptable (earlier_cut i q state.marks s p next) (omega (arith, now_at)) (omega (arith, now_with, state.holds.matching.lecturers (lecturer_of i p))) worst_now.with_l.1 worst_now.with_l.2 worst_now.worst in
       let spent : LecturerSpent i (set (set q.projects.items s (Some p)) w None) (lecturer_of i p) w = rw worst_now.with_l.2 at done.1 in
       record {
         marks = marks;
         counts = after_counts;
-        holds = subst (λ m. Holds i m (IsCut i after)) (sym (leaves.projects ∙ ap (λ k. set k w None) puts.projects)) (delete_holds i (set (set q.projects.items s (Some p)) w None) (IsCut i q) (IsCut i after) lawful done.0
+        holds = subst (λ m. Holds i m (IsCut i after)) (sym (leaves.projects ∙ ap (λ k. set k w None) puts.projects)) (delete_holds i (set (set q.projects.items s (Some p)) w None) (IsCut i q) (IsCut i after) (ranked_of i lawful) done.0
             (λ x u gone. (gone.0, lecturer_cut_more i placed after (lecturer_of i p) (rank_of i (lecturer_of i p) w) l_in less cut same x u (same_cut i q placed cuts x u gone.1)))
             (λ x u gone. elim (lecturer_cut_new i placed after (lecturer_of i p) (rank_of i (lecturer_of i p) w) l_in less cut same x u gone.1) [
               | inl old ↦ inl (gone.0, was_cut i q placed cuts x u old)

@@ -5,9 +5,13 @@ use Rattle.std.proofs.lemmas.Bool.{eqb-true, eq-eqb, ne_eqb, cases_Bool, cases_l
 use Rattle.spa_model.specs.declared.Letter.{Letter}
 use Rattle.spa_model.specs.declared.Letter.TheVariants.{A, B, C}
 use Rattle.spa_model.specs.Spa.{Spa, place, is_project, is_lecturer, at_project, at_lecturer, project_of, choices_of, lecturer_of, ranking_of, capacity_of, limit_of, IsOn, IsBefore, IsAcceptable, IsLawful, Improves, Wants, Blocks, IsStable, IsAsGood, IsBest}
-use Rattle.spa_student.specs.Machine.{rank_of, LecturerSpent, ProjectSpent, IsSpent, Holds}
+use Rattle.spa_student.specs.Machine.{IsRanked, rank_of, LecturerSpent, ProjectSpent, IsSpent, Holds}
 use Rattle.spa_model.proofs.Places.{place-injective}
 use Rattle.spa_model.proofs.Counts.{one_if, off_project, count_by-set, count_by-le, sum_below, sum_below-lt, share, at_lecturer-sum}
+
+-- a lawful instance is ranked
+pub ranked_of : (i : Spa) → IsLawful i → IsRanked i
+ranked_of i lawful = record { known = lawful.known; offered = lawful.offered; ranked = lawful.ranked; choices_distinct = lawful.choices_distinct }
 
 -- a student with a project is a student
 pub student_in_range : (i : Spa) (m : List (Option ℕ)) (s q : ℕ) → project_of m s ≡ Some q → s < length m
@@ -43,7 +47,7 @@ blocked i n stable t p s u at same before wants room =
     ]
 
 -- s, who has u in m and stands before t, has u in each stable n in which t is at p, where u is p or has room in n
-kept : (i : Spa) (m n : List (Option ℕ)) (Deleted : ℕ → ℕ → Type 0) → Holds i m Deleted → (stable : IsStable i n) → IsLawful i → (t p s u : ℕ) → project_of n t ≡ Some p → project_of m s ≡ Some u
+kept : (i : Spa) (m n : List (Option ℕ)) (Deleted : ℕ → ℕ → Type 0) → Holds i m Deleted → (stable : IsStable i n) → IsRanked i → (t p s u : ℕ) → project_of n t ≡ Some p → project_of m s ≡ Some u
     → lecturer_of i u ≡ lecturer_of i p → rank_of i (lecturer_of i u) s < rank_of i (lecturer_of i u) t → (u ≡ p) ⊎ (at_project n u < capacity_of i u)
     → (o : Option ℕ) → project_of n s ≡ o → o ≡ Some u
 kept i m n Deleted holds stable lawful t p s u at has same less room None e =
@@ -62,7 +66,7 @@ kept i m n Deleted holds stable lawful t p s u at has same less room (Some v) e 
     ]
 
 -- where n has at u each student whom m has there, m has no more
-no_more : (m n : List (Option ℕ)) (u : ℕ) → length m ≡ length n → ((s : ℕ) → project_of m s ≡ Some u → project_of n s ≡ Some u) → at_project m u ≤ at_project n u
+pub no_more : (m n : List (Option ℕ)) (u : ℕ) → length m ≡ length n → ((s : ℕ) → project_of m s ≡ Some u → project_of n s ≡ Some u) → at_project m u ≤ at_project n u
 no_more m n u same keeps = count_by-le (is_project u) m n same (λ s h. is_project-at u (project_of n s) (keeps s (project_from_test u (project_of m s) h)))
 
 -- and fewer, where n has one more there
@@ -76,7 +80,7 @@ fewer m n u t same keeps t_in at not_at =
     each s (inr other) h = keeps s (rw (get_or-set_other m t s (Some u) None other) at h)
 
 -- a pair that may be deleted is in no stable matching
-pub spent_is_hopeless : (i : Spa) (m n : List (Option ℕ)) (Deleted : ℕ → ℕ → Type 0) → Holds i m Deleted → IsLawful i → (t p : ℕ) → IsSpent i m t p → IsStable i n → project_of n t ≡ Some p → ⊥
+pub spent_is_hopeless : (i : Spa) (m n : List (Option ℕ)) (Deleted : ℕ → ℕ → Type 0) → Holds i m Deleted → IsRanked i → (t p : ℕ) → IsSpent i m t p → IsStable i n → project_of n t ≡ Some p → ⊥
 spent_is_hopeless i m n Deleted holds lawful t p (inr project) stable at =
     let keeps : (s : ℕ) → project_of m s ≡ Some p → project_of n s ≡ Some p =
     λ s has. kept i m n Deleted holds stable lawful t p s p at has refl (project.before s has) (inl refl) (project_of n s) refl in
@@ -108,7 +112,7 @@ spent_is_hopeless i m n Deleted holds lawful t p (inl lecturer) stable at =
     share_le u (inr other) h = rw other (omega arith)
 
 -- DELETE: pairs that may be deleted are deleted
-pub delete_holds : (i : Spa) (m : List (Option ℕ)) (Deleted More : ℕ → ℕ → Type 0) → IsLawful i → Holds i m Deleted → ((s p : ℕ) → Deleted s p → More s p) → ((s p : ℕ) → More s p → Deleted s p ⊎ IsSpent i m s p) → Holds i m More
+pub delete_holds : (i : Spa) (m : List (Option ℕ)) (Deleted More : ℕ → ℕ → Type 0) → IsRanked i → Holds i m Deleted → ((s p : ℕ) → Deleted s p → More s p) → ((s p : ℕ) → More s p → Deleted s p ⊎ IsSpent i m s p) → Holds i m More
 delete_holds i m Deleted More lawful holds keeps new = record {
   matching = holds.matching;
   first = λ s p q has better. keeps s p (holds.first s p q has better);
@@ -261,7 +265,7 @@ stands_before : (xs : List ℕ) (x w : ℕ) → IsOn xs x → x ≢ w → place 
 stands_before xs x w on other le = elim (cases_eq (place xs x) (place xs w)) [ inl level ↦ absurd (other (place-injective xs x w on level)) | inr apart ↦ omega arith ]
 
 -- SWAP AT A PROJECT: a free student is put at the first project that is left, which was full, and the worst there is let go, whose pair may then be deleted
-pub swap_at_project_holds : (i : Spa) (m : List (Option ℕ)) (Deleted : ℕ → ℕ → Type 0) → IsLawful i → Holds i m Deleted → (s p w : ℕ) → s < length m → project_of m s ≡ None → IsAcceptable i s p → ((q : ℕ) → IsBefore (choices_of i s) q p → Deleted s q)
+pub swap_at_project_holds : (i : Spa) (m : List (Option ℕ)) (Deleted : ℕ → ℕ → Type 0) → IsRanked i → Holds i m Deleted → (s p w : ℕ) → s < length m → project_of m s ≡ None → IsAcceptable i s p → ((q : ℕ) → IsBefore (choices_of i s) q p → Deleted s q)
     → at_project m p ≡ capacity_of i p → project_of (set m s (Some p)) w ≡ Some p
     → ((x : ℕ) → project_of (set m s (Some p)) x ≡ Some p → rank_of i (lecturer_of i p) x ≤ rank_of i (lecturer_of i p) w)
     → Holds i (set (set m s (Some p)) w None) Deleted × ProjectSpent i (set (set m s (Some p)) w None) p w
@@ -326,7 +330,7 @@ swap_at_project_holds i m Deleted lawful holds s p w in_range free on first full
   w_was x u other same = was i m s p w p in_range free has (λ e. other (same ∙ sym e))
 
 -- SWAP AT A LECTURER: the project has room and its lecturer was full; the worst of the lecturer's students is let go
-pub swap_at_lecturer_holds : (i : Spa) (m : List (Option ℕ)) (Deleted : ℕ → ℕ → Type 0) → IsLawful i → Holds i m Deleted → (s p w u : ℕ) → s < length m → project_of m s ≡ None → IsAcceptable i s p → ((q : ℕ) → IsBefore (choices_of i s) q p → Deleted s q)
+pub swap_at_lecturer_holds : (i : Spa) (m : List (Option ℕ)) (Deleted : ℕ → ℕ → Type 0) → IsRanked i → Holds i m Deleted → (s p w u : ℕ) → s < length m → project_of m s ≡ None → IsAcceptable i s p → ((q : ℕ) → IsBefore (choices_of i s) q p → Deleted s q)
     → at_project m p < capacity_of i p → at_lecturer i m (lecturer_of i p) ≡ limit_of i (lecturer_of i p)
     → project_of (set m s (Some p)) w ≡ Some u → lecturer_of i u ≡ lecturer_of i p
     → ((x q : ℕ) → project_of (set m s (Some p)) x ≡ Some q → lecturer_of i q ≡ lecturer_of i p → rank_of i (lecturer_of i p) x ≤ rank_of i (lecturer_of i p) w)

@@ -1,0 +1,420 @@
+-- No other list gains anything: of worlds.
+use Rattle.std.proofs.Common.{◌≡◌, ℕ, zero, suc, ◌+◌, ◌<◌, ◌≤◌, Bool, true, false, not, cond, eqb, inl, inr, List, [], ◌∷◌, map, length, get_or, refl, sym, ◌∙◌, ap, subst, arith}
+use Rattle.std.specs.Prelude.{Option, Some, None, IfSome, option_map, unwrap_or, is_none, ◌&&◌, ◌||◌, filter}
+use Rattle.std.specs.List.{AllByRecursion, AllZip, list_any, find}
+use Rattle.std.proofs.Math.Bool.{or-true}
+use Rattle.std.proofs.lemmas.Bool.{eqb-true, eq-eqb, cases_lt}
+use Rattle.std.proofs.lemmas.List.{get_or-map, length-map, get_or_past}
+use Rattle.std.proofs.lemmas.List.Elements.{AllZip-get_or}
+use Rattle.std.proofs.lemmas.Slice.Zip.{AllZip-long}
+use Rattle.std.proofs.lemmas.List.Folds.{list_any_at}
+use Rattle.spa_model.specs.Spa.{place, project_of, choices_of, lecturer_of, ranking_of, IsOn, IsAcceptable, IsAsGood, IsDistinct}
+use Rattle.spa_model.specs.Pairs.{number_in}
+use Rattle.spa_model.proofs.Numbers.{number_is, number_known}
+use Rattle.spa_student.specs.Machine.{IsRanked}
+use Rattle.spa_student.proofs.CutSteps.{acceptable_in_range}
+use Rattle.spa_honest.specs.Honest as instances
+use Rattle.spa_honest.proofs.Gains.{honest_is_best as honest_by_number}
+use Rattle.portal_core.specs.declared.rows.ProjectRow.{ProjectRow}
+use Rattle.portal_core.specs.Words.{Key, is, has, is_empty, AreDistinct}
+use Rattle.portal_core.specs.World.{World, Lecturer, Student, lecturer_key, project_key, student_key, projects_of, applicants_of, is_published}
+use Rattle.portal_core.specs.Instance.{instance, matching_of, lecturer_keys, project_keys, student_keys}
+use Rattle.portal_core.specs.View.{OfficeCaller, caller_among, lecturer_with, student_with, sight_of, view, student_sees}
+use Rattle.portal_core.specs.Good.{Sound, IsChoice, IsRanking}
+use Rattle.portal_core.specs.Sight.{StudentSees}
+use Rattle.portal_core.specs.declared.view.View.TheVariants as sees
+use Rattle.portal_core.specs.Honest.{HasBest, OrderAlike, RankAlike, ListAlike, DifferInOneList, IsNoWorse}
+use Rattle.portal_core.proofs.Keys.{is_same, is_own}
+use Rattle.portal_core.proofs.AllLaws.{all_at, any_map, filtered_any}
+use Rattle.portal_core.proofs.Only.{has_contains, on_roll}
+use Rattle.portal_core.proofs.Published.{number_back}
+
+-- numbers of keys
+
+has_number : (keys : List Key) (k : Key) → has keys k ≡ true → number_in keys k < length keys
+has_number keys k h = number_known keys k (has_contains keys k h)
+
+number_has : (keys : List Key) (k : Key) → number_in keys k < length keys → has keys k ≡ true
+number_has keys k low = list_any_at (is k) keys (number_in keys k) [] low (rw (number_is keys k low) (is_own k))
+
+module _ (keys : List Key) where
+  same_key : (a b : Key) → number_in keys a ≡ number_in keys b → number_in keys b < length keys → a ≡ b
+  same_key a b e low = sym (number_is keys a (subst (λ n. n < length keys) (sym e) low)) ∙ ap (λ n. get_or keys n []) e ∙ number_is keys b low
+
+  -- the numbers stand on a list as the keys do
+  place_number : (list : List Key) (k : Key) → number_in keys k < length keys → place (map (number_in keys) list) (number_in keys k) ≡ number_in list k
+  place_number [] k low = refl
+  place_number (c ∷ cs) k low =
+      by_tests (eqb (number_in keys c) (number_in keys k)) (is c k)
+      (λ e. subst (λ x. is x k ≡ true) (sym (same_key c k (eqb-true (number_in keys c) (number_in keys k) e) low)) (is_own k))
+      (λ e. eq-eqb (number_in keys c) (number_in keys k) (ap (number_in keys) (is_same c k e)))
+      (place_number cs k low)
+    where
+      by_tests : (a b : Bool) → (a ≡ true → b ≡ true) → (b ≡ true → a ≡ true) → place (map (number_in keys) cs) (number_in keys k) ≡ number_in cs k
+          → cond a 0 (1 + place (map (number_in keys) cs) (number_in keys k)) ≡ cond (not b) (1 + number_in cs k) 0
+      by_tests true true f g e = refl
+      by_tests true false f g e = let wrong = f refl in absurd (cc)
+      by_tests false true f g e = let wrong = g refl in absurd (cc)
+      by_tests false false f g e = ap (λ n. 1 + n) e
+
+  on_number : (list : List Key) (k : Key) → number_in keys k < length keys → has list k ≡ true → IsOn (map (number_in keys) list) (number_in keys k)
+  on_number list k low h = omega (arith, place_number list k low, has_number list k h, length-map list (number_in keys))
+
+  number_on : (list : List Key) (k : Key) → number_in keys k < length keys → IsOn (map (number_in keys) list) (number_in keys k) → has list k ≡ true
+  number_on list k low on = number_has list k (omega (arith, place_number list k low, length-map list (number_in keys)))
+
+  -- what stands among the numbers is the number of a key
+  key_of : (list : List Key) (n : ℕ) → IsOn (map (number_in keys) list) n → (k : Key) × (has list k ≡ true) × (number_in keys k ≡ n)
+  key_of [] n on = absurd (omega (arith, on))
+  key_of (c ∷ cs) n on = by_test (eqb (number_in keys c) n) (eqb-true (number_in keys c) n) (key_of cs n) on
+    where
+      by_test : (b : Bool) → (b ≡ true → number_in keys c ≡ n) → (IsOn (map (number_in keys) cs) n → (k : Key) × (has cs k ≡ true) × (number_in keys k ≡ n))
+          → cond b 0 (1 + place (map (number_in keys) cs) n) < suc (length (map (number_in keys) cs)) → (k : Key) × (has (c ∷ cs) k ≡ true) × (number_in keys k ≡ n)
+      by_test true f r h = (c, ap (λ b. b || has cs c) (is_own c), f refl)
+      by_test false f r h = let rest = r (omega arith) in (rest.0, ap (λ b. is rest.0 c || b) rest.1 ∙ or-true (is rest.0 c), rest.2)
+
+  -- keys that differ have numbers that differ
+  not_again : (cs : List Key) (c : Key) → AllByRecursion (λ l. has keys l ≡ true) cs → has cs c ≡ false → (k d : ℕ) → k < length (map (number_in keys) cs) → number_in keys c ≡ get_or (map (number_in keys) cs) k d → ⊥
+  not_again [] c known new k d h e = omega arith
+  not_again (x ∷ cs) c known new zero d h e =
+      let same : c ≡ x = same_key c x e (has_number keys x known.0) in
+      let there : is c x ≡ true = subst (λ y. is c y ≡ true) same (is_own c) in
+      let both : (is c x || has cs c) ≡ true = ap (λ b. b || has cs c) there in
+      absurd (cc)
+  not_again (x ∷ cs) c known new (suc k) d h e = not_again cs c known.1 (rest (is c x) (has cs c) new) k d (omega arith) e
+    where
+      rest : (a b : Bool) → (a || b) ≡ false → b ≡ false
+      rest true b f = absurd (cc)
+      rest false b f = f
+
+  numbers_distinct : (list : List Key) → AllByRecursion (λ l. has keys l ≡ true) list → AreDistinct list → IsDistinct (map (number_in keys) list)
+  numbers_distinct [] known once j k d less h e = omega arith
+  numbers_distinct (c ∷ cs) known once zero zero d less h e = omega arith
+  numbers_distinct (c ∷ cs) known once zero (suc k) d less h e = not_again cs c known.1 once.0 k d (omega arith) e
+  numbers_distinct (c ∷ cs) known once (suc j) zero d less h e = omega arith
+  numbers_distinct (c ∷ cs) known once (suc j) (suc k) d less h e = numbers_distinct cs known.1 once.1 j k d (omega arith) (omega arith) e
+
+-- rows by number
+
+no_student : Student
+no_student = record { row = record { key = []; name = []; code = [] }; choice = []; placed = None }
+
+no_project : ProjectRow
+no_project = record { key = []; lecturer = []; title = []; capacity = 0 }
+
+no_lecturer : Lecturer
+no_lecturer = record { row = record { key = []; name = []; code = []; capacity = 0 }; ranking = None }
+
+-- an applicant stands on the ranking, where nobody is still to rank
+on_ranking : (apps : List Student) (k : Key) (o : Option (List Key)) → IfSome o (IsRanking (map student_key apps)) → (not (is_empty apps) && is_none o) ≡ false → has (map student_key apps) k ≡ true → has (unwrap_or o []) k ≡ true
+on_ranking [] k None ranks ranked there = absurd (cc)
+on_ranking (a ∷ apps) k None ranks ranked there = absurd (cc)
+on_ranking apps k (Some r) ranks ranked there =
+    let at = has_contains (map student_key apps) k there in
+    subst (λ x. has r x ≡ true) at.2 (all_at (λ x. has r x ≡ true) (map student_key apps) at.0 k ranks.all at.1)
+
+both_hold : (a b : Bool) → a ≡ true → b ≡ true → (a && b) ≡ true
+both_hold true b e f = f
+both_hold false b e f = absurd (cc)
+
+module _ (w : World) (sound : Sound w) (published : is_published w.phase ≡ true) where
+  student : ℕ → Student
+  student s = get_or w.students s no_student
+
+  choices : (s : ℕ) (d : Student) → s < length w.students → choices_of (instance w) s ≡ map (number_in (project_keys w)) (get_or w.students s d).choice
+  choices s d h = get_or-map (λ (x : Student). map (number_in (project_keys w)) x.choice) w.students s d [] h
+
+  choice : (s : ℕ) (d : Student) → s < length w.students → IsChoice (project_keys w) (get_or w.students s d).choice
+  choice s d h = all_at (λ (x : Student). IsChoice (project_keys w) x.choice) w.students s d sound.choices h
+
+  in_range : (s p : ℕ) → IsAcceptable (instance w) s p → s < length w.students
+  in_range s p on = omega (arith, acceptable_in_range (instance w) s p on, length-map w.students (λ (x : Student). map (number_in (project_keys w)) x.choice))
+
+  known_key : (s p : ℕ) → IsAcceptable (instance w) s p → p < length (project_keys w)
+  known_key s p on = on_roll (project_keys w) w.students sound.choices s p on
+
+  known : (s p : ℕ) → IsAcceptable (instance w) s p → p < length w.projects
+  known s p on = omega (arith, known_key s p on, length-map w.projects project_key)
+
+  lecturer_at : (p : ℕ) → p < length w.projects → lecturer_of (instance w) p ≡ number_in (lecturer_keys w) (get_or w.projects p no_project).lecturer
+  lecturer_at p h = get_or-map (λ (q : ProjectRow). number_in (lecturer_keys w) q.lecturer) w.projects p no_project 0 h
+
+  lecturer_known : (p : ℕ) → p < length w.projects → number_in (lecturer_keys w) (get_or w.projects p no_project).lecturer < length (lecturer_keys w)
+  lecturer_known p h = has_number (lecturer_keys w) (get_or w.projects p no_project).lecturer (all_at (λ (q : ProjectRow). has (lecturer_keys w) q.lecturer ≡ true) w.projects p no_project sound.lecturers_known h)
+
+  -- a student whose list holds a project is an applicant of its lecturer
+  applies : (s p : ℕ) (l : Key) → s < length w.students → p < length w.projects → (get_or w.projects p no_project).lecturer ≡ l → has (get_or w.students s no_student).choice (get_or w.projects p no_project).key ≡ true
+      → has (map student_key (applicants_of w l)) (get_or w.students s no_student).row.key ≡ true
+  applies s p l s_in p_in own there =
+      let x : Student = get_or w.students s no_student in
+      let wants : list_any (λ (q : ProjectRow). has x.choice q.key) (projects_of w l) ≡ true =
+      filtered_any (λ (q : ProjectRow). has x.choice q.key) (λ (q : ProjectRow). is q.lecturer l) w.projects
+      ∙ list_any_at (λ (q : ProjectRow). is q.lecturer l && has x.choice q.key) w.projects p no_project p_in
+      (both_hold (is (get_or w.projects p no_project).lecturer l) (has x.choice (get_or w.projects p no_project).key) (rw own (is_own l)) there) in
+      any_map (is x.row.key) student_key (applicants_of w l)
+      ∙ filtered_any (λ (y : Student). is x.row.key y.row.key) (λ (y : Student). list_any (λ (q : ProjectRow). has y.choice q.key) (projects_of w l)) w.students
+      ∙ list_any_at (λ (y : Student). list_any (λ (q : ProjectRow). has y.choice q.key) (projects_of w l) && is x.row.key y.row.key) w.students s no_student s_in
+      (both_hold (list_any (λ (q : ProjectRow). has x.choice q.key) (projects_of w l)) (is x.row.key x.row.key) wants (is_own x.row.key))
+
+  ranked : (s p : ℕ) → IsAcceptable (instance w) s p → IsOn (ranking_of (instance w) (lecturer_of (instance w) p)) s
+  ranked s p on =
+      let s_in : s < length w.students = in_range s p on in
+      let p_in : p < length w.projects = known s p on in
+      let x : Student = get_or w.students s no_student in
+      let prj : ProjectRow = get_or w.projects p no_project in
+      let found = key_of (project_keys w) x.choice p (rw (choices s no_student s_in) at on) in
+      let p_key : prj.key ≡ found.0 =
+      sym (get_or-map project_key w.projects p no_project [] p_in) ∙ ap (λ n. get_or (project_keys w) n []) (sym found.2) ∙ number_is (project_keys w) found.0 (subst (λ n. n < length (project_keys w)) (sym found.2) (known_key s p on)) in
+      let l : ℕ = number_in (lecturer_keys w) prj.lecturer in
+      let l_low : l < length (lecturer_keys w) = lecturer_known p p_in in
+      let l_in : l < length w.lecturers = omega (arith, l_low, length-map w.lecturers lecturer_key) in
+      let row : Lecturer = get_or w.lecturers l no_lecturer in
+      let own : prj.lecturer ≡ row.row.key = sym (number_is (lecturer_keys w) prj.lecturer l_low) ∙ get_or-map lecturer_key w.lecturers l no_lecturer [] l_in in
+      let there : has (unwrap_or row.ranking []) x.row.key ≡ true =
+      on_ranking (applicants_of w row.row.key) x.row.key row.ranking
+      (all_at (λ (y : Lecturer). IfSome y.ranking (IsRanking (map student_key (applicants_of w y.row.key)))) w.lecturers l no_lecturer sound.rankings l_in)
+      (all_at (λ (y : Lecturer). (not (is_empty (applicants_of w y.row.key)) && is_none y.ranking) ≡ false) w.lecturers l no_lecturer (sound.all_ranked published) l_in)
+      (applies s p row.row.key s_in p_in own (subst (λ k. has x.choice k ≡ true) (sym p_key) found.1)) in
+      let s_key : get_or (student_keys w) s [] ≡ x.row.key = get_or-map student_key w.students s no_student [] s_in in
+      let s_low : s < length (student_keys w) = omega (arith, length-map w.students student_key) in
+      let s_number : number_in (student_keys w) x.row.key ≡ s = ap (number_in (student_keys w)) (sym s_key) ∙ number_back (student_keys w) s sound.students_rise s_low in
+      let ranking : ranking_of (instance w) l ≡ map (number_in (student_keys w)) (unwrap_or row.ranking []) =
+      get_or-map (λ (y : Lecturer). map (number_in (student_keys w)) (unwrap_or y.ranking [])) w.lecturers l no_lecturer [] l_in in
+      let stands : IsOn (map (number_in (student_keys w)) (unwrap_or row.ranking [])) s =
+      subst (IsOn (map (number_in (student_keys w)) (unwrap_or row.ranking []))) s_number
+      (on_number (student_keys w) (unwrap_or row.ranking []) x.row.key (subst (λ n. n < length (student_keys w)) (sym s_number) s_low) there) in
+      subst (λ n. IsOn (ranking_of (instance w) n) s) (sym (lecturer_at p p_in)) (subst (λ list. IsOn list s) (sym ranking) stands)
+
+  -- the instance of a good world in published is ranked
+  pub world_ranked : IsRanked (instance w)
+  world_ranked = record {
+    known = λ s p on. omega (arith, known s p on, length-map w.projects (λ (q : ProjectRow). number_in (lecturer_keys w) q.lecturer));
+    offered = λ p h. offered p (omega (arith, length-map w.projects (λ (q : ProjectRow). number_in (lecturer_keys w) q.lecturer)));
+    ranked = ranked;
+    choices_distinct = distinct w.students sound.choices;
+  } where
+    offered : (p : ℕ) → p < length w.projects → lecturer_of (instance w) p < length (instance w).rankings
+    offered p h = rw (lecturer_at p h) (omega (arith, lecturer_known p h, length-map w.lecturers lecturer_key, length-map w.lecturers (λ (y : Lecturer). map (number_in (student_keys w)) (unwrap_or y.ranking []))))
+
+    distinct : (ss : List Student) → AllByRecursion (λ x. IsChoice (project_keys w) x.choice) ss → (s : ℕ) → IsDistinct (get_or (map (λ (x : Student). map (number_in (project_keys w)) x.choice) ss) s [])
+    distinct [] all s = λ j k d less h. absurd (omega arith)
+    distinct (x ∷ ss) all zero = numbers_distinct (project_keys w) x.choice all.0.known all.0.once
+    distinct (x ∷ ss) all (suc s) = distinct ss all.1 s
+
+  -- the project that the matching gives is the place in the result
+  given : (s : ℕ) (d : Student) → s < length w.students → project_of (matching_of w) s ≡ option_map (number_in (project_keys w)) (get_or w.students s d).placed
+  given s d h = get_or-map (λ (x : Student). option_map (number_in (project_keys w)) x.placed) w.students s d None h
+
+-- the student of this number on the roll
+record IsStudent (w : World) (s : ℕ) (x : Student) : Type 0 where
+  pub in_range : s < length w.students
+  pub is : get_or w.students s x ≡ x
+
+-- from numbers to keys
+module _ (w : World) (sound : Sound w) (published : is_published w.phase ≡ true) (s : ℕ) (x : Student) (is_x : IsStudent w s x) where
+  x_choices : choices_of (instance w) s ≡ map (number_in (project_keys w)) x.choice
+  x_choices = subst (λ (y : Student). choices_of (instance w) s ≡ map (number_in (project_keys w)) y.choice) is_x.is (choices w sound published s x is_x.in_range)
+
+  x_given : project_of (matching_of w) s ≡ option_map (number_in (project_keys w)) x.placed
+  x_given = subst (λ (y : Student). project_of (matching_of w) s ≡ option_map (number_in (project_keys w)) y.placed) is_x.is (given w sound published s x is_x.in_range)
+
+  shown : (student_sees w x).result ≡ x.placed
+  shown = rw published refl
+
+  -- a project on the list is acceptable by its number
+  x_acceptable : (p : Key) → number_in (project_keys w) p < length (project_keys w) → has x.choice p ≡ true → IsAcceptable (instance w) s (number_in (project_keys w) p)
+  x_acceptable p low there = rw x_choices (on_number (project_keys w) x.choice p low there)
+
+  x_no_worse : (p : Key) → number_in (project_keys w) p < length (project_keys w) → has x.choice p ≡ true → (o : Option Key) → ((q : Key) → o ≡ Some q → IsAcceptable (instance w) s (number_in (project_keys w) q))
+      → IsAsGood (instance w) s (option_map (number_in (project_keys w)) o) (Some (number_in (project_keys w) p))
+      → (q : Key) × (o ≡ Some q) × (has x.choice q ≡ true) × (number_in x.choice q ≤ number_in x.choice p)
+  x_no_worse p low there None on good = absurd good
+  x_no_worse p low there (Some q) on good =
+      let keys : List Key = project_keys w in
+      let q_on : IsOn (map (number_in (project_keys w)) x.choice) (number_in (project_keys w) q) = rw x_choices at (on q refl) in
+      let q_low : number_in (project_keys w) q < length (project_keys w) = known_key w sound published s (number_in (project_keys w) q) (on q refl) in
+      let at_p : place (map (number_in (project_keys w)) x.choice) (number_in (project_keys w) p) ≡ number_in x.choice p = place_number (project_keys w) x.choice p low in
+      let at_q : place (map (number_in (project_keys w)) x.choice) (number_in (project_keys w) q) ≡ number_in x.choice q = place_number (project_keys w) x.choice q q_low in (
+        q,
+        refl,
+        number_on (project_keys w) x.choice q q_low q_on,
+        elim good [
+          | inl same ↦ let level : place (map (number_in (project_keys w)) x.choice) (number_in (project_keys w) q) ≡ place (map (number_in (project_keys w)) x.choice) (number_in (project_keys w) p) = ap (place (map (number_in (project_keys w)) x.choice)) same in
+              omega arith
+          | inr before ↦ let less : place (map (number_in (project_keys w)) x.choice) (number_in (project_keys w) q) < place (map (number_in (project_keys w)) x.choice) (number_in (project_keys w) p) = (rw x_choices at before).0 in
+              omega arith
+        ],
+      )
+
+-- from rows to instances
+
+rows_same : {X Y : Type 0} (R : X → X → Type 0) (f : X → Y) → ((x y : X) → R x y → f y ≡ f x) → (xs ys : List X) → AllZip R xs ys → map f ys ≡ map f xs
+rows_same R f same [] [] z = refl
+rows_same R f same [] (y ∷ ys) z = absurd z
+rows_same R f same (x ∷ xs) [] z = absurd z
+rows_same R f same (x ∷ xs) (y ∷ ys) z = λ i. same x y z.0 i ∷ rows_same R f same xs ys z.1 i
+
+-- who passes a test is on the roll
+kept_has : (f : Student → Bool) (ss : List Student) (k : Key) → has (map student_key (filter f ss)) k ≡ true → has (map student_key ss) k ≡ true
+kept_has f [] k h = h
+kept_has f (s ∷ ss) k h = by_test (f s) (kept_has f ss k) h
+  where
+    by_test : (b : Bool) → (has (map student_key (filter f ss)) k ≡ true → has (map student_key ss) k ≡ true) → has (map student_key (cond b (s ∷ filter f ss) (filter f ss))) k ≡ true → (is k s.row.key || has (map student_key ss) k) ≡ true
+    by_test false r g = ap (λ b. is k s.row.key || b) (r g) ∙ or-true (is k s.row.key)
+    by_test true r g = by_key (is k s.row.key) g
+      where
+        by_key : (b : Bool) → (b || has (map student_key (filter f ss)) k) ≡ true → (b || has (map student_key ss) k) ≡ true
+        by_key true g = refl
+        by_key false g = r g
+
+-- who stands on a ranking is on the roll
+rank_known : (w : World) → Sound w → (l : ℕ) (d : Lecturer) → l < length w.lecturers → (k : Key) → has (unwrap_or (get_or w.lecturers l d).ranking []) k ≡ true → number_in (student_keys w) k < length (student_keys w)
+rank_known w sound l d l_in k there =
+    has_number (student_keys w) k (by_ranking (get_or w.lecturers l d).ranking (all_at (λ (y : Lecturer). IfSome y.ranking (IsRanking (map student_key (applicants_of w y.row.key)))) w.lecturers l d sound.rankings l_in) there)
+  where
+    by_ranking : (o : Option (List Key)) → IfSome o (IsRanking (map student_key (applicants_of w (get_or w.lecturers l d).row.key))) → has (unwrap_or o []) k ≡ true → has (student_keys w) k ≡ true
+    by_ranking None ranks h = absurd (cc)
+    by_ranking (Some r) ranks h =
+        let at = has_contains r k h in
+        let apps : List Key = map student_key (applicants_of w (get_or w.lecturers l d).row.key) in
+        kept_has (λ (s : Student). list_any (λ (q : ProjectRow). has s.choice q.key) (projects_of w (get_or w.lecturers l d).row.key)) w.students k
+        (subst (λ x. has apps x ≡ true) at.2 (all_at (λ x. has apps x ≡ true) r at.0 k ranks.only at.1))
+
+-- rankings of keys that order alike do so by number
+order_numbers : (keys xs ys : List Key) → ((k : Key) → has ys k ≡ true → number_in keys k < length keys) → OrderAlike xs ys → instances.OrderAlike (map (number_in keys) xs) (map (number_in keys) ys)
+order_numbers keys xs ys low alike a b on_a on_b before =
+    let key_a = key_of keys ys a on_a in
+    let key_b = key_of keys ys b on_b in
+    let low_a : number_in keys key_a.0 < length keys = low key_a.0 key_a.1 in
+    let low_b : number_in keys key_b.0 < length keys = low key_b.0 key_b.1 in
+    let x_a : place (map (number_in keys) xs) a ≡ number_in xs key_a.0 = ap (place (map (number_in keys) xs)) (sym key_a.2) ∙ place_number keys xs key_a.0 low_a in
+    let x_b : place (map (number_in keys) xs) b ≡ number_in xs key_b.0 = ap (place (map (number_in keys) xs)) (sym key_b.2) ∙ place_number keys xs key_b.0 low_b in
+    let y_a : place (map (number_in keys) ys) a ≡ number_in ys key_a.0 = ap (place (map (number_in keys) ys)) (sym key_a.2) ∙ place_number keys ys key_a.0 low_a in
+    let y_b : place (map (number_in keys) ys) b ≡ number_in ys key_b.0 = ap (place (map (number_in keys) ys)) (sym key_b.2) ∙ place_number keys ys key_b.0 low_b in
+    let b_there : has xs key_b.0 ≡ true = number_on keys xs key_b.0 low_b (subst (IsOn (map (number_in keys) xs)) (sym key_b.2) before.1) in
+    let after = alike key_a.0 key_b.0 key_a.1 key_b.1 (b_there, omega (arith, before.0, x_a, x_b)) in
+    (omega (arith, after.1, y_a, y_b), on_b)
+
+module _ (w v : World) (sound : Sound w) (good : Sound v) (s : ℕ) (key : Key) (differ : DifferInOneList w v key) (s_in : s < length w.students) (s_key : get_or (student_keys w) s [] ≡ key) where
+  students_same : student_keys v ≡ student_keys w
+  students_same = rows_same (ListAlike key) student_key (λ x y r. ap (λ row. row.key) r.0) w.students v.students differ.students
+
+  lecturers_same : lecturer_keys v ≡ lecturer_keys w
+  lecturers_same = rows_same RankAlike lecturer_key (λ x y r. ap (λ row. row.key) r.0) w.lecturers v.lecturers differ.lecturers
+
+  projects_same : project_keys v ≡ project_keys w
+  projects_same = ap (map project_key) differ.projects
+
+  count_students : length v.students ≡ length w.students
+  count_students = AllZip-long (ListAlike key) w.students v.students differ.students
+
+  count_lecturers : length v.lecturers ≡ length w.lecturers
+  count_lecturers = AllZip-long RankAlike w.lecturers v.lecturers differ.lecturers
+
+  other_key : (t : ℕ) → t < length w.students → (t ≡ s → ⊥) → (get_or w.students t no_student).row.key ≡ key → ⊥
+  other_key t t_in other same =
+      let t_key : get_or (student_keys w) t [] ≡ key = get_or-map student_key w.students t no_student [] t_in ∙ same in
+      let low : t < length (student_keys w) = omega (arith, length-map w.students student_key) in
+      let low_s : s < length (student_keys w) = omega (arith, length-map w.students student_key) in
+      other (sym (number_back (student_keys w) t sound.students_rise low) ∙ ap (number_in (student_keys w)) (t_key ∙ sym s_key) ∙ number_back (student_keys w) s sound.students_rise low_s)
+
+  choices_in : (x : World) (t : ℕ) → t < length x.students → choices_of (instance x) t ≡ map (number_in (project_keys x)) (get_or x.students t no_student).choice
+  choices_in x t h = get_or-map (λ (y : Student). map (number_in (project_keys x)) y.choice) x.students t no_student [] h
+
+  ranking_in : (x : World) (l : ℕ) → l < length x.lecturers → ranking_of (instance x) l ≡ map (number_in (student_keys x)) (unwrap_or (get_or x.lecturers l no_lecturer).ranking [])
+  ranking_in x l h = get_or-map (λ (y : Lecturer). map (number_in (student_keys x)) (unwrap_or y.ranking [])) x.lecturers l no_lecturer [] h
+
+  differ_by_number : instances.DifferInOneList (instance w) (instance v) s
+  differ_by_number = record {
+    students = length-map v.students _ ∙ count_students ∙ sym (length-map w.students _);
+    lecturers = λ i. map (λ (p : ProjectRow). number_in (lecturers_same i) p.lecturer) (differ.projects i);
+    capacities = ap (map (λ (p : ProjectRow). p.capacity)) differ.projects;
+    limits = rows_same RankAlike (λ (l : Lecturer). l.row.capacity) (λ x y r. ap (λ row. row.capacity) r.0) w.lecturers v.lecturers differ.lecturers;
+    others = others;
+    orders = orders;
+  } where
+    others : (t : ℕ) → (t ≡ s → ⊥) → choices_of (instance v) t ≡ choices_of (instance w) t
+    others t other = elim (cases_lt t (length w.students)) [
+      | inl t_in ↦
+          let alike = AllZip-get_or (ListAlike key) w.students v.students t no_student no_student differ.students t_in in
+          choices_in v t (omega (arith, count_students))
+          ∙ (λ i. map (number_in (projects_same i)) (alike.1 (other_key t t_in other) i))
+          ∙ sym (choices_in w t t_in)
+      | inr past ↦ get_or_past (instance v).choices t [] (omega (arith, count_students, length-map v.students (λ (y : Student). map (number_in (project_keys v)) y.choice)))
+          ∙ sym (get_or_past (instance w).choices t [] (omega (arith, length-map w.students (λ (y : Student). map (number_in (project_keys w)) y.choice))))
+    ]
+
+    orders : (l : ℕ) → instances.OrderAlike (ranking_of (instance w) l) (ranking_of (instance v) l)
+    orders l = elim (cases_lt l (length w.lecturers)) [
+      | inl l_in ↦
+          let alike = AllZip-get_or RankAlike w.lecturers v.lecturers l no_lecturer no_lecturer differ.lecturers l_in in
+          let v_in : l < length v.lecturers = omega (arith, count_lecturers) in
+          let by_keys = order_numbers (student_keys v) (unwrap_or (get_or w.lecturers l no_lecturer).ranking []) (unwrap_or (get_or v.lecturers l no_lecturer).ranking []) (rank_known v good l no_lecturer v_in) alike.1 in
+          let first : map (number_in (student_keys v)) (unwrap_or (get_or w.lecturers l no_lecturer).ranking []) ≡ ranking_of (instance w) l =
+          ap (λ keys. map (number_in keys) (unwrap_or (get_or w.lecturers l no_lecturer).ranking [])) students_same ∙ sym (ranking_in w l l_in) in
+          subst (λ xs. instances.OrderAlike xs (ranking_of (instance v) l)) first
+          (subst (instances.OrderAlike (map (number_in (student_keys v)) (unwrap_or (get_or w.lecturers l no_lecturer).ranking []))) (sym (ranking_in v l v_in)) by_keys)
+      | inr past ↦
+          let none : ranking_of (instance v) l ≡ [] = get_or_past (instance v).rankings l [] (omega (arith, count_lecturers, length-map v.lecturers (λ (y : Lecturer). map (number_in (student_keys v)) (unwrap_or y.ranking [])))) in
+          λ a b on_a on_b before. absurd (let off : IsOn [] a = rw none at on_a in omega (arith, off))
+    ]
+
+-- who is shown what
+
+shown_student : (w : World) (code : Key) (a : StudentSees) → view w code ≡ sees.Student a → (x : Student) × (student_with w code ≡ Some x) × (student_sees w x ≡ a)
+shown_student w code a e = by_caller (is w.office code) (lecturer_with w code) (student_with w code) refl e
+  where
+    by_caller : (b : Bool) (l : Option Lecturer) (o : Option Student) → student_with w code ≡ o → sight_of w (cond b OfficeCaller (caller_among l o)) ≡ sees.Student a → (x : Student) × (student_with w code ≡ Some x) × (student_sees w x ≡ a)
+    by_caller true l o eo e = absurd (cc)
+    by_caller false (Some l) o eo e = absurd (cc)
+    by_caller false None None eo e = absurd (cc)
+    by_caller false None (Some x) eo e = (x, eo, (cc))
+
+-- one code finds the students of one number
+same_place : (key code : Key) (x y : Student) (ss ts : List Student) → AllZip (ListAlike key) ss ts → find (λ s. is s.row.code code) ss ≡ Some x → find (λ s. is s.row.code code) ts ≡ Some y
+    → (n : ℕ) × (n < length ss) × (get_or ss n x ≡ x) × (n < length ts) × (get_or ts n y ≡ y)
+same_place key code x y [] ts z e f = absurd (cc)
+same_place key code x y (s ∷ ss) [] z e f = absurd z
+same_place key code x y (s ∷ ss) (t ∷ ts) z e f = by_test (is s.row.code code) (is t.row.code code) (ap (λ row. is row.code code) z.0.0) (same_place key code x y ss ts z.1) e f
+  where
+    by_test : (a b : Bool) → b ≡ a
+        → (find (λ s. is s.row.code code) ss ≡ Some x → find (λ s. is s.row.code code) ts ≡ Some y → (n : ℕ) × (n < length ss) × (get_or ss n x ≡ x) × (n < length ts) × (get_or ts n y ≡ y))
+        → cond a (Some s) (find (λ s. is s.row.code code) ss) ≡ Some x → cond b (Some t) (find (λ s. is s.row.code code) ts) ≡ Some y
+        → (n : ℕ) × (n < suc (length ss)) × (get_or (s ∷ ss) n x ≡ x) × (n < suc (length ts)) × (get_or (t ∷ ts) n y ≡ y)
+    by_test true true same r e f = (0, omega arith, (cc), omega arith, (cc))
+    by_test true false same r e f = absurd (cc)
+    by_test false true same r e f = absurd (cc)
+    by_test false false same r e f = let rest = r e f in (suc rest.0, omega (arith, rest.1), rest.2, omega (arith, rest.3), rest.4)
+
+-- NO OTHER LIST GAINS
+by_rows : (w v : World) (s : ℕ) (x y : Student) → HasBest w → HasBest v → project_keys v ≡ project_keys w → instances.DifferInOneList (instance w) (instance v) s → IsStudent w s x → IsStudent v s y → IsNoWorse x.choice (student_sees w x).result (student_sees v y).result
+by_rows w v s x y one other same_projects differ is_x is_y p shows there =
+    let gives : project_of (matching_of v) s ≡ Some (number_in (project_keys w) p) =
+    x_given v other.good.sound other.published s y is_y ∙ ap (option_map (number_in (project_keys v))) (sym (shown v other.good.sound other.published s y is_y) ∙ shows) ∙ ap (λ keys. Some (number_in keys p)) same_projects in
+    let low : number_in (project_keys w) p < length (project_keys w) = known_p in
+    let good : IsAsGood (instance w) s (project_of (matching_of w) s) (Some (number_in (project_keys w) p)) =
+    honest_by_number (instance w) (instance v) s (matching_of w) (matching_of v) (world_ranked w one.good.sound one.published) (world_ranked v other.good.sound other.published) differ one.best other.best.stable
+    (number_in (project_keys w) p) gives (x_acceptable w one.good.sound one.published s x is_x p low there) in
+    let best = x_no_worse w one.good.sound one.published s x is_x p low there x.placed
+    (λ q e. one.best.stable.matching.acceptable s (number_in (project_keys w) q) (x_given w one.good.sound one.published s x is_x ∙ ap (option_map (number_in (project_keys w))) e))
+    (subst (λ o. IsAsGood (instance w) s o (Some (number_in (project_keys w) p))) (x_given w one.good.sound one.published s x is_x) good) in
+    (best.0, shown w one.good.sound one.published s x is_x ∙ best.1, best.2, best.3)
+  where
+    known_p : number_in (project_keys w) p < length (project_keys w)
+    known_p =
+        let at = has_contains x.choice p there in
+        let x_choice : IsChoice (project_keys w) x.choice = subst (λ (z : Student). IsChoice (project_keys w) z.choice) is_x.is (choice w one.good.sound one.published s x is_x.in_range) in
+        has_number (project_keys w) p (subst (λ k. has (project_keys w) k ≡ true) at.2 (all_at (λ k. has (project_keys w) k ≡ true) x.choice at.0 p x_choice.known at.1))
+
+pub honest_is_best : (w v : World) (code : Key) (a b : StudentSees) → HasBest w → HasBest v → view w code ≡ sees.Student a → view v code ≡ sees.Student b → DifferInOneList w v a.me.key → IsNoWorse a.choices a.result b.result
+honest_is_best w v code a b one other sees_a sees_b differ =
+    let x = shown_student w code a sees_a in
+    let y = shown_student v code b sees_b in
+    let at = same_place a.me.key code x.0 y.0 w.students v.students differ.students x.1 y.1 in
+    let s_key : get_or (student_keys w) at.0 [] ≡ a.me.key = get_or-map student_key w.students at.0 x.0 [] at.1 ∙ ap student_key at.2 ∙ ap (λ (z : StudentSees). z.me.key) x.2 in
+    let no_worse : IsNoWorse x.0.choice (student_sees w x.0).result (student_sees v y.0).result =
+    by_rows w v at.0 x.0 y.0 one other (ap (map project_key) differ.projects)
+    (differ_by_number w v one.good.sound other.good.sound at.0 a.me.key differ at.1 s_key)
+    (record { in_range = at.1; is = at.2 }) (record { in_range = at.3; is = at.4 }) in
+    subst (λ (z : StudentSees). IsNoWorse a.choices a.result z.result) y.2
+    (subst (λ (z : StudentSees). IsNoWorse z.choices z.result (student_sees v y.0).result) x.2 no_worse)

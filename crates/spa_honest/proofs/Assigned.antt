@@ -1,0 +1,173 @@
+-- In any two stable matchings the same students have a project, and each lecturer has as many.
+use Rattle.std.proofs.Common.{◌≡◌, ◌⊎◌, inl, inr, ℕ, zero, suc, ◌+◌, ◌<◌, ◌≤◌, Bool, true, false, cond, eqb, List, [], ◌∷◌, length, get_or, Option, Some, None, refl, sym, ◌∙◌, ap, subst, arith}
+use Rattle.std.specs.List.{count_by}
+use Rattle.std.proofs.lemmas.Bool.{eqb-true, eq-eqb, ne_eqb, cases_lt}
+use Rattle.spa_model.specs.declared.letter.Letter.TheVariants.{A}
+use Rattle.spa_model.specs.Spa.{Spa, is_lecturer, at_project, at_lecturer, project_of, lecturer_of, IsAcceptable, IsAsGood, Wants, IsStable, IsBest}
+use Rattle.spa_model.proofs.Counts.{one_if, count_by-cons, count_by-le, sum_below, sum_below-le, sum_below-lt, sum_below-add, sum_below-same, sum_below-zero, sum_below-one, share, at_lecturer-sum}
+use Rattle.spa_student.specs.Machine.{IsRanked}
+use Rattle.spa_student.proofs.Machine.{student_in_range, no_more}
+use Rattle.spa_honest.specs.Honest.{AssignTheSame}
+use Rattle.spa_honest.proofs.Exists.{has_project, greatest, best_of}
+
+-- who has a project
+abbrev pub has_one : Option ℕ → Bool
+has_one None = false
+has_one (Some q) = true
+
+-- where each that counts in m counts in n, and one more counts in n, m has fewer
+count_by-lt : (p : Option ℕ → Bool) (m n : List (Option ℕ)) (j : ℕ) → length m ≡ length n → ((s : ℕ) → p (get_or m s None) ≡ true → p (get_or n s None) ≡ true) → j < length n → p (get_or m j None) ≡ false → p (get_or n j None) ≡ true → count_by p m + 1 ≤ count_by p n
+count_by-lt p m [] j e h l off on = absurd (omega arith)
+count_by-lt p [] (y ∷ n) j e h l off on = absurd (omega arith)
+count_by-lt p (x ∷ m) (y ∷ n) zero e h l off on =
+    omega (arith, count_by-cons p x m, count_by-cons p y n, ap one_if off, ap one_if on, count_by-le p m n (omega arith) (λ s. h (suc s)))
+count_by-lt p (x ∷ m) (y ∷ n) (suc j) e h l off on =
+    omega (arith, count_by-cons p x m, count_by-cons p y n, one_le (p x) (p y) (h 0), count_by-lt p m n j (omega arith) (λ s. h (suc s)) (omega arith) off on)
+  where
+    one_le : (a b : Bool) → (a ≡ true → b ≡ true) → one_if a ≤ one_if b
+    one_le true true f = omega arith
+    one_le true false f = let wrong = f refl in cc
+    one_le false b f = omega arith
+
+-- one student adds to one lecturer
+one_lecturer : (i : Spa) (n : ℕ) (o : Option ℕ) → ((q : ℕ) → o ≡ Some q → lecturer_of i q < n) → sum_below (λ l. one_if (is_lecturer i l o)) n ≡ one_if (has_one o)
+one_lecturer i n None h = sum_below-zero (λ l. 0) n (λ k _. refl)
+one_lecturer i n (Some q) h =
+    sum_below-one (λ l. one_if (eqb (lecturer_of i q) l)) n (lecturer_of i q) (λ k other. ap one_if (ne_eqb (lecturer_of i q) k (λ e. other (sym e)))) (h q refl)
+    ∙ ap one_if (eq-eqb (lecturer_of i q) (lecturer_of i q) refl)
+
+-- lecturers together have whoever has a project
+all_lecturers : (i : Spa) (n : ℕ) (m : List (Option ℕ)) → ((s q : ℕ) → project_of m s ≡ Some q → lecturer_of i q < n) → count_by has_one m ≡ sum_below (at_lecturer i m) n
+all_lecturers i n [] h = sym (sum_below-zero (at_lecturer i []) n (λ k _. refl))
+all_lecturers i n (o ∷ m) h =
+    let first : ℕ → ℕ = λ l. one_if (is_lecturer i l o) in
+    let split : sum_below (at_lecturer i (o ∷ m)) n ≡ sum_below first n + sum_below (at_lecturer i m) n =
+    sum_below-same (at_lecturer i (o ∷ m)) (λ l. first l + at_lecturer i m l) n (λ l. count_by-cons (is_lecturer i l) o m) ∙ sum_below-add first (at_lecturer i m) n in
+    omega (arith, split, one_lecturer i n o (h 0), all_lecturers i n m (λ s. h (suc s)), count_by-cons has_one o m)
+
+-- a sum that is greater has a term that is greater
+greater_term : (f g : ℕ → ℕ) (n : ℕ) → sum_below g n < sum_below f n → (k : ℕ) × (k < n) × (g k < f k)
+greater_term f g zero h = absurd (omega arith)
+greater_term f g (suc n) h = elim (cases_lt (g n) (f n)) [
+  | inl here ↦ (n, omega arith, here)
+  | inr least ↦ let before = greater_term f g n (omega arith) in (before.0, omega (arith, before.1), before.2)
+]
+
+-- where m has more at a project, some student is there in m alone
+one_there : (i : Spa) (m n : List (Option ℕ)) (u : ℕ) → length m ≡ length n → at_project n u < at_project m u → (s : ℕ) × (project_of m s ≡ Some u) × (project_of n s ≡ Some u → ⊥)
+one_there i m n u same more =
+    elim (greatest (λ s. (project_of m s ≡ Some u) × (project_of n s ≡ Some u → ⊥)) test (λ s. 0) (length m)) [
+      | inl one ↦ (one.0, one.2.0, one.2.1)
+      | inr none ↦ absurd (omega (arith, no_more m n u same (λ s at. stays s at none (has_project u (project_of n s)))))
+    ]
+  where
+    test : (s : ℕ) → ((project_of m s ≡ Some u) × (project_of n s ≡ Some u → ⊥)) ⊎ ((project_of m s ≡ Some u) × (project_of n s ≡ Some u → ⊥) → ⊥)
+    test s = elim (has_project u (project_of m s)) [
+      | inr elsewhere ↦ inr (λ e. elsewhere e.0)
+      | inl at ↦ elim (has_project u (project_of n s)) [ inl both ↦ inr (λ e. e.1 both) | inr alone ↦ inl (at, alone) ]
+    ]
+
+    stays : (s : ℕ) → project_of m s ≡ Some u → ((x : ℕ) → x < length m → (project_of m x ≡ Some u) × (project_of n x ≡ Some u → ⊥) → ⊥) → (project_of n s ≡ Some u) ⊎ (project_of n s ≡ Some u → ⊥) → project_of n s ≡ Some u
+    stays s at none (inl both) = both
+    stays s at none (inr alone) = absurd (none s (student_in_range i m s u at) (at, alone))
+
+-- who is elsewhere in n wants the project of the best matching
+wants_best : (i : Spa) (n : List (Option ℕ)) (s u : ℕ) → IsAcceptable i s u → (project_of n s ≡ Some u → ⊥) → (o : Option ℕ) → project_of n s ≡ o → IsAsGood i s (Some u) o → Wants i n s u
+wants_best i n s u on other None e good = (on, rw e tt)
+wants_best i n s u on other (Some q) e (inl same) = absurd (other (e ∙ ap Some (sym same)))
+wants_best i n s u on other (Some q) e (inr before) = (on, rw e before)
+
+-- above all lecturers of projects, and above l
+abbrev bound : Spa → ℕ → ℕ
+bound i l = suc (length i.rankings + l)
+
+module _ (i : Spa) (law : IsRanked i) (m n : List (Option ℕ)) (best : IsBest i m) (stable : IsStable i n) where
+  same_length : length m ≡ length n
+  same_length = best.stable.matching.students ∙ sym stable.matching.students
+
+  -- no lecturer has more in the best matching
+  no_more_with : (l : ℕ) → at_lecturer i m l ≤ at_lecturer i n l
+  no_more_with l = elim (cases_lt (at_lecturer i n l) (at_lecturer i m l)) [
+    | inr least ↦ least
+    | inl more ↦ absurd (blocked more)
+  ]
+    where
+      sum_m : at_lecturer i m l ≡ sum_below (share i m l) (length i.lecturers)
+      sum_m = at_lecturer-sum i l (length i.lecturers) m (λ s q e. law.known s q (best.stable.matching.acceptable s q e))
+
+      sum_n : at_lecturer i n l ≡ sum_below (share i n l) (length i.lecturers)
+      sum_n = at_lecturer-sum i l (length i.lecturers) n (λ s q e. law.known s q (stable.matching.acceptable s q e))
+
+      own : (u : ℕ) (b : Bool) → eqb (lecturer_of i u) l ≡ b → cond b (at_project n u) 0 < cond b (at_project m u) 0 → (lecturer_of i u ≡ l) × (at_project n u < at_project m u)
+      own u true e h = (eqb-true (lecturer_of i u) l e, h)
+      own u false e h = absurd (omega arith)
+
+      blocked : at_lecturer i n l < at_lecturer i m l → ⊥
+      blocked more =
+          let term = greater_term (share i m l) (share i n l) (length i.lecturers) (omega (arith, sum_m, sum_n)) in
+          let u : ℕ = term.0 in
+          let here = own u (eqb (lecturer_of i u) l) refl term.2 in
+          let one = one_there i m n u same_length here.1 in
+          let wants : Wants i n one.0 u = wants_best i n one.0 u (best.stable.matching.acceptable one.0 u one.1) one.2 (project_of n one.0) refl (subst (λ o. IsAsGood i one.0 o (project_of n one.0)) one.1 (best.best n stable one.0)) in
+          stable.unblocked one.0 u A (wants, omega (arith, here.1, best.stable.matching.projects u), rw here.0 (omega (arith, more, best.stable.matching.lecturers l)))
+
+  -- whoever has a project has one in the best matching
+  has_best : (s : ℕ) → has_one (project_of n s) ≡ true → has_one (project_of m s) ≡ true
+  has_best s = each (project_of m s) (project_of n s) (best.best n stable s)
+    where
+      each : (mine other : Option ℕ) → IsAsGood i s mine other → has_one other ≡ true → has_one mine ≡ true
+      each (Some p) other good on = refl
+      each None (Some q) good on = absurd good
+      each None None good on = on
+
+  all_m : (l : ℕ) → count_by has_one m ≡ sum_below (at_lecturer i m) (bound i l)
+  all_m l = all_lecturers i (bound i l) m (λ s q e. omega (arith, law.offered q (law.known s q (best.stable.matching.acceptable s q e))))
+
+  all_n : (l : ℕ) → count_by has_one n ≡ sum_below (at_lecturer i n) (bound i l)
+  all_n l = all_lecturers i (bound i l) n (λ s q e. omega (arith, law.offered q (law.known s q (stable.matching.acceptable s q e))))
+
+  pub as_many : (l : ℕ) → at_lecturer i m l ≡ at_lecturer i n l
+  as_many l = elim (cases_lt (at_lecturer i m l) (at_lecturer i n l)) [
+    | inr most ↦ omega (arith, no_more_with l)
+    | inl less ↦ absurd (omega (
+      arith,
+      all_m l,
+      all_n l,
+      count_by-le has_one n m (sym same_length) has_best,
+      sum_below-lt (at_lecturer i m) (at_lecturer i n) (bound i l) l no_more_with (omega arith) (omega arith),
+    ))
+  ]
+
+  -- whoever has one in the best matching has a project
+  pub has_any : (s : ℕ) → has_one (project_of m s) ≡ true → has_one (project_of n s) ≡ true
+  has_any s on = by_test (has_one (project_of n s)) refl
+    where
+      in_range : (o : Option ℕ) → project_of m s ≡ o → has_one o ≡ true → s < length m
+      in_range None e h = absurd (cc)
+      in_range (Some q) e h = student_in_range i m s q e
+
+      by_test : (b : Bool) → has_one (project_of n s) ≡ b → has_one (project_of n s) ≡ true
+      by_test true e = e
+      by_test false e = absurd (omega (
+        arith,
+        all_m 0,
+        all_n 0,
+        count_by-lt has_one n m s (sym same_length) has_best (in_range (project_of m s) refl on) e on,
+        sum_below-le (at_lecturer i m) (at_lecturer i n) (bound i 0) no_more_with,
+      ))
+
+-- ANY TWO STABLE MATCHINGS ASSIGN THE SAME
+pub same_assigned : (i : Spa) → IsRanked i → (m n : List (Option ℕ)) → IsStable i m → IsStable i n → AssignTheSame i m n
+same_assigned i law m n stable_m stable_n =
+    let one = best_of i law in
+    let to : (a b : List (Option ℕ)) → IsStable i a → IsStable i b → (s : ℕ) → has_one (project_of b s) ≡ true → has_one (project_of a s) ≡ true =
+    λ a b sa sb s on. has_any i law one.0 a one.1 sa s (has_best i law one.0 b one.1 sb s on) in
+    record {
+      students = λ s. (none (project_of m s) (project_of n s) (to m n stable_m stable_n s), none (project_of n s) (project_of m s) (to n m stable_n stable_m s));
+      lecturers = λ l. sym (as_many i law one.0 m one.1 stable_m l) ∙ as_many i law one.0 n one.1 stable_n l;
+    }
+  where
+    none : (a b : Option ℕ) → (has_one b ≡ true → has_one a ≡ true) → a ≡ None → b ≡ None
+    none a None h e = refl
+    none None (Some q) h e = absurd (let wrong = h refl in cc)
+    none (Some p) (Some q) h e = absurd (cc)

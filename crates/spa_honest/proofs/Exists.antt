@@ -1,0 +1,267 @@
+-- Each ranked instance has a best matching: students propose along their lists, and each pair before a cursor is deleted.
+use Rattle.std.proofs.Common.{◌≡◌, ◌≢◌, ◌⊎◌, inl, inr, ℕ, zero, suc, ◌+◌, ◌-◌, ◌<◌, ◌≤◌, cond, eqb, List, length, get_or, set, replicate, Option, Some, None, refl, sym, ◌∙◌, ap, subst, arith, length-set}
+use Rattle.std.proofs.lemmas.List.{get_or-set_same, get_or-set_other}
+use Rattle.std.proofs.lemmas.Bool.{eq-eqb, ne_eqb, cases_lt, cases_eq}
+use Rattle.spa_model.specs.Spa.{Spa, place, at_project, at_lecturer, project_of, choices_of, lecturer_of, capacity_of, limit_of, IsBefore, IsAcceptable, IsWith, IsBest}
+use Rattle.spa_model.proofs.Places.{place-injective, place-get_or}
+use Rattle.spa_model.proofs.Counts.{sum_below, sum_below-lt}
+use Rattle.spa_student.specs.Machine.{IsRanked, rank_of, IsSpent, Holds}
+use Rattle.spa_student.proofs.Machine.{student_in_range, put_same, put_cases, place_holds, swap_at_project_holds, swap_at_lecturer_holds, delete_holds, best_at_end}
+use Rattle.spa_student.proofs.Start.{nobody_matches, none_there}
+use Rattle.spa_student.proofs.CutSteps.{acceptable_in_range}
+
+-- of the numbers below n with a property, one of the greatest rank; or there is none
+pub greatest : (P : ℕ → Type 0) → ((x : ℕ) → P x ⊎ (P x → ⊥)) → (rank : ℕ → ℕ) (n : ℕ) → ((w : ℕ) × (w < n) × P w × ((x : ℕ) → x < n → P x → rank x ≤ rank w)) ⊎ ((x : ℕ) → x < n → P x → ⊥)
+greatest P test rank zero = inr (λ x h p. omega arith)
+greatest P test rank (suc n) = elim (test n) [
+  | inr misses ↦ elim (greatest P test rank n) [
+    | inr none ↦ inr (λ x h p. elim (cases_eq x n) [ inl same ↦ misses (subst P same p) | inr other ↦ none x (omega arith) p ])
+    | inl one ↦ inl (one.0, omega (arith, one.1), one.2, λ x h p. elim (cases_eq x n) [ inl same ↦ absurd (misses (subst P same p)) | inr other ↦ one.3 x (omega arith) p ])
+  ]
+  | inl meets ↦ elim (greatest P test rank n) [
+    | inr none ↦ inl (n, omega arith, meets, λ x h p. elim (cases_eq x n) [ inl same ↦ rw same (omega arith) | inr other ↦ absurd (none x (omega arith) p) ])
+    | inl one ↦ elim (cases_lt (rank one.0) (rank n)) [
+      | inl less ↦ inl (n, omega arith, meets, λ x h p. elim (cases_eq x n) [ inl same ↦ rw same (omega arith) | inr other ↦ omega (arith, one.3 x (omega arith) p) ])
+      | inr more ↦ inl (one.0, omega (arith, one.1), one.2, λ x h p. elim (cases_eq x n) [ inl same ↦ rw same (omega arith) | inr other ↦ one.3 x (omega arith) p ])
+    ]
+  ]
+]
+
+-- whether a student has nothing, has p, or has a project of l
+pub has_none : (o : Option ℕ) → (o ≡ None) ⊎ (o ≡ None → ⊥)
+has_none None = inl refl
+has_none (Some q) = inr (λ e. absurd (cc))
+
+pub has_project : (p : ℕ) (o : Option ℕ) → (o ≡ Some p) ⊎ (o ≡ Some p → ⊥)
+has_project p None = inr (λ e. absurd (cc))
+has_project p (Some q) = elim (cases_eq q p) [ inl same ↦ inl (ap Some same) | inr other ↦ inr (λ e. other (cc)) ]
+
+pub has_lecturer : (i : Spa) (l : ℕ) (o : Option ℕ) → ((q : ℕ) × (o ≡ Some q) × (lecturer_of i q ≡ l)) ⊎ ((q : ℕ) × (o ≡ Some q) × (lecturer_of i q ≡ l) → ⊥)
+has_lecturer i l None = inr (λ e. let none = e.1 in absurd (cc))
+has_lecturer i l (Some q) = elim (cases_eq (lecturer_of i q) l) [
+  | inl same ↦ inl (q, refl, same)
+  | inr other ↦ inr (λ e. let here = e.1 in other (let is : q ≡ e.0 = cc in ap (lecturer_of i) is ∙ e.2))
+]
+
+-- a cursor moves on
+abbrev moved : (ℕ → ℕ) → ℕ → ℕ → ℕ
+moved c w x = cond (eqb x w) (suc (c x)) (c x)
+
+moved_same : (c : ℕ → ℕ) (w : ℕ) → moved c w w ≡ suc (c w)
+moved_same c w = rw (eq-eqb w w refl)
+
+moved_other : (c : ℕ → ℕ) (w x : ℕ) → x ≢ w → moved c w x ≡ c x
+moved_other c w x other = rw (ne_eqb x w other)
+
+moved_more : (c : ℕ → ℕ) (w x : ℕ) → c x ≤ moved c w x
+moved_more c w x = elim (cases_eq x w) [ inl same ↦ rw same (omega (arith, moved_same c w)) | inr other ↦ omega (arith, moved_other c w x other) ]
+
+-- the pairs before the cursors
+abbrev Passed : Spa → (ℕ → ℕ) → ℕ → ℕ → Type 0
+Passed i c s p = IsAcceptable i s p × (place (choices_of i s) p < c s)
+
+-- what holds before and after each turn
+record UnderWay (i : Spa) (m : List (Option ℕ)) (c : ℕ → ℕ) : Type 0 where
+  pub holds : Holds i m (Passed i c)
+  pub at_cursor : (s p : ℕ) → project_of m s ≡ Some p → place (choices_of i s) p ≡ c s
+
+-- 1 for a free student
+abbrev free_one : Option ℕ → ℕ
+free_one None = 1
+free_one (Some q) = 0
+
+-- the turns that a student may have still
+abbrev turns : Spa → List (Option ℕ) → (ℕ → ℕ) → ℕ → ℕ
+turns i m c s = (length (choices_of i s) - c s) + free_one (project_of m s)
+
+-- a free student whose cursor is on the list
+record IsNext (i : Spa) (m : List (Option ℕ)) (c : ℕ → ℕ) (s : ℕ) : Type 0 where
+  pub in_range : s < length m
+  pub free : project_of m s ≡ None
+  pub left : c s < length (choices_of i s)
+
+-- A TURN of a free student s, whose next entry is p
+module _ (i : Spa) (law : IsRanked i) (m : List (Option ℕ)) (c : ℕ → ℕ) (state : UnderWay i m c) (s p : ℕ) (next : IsNext i m c s) (on : IsAcceptable i s p) (here : place (choices_of i s) p ≡ c s) where
+  students : length m ≡ length i.choices
+  students = state.holds.matching.students
+
+  first : (q : ℕ) → IsBefore (choices_of i s) q p → Passed i c s q
+  first q before = (omega (arith, before.0, before.1), omega (arith, before.0))
+
+  put_cursor : (x q : ℕ) → project_of (set m s (Some p)) x ≡ Some q → place (choices_of i x) q ≡ c x
+  put_cursor x q e = elim (put_cases i m s p next.in_range next.free x q e) [ inl new ↦ rw (new.0, new.1) here | inr old ↦ state.at_cursor x q old ]
+
+  put_on : (x q : ℕ) → project_of (set m s (Some p)) x ≡ Some q → IsAcceptable i x q
+  put_on x q e = elim (put_cases i m s p next.in_range next.free x q e) [ inl new ↦ rw (new.0, new.1) on | inr old ↦ state.holds.matching.acceptable x q old ]
+
+  -- s is put
+  put_turns : (k : ℕ) → turns i (set m s (Some p)) c k ≤ turns i m c k
+  put_turns k = elim (cases_eq k s) [
+    | inl same ↦ rw (same, put_same i m s p next.in_range next.free, next.free) (omega arith)
+    | inr other ↦ rw (get_or-set_other m s k (Some p) None other) (omega arith)
+  ]
+
+  put_less : turns i (set m s (Some p)) c s + 1 ≤ turns i m c s
+  put_less = rw (put_same i m s p next.in_range next.free, next.free) (omega arith)
+
+-- w, who has u by then, is let go
+module _ (i : Spa) (law : IsRanked i) (m : List (Option ℕ)) (c : ℕ → ℕ) (state : UnderWay i m c) (s p : ℕ) (next : IsNext i m c s) (on : IsAcceptable i s p) (here : place (choices_of i s) p ≡ c s) (w u : ℕ) (has : project_of (set m s (Some p)) w ≡ Some u) where
+  w_cursor : place (choices_of i w) u ≡ c w
+  w_cursor = put_cursor i law m c state s p next on here w u has
+
+  w_on : IsAcceptable i w u
+  w_on = put_on i law m c state s p next on here w u has
+
+  w_free : project_of (set (set m s (Some p)) w None) w ≡ None
+  w_free = get_or-set_same (set m s (Some p)) w None None (student_in_range i (set m s (Some p)) w u has)
+
+  gone_other : (k : ℕ) → k ≢ w → project_of (set (set m s (Some p)) w None) k ≡ project_of (set m s (Some p)) k
+  gone_other k other = get_or-set_other (set m s (Some p)) w k None None other
+
+  let_go : Holds i (set (set m s (Some p)) w None) (Passed i c) → IsSpent i (set (set m s (Some p)) w None) w u → UnderWay i (set (set m s (Some p)) w None) (moved c w)
+  let_go holds spent = record {
+    holds = delete_holds i (set (set m s (Some p)) w None) (Passed i c) (Passed i (moved c w)) law holds (λ x q old. (old.0, omega (arith, old.1, moved_more c w x))) new;
+    at_cursor = λ x q e. elim (cases_eq x w) [
+      | inl same ↦ absurd (let none : project_of (set (set m s (Some p)) w None) x ≡ None = rw same w_free in cc)
+      | inr other ↦ put_cursor i law m c state s p next on here x q (sym (gone_other x other) ∙ e) ∙ sym (moved_other c w x other)
+    ];
+  } where
+    new : (x q : ℕ) → Passed i (moved c w) x q → Passed i c x q ⊎ IsSpent i (set (set m s (Some p)) w None) x q
+    new x q passed = elim (cases_eq x w) [
+      | inr other ↦ inl (passed.0, rw (moved_other c w x other) at passed.1)
+      | inl same ↦ elim (cases_lt (place (choices_of i x) q) (c x)) [
+        | inl old ↦ inl (passed.0, old)
+        | inr now ↦
+            let w_passed : place (choices_of i w) q < suc (c w) = rw (same, moved_same c w) at passed.1 in
+            let w_now : c w ≤ place (choices_of i w) q = rw same at now in
+            let is : u ≡ q = place-injective (choices_of i w) u q w_on (omega (arith, w_cursor)) in
+            inr (rw (same, sym is) spent)
+      ]
+    ]
+
+  go_turns : (k : ℕ) → turns i (set (set m s (Some p)) w None) (moved c w) k ≤ turns i m c k
+  go_turns k = elim (cases_eq k w) [
+    | inl same ↦ elim (cases_eq w s) [
+      | inl self ↦ rw (same, moved_same c w, w_free) (rw self (rw next.free (omega arith)))
+      | inr other ↦
+          let was : project_of m w ≡ Some u = sym (get_or-set_other m s w (Some p) None other) ∙ has in
+          rw (same, moved_same c w, w_free, was) (omega (arith, w_cursor, w_on))
+    ]
+    | inr apart ↦ rw (gone_other k apart, moved_other c w k apart) (put_turns i law m c state s p next on here k)
+  ]
+
+  go_less : turns i (set (set m s (Some p)) w None) (moved c w) s + 1 ≤ turns i m c s
+  go_less = elim (cases_eq s w) [
+    | inl same ↦
+        let after : project_of (set (set m s (Some p)) w None) s ≡ None = subst (λ x. project_of (set (set m s (Some p)) w None) x ≡ None) (sym same) w_free in
+        let now : moved c w s ≡ suc (c s) = rw same (moved_same c w) in
+        let left : c s < length (choices_of i s) = next.left in
+        rw (now, after, next.free) (omega arith)
+    | inr apart ↦ rw (gone_other s apart, moved_other c w s apart) (put_less i law m c state s p next on here)
+  ]
+
+-- the state after a turn
+record Turned (i : Spa) (m : List (Option ℕ)) (c : ℕ → ℕ) : Type 0 where
+  pub after : List (Option ℕ)
+  pub cursors : ℕ → ℕ
+  pub state : UnderWay i after cursors
+  pub fewer : sum_below (turns i after cursors) (length i.choices) + 1 ≤ sum_below (turns i m c) (length i.choices)
+
+turn : (i : Spa) → IsRanked i → (m : List (Option ℕ)) (c : ℕ → ℕ) → UnderWay i m c → (s p : ℕ) → IsNext i m c s → IsAcceptable i s p → place (choices_of i s) p ≡ c s → Turned i m c
+turn i law m c state s p next on here =
+    let l : ℕ = lecturer_of i p in
+    let n : ℕ = length i.choices in
+    let s_in : s < n = acceptable_in_range i s p on in
+    let same : length (set m s (Some p)) ≡ n = length-set m s (Some p) ∙ state.holds.matching.students in
+    elim (cases_lt (at_project m p) (capacity_of i p)) [
+      | inl room ↦ elim (cases_lt (at_lecturer i m l) (limit_of i l)) [
+        | inl room_l ↦ record {
+          after = set m s (Some p);
+          cursors = c;
+          state = record {
+            holds = place_holds i m (Passed i c) state.holds s p next.in_range next.free on (first i law m c state s p next on here) room room_l;
+            at_cursor = put_cursor i law m c state s p next on here;
+          };
+          fewer = sum_below-lt (turns i (set m s (Some p)) c) (turns i m c) n s (put_turns i law m c state s p next on here) s_in (put_less i law m c state s p next on here);
+        }
+        | inr full_l ↦ with_worst room (omega (arith, state.holds.matching.lecturers l)) (greatest (IsWith i (set m s (Some p)) l) (λ x. has_lecturer i l (project_of (set m s (Some p)) x)) (rank_of i l) n)
+      ]
+      | inr full ↦ at_worst (omega (arith, state.holds.matching.projects p)) (greatest (λ x. project_of (set m s (Some p)) x ≡ Some p) (λ x. has_project p (project_of (set m s (Some p)) x)) (rank_of i l) n)
+    ]
+  where
+    in_range : (x q : ℕ) → project_of (set m s (Some p)) x ≡ Some q → x < length i.choices
+    in_range x q e = acceptable_in_range i x q (put_on i law m c state s p next on here x q e)
+
+    s_has : project_of (set m s (Some p)) s ≡ Some p
+    s_has = put_same i m s p next.in_range next.free
+
+    goes : (w u : ℕ) → (has : project_of (set m s (Some p)) w ≡ Some u) → Holds i (set (set m s (Some p)) w None) (Passed i c) → IsSpent i (set (set m s (Some p)) w None) w u → Turned i m c
+    goes w u has holds spent = record {
+      after = set (set m s (Some p)) w None;
+      cursors = moved c w;
+      state = let_go i law m c state s p next on here w u has holds spent;
+      fewer = sum_below-lt (turns i (set (set m s (Some p)) w None) (moved c w)) (turns i m c) (length i.choices) s (go_turns i law m c state s p next on here w u has) (acceptable_in_range i s p on) (go_less i law m c state s p next on here w u has);
+    }
+
+    at_worst : at_project m p ≡ capacity_of i p
+        → ((w : ℕ) × (w < length i.choices) × (project_of (set m s (Some p)) w ≡ Some p) × ((x : ℕ) → x < length i.choices → project_of (set m s (Some p)) x ≡ Some p → rank_of i (lecturer_of i p) x ≤ rank_of i (lecturer_of i p) w))
+        ⊎ ((x : ℕ) → x < length i.choices → project_of (set m s (Some p)) x ≡ Some p → ⊥)
+        → Turned i m c
+    at_worst full (inr none) = absurd (none s (in_range s p s_has) s_has)
+    at_worst full (inl worst) =
+        let done = swap_at_project_holds i m (Passed i c) law state.holds s p worst.0 next.in_range next.free on (first i law m c state s p next on here) full worst.2 (λ x e. worst.3 x (in_range x p e) e) in
+        goes worst.0 p worst.2 done.0 (inr done.1)
+
+    with_worst : at_project m p < capacity_of i p → at_lecturer i m (lecturer_of i p) ≡ limit_of i (lecturer_of i p)
+        → ((w : ℕ) × (w < length i.choices) × IsWith i (set m s (Some p)) (lecturer_of i p) w × ((x : ℕ) → x < length i.choices → IsWith i (set m s (Some p)) (lecturer_of i p) x → rank_of i (lecturer_of i p) x ≤ rank_of i (lecturer_of i p) w))
+        ⊎ ((x : ℕ) → x < length i.choices → IsWith i (set m s (Some p)) (lecturer_of i p) x → ⊥)
+        → Turned i m c
+    with_worst room full (inr none) = absurd (none s (in_range s p s_has) (p, s_has, refl))
+    with_worst room full (inl worst) =
+        let u : ℕ = worst.2.0 in
+        let done = swap_at_lecturer_holds i m (Passed i c) law state.holds s p worst.0 u next.in_range next.free on (first i law m c state s p next on here) room full worst.2.1 worst.2.2 (λ x q e own. worst.3 x (in_range x q e) (q, e, own)) in
+        goes worst.0 u worst.2.1 done.0 (inl done.1)
+
+-- turns until nobody has one
+run : (i : Spa) → IsRanked i → (fuel : ℕ) (m : List (Option ℕ)) (c : ℕ → ℕ) → UnderWay i m c → sum_below (turns i m c) (length i.choices) < fuel → (n : List (Option ℕ)) × IsBest i n
+run i law zero m c state enough = absurd (omega arith)
+run i law (suc fuel) m c state enough =
+    elim (greatest (λ s. (project_of m s ≡ None) × (c s < length (choices_of i s))) test (λ s. 0) (length i.choices)) [
+      | inl next ↦
+          let s : ℕ = next.0 in
+          let p : ℕ = get_or (choices_of i s) (c s) 0 in
+          let here : place (choices_of i s) p ≡ c s = place-get_or (choices_of i s) (c s) 0 (law.choices_distinct s) next.2.1 in
+          let one : Turned i m c = turn i law m c state s p (record { in_range = omega (arith, next.1, state.holds.matching.students); free = next.2.0; left = next.2.1 }) (omega (arith, next.2.1)) here in
+          run i law fuel one.after one.cursors one.state (omega (arith, one.fewer))
+      | inr none ↦ (m, best_at_end i m (Passed i c) state.holds (λ s p free on. (on, past s p free on none)))
+    ]
+  where
+    test : (s : ℕ) → ((project_of m s ≡ None) × (c s < length (choices_of i s))) ⊎ ((project_of m s ≡ None) × (c s < length (choices_of i s)) → ⊥)
+    test s = elim (has_none (project_of m s)) [
+      | inr busy ↦ inr (λ e. busy e.0)
+      | inl free ↦ elim (cases_lt (c s) (length (choices_of i s))) [ inl left ↦ inl (free, left) | inr past ↦ inr (λ e. omega (arith, e.1)) ]
+    ]
+
+    past : (s p : ℕ) → project_of m s ≡ None → IsAcceptable i s p → ((x : ℕ) → x < length i.choices → (project_of m x ≡ None) × (c x < length (choices_of i x)) → ⊥) → place (choices_of i s) p < c s
+    past s p free on none = elim (cases_lt (place (choices_of i s) p) (c s)) [
+      | inl passed ↦ passed
+      | inr ahead ↦ absurd (none s (acceptable_in_range i s p on) (free, omega arith))
+    ]
+
+-- EACH RANKED INSTANCE HAS A BEST MATCHING
+pub best_of : (i : Spa) → IsRanked i → (m : List (Option ℕ)) × IsBest i m
+best_of i law = run i law (suc (sum_below (turns i (replicate (length i.choices) None) (λ s. 0)) (length i.choices))) (replicate (length i.choices) None) (λ s. 0) start (omega arith)
+  where
+    free : (s p : ℕ) → project_of (replicate (length i.choices) None) s ≡ Some p → ⊥
+    free s p e = let none = none_there (length i.choices) s in cc
+
+    start : UnderWay i (replicate (length i.choices) None) (λ s. 0)
+    start = record {
+      holds = record {
+        matching = nobody_matches i;
+        first = λ s p q e before. absurd (free s q e);
+        spent = λ t p gone. absurd (omega (arith, gone.1));
+        hopeless = λ t p gone. absurd (omega (arith, gone.1));
+      };
+      at_cursor = λ s p e. absurd (free s p e);
+    }

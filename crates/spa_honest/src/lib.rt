@@ -1,0 +1,4 @@
+//! Laws for the students: who is left out, and that the honest list is best.
+#![tactic(auto)]
+
+pub mod laws;
