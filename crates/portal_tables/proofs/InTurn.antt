@@ -16,7 +16,7 @@ unchanged_then a b c p q = (
   q.2 ∙ p.2,
 )
 
-unchanged_self : (s : State) → IsTrue s.is_open → IsUnchanged s s
+pub unchanged_self : (s : State) → IsTrue s.is_open → IsUnchanged s s
 unchanged_self s on = (record { was_open = on; is_open = on; now_is = refl; committed_is = refl; mode = refl }, record { changes = refl; last_rowid = refl }, refl)
 
 pub then_leaves : (a b c : State) → IsUnchanged a b → Leaves b c → Leaves a c

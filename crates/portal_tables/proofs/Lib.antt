@@ -16,6 +16,7 @@ pub mod Keeping
 pub mod Owned
 pub mod Fresh
 pub mod InTurn
+pub mod Decoded
 pub mod Listed
 pub mod OfficeRow
 pub mod RollRows

@@ -10,28 +10,42 @@ use Rattle.portal_core.specs.Words.{Key, is, has, is_before, Rise}
 use Rattle.portal_core.proofs.AllLaws.{all_map, all_weaker}
 use Rattle.portal_core.proofs.Fills.{before_other, rise_kept}
 use Rattle.portal_core.proofs.Keys.{is_same, is_own, all_unmap}
-use Rattle.portal_tables.specs.Rolls.{row_key, students_shown}
+use Rattle.portal_tables.specs.Rolls.{row_key, by_key, students_shown}
 use Rattle.portal_tables.specs.Tables.{student_tree, choice_tree}
 use Rattle.portal_tables.specs.Changes.{ListsBy, columns, has_text}
 use Rattle.portal_tables.specs.Lists.{chosen}
+use Rattle.portal_tables.specs.Decoding.{ShowsAs}
 use Rattle.portal_tables.specs.Shown.{first}
-use Rattle.portal_tables.specs.Lines.{HasTables, shown_line, line_at, lines_named, applicant_lines}
+use Rattle.portal_tables.specs.Lines.{HasTables, shown_line, told_line, line_at, applicant_lines}
 use Rattle.portal_tables.specs.declared.lines.Line.{Line}
 use Rattle.portal_tables.proofs.Choosers.{chooser, choosers_known}
 use Rattle.portal_tables.proofs.Listed.{for_each}
-use Rattle.portal_tables.proofs.OneFound.{found, filter_alike}
+use Rattle.portal_tables.proofs.OneFound.{found}
 use Rattle.portal_tables.proofs.OneKey.{student_keys_rise}
 use Rattle.portal_tables.proofs.Owners.{roll_columns, keys_rise}
 use Rattle.portal_tables.proofs.Shapes.{IsStudentRow, student_test, student_rows_formed}
 use Rattle.portal_tables.proofs.Sorted.{at, has_of, one_order, map_alike_on, map_twice}
 
+-- what is found of what is made of a list is made of what is found
+find_mapped : {X Y : Type 0} (t : Y → Bool) (f : X → Y) (xs : List X) → find t (map f xs) ≡ option_map f (find (λ x. t (f x)) xs)
+find_mapped t f [] = refl
+find_mapped t f (x ∷ xs) =
+    elim (t (f x)) as (λ b. cond b (Some (f x)) (find t (map f xs)) ≡ option_map f (cond b (Some x) (find (λ y. t (f y)) xs))) [ true ↦ refl | false ↦ find_mapped t f xs ]
+
+only_told : (shown : List Row) (l : Line) → map told_line shown ≡ l ∷ [] → (c : Row) × (shown ≡ c ∷ []) × (told_line c ≡ l)
+only_told [] l e = absurd (cc)
+only_told (c ∷ []) l e = (c, refl, cc)
+only_told (c ∷ d ∷ more) l e = absurd (cc)
+
 -- the only row of a key tells the line of its student
-pub line_told : (db : Database) → HasTables db → (key : Key) (shown : List Row) → ListsBy (1 ∷ []) (has_text 1 key) (columns (1 ∷ 2 ∷ 3 ∷ 4 ∷ [])) (db.trees student_tree) shown
-    → (l : Line) (c : Row) → shown ≡ c ∷ [] → l ≡ shown_line c → Some l ≡ line_at db.trees key
-line_told db tables key shown lists l c only is_line =
-    ap Some is_line ∙ ap (option_map shown_line)
-    (found (1 ∷ []) (has_text 1 key) roll_columns roll_columns (λ c. c) (λ c. is (first c) key) (λ r. refl) (db.trees student_tree) shown
-    (all_weaker IsStudentRow (λ r. has_text 1 key r ≡ is (row_key r) key) (student_test key) (db.trees student_tree) (student_rows_formed db tables.own tables.sound tables.apart.1.1.1.0)) lists (Some c) (sym only))
+pub line_told : (db : Database) → HasTables db → (key : Key) (lines : List Line) → ShowsAs told_line (ListsBy (1 ∷ []) (has_text 1 key) (columns (1 ∷ 2 ∷ 4 ∷ [])) (db.trees student_tree)) lines
+    → (l : Line) → lines ≡ l ∷ [] → Some l ≡ line_at db.trees key
+line_told db tables key lines shows l only =
+    let one = only_told shows.rows l (sym shows.decoded ∙ only) in
+    let table = db.trees student_tree in
+    let told = found (1 ∷ []) (has_text 1 key) (columns (1 ∷ 2 ∷ 4 ∷ [])) (λ r. shown_line (roll_columns r)) told_line (λ (x : Line). is x.person.key key) (λ r. refl) table shows.rows
+    (all_weaker IsStudentRow (λ r. has_text 1 key r ≡ is (row_key r) key) (student_test key) table (student_rows_formed db tables.own tables.sound tables.apart.1.1.1.0)) shows.shown (Some one.0) (sym one.1) in
+    ap Some (sym one.2) ∙ told ∙ ap (find (λ (x : Line). is x.person.key key)) (map_twice shown_line roll_columns (by_key table)) ∙ find_mapped (λ (x : Line). is x.person.key key) shown_line (students_shown db.trees)
 
 some_back : (ls : List Line) → filter_map (λ o. o) (map Some ls) ≡ ls
 some_back [] = refl
@@ -101,10 +115,3 @@ lines_are db tables p shown lists lines up told =
     let all : map Some lines ≡ map Some (map shown_line mine) =
     told ∙ map_twice (line_at db.trees) first shown ∙ ap (map (line_at db.trees)) keys ∙ sym (map_twice (line_at db.trees) first mine) ∙ each ∙ map_twice Some shown_line mine in
     sym (some_back lines) ∙ ap (filter_map (λ o. o)) all ∙ some_back (map shown_line mine)
-
--- and so are the lines of those on the roll whose keys are shown
-pub roll_lines : (db : Database) → HasTables db → (p : Key) (shown : List Row) → ListsBy (1 ∷ []) (has_text 3 p) (columns (1 ∷ [])) (db.trees choice_tree) shown
-    → lines_named (students_shown db.trees) shown ≡ applicant_lines db.trees p
-roll_lines db tables p shown lists =
-    ap (map shown_line) (filter_alike (λ c. has (map first shown) (first c)) (λ c. has (chosen (db.trees choice_tree) (first c)) p) (students_shown db.trees)
-    (for_each _ (students_shown db.trees) (λ c. chooser db tables p shown lists (first c))))

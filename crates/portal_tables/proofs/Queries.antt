@@ -59,7 +59,7 @@ shown_same sql params old new rows plain h =
 pub commits_nothing : (sql : List ℕ) (params : Row) (old new : State) → IsPlain (understood old.now.schema sql) → Survives old new (CommitsShowing sql params old) → Survives old new (λ _. ⊥)
 commits_nothing sql params old new plain = survives_weaker old new _ _ (λ _ db. never_commits sql params old db plain)
 
-failed_leaves : (sql : List ℕ) (params : Row) (old new : State) (e : Error) → IsPlain (understood old.now.schema sql) → FailsToQuery sql params old new e → Leaves old new
+pub failed_leaves : (sql : List ℕ) (params : Row) (old new : State) (e : Error) → IsPlain (understood old.now.schema sql) → FailsToQuery sql params old new e → Leaves old new
 unfolding FailsToQuery IsNotRun
 failed_leaves sql params old new e plain (inl (inl none)) = inl none.1
 failed_leaves sql params old new e plain (inl (inr fails)) = inr fails.3

@@ -1,14 +1,16 @@
 -- The texts that read, and what each shows of its table, whatever the checks are.
-use Rattle.std.proofs.Common.{◌≡◌, ℕ, List, [], ◌∷◌, codes, false, refl, sym, subst}
+use Rattle.std.proofs.Common.{◌≡◌, ℕ, List, [], ◌∷◌, codes, false, refl, sym, ap, subst, ◌∙◌, Ok}
 use Rattle.sqlite.specs.declared.types.Value.TheVariants.{Text}
 use Rattle.sqlite.specs.Order.{Row}
 use Rattle.sqlite.specs.Term.{Term, col}
 use Rattle.sqlite.specs.Schema.{Schema}
+use Rattle.sqlite.specs.Effect.{Database}
+use Rattle.sqlite_resolve.specs.declared.compiled.Compiled.{Compiled}
 use Rattle.sqlite.specs.State.{State, Shown}
 use Rattle.sqlite.specs.Command.TheVariants.{Select}
 use Rattle.sqlite_tied.specs.Compute.{everything}
 use Rattle.sqlite.specs.Listing.{understood, reads_listing}
-use Rattle.sqlite.proofs.Callers.{IsPlain, command_of, reads_as}
+use Rattle.sqlite.proofs.Callers.{IsPlain, EndsIn, command_of, reads_as}
 use Rattle.portal_tables.specs.Own.{IsOwn}
 use Rattle.portal_tables.specs.Changes.{ListsBy, has_text, has_number, every, columns}
 use Rattle.portal_tables.proofs.Weak.{portal_with, own_is}
@@ -32,6 +34,14 @@ module _ (sql : List ℕ) (tree : ℕ) (keys : List ℕ) (tests project : List T
       let w = own_is old.now.schema own in
       let read = reads_as sql params old new (portal_with w.checks w.terms) w.is _ (is.command w.checks w.terms) (is.plain w.checks w.terms) (is.unlisted w.checks w.terms) rows h in
       listed tree keys tests project old.now.trees params rows read.answer
+
+  -- it has no recursion, so that its first rows begin an answer
+  known_ends : (s : Schema) → IsOwn s → (c : Compiled) → understood s sql ≡ Ok c → (db : Database) (params : Row) → EndsIn c.command db params
+  known_ends s own c known db params =
+      let w = own_is s own in
+      let command : Select (record { lets = []; body = by_columns tree tests project keys }) names ≡ c.command =
+      sym (is.command w.checks w.terms) ∙ ap (λ (t : Schema). command_of (understood t sql)) (sym w.is) ∙ ap command_of known in
+      subst (λ k. EndsIn k db params) command tt
 
 abbrev pub portal_rows : List ℕ
 portal_rows = codes "SELECT id, version, phase, office FROM portal ORDER BY id"
@@ -176,6 +186,9 @@ choosers_of_plain = known_plain _ _ _ _ _ _ choosers_of_is
 pub choosers_of_listed : (old new : State) (key : List ℕ) → IsOwn old.now.schema → (rows : List Row) → Shown choosers_of (Text key ∷ []) old new rows → ListsBy (1 ∷ []) (has_text 3 key) (columns (1 ∷ [])) (old.now.trees 9) rows
 choosers_of_listed old new key own rows h = subst (λ p. ListsBy (1 ∷ []) p (columns (1 ∷ [])) (old.now.trees 9) rows) (same_key 3 key) (listed_own _ _ _ _ _ _ choosers_of_is (Text key ∷ []) old new rows own h)
 
+pub choosers_of_ends : (s : Schema) → IsOwn s → (c : Compiled) → understood s choosers_of ≡ Ok c → (db : Database) (params : Row) → EndsIn c.command db params
+choosers_of_ends = known_ends _ _ _ _ _ _ choosers_of_is
+
 abbrev pub listed_students : List ℕ
 listed_students = codes "SELECT student FROM choice WHERE place = 1 ORDER BY student"
 
@@ -228,18 +241,18 @@ student_by_code_plain = known_plain _ _ _ _ _ _ student_by_code_is
 pub student_by_code_listed : (old new : State) (key : List ℕ) → IsOwn old.now.schema → (rows : List Row) → Shown student_by_code (Text key ∷ []) old new rows → ListsBy (1 ∷ []) (has_text 3 key) (columns (1 ∷ 2 ∷ 3 ∷ 4 ∷ [])) (old.now.trees 6) rows
 student_by_code_listed old new key own rows h = subst (λ p. ListsBy (1 ∷ []) p (columns (1 ∷ 2 ∷ 3 ∷ 4 ∷ [])) (old.now.trees 6) rows) (same_key 3 key) (listed_own _ _ _ _ _ _ student_by_code_is (Text key ∷ []) old new rows own h)
 
-abbrev pub student_by_key : List ℕ
-student_by_key = codes "SELECT key, name, code, assigned FROM student WHERE key = ?1 ORDER BY key"
+abbrev pub student_told : List ℕ
+student_told = codes "SELECT key, name, assigned FROM student WHERE key = ?1 ORDER BY key"
 
-student_by_key_is : Reads student_by_key 6 (1 ∷ []) (has_key 1) (col 1 1 ∷ col 1 2 ∷ col 1 3 ∷ col 1 4 ∷ []) (codes "key" ∷ codes "name" ∷ codes "code" ∷ codes "assigned" ∷ [])
+student_told_is : Reads student_told 6 (1 ∷ []) (has_key 1) (col 1 1 ∷ col 1 2 ∷ col 1 4 ∷ []) (codes "key" ∷ codes "name" ∷ codes "assigned" ∷ [])
 unfolding understood everything
-student_by_key_is = record { command = λ checks more. refl; plain = λ checks more. (refl, refl); unlisted = λ checks more. refl }
+student_told_is = record { command = λ checks more. refl; plain = λ checks more. (refl, refl); unlisted = λ checks more. refl }
 
-pub student_by_key_plain : (s : Schema) → IsOwn s → IsPlain (understood s student_by_key)
-student_by_key_plain = known_plain _ _ _ _ _ _ student_by_key_is
+pub student_told_plain : (s : Schema) → IsOwn s → IsPlain (understood s student_told)
+student_told_plain = known_plain _ _ _ _ _ _ student_told_is
 
-pub student_by_key_listed : (old new : State) (key : List ℕ) → IsOwn old.now.schema → (rows : List Row) → Shown student_by_key (Text key ∷ []) old new rows → ListsBy (1 ∷ []) (has_text 1 key) (columns (1 ∷ 2 ∷ 3 ∷ 4 ∷ [])) (old.now.trees 6) rows
-student_by_key_listed old new key own rows h = subst (λ p. ListsBy (1 ∷ []) p (columns (1 ∷ 2 ∷ 3 ∷ 4 ∷ [])) (old.now.trees 6) rows) (same_key 1 key) (listed_own _ _ _ _ _ _ student_by_key_is (Text key ∷ []) old new rows own h)
+pub student_told_listed : (old new : State) (key : List ℕ) → IsOwn old.now.schema → (rows : List Row) → Shown student_told (Text key ∷ []) old new rows → ListsBy (1 ∷ []) (has_text 1 key) (columns (1 ∷ 2 ∷ 4 ∷ [])) (old.now.trees 6) rows
+student_told_listed old new key own rows h = subst (λ p. ListsBy (1 ∷ []) p (columns (1 ∷ 2 ∷ 4 ∷ [])) (old.now.trees 6) rows) (same_key 1 key) (listed_own _ _ _ _ _ _ student_told_is (Text key ∷ []) old new rows own h)
 
 abbrev pub numbers_of_portal : List ℕ
 numbers_of_portal = codes "SELECT rowid FROM portal ORDER BY rowid"

@@ -8,6 +8,7 @@ pub mod Rising
 pub mod Lists
 pub mod Office
 pub mod Reading
+pub mod Decoding
 pub mod Rolls
 pub mod Shown
 pub mod Cuts

@@ -23,13 +23,13 @@ pub record HasTables (db : Database) : Type 0 where
 abbrev pub shown_line : Row → Line
 shown_line c = record { person = record { key = first c; name = bytes (column c 1) }; placed = text_or_none (column c 3) }
 
+-- and of the student whose key, name and assigned project are shown alone
+abbrev pub told_line : Row → Line
+told_line c = record { person = record { key = first c; name = bytes (column c 1) }; placed = text_or_none (column c 2) }
+
 -- of the student on the roll with this key, where there is one
 abbrev pub line_at : Trees → Key → Option Line
 line_at db k = option_map shown_line (find (λ c. is (first c) k) (students_shown db))
-
--- of those students whose keys the other rows begin with
-abbrev pub lines_named : List Row → List Row → List Line
-lines_named students named = map shown_line (filter (λ c. has (map first named) (first c)) students)
 
 -- of the students whose list holds the project, by their keys
 abbrev pub applicant_lines : Trees → Key → List Line

@@ -5,14 +5,20 @@ ghost use Rattle.sqlite.specs.State.{HasCleanDisk};
 ghost use Rattle.sqlite.specs.Held.{state};
 ghost use Rattle.portal_core.specs.World.{is_at, is_from_ranking};
 ghost use Rattle.portal_tables.specs.Callers.{with_persons, lines_shown, placed_among, applicants_told, placed_told};
+ghost use Rattle.portal_tables.specs.Changes.{ListsBy, columns, has_text};
+ghost use Rattle.portal_tables.specs.Decoding.{FindsAny};
 ghost use Rattle.portal_tables.specs.Lines.{HasTables};
+ghost use Rattle.portal_tables.specs.Own.{IsOwn};
 ghost use Rattle.portal_tables.specs.Reading.{Reads};
+ghost use Rattle.portal_tables.specs.Tables.{choice_tree};
 
 use crate::fault::TableFault;
 use crate::lines::{Line, lines_to, persons_of};
+use crate::run::finds_any;
 use portal_core::{Person, Phase};
 use spa_rows::Key;
-use sqlite::{Alter, Connection};
+use sqlite::types::ValueRef;
+use sqlite::{Alter, Connection, Error};
 use std::alloc::{AllocError, Global};
 
 /// Whether the students' lists are closed.
@@ -78,6 +84,19 @@ fn placed_in(
         Phase::Published => placed_at(alloc, lines, project),
         Phase::Setup | Phase::Choosing | Phase::Ranking => Ok(Vec::new(alloc)),
     }
+}
+
+/// Whether a student's list names the project. One row is asked for.
+pub fn is_chosen<S: Alter>(conn: &mut Connection<S>, project: &[u8]) -> Result<bool, Error>
+    ensures told { IsOwn conn.old.schema → HasCleanDisk (state S.Store conn.new) → IfOk result (FindsAny (ListsBy (1 ∷ []) (has_text 3 project.now) (columns (1 ∷ [])) ((state S.Store conn.old).now.trees choice_tree))) }
+    ensures reads { Reads result (state S.Store conn.old) (state S.Store conn.new) }
+    ensures mode { conn.old.in_transaction ≡ false → conn.new.in_transaction ≡ false }
+{
+    finds_any(
+        conn,
+        "SELECT student FROM choice WHERE project = ?1 ORDER BY student",
+        &[ValueRef::Text(project)],
+    )
 }
 
 /// What is told of a lecturer's projects.

@@ -86,6 +86,6 @@ pub fn contents_in<S: Alter>(
     ensures reads { Reads result (state S.Store conn.old) (state S.Store conn.new) }
     ensures mode { conn.old.in_transaction ≡ false → conn.new.in_transaction ≡ false }
 {
-    let rolls = rolls_in(conn)?;
+    let rolls = rolls_in(alloc, conn)?;
     rows_in(alloc, conn, rolls)
 }

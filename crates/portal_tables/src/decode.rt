@@ -1,6 +1,6 @@
 //! From the rows that queries show to the rows of rolls, lists and pairs.
 
-ghost use Rattle.std.specs.Prelude.{◌≡◌, ◌↔◌, true, Err, IfOk, IsTrue, map};
+ghost use Rattle.std.specs.Prelude.{◌≡◌, ◌↔◌, true, Err, IfOk, IsTrue, map, ⊤};
 ghost use Rattle.std.specs.List.{AllByRecursion, filter_map};
 ghost use Rattle.sqlite.specs.Order.{Row as Cells};
 ghost use Rattle.spa_rows.specs.Form.{is_key};
@@ -86,6 +86,18 @@ impl FromCells for Key {
     }
 }
 
+/// A row that is looked at further is kept as it is.
+impl FromCells for Row {
+    ghost shown = { λ c. c };
+
+    // no row is refused
+    ghost is_fine = { λ c. ⊤ };
+
+    fn from_cells(_alloc: Global, row: &Row) -> Result<Row, TableFault> {
+        Ok(row.copy()?)
+    }
+}
+
 /// Each row decoded, in the order of the rows, or the fault of the first that is refused.
 pub fn decoded<T: FromCells>(alloc: Global, rows: &[Row]) -> Result<Vec<T>, TableFault>
     ensures ok { IfOk result (λ v. v.items ≡ map T.shown rows.now) }
@@ -98,8 +110,8 @@ pub fn decoded<T: FromCells>(alloc: Global, rows: &[Row]) -> Result<Vec<T>, Tabl
     Ok(all)
 }
 
-/// The row, if there is one. The fault is `Damaged` where there are more.
-pub fn only(mut rows: Vec<Row>) -> Result<Option<Row>, TableFault>
+/// The row, or what it is decoded to, if there is one. The fault is `Damaged` where there are more.
+pub fn only<T: Drop>(mut rows: Vec<T>) -> Result<Option<T>, TableFault>
     ensures { IfOk result (λ row. as_list row ≡ rows.items) }
 {
     if rows.len() > 1 {

@@ -37,17 +37,19 @@ pub enum Lists {
 
 /// The rows of one owner's list, by place.
 fn list_rows<S: Alter>(
+    alloc: Global,
     conn: &mut Connection<S>,
     lists: Lists,
     owner: &[u8],
-) -> Result<Vec<Row>, Error>
+) -> Result<Vec<Row>, TableFault>
     ensures rows { IsOwn conn.old.schema → HasCleanDisk (state S.Store conn.new) → IfOk result (λ rows. ListsBy (2 ∷ []) (has_text 1 owner.now) (columns (2 ∷ 3 ∷ [])) ((state S.Store conn.old).now.trees (tree_of lists)) rows.items) }
+    ensures undamaged { result ≡ Err TableFault.Damaged → ⊥ }
     ensures reads { Reads result (state S.Store conn.old) (state S.Store conn.new) }
     ensures mode { conn.old.in_transaction ≡ false → conn.new.in_transaction ≡ false }
 {
     match lists {
-        Lists::Choices => list_of(conn, owner),
-        Lists::Rankings => ranking_of(conn, owner),
+        Lists::Choices => list_of(alloc, conn, owner),
+        Lists::Rankings => ranking_of(alloc, conn, owner),
     }
 }
 
@@ -65,7 +67,7 @@ pub fn list_in<S: Alter>(
     ensures reads { Reads result (state S.Store conn.old) (state S.Store conn.new) }
     ensures mode { conn.old.in_transaction ≡ false → conn.new.in_transaction ≡ false }
 {
-    let rows = list_rows(conn, lists, owner.as_bytes())?;
+    let rows = list_rows(alloc, conn, lists, owner.as_bytes())?;
     list_from(alloc, &rows)
 }
 

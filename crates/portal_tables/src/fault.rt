@@ -1,6 +1,9 @@
 //! Why tables are not read or written.
 
-ghost use Rattle.std.specs.Prelude.{◌≡◌};
+ghost use Rattle.std.specs.Prelude.{◌≡◌, ◌↔◌};
+ghost use Rattle.sqlite.specs.declared.error.Error.TheVariants.{SqliteFailure};
+ghost use Rattle.sqlite.specs.declared.error.ErrorCode.TheVariants.{OutOfMemory};
+ghost use Rattle.portal_core.specs.declared.keeper.KeepFault.TheVariants as keep;
 ghost use Rattle.portal_tables.specs.declared.fault.TableFault.TheVariants.{Damaged, Memory};
 
 use portal_core::KeepFault;
@@ -26,8 +29,9 @@ impl<T: Drop> From<AllocFailed<T>> for TableFault {
     }
 }
 
+/// Want of memory is told as that, and every other error as one of the store.
 impl From<Error> for TableFault {
-    ghost from_gives = { λ _ fault. fault ≡ Damaged → ⊥ };
+    ghost from_gives = { λ error fault. ((fault ≡ Memory) ↔ (error ≡ SqliteFailure OutOfMemory)) × (fault ≡ Damaged → ⊥) };
 
     fn from(error: Error) -> TableFault {
         match error {
@@ -45,8 +49,10 @@ impl From<AllocError> for TableFault {
     }
 }
 
-/// To a keeper, rows that are not as the portal writes them are a fault of its store.
+/// To a keeper, rows that are not as the portal writes them are a fault of its store, and want of memory alone is not.
 impl From<TableFault> for KeepFault {
+    ghost from_gives = { λ fault told. (told ≡ keep.Memory) ↔ (fault ≡ Memory) };
+
     fn from(fault: TableFault) -> KeepFault {
         match fault {
             TableFault::Memory => KeepFault::Memory,

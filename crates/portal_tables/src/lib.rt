@@ -24,6 +24,7 @@ pub mod office;
 pub mod own;
 pub mod remove;
 pub mod rolls;
+mod row_by_row;
 mod run;
 pub mod select;
 pub mod step;

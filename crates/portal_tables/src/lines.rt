@@ -1,22 +1,19 @@
-//! What may be told of a student: of one, of those whose keys rows begin with, and of those whose list holds a project.
+//! What may be told of a student: of one, of those whose keys rows begin with, and of those whose list holds a project. Each is
+//! asked for by key.
 
 ghost use Rattle.std.specs.Prelude.{◌≡◌, ◌∷◌, [], false, IfOk, IsTrue, Some, map};
-ghost use Rattle.sqlite.specs.Order.{Row as Cells, column, bytes};
+ghost use Rattle.sqlite.specs.Order.{column, bytes};
 ghost use Rattle.sqlite.specs.State.{HasCleanDisk};
 ghost use Rattle.sqlite.specs.Held.{state};
 ghost use Rattle.portal_core.specs.Words.{Rise};
-ghost use Rattle.portal_tables.specs.Own.{IsOwn};
 ghost use Rattle.portal_tables.specs.Reading.{Reads};
-ghost use Rattle.portal_tables.specs.Rolls.{students_shown};
 ghost use Rattle.portal_tables.specs.Shown.{first};
-ghost use Rattle.portal_tables.specs.Lines.{HasTables, shown_line, line_at, lines_named, applicant_lines};
+ghost use Rattle.portal_tables.specs.Lines.{HasTables, told_line, line_at, applicant_lines};
 
 use crate::cells::{assigned_at, bytes_at, key_at, name_at};
-use crate::decode::{FromCells, do_rise};
+use crate::decode::{FromCells, do_rise, only};
 use crate::fault::TableFault;
-use crate::named::is_named;
-use crate::rolls::student_roll;
-use crate::select::{choosers_of, student_by_key};
+use crate::select::{choosers_of, student_told};
 use portal_core::Person;
 use spa_rows::Key;
 use sqlite::{Alter, Connection, Row};
@@ -43,7 +40,7 @@ pub struct Line {
 }
 
 impl FromCells for Line {
-    ghost shown = { shown_line };
+    ghost shown = { told_line };
 
     // which rows are refused is left open
     ghost is_fine = { λ c. ⊥ };
@@ -51,18 +48,18 @@ impl FromCells for Line {
     fn from_cells(alloc: Global, row: &Row) -> Result<Line, TableFault> {
         Ok(Line {
             person: person_at(alloc, row)?,
-            placed: assigned_at(alloc, row, 3)?,
+            placed: assigned_at(alloc, row, 2)?,
         })
     }
 }
 
-/// The line of a student, of the only row.
-fn line_from(alloc: Global, rows: &[Row]) -> Result<Line, TableFault>
-    ensures { IfOk result (λ l. (c : Cells) × (rows.now ≡ c ∷ []) × (l ≡ shown_line c)) }
+/// The only line.
+fn only_line(lines: Vec<Line>) -> Result<Line, TableFault>
+    ensures { IfOk result (λ l. lines.items ≡ l ∷ []) }
 {
-    match rows {
-        [row] => Line::from_cells(alloc, row),
-        _ => Err(TableFault::Damaged),
+    match only(lines)? {
+        Some(line) => Ok(line),
+        None => Err(TableFault::Damaged),
     }
 }
 
@@ -76,8 +73,8 @@ fn line_in<S: Alter>(
     ensures reads { Reads result (state S.Store conn.old) (state S.Store conn.new) }
     ensures mode { conn.old.in_transaction ≡ false → conn.new.in_transaction ≡ false }
 {
-    let rows = student_by_key(conn, key)?;
-    line_from(alloc, &rows)
+    let lines = student_told(alloc, conn, key)?;
+    only_line(lines)
 }
 
 /// The lines of the students with whose keys the rows begin.
@@ -114,41 +111,6 @@ fn rising_lines<S: Alter>(
     lines_from(alloc, conn, rows)
 }
 
-/// The lines of those students whose keys the other rows begin with.
-fn lines_among(alloc: Global, students: &[Row], named: &[Row]) -> Result<Vec<Line>, TableFault>
-    requires { Rise (map first named.now) }
-    ensures { IfOk result (λ v. v.items ≡ lines_named students.now named.now) }
-{
-    let mut lines = Vec::new(alloc);
-    for student in students {
-        if is_named(named, bytes_at(student, 0)) {
-            lines.push(Line::from_cells(alloc, student)?)?;
-        }
-    }
-    Ok(lines)
-}
-
-/// The lines of the students on the roll with whose keys the rows begin, by one query of the roll.
-fn lines_on_roll<S: Alter>(
-    alloc: Global,
-    conn: &mut Connection<S>,
-    named: &[Row],
-) -> Result<Vec<Line>, TableFault>
-    ensures told { IsOwn conn.old.schema → HasCleanDisk (state S.Store conn.new) → IfOk result (λ v. v.items ≡ lines_named (students_shown (state S.Store conn.old).now.trees) named.now) }
-    ensures reads { Reads result (state S.Store conn.old) (state S.Store conn.new) }
-    ensures mode { conn.old.in_transaction ≡ false → conn.new.in_transaction ≡ false }
-{
-    let students = student_roll(conn)?;
-    if !do_rise(named) {
-        return Err(TableFault::Damaged);
-    }
-    lines_among(alloc, &students, named)
-}
-
-/// From how many students on the roll is read as a whole: it has at most 2,000 students, so that at most four rows are read for
-/// each who is told of.
-const WHOLE_ROLL_FROM: usize = 500;
-
 /// The lines of the students whose list holds the project, by their keys. The fault is `Damaged` where rows are not as the portal
 /// writes them, `Store` where the store answered an error, `Memory` where there is not enough memory.
 pub fn lines_to<S: Alter>(
@@ -160,11 +122,8 @@ pub fn lines_to<S: Alter>(
     ensures reads { Reads result (state S.Store conn.old) (state S.Store conn.new) }
     ensures mode { conn.old.in_transaction ≡ false → conn.new.in_transaction ≡ false }
 {
-    let rows = choosers_of(conn, project.as_bytes())?;
-    if rows.len() < WHOLE_ROLL_FROM {
-        return rising_lines(alloc, conn, &rows);
-    }
-    lines_on_roll(alloc, conn, &rows)
+    let rows = choosers_of(alloc, conn, project.as_bytes())?;
+    rising_lines(alloc, conn, &rows)
 }
 
 /// The persons of the lines, in their order. The error is want of memory.

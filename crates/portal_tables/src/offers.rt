@@ -83,7 +83,7 @@ pub fn catalogue_in<S: Alter>(
     ensures reads { Reads result (state S.Store conn.old) (state S.Store conn.new) }
     ensures mode { conn.old.in_transaction ≡ false → conn.new.in_transaction ≡ false }
 {
-    let lecturers = lecturer_roll(conn)?;
-    let projects = project_roll(conn)?;
+    let lecturers = lecturer_roll(alloc, conn)?;
+    let projects = project_roll(alloc, conn)?;
     catalogue_of(alloc, &lecturers, &projects)
 }

@@ -16,7 +16,7 @@ ghost use Rattle.portal_tables.specs.Office.{number_of, IsOffice, HasOffice};
 
 use crate::cells::code_at;
 use crate::fault::TableFault;
-use crate::select::portal_rows;
+use crate::row_by_row::office_row;
 use portal_core::{Code, Phase};
 use sqlite::types::ValueRef;
 use sqlite::{Alter, Connection, Row};
@@ -98,6 +98,6 @@ pub fn office_in<S: Alter>(alloc: Global, conn: &mut Connection<S>) -> Result<Of
     ensures mode { conn.old.in_transaction ≡ false → conn.new.in_transaction ≡ false }
     ensures survives { Survives (state S.Store conn.old) (state S.Store conn.new) (λ _. IsOwn conn.old.schema → ⊥) }
 {
-    let rows = portal_rows(conn)?;
+    let rows = office_row(alloc, conn)?;
     office_from(alloc, &rows)
 }

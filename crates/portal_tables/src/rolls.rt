@@ -16,7 +16,7 @@ ghost use Rattle.portal_tables.specs.Shown.{first, shown_lecturer, shown_project
 
 use crate::decode::{decoded, do_rise, pairs_from};
 use crate::fault::TableFault;
-use crate::select::{lecturer_rows, project_rows, student_rows};
+use crate::row_by_row::{lecturers_by_key, projects_by_key, students_by_key};
 use portal_core::{LecturerRow, ProjectRow, StudentRow};
 use spa_rows::Key;
 use sqlite::{Alter, Connection, Row};
@@ -46,40 +46,49 @@ fn risen(rows: Vec<Row>) -> Result<Vec<Row>, TableFault>
 }
 
 /// The lecturers by key. The fault is `Damaged` where the keys do not rise, `Store` where the store answered an error.
-pub fn lecturer_roll<S: Alter>(conn: &mut Connection<S>) -> Result<Vec<Row>, TableFault>
+pub fn lecturer_roll<S: Alter>(
+    alloc: Global,
+    conn: &mut Connection<S>,
+) -> Result<Vec<Row>, TableFault>
     ensures rows { IsOwn conn.old.schema → HasCleanDisk (state S.Store conn.new) → IfOk result (λ v. v.items ≡ map (columns (1 ∷ 2 ∷ 3 ∷ 4 ∷ 5 ∷ [])) (by_key ((state S.Store conn.old).now.trees lecturer_tree))) }
     ensures damaged { IsOwn conn.old.schema → IsDatabase (state S.Store conn.old).now → HasCleanDisk (state S.Store conn.new) → result ≡ Err TableFault.Damaged → Rise (map row_key (by_key ((state S.Store conn.old).now.trees lecturer_tree))) → ⊥ }
     ensures reads { Reads result (state S.Store conn.old) (state S.Store conn.new) }
     ensures mode { conn.old.in_transaction ≡ false → conn.new.in_transaction ≡ false }
 {
-    let rows = lecturer_rows(conn)?;
+    let rows = lecturers_by_key(alloc, conn)?;
     risen(rows)
 }
 
 /// The projects by key, with the faults of `lecturer_roll`.
-pub fn project_roll<S: Alter>(conn: &mut Connection<S>) -> Result<Vec<Row>, TableFault>
+pub fn project_roll<S: Alter>(
+    alloc: Global,
+    conn: &mut Connection<S>,
+) -> Result<Vec<Row>, TableFault>
     ensures rows { IsOwn conn.old.schema → HasCleanDisk (state S.Store conn.new) → IfOk result (λ v. v.items ≡ map (columns (1 ∷ 2 ∷ 3 ∷ 4 ∷ [])) (by_key ((state S.Store conn.old).now.trees project_tree))) }
     ensures damaged { IsOwn conn.old.schema → IsDatabase (state S.Store conn.old).now → HasCleanDisk (state S.Store conn.new) → result ≡ Err TableFault.Damaged → Rise (map row_key (by_key ((state S.Store conn.old).now.trees project_tree))) → ⊥ }
     ensures reads { Reads result (state S.Store conn.old) (state S.Store conn.new) }
     ensures mode { conn.old.in_transaction ≡ false → conn.new.in_transaction ≡ false }
 {
-    let rows = project_rows(conn)?;
+    let rows = projects_by_key(alloc, conn)?;
     risen(rows)
 }
 
 /// The students by key, with the faults of `lecturer_roll`.
-pub fn student_roll<S: Alter>(conn: &mut Connection<S>) -> Result<Vec<Row>, TableFault>
+pub fn student_roll<S: Alter>(
+    alloc: Global,
+    conn: &mut Connection<S>,
+) -> Result<Vec<Row>, TableFault>
     ensures rows { IsOwn conn.old.schema → HasCleanDisk (state S.Store conn.new) → IfOk result (λ v. v.items ≡ map (columns (1 ∷ 2 ∷ 3 ∷ 4 ∷ [])) (by_key ((state S.Store conn.old).now.trees student_tree))) }
     ensures damaged { IsOwn conn.old.schema → IsDatabase (state S.Store conn.old).now → HasCleanDisk (state S.Store conn.new) → result ≡ Err TableFault.Damaged → Rise (map row_key (by_key ((state S.Store conn.old).now.trees student_tree))) → ⊥ }
     ensures reads { Reads result (state S.Store conn.old) (state S.Store conn.new) }
     ensures mode { conn.old.in_transaction ≡ false → conn.new.in_transaction ≡ false }
 {
-    let rows = student_rows(conn)?;
+    let rows = students_by_key(alloc, conn)?;
     risen(rows)
 }
 
 /// The three rolls by key, or the fault of the first that cannot be read.
-pub fn rolls_in<S: Alter>(conn: &mut Connection<S>) -> Result<Rolls, TableFault>
+pub fn rolls_in<S: Alter>(alloc: Global, conn: &mut Connection<S>) -> Result<Rolls, TableFault>
     ensures lecturers { IsOwn conn.old.schema → HasCleanDisk (state S.Store conn.new) → IsTrue (state S.Store conn.old).is_open → IfOk result (λ r. r.lecturers.items ≡ lecturers_shown (state S.Store conn.old).now.trees) }
     ensures projects { IsOwn conn.old.schema → HasCleanDisk (state S.Store conn.new) → IsTrue (state S.Store conn.old).is_open → IfOk result (λ r. r.projects.items ≡ projects_shown (state S.Store conn.old).now.trees) }
     ensures students { IsOwn conn.old.schema → HasCleanDisk (state S.Store conn.new) → IsTrue (state S.Store conn.old).is_open → IfOk result (λ r. r.students.items ≡ students_shown (state S.Store conn.old).now.trees) }
@@ -87,9 +96,9 @@ pub fn rolls_in<S: Alter>(conn: &mut Connection<S>) -> Result<Rolls, TableFault>
     ensures reads { Reads result (state S.Store conn.old) (state S.Store conn.new) }
     ensures mode { conn.old.in_transaction ≡ false → conn.new.in_transaction ≡ false }
 {
-    let lecturers = lecturer_roll(conn)?;
-    let projects = project_roll(conn)?;
-    let students = student_roll(conn)?;
+    let lecturers = lecturer_roll(alloc, conn)?;
+    let projects = project_roll(alloc, conn)?;
+    let students = student_roll(alloc, conn)?;
     Ok(Rolls {
         lecturers,
         projects,

@@ -1,5 +1,6 @@
 //! A desk over a database in memory, by the bytes of its requests and replies, and databases that are opened again.
 
+mod crowds;
 mod damages;
 mod fills;
 mod halls;

@@ -4,18 +4,21 @@ use portal_tables::apart::{
     has_apart_choices, has_apart_lecturers, has_apart_portal, has_apart_projects,
     has_apart_rankings, has_apart_students,
 };
+use portal_tables::applicants::is_chosen;
 use portal_tables::assign::{Assignment, assign_all};
 use portal_tables::entries::{Lists, entries_in};
+use portal_tables::fault::TableFault;
 use portal_tables::insert::{
     NewChoice, NewLecturer, NewProject, NewRanking, NewRow, NewStudent, add_all,
 };
+use portal_tables::lines::Line;
 use portal_tables::make::create_portal;
 use portal_tables::own::is_own;
 use portal_tables::remove::{clear_choices, clear_rankings};
 use portal_tables::select::{
     choice_rows, choosers_of, lecturer_by_code, lecturer_rows, list_of, listed_students,
     portal_rows, project_rows, ranking_of, ranking_rows, stored_choices, stored_rankings,
-    student_by_code, student_by_key, student_rows,
+    student_by_code, student_rows, student_told,
 };
 use portal_tables::update::{set_phase, set_ranked};
 use spa_rows::Key;
@@ -38,16 +41,39 @@ fn put_value(rt: &(impl Abort + AllocGlobal), text: &mut String, row: &Row, at: 
 }
 
 /// The rows are these, so many columns each, with a stroke behind each row.
-fn shows(
+fn shows<E: Drop>(
     rt: &(impl Abort + AllocGlobal),
-    rows: Result<Vec<Row>, Error>,
+    rows: Result<Vec<Row>, E>,
     columns: usize,
     wanted: &str,
 ) {
+    let Ok(rows) = rows else {
+        panic!(rt; "no rows");
+    };
     let mut text = String::new(rt.alloc());
-    for row in rows.expect(rt, "rows") {
+    for row in rows {
         for at in 0..columns {
             put_value(rt, &mut text, &row, at);
+        }
+        text.push('/').expect(rt, "memory");
+    }
+    assert_eq!(rt; text.as_str(), wanted);
+}
+
+/// These students are told of, each by key, name and assigned project, with a stroke behind each.
+fn are_told(rt: &(impl Abort + AllocGlobal), lines: Result<Vec<Line>, TableFault>, wanted: &str) {
+    let Ok(lines) = lines else {
+        panic!(rt; "no lines");
+    };
+    let mut text = String::new(rt.alloc());
+    for line in lines {
+        put_key(rt, &mut text, &line.person.key);
+        text.push_str(line.person.name.as_str())
+            .expect(rt, "memory");
+        text.push(' ').expect(rt, "memory");
+        match &line.placed {
+            Some(project) => put_key(rt, &mut text, project),
+            None => text.push_str("- ").expect(rt, "memory"),
         }
         text.push('/').expect(rt, "memory");
     }
@@ -311,13 +337,13 @@ fn rows_come_by_the_eight(rt: HostRuntime) -> Result<(), Fail> {
     );
     shows(
         &rt,
-        list_of(&mut conn, b"K1"),
+        list_of(rt.alloc(), &mut conn, b"K1"),
         2,
         "1 K1 /2 K2 /3 K3 /4 K4 /5 K5 /6 K6 /7 K7 /8 K8 /9 K9 /",
     );
     shows(
         &rt,
-        ranking_of(&mut conn, b"K1"),
+        ranking_of(rt.alloc(), &mut conn, b"K1"),
         2,
         "1 K1 /2 K2 /3 K3 /4 K4 /5 K5 /6 K6 /7 K7 /8 K8 /9 K9 /",
     );
@@ -409,8 +435,18 @@ fn lists_are_shown(rt: HostRuntime) {
         "S1 1 P2 /S1 2 P1 /S2 1 P1 /",
     );
     shows(&rt, ranking_rows(&mut conn), 3, "L1 1 S2 /L1 2 S1 /");
-    shows(&rt, list_of(&mut conn, b"S1"), 2, "1 P2 /2 P1 /");
-    shows(&rt, ranking_of(&mut conn, b"L1"), 2, "1 S2 /2 S1 /");
+    shows(
+        &rt,
+        list_of(rt.alloc(), &mut conn, b"S1"),
+        2,
+        "1 P2 /2 P1 /",
+    );
+    shows(
+        &rt,
+        ranking_of(rt.alloc(), &mut conn, b"L1"),
+        2,
+        "1 S2 /2 S1 /",
+    );
 }
 
 #[test]
@@ -454,23 +490,39 @@ fn lists_are_told_of_rows_in_any_order(rt: HostRuntime) -> Result<(), Fail> {
 #[test]
 fn rows_are_found(rt: HostRuntime) {
     let mut conn = department(&rt);
-    shows(&rt, choosers_of(&mut conn, b"P1"), 1, "S1 /S2 /");
-    shows(&rt, listed_students(&mut conn), 1, "S1 /S2 /");
     shows(
         &rt,
-        lecturer_by_code(&mut conn, b"lee-code-1"),
+        choosers_of(rt.alloc(), &mut conn, b"P1"),
+        1,
+        "S1 /S2 /",
+    );
+    shows(&rt, listed_students(rt.alloc(), &mut conn), 1, "S1 /S2 /");
+    shows(
+        &rt,
+        lecturer_by_code(rt.alloc(), &mut conn, b"lee-code-1"),
         2,
         "L1 Lee /",
     );
     shows(
         &rt,
-        student_by_code(&mut conn, b"bea-code-1"),
+        student_by_code(rt.alloc(), &mut conn, b"bea-code-1"),
         2,
         "S2 Bea /",
     );
-    shows(&rt, student_by_code(&mut conn, b"lee-code-1"), 2, "");
-    shows(&rt, student_by_key(&mut conn, b"S2"), 2, "S2 Bea /");
-    shows(&rt, student_by_key(&mut conn, b"L1"), 2, "");
+    shows(
+        &rt,
+        student_by_code(rt.alloc(), &mut conn, b"lee-code-1"),
+        2,
+        "",
+    );
+    are_told(
+        &rt,
+        student_told(rt.alloc(), &mut conn, b"S2"),
+        "S2 Bea - /",
+    );
+    are_told(&rt, student_told(rt.alloc(), &mut conn, b"L1"), "");
+    assert_eq!(rt; is_chosen(&mut conn, b"P1").expect(&rt, "an answer"), true);
+    assert_eq!(rt; is_chosen(&mut conn, b"P3").expect(&rt, "an answer"), false);
 }
 
 #[test]
@@ -486,6 +538,11 @@ fn changes_are_shown(rt: HostRuntime) {
         "S1 Ann ann-code-1 - /S2 Bea bea-code-1 P1 /",
     );
     shows(&rt, choice_rows(&mut conn), 3, "S2 1 P1 /");
-    shows(&rt, listed_students(&mut conn), 1, "S2 /");
+    shows(&rt, listed_students(rt.alloc(), &mut conn), 1, "S2 /");
+    are_told(
+        &rt,
+        student_told(rt.alloc(), &mut conn, b"S2"),
+        "S2 Bea P1 /",
+    );
     are_apart(&rt, &mut conn);
 }

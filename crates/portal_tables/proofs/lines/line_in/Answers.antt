@@ -1,23 +1,18 @@
-use Rattle.std.proofs.Common.{◌∙◌, sym}
-use Rattle.sqlite.specs.declared.error.Error.{Error}
 use Rattle.sqlite.specs.Held.{state}
 use Rattle.std.proofs.lemmas.Result.{IfOk-weaker}
-use Rattle.portal_tables.proofs.InTurn.{reads_of, reads_more, reads_failed}
+use Rattle.portal_tables.specs.declared.fault.TableFault.{TableFault}
+use Rattle.portal_tables.proofs.InTurn.{reads_more, reads_handed}
 use Rattle.portal_tables.proofs.LineRows.{line_told}
 use Rattle.portal_tables.proofs.lines.line_in.Goals as goal
 
 pub returns-clause-told : goal.returns-clause-told
 returns-clause-told g c tables clean =
-    IfOk-weaker c.line_from.result _ _ (λ l is. line_told (state g.S.Store c.args.conn.now).now tables c.args.key.now c.in_ok-rows.rows.items (c.in_ok-rows.ensures.rows tables.own clean) l is.0 (sym c.deref.ensures.value ∙ is.1) is.2) c.line_from.ensures
+    IfOk-weaker c.only_line.result _ _ (λ l is. line_told (state g.S.Store c.args.conn.now).now tables c.args.key.now c.in_ok-lines.lines.items (c.in_ok-lines.ensures.rows tables.own clean) l is) c.only_line.ensures
 
 pub returns-clause-reads : goal.returns-clause-reads
 returns-clause-reads g c =
-    let a = state g.S.Store c.args.conn.now in
-    let b = state g.S.Store c.student_by_key.new.conn in
-    reads_more {D = Error} c.in_ok-rows.rows c.line_from.result a b (reads_of _ a b c.in_ok-rows.ensures.same c.in_ok-rows.ensures.err c.in_ok-rows.ensures.survives)
+    reads_more {D = TableFault} c.in_ok-lines.lines c.only_line.result (state g.S.Store c.args.conn.now) (state g.S.Store c.student_told.new.conn) c.in_ok-lines.ensures.reads
 
-pub returns-in_err-rows-clause-reads : goal.returns-in_err-rows-clause-reads
-returns-in_err-rows-clause-reads g c =
-    let a = state g.S.Store c.args.conn.now in
-    let b = state g.S.Store c.student_by_key.new.conn in
-    reads_failed {U = Unit {0}} c.in_err-rows.field-0.0 c.from_residual.result a b c.from_residual.ensures.0 (reads_of _ a b c.in_err-rows.ensures.same c.in_err-rows.ensures.err c.in_err-rows.ensures.survives)
+pub returns-in_err-lines-clause-reads : goal.returns-in_err-lines-clause-reads
+returns-in_err-lines-clause-reads g c =
+    reads_handed c.in_err-lines.field-0.0 c.from_residual.result (state g.S.Store c.args.conn.now) (state g.S.Store c.student_told.new.conn) c.from_residual.ensures.0 c.in_err-lines.ensures.reads

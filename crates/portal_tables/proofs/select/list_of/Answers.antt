@@ -1,21 +1,20 @@
 use Rattle.sqlite.specs.Held.{state}
-use Rattle.sqlite.proofs.StateLemmas.{survives_weaker}
 use Rattle.std.proofs.lemmas.Result.{IfOk-weaker}
+use Rattle.portal_tables.proofs.Decoded.{as_shown, reads_plain}
 use Rattle.portal_tables.proofs.Shows.{list_of_plain, list_of_listed}
 use Rattle.portal_tables.proofs.select.list_of.Goals as goal
 
 pub returns-clause-rows : goal.returns-clause-rows
-returns-clause-rows g c own clean = IfOk-weaker c.read.result _ _ (λ v. list_of_listed (state g.S.Store c.args.conn.now) (state g.S.Store c.read.new.conn) c.args.student.now own v.items) (c.read.ensures.rows clean)
+returns-clause-rows g c own clean =
+    let a = state g.S.Store c.args.conn.now in
+    let b = state g.S.Store c.read_each.new.conn in
+    IfOk-weaker c.read_each.result _ _ (λ v shows. list_of_listed a b c.args.student.now own v.items (as_shown _ v.items shows)) (c.read_each.ensures.rows (list_of_plain c.args.conn.now.schema own) clean)
 
-pub returns-clause-same : goal.returns-clause-same
-returns-clause-same g c own clean = c.read.ensures.same (list_of_plain c.args.conn.now.schema own) clean
+pub returns-clause-undamaged : goal.returns-clause-undamaged
+returns-clause-undamaged g c damaged = c.read_each.ensures.undamaged damaged (λ row. tt)
 
-pub returns-clause-err : goal.returns-clause-err
-returns-clause-err g c own clean = c.read.ensures.err (list_of_plain c.args.conn.now.schema own) clean
-
-pub returns-clause-crash : goal.returns-clause-crash
-returns-clause-crash g c own = c.read.ensures.crash (list_of_plain c.args.conn.now.schema own)
-
-pub returns-clause-survives : goal.returns-clause-survives
-returns-clause-survives g c =
-    survives_weaker (state g.S.Store c.args.conn.now) (state g.S.Store c.read.new.conn) _ _ (λ _ db made own. made (list_of_plain c.args.conn.now.schema own)) c.read.ensures.survives
+pub returns-clause-reads : goal.returns-clause-reads
+returns-clause-reads g c =
+    let a = state g.S.Store c.args.conn.now in
+    let b = state g.S.Store c.read_each.new.conn in
+    reads_plain c.read_each.result a b _ (list_of_plain c.args.conn.now.schema) c.read_each.ensures.same c.read_each.ensures.err c.read_each.ensures.survives

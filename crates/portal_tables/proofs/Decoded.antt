@@ -1,0 +1,93 @@
+-- Rows that are decoded one at a time, as they are read.
+use Rattle.std.proofs.Common.{◌≡◌, ℕ, Bool, true, false, refl, List, [], ◌∷◌, ◌++◌, None, Some, Option, sym, ap, subst, ◌∙◌}
+use Rattle.std.proofs.lemmas.List.{map-append, map-id}
+use Rattle.sqlite.specs.Clock.{timed}
+use Rattle.sqlite.specs.declared.error.Error.{Error}
+use Rattle.sqlite.proofs.Callers.{EndsIn, begins_shown}
+use Rattle.sqlite_resolve.specs.declared.compiled.Compiled.{Compiled}
+use Rattle.sqlite.specs.Effect.{Database}
+use Rattle.sqlite.specs.Given.{HasGiven, Advances, IsPlain}
+use Rattle.sqlite.specs.Held.{Held, state}
+use Rattle.sqlite.specs.Listing.{understood, reads_listing, IsSourceOf}
+use Rattle.sqlite.specs.Order.{Row}
+use Rattle.sqlite.specs.State.{State, HasCleanDisk, Begins, Shown, ShowsRows, IsUnchanged, Survives}
+use Rattle.sqlite.proofs.StateLemmas.{survives_weaker}
+use Rattle.portal_tables.specs.Own.{IsOwn}
+use Rattle.portal_tables.specs.Reading.{Reads}
+use Rattle.portal_tables.specs.Steps.{Leaves}
+use Rattle.sqlite_trees.specs.declared.store.Store.{Ghosts}
+use Rattle.std.specs.Prelude.{Ok, Err, Result, IfOk, OnOk, OnErr, option_copied}
+use Rattle.std.specs.Borrow.{Bor}
+use Rattle.portal_tables.specs.Decoding.{ShowsAs, FindsAny}
+use Rattle.portal_tables.proofs.InTurn.{unchanged_then, unchanged_self, reads_of}
+
+-- what a connection shows that is as it was before is what it showed then
+pub shown_before : (sql : List ℕ) (params : Row) (a b c : State) (rows : List Row) → IsPlain (understood a.now.schema sql) → IsUnchanged a b → Shown sql params b c rows → Shown sql params a c rows
+unfolding Shown
+shown_before sql params a b c rows plain m h =
+    let there = subst (λ (d : Database). IsPlain (understood d.schema sql)) (sym m.0.now_is) plain in
+    let none = (subst IsPlain h.1.is there).0 in
+    let full = timed params h.0.formats h.1.now in
+    let it = subst (ShowsRows b c sql h.0 full rows) none h.2 in (
+      h.0,
+      record { is = subst (λ (d : Database). understood d.schema sql ≡ Ok h.0) m.0.now_is h.1.is; whole = h.1.whole; given = h.1.given; now = h.1.now },
+      subst (ShowsRows a c sql h.0 full rows) (sym none) (it.0, subst (λ (d : Database). IsSourceOf (reads_listing d.schema sql) d it.0) m.0.now_is it.1, it.2, unchanged_then a b c m it.3),
+    )
+
+-- what an answer that is known says
+pub at_err : {V E : Type 0} (r : Result V E) (e : E) (A : Type 0) → r ≡ Err e → OnErr r A → A
+at_err {V = V} {E = E} r e A is h = subst (λ (x : Result V E). OnErr x A) is h
+
+pub at_ok : {V E : Type 0} (r : Result V E) (v : V) (A : Type 0) → r ≡ Ok v → OnOk r A → A
+at_ok {V = V} {E = E} r v A is h = subst (λ (x : Result V E). OnOk x A) is h
+
+-- what a step to a next row says, where there is one and where there is none
+module _ {S E : Type 0} (g : Ghosts S) (mid new : Held S) (r : Result (Option (Bor Row)) E) (found : Option (Bor Row)) (was : r ≡ Ok found) (on : IfOk r (λ row. Advances g mid new (option_copied row))) where
+  pub at_end : found ≡ None → Advances g mid new None
+  at_end is = subst (λ o. Advances g mid new (option_copied o)) is (subst (λ x. IfOk x (λ row. Advances g mid new (option_copied row))) was on)
+
+  pub at_row : (row : Bor Row) → found ≡ Some row → Advances g mid new (Some row.now)
+  at_row row is = subst (λ o. Advances g mid new (option_copied o)) is (subst (λ x. IfOk x (λ row. Advances g mid new (option_copied row))) was on)
+
+module _ {S T : Type 0} (g : Ghosts S) (decode : Row → T) (sql : List ℕ) (params : Row) (old mid new : Held S) (all : List T) (so_far : ShowsAs decode (HasGiven g sql params mid) all) where
+  -- no row is to come
+  pub ended : IsPlain (understood old.schema sql) → IsUnchanged (state g old) (state g mid) → Advances g mid new None → ShowsAs decode (Shown sql params (state g old) (state g new)) all
+  ended plain same on = record {
+    rows = so_far.rows;
+    shown = shown_before sql params (state g old) (state g mid) (state g new) so_far.rows plain same (on sql params so_far.rows so_far.shown);
+    decoded = so_far.decoded;
+  }
+
+  -- one more is decoded
+  pub one_more : (row : Row) → Advances g mid new (Some row) → (more : List T) → more ≡ all ++ decode row ∷ [] → ShowsAs decode (HasGiven g sql params new) more
+  one_more row on more is = record {
+    rows = so_far.rows ++ row ∷ [];
+    shown = on sql params so_far.rows so_far.shown;
+    decoded = is ∙ ap (λ ts. ts ++ decode row ∷ []) so_far.decoded ∙ sym (map-append decode so_far.rows (row ∷ []));
+  }
+
+-- rows that are decoded to themselves
+pub as_shown : (IsShown : List Row → Type 0) (rows : List Row) → ShowsAs (λ c. c) IsShown rows → IsShown rows
+as_shown IsShown rows h = subst IsShown (sym (h.decoded ∙ map-id h.rows)) h.shown
+
+pub shows_weaker : {T : Type 0} (decode : Row → T) (A B : List Row → Type 0) (items : List T) → ((rows : List Row) → A rows → B rows) → ShowsAs decode A items → ShowsAs decode B items
+shows_weaker decode A B items more h = record { rows = h.rows; shown = more h.rows h.shown; decoded = h.decoded }
+
+-- a query whose text is plain in an own database
+pub reads_plain : {V E : Type 0} (r : Result V E) (a b : State) (Plain : Type 0) → (IsOwn a.now.schema → Plain) → (Plain → HasCleanDisk b → OnOk r (IsUnchanged a b)) → (Plain → HasCleanDisk b → OnErr r (Leaves a b)) → Survives a b (λ _. Plain → ⊥)
+    → Reads r a b
+reads_plain r a b Plain plain same err crash =
+    reads_of r a b (λ own. same (plain own)) (λ own. err (plain own)) (survives_weaker a b _ _ (λ clean db no own. no (plain own)) crash)
+
+-- whether a row is shown, by the first that is read
+pub found_any : (IsShown : List Row → Type 0) (sql : List ℕ) (params : Row) (old new : State) → IsPlain (understood old.now.schema sql) → ((rows : List Row) → Shown sql params old new rows → IsShown rows)
+    → ((c : Compiled) → understood old.now.schema sql ≡ Ok c → (db : Database) (full : Row) → EndsIn c.command db full)
+    → (r : Result Bool Error) → OnOk r (IsUnchanged old new) → IfOk r (λ found. found ≡ false → Shown sql params old new []) → IfOk r (λ found. found ≡ true → (first : Row) × Begins sql params new (first ∷ []))
+    → IfOk r (FindsAny IsShown)
+found_any IsShown sql params old new plain known ends (Ok false) same none some = record { rows = []; shown = known [] (none refl); told = refl }
+found_any IsShown sql params old new plain known ends (Ok true) same none some =
+    let one = some refl in
+    let back : (c : Compiled) → understood new.now.schema sql ≡ Ok c → understood old.now.schema sql ≡ Ok c = λ c. subst (λ (d : Database). understood d.schema sql ≡ Ok c) same.0.now_is in
+    let all = begins_shown sql params new new (one.0 ∷ []) one.1 (unchanged_self new same.0.is_open) (λ c db it source. ends c (back c it.is) db (timed params c.formats it.now)) in
+    record { rows = one.0 ∷ all.0; shown = known (one.0 ∷ all.0) (shown_before sql params old new new (one.0 ∷ all.0) plain same all.1); told = refl }
+found_any IsShown sql params old new plain known ends (Err e) same none some = tt

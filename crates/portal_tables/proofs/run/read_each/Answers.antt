@@ -1,0 +1,54 @@
+use Rattle.std.proofs.Common.{rules, ◌≡◌, ◌∙◌, subst, sym}
+use Rattle.std.specs.Prelude.{IfErr}
+use Rattle.sqlite.specs.State.{HasCleanDisk, Shown, FailsToQuery}
+use Rattle.portal_tables.specs.Decoding.{ShowsAs}
+use Rattle.sqlite.specs.Held.{state}
+use Rattle.sqlite.specs.Values.{bound}
+use Rattle.sqlite.proofs.StateLemmas.{survives_weaker, survives_then}
+use Rattle.sqlite.proofs.Callers.{never_commits}
+use Rattle.portal_tables.specs.Steps.{Leaves}
+use Rattle.portal_tables.proofs.Decoded.{at_err, at_ok, at_end, at_row, ended, one_more}
+use Rattle.portal_tables.proofs.InTurn.{unchanged_then, clean_before}
+use Rattle.portal_tables.proofs.Queries.{failed_leaves, on_err}
+use Rattle.portal_tables.proofs.run.read_each.Goals as goal
+
+pub returns-in_err-rows-clause-err : goal.returns-in_err-rows-clause-err
+returns-in_err-rows-clause-err g c plain clean =
+    let a = state g.S.Store c.args.conn.now in
+    let b = state g.S.Store c.query.follows.lender-at-none in
+    let refused = at_err c.query.result c.in_err-rows.field-0.0 _ c.in_err-rows.was c.query.follows.holds-at-none in
+    on_err (Leaves a b) c.from_residual.result (failed_leaves c.args.sql.now (bound c.args.params.now) a b _ plain (subst (λ r. IfErr r (FailsToQuery c.args.sql.now (bound c.args.params.now) a b)) c.in_err-rows.was (refused.err clean)))
+
+pub returns-in_err-rows-clause-survives : goal.returns-in_err-rows-clause-survives
+returns-in_err-rows-clause-survives g c =
+    let a = state g.S.Store c.args.conn.now in
+    let b = state g.S.Store c.query.follows.lender-at-none in
+    let refused = at_err c.query.result c.in_err-rows.field-0.0 _ c.in_err-rows.was c.query.follows.holds-at-none in
+    survives_weaker a b _ _ (λ _ db made plain. never_commits c.args.sql.now (bound c.args.params.now) a db plain made) refused.survives
+
+pub returns-in_default-clause-rows : goal.returns-in_default-clause-rows
+returns-in_default-clause-rows g c plain clean =
+    let inv = c.rows.invariant in
+    let moved = c.next.follows.holds-at-none in
+    let last : c.conn-in_default-1.given.0 ≡ c.next.follows.lender-at-none.conn.now =
+    c.conn-in_default-1.given.1 (sym (moved.same_reference ∙ inv.same_reference ∙ c.in_ok-rows.ensures.same_reference)) ∙ c.drop-rows-in_default.ensures in
+    let clean_moved = subst (λ h. HasCleanDisk (state g.S.Store h)) last clean in
+    let before = clean_before _ _ _ moved.survives clean_moved in
+    subst (λ h. ShowsAs g.T.FromCells.shown (Shown c.args.sql.now (bound c.args.params.now) (state g.S.Store c.args.conn.now) (state g.S.Store h)) c.rows.all.items) (sym last)
+    (ended g.S.Store g.T.FromCells.shown c.args.sql.now (bound c.args.params.now) c.args.conn.now c.rows.rows.conn.now c.next.follows.lender-at-none.conn.now c.rows.all.items (inv.given plain before) plain (inv.same plain before)
+    (at_end g.S.Store _ _ c.next.result c.in_ok-row.field-0 c.in_ok-row.was (moved.ok clean_moved) c.in_default.is))
+
+pub rows-preserved : goal.rows-preserved
+rows-preserved g c =
+    let inv = c.rows.invariant in
+    let moved = c.next.follows.holds-at-none in
+    let before = clean_before _ _ _ moved.survives in
+    record {
+      same_reference = moved.same_reference ∙ inv.same_reference;
+      mode = λ idle. moved.mode (inv.mode idle);
+      survives = survives_then _ _ _ _ _ _ (λ clean db no. no) (λ clean db no plain. no) inv.survives moved.survives;
+      given = λ plain clean.
+          one_more g.S.Store g.T.FromCells.shown c.args.sql.now (bound c.args.params.now) c.args.conn.now c.rows.rows.conn.now c.next.follows.lender-at-none.conn.now c.rows.all.items (inv.given plain (before clean))
+          c.in-Some.row.now (at_row g.S.Store _ _ c.next.result c.in_ok-row.field-0 c.in_ok-row.was (moved.ok clean) c.in-Some.row c.in-Some.is) c.push.new.self.items (search rules);
+      same = λ plain clean. unchanged_then _ _ _ (inv.same plain (before clean)) (at_ok c.next.result c.in_ok-row.field-0 _ c.in_ok-row.was (moved.same clean));
+    }
