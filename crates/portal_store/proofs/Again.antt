@@ -14,8 +14,8 @@ use Rattle.portal_store.proofs.First.{first_holds, first_is, first_is_good}
 
 only_store : (db : Trees) → Stands db → (fault : OpenFault) → Refutes fault db → (fault ≡ Store) ⊎ (fault ≡ Memory)
 only_store db stands NotPortal none = absurd (let e = sym stands.office.is ∙ none in cc)
-only_store db stands OtherVersion not_so = absurd (not_so stands.office)
-only_store db stands Damaged not_so = absurd (not_so stands)
+only_store db stands OtherVersion not_so = absurd (not_so.other _ stands.office.is refl)
+only_store db stands Damaged not_so = absurd (not_so.1 stands)
 only_store db stands Store told = inl refl
 only_store db stands Memory told = inr refl
 

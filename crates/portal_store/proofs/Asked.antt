@@ -1,5 +1,5 @@
 -- Queries in turn, and what `open` makes of them.
-use Rattle.std.proofs.Common.{List, [], ◌∷◌, pos, ◌≡◌, inl, ℕ, Bool, false, IsTrue, IfErr, Ok, Err, Result, OnOk, OnErr, map, length, filter, slice_index_or, refl, sym, ap, subst, ◌∙◌, arith}
+use Rattle.std.proofs.Common.{List, [], ◌∷◌, pos, ◌≡◌, ◌≢◌, inl, ℕ, Bool, false, IsTrue, IfErr, Ok, Err, Result, OnOk, OnErr, map, length, filter, slice_index_or, refl, sym, ap, subst, ◌∙◌, arith}
 use Rattle.std.specs.Result.{IsErr}
 use Rattle.std.specs.List.Sorted.{IsPermutation}
 use Rattle.std.proofs.lemmas.List.Sorted.{length_permutation}
@@ -24,7 +24,7 @@ use Rattle.portal_tables.specs.Office.{number_of}
 use Rattle.portal_store.specs.World.{world_of}
 use Rattle.portal_store.specs.Kept.{Holds, IsKept}
 use Rattle.portal_tables.proofs.InTurn.{unchanged_then, then_leaves}
-use Rattle.portal_store.specs.Asked.{Asks, Refutes, Admits}
+use Rattle.portal_store.specs.Asked.{Asks, IsVersion1, Refutes, Admits}
 use Rattle.portal_store.specs.declared.store.OpenFault.{OpenFault}
 use Rattle.portal_store.specs.declared.store.OpenFault.TheVariants.{NotPortal, OtherVersion, Damaged, Store, Memory}
 
@@ -82,14 +82,35 @@ none_there f (r ∷ rs) is = absurd (cc)
 listed_none : (keys : List ℕ) (show : Row → Row) (table shown : List Row) → ListsBy keys every show table shown → shown ≡ [] → table ≡ []
 listed_none keys show table shown h none = none_there _ table (sym (length_permutation _ h.keyed h.same) ∙ none_keyed h.keyed (sym h.is ∙ none))
 
+keyed_none : (keyed : List (Row × Row)) → length keyed ≡ 0 → map (λ (k : Row × Row). k.1) keyed ≡ []
+keyed_none [] is = refl
+keyed_none (k ∷ ks) is = absurd (cc)
+
+listed_nil : (keys : List ℕ) (show : Row → Row) (table shown : List Row) → ListsBy keys every show table shown → table ≡ [] → shown ≡ []
+listed_nil keys show table shown h none =
+    let f : Row → Row × Row = λ r. (columns keys r, show r) in
+    h.is ∙ keyed_none h.keyed (length_permutation _ h.keyed h.same ∙ ap (λ t. length (map f (filter every t))) none)
+
+pub office_version : (db : Trees) (shown : List Row) (row : Row) (rest : List Row) → ListsBy (0 ∷ []) every (columns (0 ∷ 2 ∷ 3 ∷ 4 ∷ [])) (db portal_tree) shown → shown ≡ row ∷ rest
+    → column row 1 ≡ Int (pos 1) → IsVersion1 db
+office_version db shown row rest h is v = record {
+  there = λ none. let e : row ∷ rest ≡ [] = sym is ∙ listed_nil _ _ _ shown h none in absurd (cc);
+  version = λ r one.
+      let e : columns (0 ∷ 2 ∷ 3 ∷ 4 ∷ []) r ∷ [] ≡ row ∷ rest = sym (listed_one _ _ _ shown r h one) ∙ is in
+      ap (λ (l : List Row). column (slice_index_or l 0 []) 1) e ∙ v;
+}
+
 pub office_refuted : {V : Type 0} (db : Trees) (shown : List Row) (r : Result V OpenFault) → ListsBy (0 ∷ []) every (columns (0 ∷ 2 ∷ 3 ∷ 4 ∷ [])) (db portal_tree) shown → (r ≡ Err NotPortal → shown ≡ [])
-    → (r ≡ Err OtherVersion → (row : Row) → shown ≡ row ∷ [] → column row 1 ≡ Int (pos 1) → ⊥) → IfErr r (λ fault. fault ≡ Damaged → ⊥) → IfErr r (λ fault. Refutes fault db)
-office_refuted db shown (Ok v) h none other judged = tt
-office_refuted db shown (Err NotPortal) h none other judged = listed_none _ _ _ shown h (none refl)
-office_refuted db shown (Err OtherVersion) h none other judged = λ has. other refl _ (listed_one _ _ _ shown (portal_row (pos 1) (pos (number_of has.phase)) has.office) h has.is) refl
-office_refuted db shown (Err Damaged) h none other judged = absurd (judged refl)
-office_refuted db shown (Err Store) h none other judged = tt
-office_refuted db shown (Err Memory) h none other judged = tt
+    → (r ≡ Err OtherVersion → shown ≢ []) → (r ≡ Err OtherVersion → (row : Row) → shown ≡ row ∷ [] → column row 1 ≡ Int (pos 1) → ⊥) → IfErr r (λ fault. fault ≡ Damaged → ⊥) → IfErr r (λ fault. Refutes fault db)
+office_refuted db shown (Ok v) h none there other judged = tt
+office_refuted db shown (Err NotPortal) h none there other judged = listed_none _ _ _ shown h (none refl)
+office_refuted db shown (Err OtherVersion) h none there other judged = record {
+  there = λ empty. there refl (listed_nil _ _ _ shown h empty);
+  other = λ row one v. other refl _ (listed_one _ _ _ shown row h one) v;
+}
+office_refuted db shown (Err Damaged) h none there other judged = absurd (judged refl)
+office_refuted db shown (Err Store) h none there other judged = tt
+office_refuted db shown (Err Memory) h none there other judged = tt
 
 -- the code that the one row tells is that of the world
 pub office_told : (db : Trees) (phase : Phase) (code : Key) → db portal_tree ≡ portal_row (pos 1) (pos (number_of phase)) code ∷ [] → code ≡ (world_of db).office
@@ -98,7 +119,7 @@ office_told db phase code is = sym (ap (λ rows. bytes (column (slice_index_or r
 
 -- a store over tables that were admitted
 pub opened_kept : {S : Type 0} (g : Ghosts S) (own : Bool) (old new : Held S) → new.in_transaction ≡ false → (IsTrue own → IsOwn old.schema) → (IsTrue (state g old).is_open → (state g old).now ≡ (state g old).committed) → IsLive (state g old)
-    → (IsTrue own → IsTrue (state g new).is_open → IsUnchanged (state g old) (state g new) × Admits (state g old).now.trees) → IsKept g (record { conn = new; own = own })
+    → (IsTrue own → IsTrue (state g new).is_open → IsUnchanged (state g old) (state g new) × Admits (state g old).now.trees) → IsKept g new own
 opened_kept g own old new idle is_own settled live found = record {
   idle = idle;
   ready = λ mine on.

@@ -58,7 +58,7 @@ module _ (office : Key) (db : Database) (f : IsFresh office db) where
 
 -- a store over them
 pub first_kept : {S : Type 0} (g : Ghosts S) (office : Key) (own : Bool) (old new : Held S) → new.in_transaction ≡ false → (IsTrue own → old.schema ≡ no_schema)
-    → (IsTrue (state g new).is_open → Commits (Creates office) (state g old) (state g new)) → IsKept g (record { conn = new; own = own })
+    → (IsTrue (state g new).is_open → Commits (Creates office) (state g old) (state g new)) → IsKept g new own
 first_kept g office own old new idle none_before did = record {
   idle = idle;
   ready = λ mine on.

@@ -1,5 +1,5 @@
 -- What a change that was committed, or left all as it was, is to the store: whatever the change.
-use Rattle.std.proofs.Common.{inl, inr, ◌≡◌, Bool, IsTrue, Ok, Err, Result, Option, IfOk, OnOk, OnErr, false, sym, ap, subst, ◌∙◌}
+use Rattle.std.proofs.Common.{inl, inr, ◌≡◌, ℕ, Bool, IsTrue, Ok, Err, Result, Option, IfOk, OnOk, OnErr, true, false, sym, ap, subst, ◌∙◌, arith}
 use Rattle.sqlite.specs.Effect.{Database}
 use Rattle.sqlite.specs.State.{HasCleanDisk, IsUnchanged, Survives}
 use Rattle.sqlite.specs.Tree.{Trees}
@@ -9,18 +9,19 @@ use Rattle.portal_core.specs.Change.{Change, changed}
 use Rattle.portal_core.specs.World.{World}
 use Rattle.portal_core.specs.Good.{Good, Sound}
 use Rattle.portal_tables.specs.Own.{IsOwn}
+use Rattle.portal_tables.proofs.Runs.{clean_if_open}
 use Rattle.portal_tables.specs.Steps.{Commits, Stays, Leaves, IsAfter}
 use Rattle.portal_core.specs.Remembered.{Remembers}
 use Rattle.portal_core.specs.declared.remembered.Remembered.{Remembered}
 use Rattle.portal_store.specs.World.{world_of}
 use Rattle.portal_list.specs.Entries.{AllEntries}
-use Rattle.portal_store.specs.Kept.{AreEntries, Holds, Turned, Turns, Seen, IsKept, IsCleanStore, kept_world}
+use Rattle.portal_store.specs.Kept.{AreEntries, Holds, Turned, Turns, Seen, IsKept, IsCleanStore, Lasts, LastsInMemory, kept_world}
 use Rattle.portal_store.specs.Crash.{IsLeft}
 use Rattle.portal_store.specs.Reading.{KeepsInMind, KeepsEntries}
 
 -- nothing is changed
-pub still : {S : Type 0} (g : Ghosts S) (old new : Held S) (own : Bool) → IsKept g (record { conn = old; own = own }) → new.in_transaction ≡ false
-    → (IsTrue own → IsTrue (state g new).is_open → Stays (state g old) (state g new)) → IsKept g (record { conn = new; own = own })
+pub still : {S : Type 0} (g : Ghosts S) (old new : Held S) (own : Bool) → IsKept g old own → new.in_transaction ≡ false
+    → (IsTrue own → IsTrue (state g new).is_open → Stays (state g old) (state g new)) → IsKept g new own
 still g old new own kept idle stays = record {
   idle = idle;
   ready = λ mine on.
@@ -36,16 +37,17 @@ module _
     (change : Change)
     (old new : Held S)
     (own : Bool)
+    (few : ℕ)
     (before : Seen S)
-    (is : ◌≡◌ {A = Seen S} (record { conn = old; own = own }) before)
-    (kept : IsKept g (record { conn = old; own = own }))
+    (is : ◌≡◌ {A = Seen S} (record { conn = old; own = own; faults = few }) before)
+    (kept : IsKept g old own)
     (idle : new.in_transaction ≡ false)
     (is_own : IsTrue before.own → IsOwn before.conn.schema)
     (law : IsTrue (state g new).is_open → HasCleanDisk (state g new))
     (good : IsCleanStore g before → Good (kept_world g before))
     (leaves : IsCleanStore g before → Good (changed (kept_world g before) change)) where
   abbrev seen : Seen S
-  seen = record { conn = old; own = own }
+  seen = record { conn = old; own = own; faults = few }
 
   known : IsTrue own → IsOwn old.schema
   known = subst (λ (s : Seen S). IsTrue s.own → IsOwn s.conn.schema) (sym is) is_own
@@ -85,7 +87,7 @@ module _
     stays mine on = err (known mine) (law on) on
 
     kept_by : (r : Result V E) → (IsTrue own → IsTrue (state g new).is_open → OnOk r (Commits (Turns change) (state g old) (state g new)))
-        → (IsTrue own → IsTrue (state g new).is_open → OnErr r (Stays (state g old) (state g new))) → IsKept g (record { conn = new; own = own })
+        → (IsTrue own → IsTrue (state g new).is_open → OnErr r (Stays (state g old) (state g new))) → IsKept g new own
     kept_by (Ok v) did same = record {
       idle = idle;
       ready = λ mine on. let d = did mine on in record { settled = d.settled; holds = (turned mine d).holds };
@@ -93,37 +95,37 @@ module _
     kept_by (Err e) did same = still g old new own kept idle same
 
     clean_by : (r : Result V E) → (IsTrue own → IsTrue (state g new).is_open → OnOk r (Commits (Turns change) (state g old) (state g new)))
-        → (IsTrue own → IsTrue (state g new).is_open → OnErr r (Stays (state g old) (state g new))) → IsCleanStore g (record { conn = new; own = own }) → IsCleanStore g seen
+        → (IsTrue own → IsTrue (state g new).is_open → OnErr r (Stays (state g old) (state g new))) → IsCleanStore g (record { conn = new; own = own; faults = few }) → IsCleanStore g seen
     clean_by (Ok v) did same on = (on.0, (did on.0 on.1).was_open)
     clean_by (Err e) did same on = (on.0, (same on.0 on.1).0)
 
     made_by : (r : Result V E) → (IsTrue own → IsTrue (state g new).is_open → OnOk r (Commits (Turns change) (state g old) (state g new)))
-        → OnOk r (IsCleanStore g (record { conn = new; own = own }) → world_of (state g new).now.trees ≡ changed (kept_world g seen) change)
+        → OnOk r (IsCleanStore g (record { conn = new; own = own; faults = few }) → world_of (state g new).now.trees ≡ changed (kept_world g seen) change)
     made_by (Ok v) did = λ on. (turned on.0 (did on.0 on.1)).world
     made_by (Err e) did = tt
 
     same_by : (r : Result V E) → (IsTrue own → IsTrue (state g new).is_open → OnErr r (Stays (state g old) (state g new)))
-        → OnErr r (IsCleanStore g (record { conn = new; own = own }) → world_of (state g new).now.trees ≡ kept_world g seen)
+        → OnErr r (IsCleanStore g (record { conn = new; own = own; faults = few }) → world_of (state g new).now.trees ≡ kept_world g seen)
     same_by (Ok v) same = tt
     same_by (Err e) same = λ on. ap (λ (d : Database). world_of d.trees) (same on.0 on.1).1
 
     shown_by : (m n : Remembered) → (IsCleanStore g seen → Remembers m (kept_world g seen)) → (r : Result V E)
         → OnOk r ((w : World) → Remembers m w → Remembers n (changed w change)) → OnErr r (n ≡ m)
         → (IsTrue own → IsTrue (state g new).is_open → OnOk r (Commits (Turns change) (state g old) (state g new)))
-        → (IsTrue own → IsTrue (state g new).is_open → OnErr r (Stays (state g old) (state g new))) → IsCleanStore g (record { conn = new; own = own }) → Remembers n (world_of (state g new).now.trees)
+        → (IsTrue own → IsTrue (state g new).is_open → OnErr r (Stays (state g old) (state g new))) → IsCleanStore g (record { conn = new; own = own; faults = few }) → Remembers n (world_of (state g new).now.trees)
     shown_by m n was (Ok v) follows stayed did same on = subst (Remembers n) (sym (turned on.0 (did on.0 on.1)).world) (follows (kept_world g seen) (was (clean_by (Ok v) did same on)))
     shown_by m n was (Err e) follows stayed did same on =
         subst (λ k. Remembers k (world_of (state g new).now.trees)) (sym stayed) (subst (Remembers m) (sym (same_by (Err e) same on)) (was (clean_by (Err e) did same on)))
 
     -- what is remembered is right: after a change that was made what follows, and otherwise what it was
     pub change_shown : (m n : Remembered) → (IsCleanStore g seen → Remembers m (kept_world g seen)) → OnOk r ((w : World) → Remembers m w → Remembers n (changed w change)) → OnErr r (n ≡ m)
-        → IsCleanStore g (record { conn = new; own = own }) → Remembers n (world_of (state g new).now.trees)
+        → IsCleanStore g (record { conn = new; own = own; faults = few }) → Remembers n (world_of (state g new).now.trees)
     change_shown m n was follows stayed = shown_by m n was r follows stayed done stays
 
     told_by : (before m n : Option AllEntries) → (IsCleanStore g seen → AreEntries before (kept_world g seen)) → KeepsEntries before m (state g old) (state g new) → (r : Result V E)
         → OnOk r ((w : World) → Sound w → AreEntries m w → AreEntries n (changed w change)) → OnErr r (n ≡ m)
         → (IsTrue own → IsTrue (state g new).is_open → OnOk r (Commits (Turns change) (state g old) (state g new)))
-        → (IsTrue own → IsTrue (state g new).is_open → OnErr r (Stays (state g old) (state g new))) → IsCleanStore g (record { conn = new; own = own }) → AreEntries n (world_of (state g new).now.trees)
+        → (IsTrue own → IsTrue (state g new).is_open → OnErr r (Stays (state g old) (state g new))) → IsCleanStore g (record { conn = new; own = own; faults = few }) → AreEntries n (world_of (state g new).now.trees)
     told_by before m n was keeps (Ok v) follows stayed did same on =
         let d = did on.0 on.1 in
         let fine = subst (λ s. IsCleanStore g s → Good (kept_world g s)) (sym is) good (on.0, d.was_open) in
@@ -138,23 +140,23 @@ module _
     -- the entries are the world's: after a change that was made what follows, and otherwise those at hand
     pub change_told : (before m n : Option AllEntries) → (IsCleanStore g seen → AreEntries before (kept_world g seen)) → (IsOwn old.schema → KeepsEntries before m (state g old) (state g new))
         → OnOk r ((w : World) → Sound w → AreEntries m w → AreEntries n (changed w change)) → OnErr r (n ≡ m)
-        → IsCleanStore g (record { conn = new; own = own }) → AreEntries n (world_of (state g new).now.trees)
+        → IsCleanStore g (record { conn = new; own = own; faults = few }) → AreEntries n (world_of (state g new).now.trees)
     change_told before m n was keeps follows stayed on = told_by before m n was (keeps (known on.0)) r follows stayed done stays on
 
-    pub change_keeps : IsKept g (record { conn = new; own = own })
+    pub change_keeps : IsKept g new own
     change_keeps = kept_by r done stays
 
-    pub change_clean : IsCleanStore g (record { conn = new; own = own }) → IsCleanStore g before
-    change_clean = subst (λ s. IsCleanStore g (record { conn = new; own = own }) → IsCleanStore g s) is (clean_by r done stays)
+    pub change_clean : IsCleanStore g (record { conn = new; own = own; faults = few }) → IsCleanStore g before
+    change_clean = subst (λ s. IsCleanStore g (record { conn = new; own = own; faults = few }) → IsCleanStore g s) is (clean_by r done stays)
 
-    pub change_made : OnOk r (IsCleanStore g (record { conn = new; own = own }) → world_of (state g new).now.trees ≡ changed (kept_world g before) change)
-    change_made = subst (λ s. OnOk r (IsCleanStore g (record { conn = new; own = own }) → world_of (state g new).now.trees ≡ changed (kept_world g s) change)) is (made_by r done)
+    pub change_made : OnOk r (IsCleanStore g (record { conn = new; own = own; faults = few }) → world_of (state g new).now.trees ≡ changed (kept_world g before) change)
+    change_made = subst (λ s. OnOk r (IsCleanStore g (record { conn = new; own = own; faults = few }) → world_of (state g new).now.trees ≡ changed (kept_world g s) change)) is (made_by r done)
 
-    pub change_same : OnErr r (IsCleanStore g (record { conn = new; own = own }) → world_of (state g new).now.trees ≡ kept_world g before)
-    change_same = subst (λ s. OnErr r (IsCleanStore g (record { conn = new; own = own }) → world_of (state g new).now.trees ≡ kept_world g s)) is (same_by r stays)
+    pub change_same : OnErr r (IsCleanStore g (record { conn = new; own = own; faults = few }) → world_of (state g new).now.trees ≡ kept_world g before)
+    change_same = subst (λ s. OnErr r (IsCleanStore g (record { conn = new; own = own; faults = few }) → world_of (state g new).now.trees ≡ kept_world g s)) is (same_by r stays)
 
 -- what leaves all as it was, or undoes a transaction that is not there
-rests : {S : Type 0} (g : Ghosts S) (old new : Held S) (own : Bool) → IsKept g (record { conn = old; own = own }) → IsTrue own → Leaves (state g old) (state g new) → IsTrue (state g new).is_open
+rests : {S : Type 0} (g : Ghosts S) (old new : Held S) (own : Bool) → IsKept g old own → IsTrue own → Leaves (state g old) (state g new) → IsTrue (state g new).is_open
     → Stays (state g old) (state g new)
 rests g old new own kept mine (inl same) on = (same.0.was_open, same.0.now_is, same.0.committed_is)
 rests g old new own kept mine (inr undone) on =
@@ -166,9 +168,10 @@ module _
     (g : Ghosts S)
     (old new : Held S)
     (own : Bool)
+    (few : ℕ)
     (before : Seen S)
-    (is : ◌≡◌ {A = Seen S} (record { conn = old; own = own }) before)
-    (kept : IsKept g (record { conn = old; own = own }))
+    (is : ◌≡◌ {A = Seen S} (record { conn = old; own = own; faults = few }) before)
+    (kept : IsKept g old own)
     (idle : new.in_transaction ≡ false)
     (is_own : IsTrue before.own → IsOwn before.conn.schema)
     (law : IsTrue (state g new).is_open → HasCleanDisk (state g new))
@@ -185,34 +188,44 @@ module _
   rest : IsTrue own → IsTrue (state g new).is_open → Stays (state g old) (state g new)
   rest mine on = rests g old new own kept mine (either r (same (own_known mine) (law on)) (err (own_known mine) (law on))) on
 
-  pub read_keeps : IsKept g (record { conn = new; own = own })
+  pub read_keeps : IsKept g new own
   read_keeps = still g old new own kept idle rest
 
-  pub read_clean : IsCleanStore g (record { conn = new; own = own }) → IsCleanStore g before
+  pub read_clean : IsCleanStore g (record { conn = new; own = own; faults = few }) → IsCleanStore g before
   read_clean on = subst (λ s. IsCleanStore g s) is (on.0, (rest on.0 on.1).0)
 
-  pub read_same : IsCleanStore g (record { conn = new; own = own }) → world_of (state g new).now.trees ≡ kept_world g before
+  pub read_same : IsCleanStore g (record { conn = new; own = own; faults = few }) → world_of (state g new).now.trees ≡ kept_world g before
   read_same on = ap (λ (d : Database). world_of d.trees) (rest on.0 on.1).1 ∙ ap (λ s. kept_world g s) is
 
   -- what is remembered stays right
-  pub read_shown : (m n : Remembered) → (IsCleanStore g (record { conn = old; own = own }) → Remembers m (world_of (state g old).now.trees)) → KeepsInMind m n (state g old) (state g new)
-      → IsCleanStore g (record { conn = new; own = own }) → Remembers n (world_of (state g new).now.trees)
+  pub read_shown : (m n : Remembered) → (IsCleanStore g (record { conn = old; own = own; faults = few }) → Remembers m (world_of (state g old).now.trees)) → KeepsInMind m n (state g old) (state g new)
+      → IsCleanStore g (record { conn = new; own = own; faults = few }) → Remembers n (world_of (state g new).now.trees)
   read_shown m n was mind on =
       let same = rest on.0 on.1 in
       subst (λ (d : Database). Remembers n (world_of d.trees)) (sym same.1) (mind (kept.ready on.0 same.0).holds (law on.1) same.0 (was (on.0, same.0)))
 
   -- the entries stay the world's
-  pub read_still : (n : Option AllEntries) → (IsCleanStore g (record { conn = old; own = own }) → AreEntries n (world_of (state g old).now.trees))
-      → IsCleanStore g (record { conn = new; own = own }) → AreEntries n (world_of (state g new).now.trees)
+  pub read_still : (n : Option AllEntries) → (IsCleanStore g (record { conn = old; own = own; faults = few }) → AreEntries n (world_of (state g old).now.trees))
+      → IsCleanStore g (record { conn = new; own = own; faults = few }) → AreEntries n (world_of (state g new).now.trees)
   read_still n was on =
       let same = rest on.0 on.1 in
       subst (λ (d : Database). AreEntries n (world_of d.trees)) (sym same.1) (was (on.0, same.0))
 
   -- what is known where a call may rely on what is kept
-  pub read_holds : (P : Type 0) → (IsOwn old.schema → HasCleanDisk (state g new) → Holds (state g old).now → P) → IsCleanStore g (record { conn = new; own = own }) → P
+  pub read_holds : (P : Type 0) → (IsOwn old.schema → HasCleanDisk (state g new) → Holds (state g old).now → P) → IsCleanStore g (record { conn = new; own = own; faults = few }) → P
   read_holds P found on = found (own_known on.0) (law on.1) (kept.ready on.0 (rest on.0 on.1).0).holds
 
 -- what follows of an answer, whatever it is, from what is said of it under a premise
 pub when_ok : {V E : Type 0} (C : Type 0) (A B : V → Type 0) (r : Result V E) → (C → IfOk r A) → ((v : V) → (C → A v) → B v) → IfOk r B
 when_ok C A B (Ok v) h more = more v h
 when_ok C A B (Err e) h more = tt
+
+-- a clean store stays clean over what leaves the connection open
+pub lasts_by : {S : Type 0} (g : Ghosts S) (old new : Held S) (own : Bool) (few many : ℕ) (before : Seen S) (P : Trees → Type 0) → ◌≡◌ {A = Seen S} (record { conn = old; own = own; faults = few }) before
+    → (IsTrue own → Survives (state g old) (state g new) P) → Lasts g before (record { conn = new; own = own; faults = many })
+lasts_by g old new own few many before P is s =
+    subst (λ b. Lasts g b (record { conn = new; own = own; faults = many })) is
+    (λ clean on. elim ((s on.0).closes clean on.1) [ inl up ↦ inl (on.0, up) | inr failed ↦ inr failed ])
+
+pub lasts_in_memory : LastsInMemory
+lasts_in_memory old new lasts clean = elim (lasts (clean_if_open true true (λ no. absurd (cc)) clean.1) clean) [ inl on ↦ on | inr failed ↦ absurd (omega (arith, failed)) ]

@@ -1,13 +1,14 @@
 -- How queries in turn end, and what `open` makes of what they show.
-use Rattle.std.specs.Prelude.{◌≡◌, [], Result, OnOk, OnErr}
+use Rattle.std.specs.Prelude.{◌≡◌, ◌≢◌, [], ◌∷◌, pos, Result, OnOk, OnErr}
 use Rattle.std.specs.List.{AllByRecursion}
+use Rattle.sqlite.specs.declared.types.Value.TheVariants.{Int}
+use Rattle.sqlite.specs.Order.{Row, column}
 use Rattle.sqlite.specs.Tree.{Trees}
 use Rattle.sqlite.specs.State.{State, HasCleanDisk, IsUnchanged, Survives}
 use Rattle.portal_tables.specs.Tables.{portal_tree, own_trees}
 use Rattle.portal_tables.specs.Own.{IsOwn}
 use Rattle.portal_tables.specs.Changes.{IsApart}
 use Rattle.portal_tables.specs.Steps.{Leaves}
-use Rattle.portal_tables.specs.Office.{HasOffice}
 use Rattle.portal_store.specs.Kept.{Stands}
 use Rattle.portal_store.specs.declared.store.OpenFault.{OpenFault}
 use Rattle.portal_store.specs.declared.store.OpenFault.TheVariants.{NotPortal, OtherVersion, Damaged, Store, Memory}
@@ -18,11 +19,21 @@ pub record Asks {V E : Type 0} (result : Result V E) (old new : State) : Type 0 
   pub err : IsOwn old.now.schema → HasCleanDisk new → OnErr result (Leaves old new)
   pub crash : Survives old new (λ _. IsOwn old.now.schema → ⊥)
 
--- what a refusal says of the tables: there is no row of the office; it is not that of version 1; they stand for no good world
+-- a row of the office is there, and where it is the only one it is of version 1
+pub record IsVersion1 (db : Trees) : Type 0 where
+  pub there : db portal_tree ≢ []
+  pub version : (row : Row) → db portal_tree ≡ row ∷ [] → column row 2 ≡ Int (pos 1)
+
+-- a row of the office is there, and where it is the only one it is of another version
+pub record IsOtherVersion (db : Trees) : Type 0 where
+  pub there : db portal_tree ≢ []
+  pub other : (row : Row) → db portal_tree ≡ row ∷ [] → column row 2 ≢ Int (pos 1)
+
+-- what a refusal says of the tables: there is no row of the office; it is of another version; it is of version 1, and they stand for no good world
 abbrev pub Refutes : OpenFault → Trees → Type 0
 Refutes NotPortal db = db portal_tree ≡ []
-Refutes OtherVersion db = HasOffice (db portal_tree) → ⊥
-Refutes Damaged db = Stands db → ⊥
+Refutes OtherVersion db = IsOtherVersion db
+Refutes Damaged db = IsVersion1 db × (Stands db → ⊥)
 Refutes Store db = Unit {0}
 Refutes Memory db = Unit {0}
 

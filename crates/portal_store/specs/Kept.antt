@@ -1,12 +1,14 @@
 -- What a store keeps true between two calls, and what a change of the world is to the tables.
-use Rattle.std.specs.Prelude.{◌≡◌, Bool, false, [], Option, IfSome, IsTrue, refl}
-use Rattle.std.specs.Coded.{Coded, code_by, coded×, coded_bool}
+use Rattle.std.specs.Prelude.{◌≡◌, ◌⊎◌, ℕ, ◌+◌, ◌-◌, ◌^◌, ◌≤◌, min, Bool, false, [], Option, IfSome, IsTrue, refl}
+use Rattle.std.specs.Coded.{Coded, code_by, coded×, coded_bool, coded_ℕ}
 use Rattle.std.specs.List.{AllByRecursion}
 use Rattle.sqlite.specs.Tree.{Trees}
 use Rattle.sqlite.specs.Effect.{Database, IsDatabase}
-use Rattle.sqlite.specs.State.{State}
+use Rattle.sqlite.specs.State.{State, HasCleanDisk, Survives}
 use Rattle.sqlite.specs.Store.{Ghosts}
 use Rattle.sqlite.specs.Held.{Held, held_code, state}
+use Rattle.sqlite.specs.Steps.{over_memory}
+use Rattle.sqlite_trees.specs.declared.memory.MemStore.{MemStore}
 use Rattle.portal_core.specs.World.{World}
 use Rattle.portal_core.specs.Change.{Change, changed}
 use Rattle.portal_core.specs.Good.{Good}
@@ -50,26 +52,42 @@ pub record Turned (change : Change) (old new : Database) : Type 0 where
 abbrev pub Turns : Change → Database → Database → Type 0
 Turns change old new = Holds old → Good (world_of old.trees) → Good (changed (world_of old.trees) change) → Turned change old new
 
--- what can be seen of a store: its connection, and whether the tables are those that the portal makes
+-- what can be seen of a store: its connection, whether the tables are those that the portal makes, and how many calls were answered with its fault
 pub record Seen (S : Type 0) : Type 0 where
   pub conn : Held S
   pub own : Bool
+  pub faults : ℕ
 
 abbrev pub seen_code : {S : Type 0} → Coded S → Coded (Seen S)
-seen_code {S} store = code_by (Held S × Bool) (coded× (held_code store) coded_bool) (λ s. (s.conn, s.own)) (λ p. record { conn = p.0; own = p.1 }) (λ _. refl)
+seen_code {S} store =
+    code_by (Held S × (Bool × ℕ)) (coded× (held_code store) (coded× coded_bool coded_ℕ)) (λ s. (s.conn, (s.own, s.faults)))
+    (λ p. record { conn = p.0; own = p.1.0; faults = p.1.1 })
+    (λ _. refl)
 
 -- all is committed
 pub record IsReady (s : State) : Type 0 where
   pub settled : s.committed ≡ s.now
   pub holds : Holds s.now
 
-pub record IsKept {S : Type 0} (g : Ghosts S) (s : Seen S) : Type 0 where
-  pub idle : s.conn.in_transaction ≡ false
-  pub ready : IsTrue s.own → IsTrue (state g s.conn).is_open → IsReady (state g s.conn)
+pub record IsKept {S : Type 0} (g : Ghosts S) (conn : Held S) (own : Bool) : Type 0 where
+  pub idle : conn.in_transaction ≡ false
+  pub ready : IsTrue own → IsTrue (state g conn).is_open → IsReady (state g conn)
 
 -- the tables are the portal's own, and the connection is open: what it shows is what the disk has
 abbrev pub IsCleanStore : {S : Type 0} → Ghosts S → Seen S → Type 0
 IsCleanStore g s = IsTrue s.own × IsTrue (state g s.conn).is_open
+
+-- the disk has failed once more, unless the count of its failures is at the top of a `u64`
+abbrev pub HasFailed : State → State → Type 0
+HasFailed old new = min (old.faults + 1) (2 ^ 64 - 1) ≤ new.faults
+
+-- a clean store stays clean, where the disk returns what was written and does not fail
+abbrev pub Lasts : {S : Type 0} → Ghosts S → Seen S → Seen S → Type 0
+Lasts g old new = HasCleanDisk (state g new.conn) → IsCleanStore g old → IsCleanStore g new ⊎ HasFailed (state g old.conn) (state g new.conn)
+
+-- no fault of the disk is forgotten, and only a fault of it shuts the connection
+abbrev pub Endures : State → State → Type 0
+Endures old new = Survives old new (λ _. Unit {0})
 
 abbrev pub kept_world : {S : Type 0} → Ghosts S → Seen S → World
 kept_world g s = world_of (state g s.conn).now.trees
@@ -79,7 +97,11 @@ abbrev pub AreEntries : Option AllEntries → World → Type 0
 AreEntries entries w = IfSome entries (λ e. HasEntries e w)
 
 -- a store between two calls; what it remembers is of its world
-pub record IsAtRest {S : Type 0} (g : Ghosts S) (s : Seen S) (mind : Remembered) (entries : Option AllEntries) : Type 0 where
-  pub kept : IsKept g s
-  pub shown : IsCleanStore g s → Remembers mind (kept_world g s)
-  pub entered : IsCleanStore g s → AreEntries entries (kept_world g s)
+pub record IsAtRest {S : Type 0} (g : Ghosts S) (conn : Held S) (own : Bool) (mind : Remembered) (entries : Option AllEntries) : Type 0 where
+  pub kept : IsKept g conn own
+  pub shown : IsTrue own × IsTrue (state g conn).is_open → Remembers mind (world_of (state g conn).now.trees)
+  pub entered : IsTrue own × IsTrue (state g conn).is_open → AreEntries entries (world_of (state g conn).now.trees)
+
+-- a clean store in memory stays clean: there is no disk that could fail
+abbrev pub LastsInMemory : Type 0
+LastsInMemory = (old new : Seen MemStore) → Lasts over_memory old new → IsCleanStore over_memory old → IsCleanStore over_memory new

@@ -3,12 +3,14 @@
 ghost use Rattle.std.specs.Prelude.{◌≡◌, false, OnOk, OnErr, IsTrue};
 ghost use Rattle.sqlite.specs.State.{HasCleanDisk, Survives};
 ghost use Rattle.sqlite.specs.Held.{state};
+ghost use Rattle.portal_core.specs.Counting.{CountsFaults};
 ghost use Rattle.portal_core.specs.Meaning.{meant};
 ghost use Rattle.portal_tables.specs.Own.{IsOwn};
 ghost use Rattle.portal_tables.specs.Steps.{Commits, IsAfter, LeavesOnly, Stays};
 ghost use Rattle.portal_store.specs.Kept.{Turns};
 ghost use Rattle.portal_store.specs.Reading.{KeepsEntries};
 
+use crate::fault::told;
 use crate::fill::fill_rankings;
 use crate::lists::{PutChoices, replace_ranking};
 use crate::phase::set_phase;
@@ -21,8 +23,8 @@ use portal_tables::step::commit;
 use sqlite::{Alter, Connection};
 use std::alloc::Global;
 
-/// Takes the step of the change and commits it, or leaves all as it was; the entries stay those of the world before. The fault is `Damaged`
-/// only where rows are read and are those of no good world.
+/// Takes the step of the change and commits it, or leaves all as it was; the entries stay those of the world before. `Damaged` where
+/// rows that are read are those of no good world.
 fn take<S: Alter>(
     alloc: Global,
     conn: &mut Connection<S>,
@@ -53,12 +55,13 @@ fn take<S: Alter>(
     }
 }
 
-/// Makes the change and commits it, or leaves all as it was; the entries stay those of the world before. The store fault also where rows that
-/// are read are those of no good world.
+/// Makes the change and commits it, or leaves all as it was; the entries stay those of the world before. A fault of the
+/// store is counted, and so are rows that are read and are those of no good world.
 pub(crate) fn make<S: Alter>(
     alloc: Global,
     conn: &mut Connection<S>,
     entries: &mut Option<Entries>,
+    faults: &mut u64,
     change: &Change,
 ) -> Result<(), KeepFault>
     requires idle { conn.old.in_transaction ≡ false }
@@ -68,9 +71,10 @@ pub(crate) fn make<S: Alter>(
     ensures entries { IsOwn conn.old.schema → KeepsEntries entries.old entries.new (state S.Store conn.old) (state S.Store conn.new) }
     ensures durable { IsOwn conn.old.schema → HasCleanDisk (state S.Store conn.new) → OnOk result (LeavesOnly (state S.Store conn.new)) }
     ensures crash { IsOwn conn.old.schema → Survives (state S.Store conn.old) (state S.Store conn.new) (IsAfter (Turns (meant change.now)) (state S.Store conn.old)) }
+    ensures counts { CountsFaults result faults.old faults.new }
 {
     match take(alloc, conn, entries, change) {
         Ok(()) => Ok(()),
-        Err(fault) => Err(KeepFault::from(fault)),
+        Err(fault) => Err(told(faults, fault)),
     }
 }

@@ -24,8 +24,8 @@ use std::alloc::Global;
 impl<S: Alter> Store<S> {
     /// Makes the portal's tables in a database that has none of them: the empty world in setup, whose office has this code.
     /// A refusal hands the connection back, and the file holds what it held where the connection is clean. `Exists` comes
-    /// where a table or a view of one of the six names is there, and only then; `Memory` for want of memory, and `Store` for
-    /// any other error of the connection.
+    /// where a table or a view of one of the six names is there, and only then. All else is an error of the connection: it is
+    /// told as `Memory` where the connection answered want of memory, and otherwise as `Store`.
     pub fn create(
         alloc: Global,
         mut conn: Connection<S>,
@@ -73,6 +73,7 @@ impl<S: Alter> Store<S> {
             pattern,
             mind: Remembered::nothing(),
             entries: None,
+            faults: 0,
         })
     }
 }

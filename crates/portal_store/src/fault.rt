@@ -1,18 +1,23 @@
 //! What an error of the connection, of the tables or of their rows means to who makes or opens a store.
 
-ghost use Rattle.std.specs.Prelude.{◌≡◌, ◌≢◌};
+ghost use Rattle.std.specs.Prelude.{◌≡◌, ◌≢◌, ◌↔◌, ◌⊎◌, ◌+◌, ◌-◌, ◌^◌};
 ghost use Rattle.sqlite.specs.Tree.{Trees};
+ghost use Rattle.sqlite.specs.State.{store_error};
+ghost use Rattle.sqlite_trees.specs.declared.error.StoreError.{StoreError};
+ghost use Rattle.sqlite_resolve.specs.declared.error.CompileError.{CompileError};
 ghost use Rattle.portal_store.specs.Kept.{Stands};
-ghost use Rattle.portal_store.specs.Asked.{Refutes};
+ghost use Rattle.portal_store.specs.Asked.{IsVersion1, Refutes};
 
 use crate::store::{CreateFault, OpenFault};
+use portal_core::KeepFault;
 use portal_list::RowsFault;
 use portal_tables::fault::TableFault;
 use sqlite::{Error, ErrorCode};
 
 /// Want of memory, or a fault of the store; never that tables are there.
 pub(crate) fn create_fault_of(error: Error) -> CreateFault
-    ensures { result ≢ CreateFault.Exists }
+    ensures exists { result ≢ CreateFault.Exists }
+    ensures memory { (result ≡ CreateFault.Memory) ↔ (error ≡ Error.SqliteFailure ErrorCode.OutOfMemory) }
 {
     match error {
         Error::SqliteFailure(ErrorCode::OutOfMemory) => CreateFault::Memory,
@@ -22,7 +27,8 @@ pub(crate) fn create_fault_of(error: Error) -> CreateFault
 
 /// Rows of no sound world are damaged.
 pub(crate) fn rows_fault_of(fault: RowsFault) -> TableFault
-    ensures { result ≡ TableFault.Damaged → fault ≡ RowsFault.NotGood }
+    ensures damaged { (result ≡ TableFault.Damaged) ↔ (fault ≡ RowsFault.NotGood) }
+    ensures memory { (result ≡ TableFault.Memory) ↔ (fault ≡ RowsFault.Memory) }
 {
     match fault {
         RowsFault::NotGood => TableFault::Damaged,
@@ -32,7 +38,9 @@ pub(crate) fn rows_fault_of(fault: RowsFault) -> TableFault
 
 /// Want of memory, or a fault of the store: nothing is said of the tables.
 pub(crate) fn open_fault_of(error: Error) -> OpenFault
-    ensures { (db : Trees) → Refutes result db }
+    ensures refutes { (db : Trees) → Refutes result db }
+    ensures kind { (result ≡ OpenFault.Memory) ⊎ (result ≡ OpenFault.Store) }
+    ensures memory { (result ≡ OpenFault.Memory) ↔ (error ≡ Error.SqliteFailure ErrorCode.OutOfMemory) }
 {
     match error {
         Error::SqliteFailure(ErrorCode::OutOfMemory) => OpenFault::Memory,
@@ -42,7 +50,12 @@ pub(crate) fn open_fault_of(error: Error) -> OpenFault
 
 /// What it means that a table cannot be queried: a fault of the device is one of the store, and all else says that the table
 /// is not there as the portal has it.
-pub(crate) fn table_fault_of(error: Error) -> OpenFault {
+pub(crate) fn table_fault_of(error: Error) -> OpenFault
+    ensures damaged { result ≢ OpenFault.Damaged }
+    ensures version { result ≢ OpenFault.OtherVersion }
+    ensures unknown { (fault : CompileError) → error ≡ Error.SqlInputError fault → result ≡ OpenFault.NotPortal }
+    ensures device { (cause : StoreError) → error ≡ store_error cause → result ≢ OpenFault.NotPortal }
+{
     match error {
         Error::SqliteFailure(
             ErrorCode::OutOfMemory
@@ -62,11 +75,32 @@ pub(crate) fn table_fault_of(error: Error) -> OpenFault {
 
 /// What it means to an opening that no world was loaded.
 pub(crate) fn load_open_fault_of(fault: TableFault) -> OpenFault
-    ensures { (db : Trees) → (fault ≡ TableFault.Damaged → Stands db → ⊥) → Refutes result db }
+    ensures refutes { (db : Trees) → (fault ≡ TableFault.Damaged → Stands db → ⊥) → IsVersion1 db → Refutes result db }
+    ensures damaged { (result ≡ OpenFault.Damaged) ↔ (fault ≡ TableFault.Damaged) }
+    ensures memory { (result ≡ OpenFault.Memory) ↔ (fault ≡ TableFault.Memory) }
 {
     match fault {
         TableFault::Damaged => OpenFault::Damaged,
         TableFault::Store => OpenFault::Store,
         TableFault::Memory => OpenFault::Memory,
+    }
+}
+
+/// What the keeper says of a fault, which is counted where it is one of the store. Once the count is at its top, which no run
+/// comes to, `Memory` is said of any.
+pub(crate) fn told(faults: &mut u64, fault: TableFault) -> KeepFault
+    ensures memory { result ≡ KeepFault.Memory → faults.new ≡ faults.old }
+    ensures store { result ≡ KeepFault.Store → faults.new ≡ faults.old + 1 }
+    ensures kind { faults.old ≢ 2 ^ 64 - 1 → (result ≡ KeepFault.Memory) ↔ (fault ≡ TableFault.Memory) }
+{
+    match KeepFault::from(fault) {
+        KeepFault::Memory => KeepFault::Memory,
+        KeepFault::Store => {
+            if *faults == u64::MAX {
+                return KeepFault::Memory;
+            }
+            *faults += 1;
+            KeepFault::Store
+        }
     }
 }

@@ -1,10 +1,11 @@
 //! The instance of the world that the tables stand for.
 
 ghost use Rattle.std.specs.Prelude.{◌≡◌, false, IfOk, OnOk, OnErr};
-ghost use Rattle.sqlite.specs.State.{HasCleanDisk, IsUnchanged};
+ghost use Rattle.sqlite.specs.State.{HasCleanDisk, IsUnchanged, Survives};
 ghost use Rattle.sqlite.specs.Held.{state};
 ghost use Rattle.sqlite.specs.Effect.{IsDatabase};
 ghost use Rattle.portal_core.specs.World.{World};
+ghost use Rattle.portal_core.specs.Counting.{CountsFaults};
 ghost use Rattle.portal_core.specs.Good.{Sound};
 ghost use Rattle.portal_core.specs.Instance as meant_by;
 ghost use Rattle.portal_list.specs.Entries.{HasEntries};
@@ -12,7 +13,7 @@ ghost use Rattle.portal_tables.specs.Own.{IsOwn};
 ghost use Rattle.portal_tables.specs.Steps.{Leaves};
 ghost use Rattle.portal_store.specs.World.{world_of};
 
-use crate::fault::rows_fault_of;
+use crate::fault::{rows_fault_of, told};
 use crate::load::load_entries;
 use portal_core::KeepFault;
 use portal_list::Entries;
@@ -20,27 +21,38 @@ use spa_model::Instance;
 use sqlite::{Alter, Connection};
 use std::alloc::Global;
 
-/// The instance of these entries, which are not judged. `Store` where they have none.
-pub(crate) fn instance_of(alloc: Global, entries: &Entries) -> Result<Instance, KeepFault>
-    ensures { IfOk result (λ i. (w : World) → HasEntries entries.now w → Sound w → i ≡ meant_by.instance w) }
+/// The instance of these entries, which are not judged. Where they have none, that is a fault of the store, and counted.
+pub(crate) fn instance_of(
+    alloc: Global,
+    entries: &Entries,
+    faults: &mut u64,
+) -> Result<Instance, KeepFault>
+    ensures instance { IfOk result (λ i. (w : World) → HasEntries entries.now w → Sound w → i ≡ meant_by.instance w) }
+    ensures counts { CountsFaults result faults.old faults.new }
 {
     match entries.instance(alloc) {
         Ok(instance) => Ok(instance),
-        Err(fault) => Err(KeepFault::from(rows_fault_of(fault))),
+        Err(fault) => Err(told(faults, rows_fault_of(fault))),
     }
 }
 
-/// The instance of the rolls, the lists and the rankings, as they stand in the tables: no list is judged.
+/// The instance of the rolls, the lists and the rankings, as they stand in the tables: no list is judged. A fault of the store is
+/// counted.
 pub(crate) fn instance_in<S: Alter>(
     alloc: Global,
     conn: &mut Connection<S>,
+    faults: &mut u64,
 ) -> Result<Instance, KeepFault>
     requires idle { conn.old.in_transaction ≡ false }
     ensures idle { conn.new.in_transaction ≡ false }
     ensures instance { IsOwn conn.old.schema → IsDatabase (state S.Store conn.old).now → HasCleanDisk (state S.Store conn.new) → IfOk result (λ i. Sound (world_of (state S.Store conn.old).now.trees) → i ≡ meant_by.instance (world_of (state S.Store conn.old).now.trees)) }
     ensures same { IsOwn conn.old.schema → HasCleanDisk (state S.Store conn.new) → OnOk result (IsUnchanged (state S.Store conn.old) (state S.Store conn.new)) }
     ensures err { IsOwn conn.old.schema → HasCleanDisk (state S.Store conn.new) → OnErr result (Leaves (state S.Store conn.old) (state S.Store conn.new)) }
+    ensures survives { Survives (state S.Store conn.old) (state S.Store conn.new) (λ _. IsOwn conn.old.schema → ⊥) }
+    ensures counts { CountsFaults result faults.old faults.new }
 {
-    let entries = load_entries(alloc, conn)?;
-    instance_of(alloc, &entries)
+    match load_entries(alloc, conn) {
+        Ok(entries) => instance_of(alloc, &entries, faults),
+        Err(fault) => Err(told(faults, fault)),
+    }
 }

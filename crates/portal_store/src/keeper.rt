@@ -5,35 +5,38 @@ ghost use Rattle.sqlite.specs.State.{HasCleanDisk, Survives};
 ghost use Rattle.sqlite.specs.Tree.{Trees};
 ghost use Rattle.sqlite.specs.Held.{state};
 ghost use Rattle.portal_core.specs.Change.{changed};
+ghost use Rattle.portal_core.specs.Counting.{CountsFaults};
 ghost use Rattle.portal_core.specs.Good.{Good};
 ghost use Rattle.portal_core.specs.Meaning.{meant};
 ghost use Rattle.portal_core.specs.View as seen;
 ghost use Rattle.portal_core.specs.Instance as meant_by;
 ghost use Rattle.portal_tables.specs.Own.{IsOwn};
 ghost use Rattle.portal_tables.specs.Steps.{Commits, IsAfter, LeavesOnly};
-ghost use Rattle.portal_store.specs.Kept.{IsCleanStore, kept_world, Turns};
+ghost use Rattle.portal_store.specs.Kept.{IsCleanStore, Lasts, kept_world, Turns};
 ghost use Rattle.portal_store.specs.Crash.{IsLeft};
 
 use crate::change::make;
+use crate::fault::told;
 use crate::follow::follow;
 use crate::instance::{instance_in, instance_of};
 use crate::office::office_of;
 use crate::queries::view_with;
 use crate::store::Store;
 use portal_core::{Change, Code, KeepFault, Keeper, View};
+use portal_tables::fault::TableFault;
 use spa_model::Instance;
 use sqlite::Alter;
 use std::alloc::Global;
 
 impl<S: Alter> Store<S> {
     /// Sees that tables which were the portal's own still are.
-    fn check_own(&self) -> Result<(), KeepFault>
+    fn check_own(&self) -> Result<(), TableFault>
         ensures { IsTrue self.now.own → OnOk result (IsOwn self.now.conn.schema) }
     {
         if !self.own || self.pattern.fits(&self.conn) {
             return Ok(());
         }
-        Err(KeepFault::Store)
+        Err(TableFault::Store)
     }
 
     /// Makes one change of a good world, which has to leave a good world, in one transaction. After Ok the change is on the
@@ -48,10 +51,20 @@ impl<S: Alter> Store<S> {
         ensures commits { IsTrue self.old.own → HasCleanDisk (state S.Store self.new.conn) → OnOk result (Commits (Turns (meant change.now)) (state S.Store self.old.conn) (state S.Store self.new.conn)) }
         ensures durable { IsTrue self.old.own → HasCleanDisk (state S.Store self.new.conn) → OnOk result (LeavesOnly (state S.Store self.new.conn)) }
         ensures crash { IsTrue self.old.own → Survives (state S.Store self.old.conn) (state S.Store self.new.conn) (IsAfter (Turns (meant change.now)) (state S.Store self.old.conn)) }
+        ensures lasts { Lasts S.Store self.old self.new }
+        ensures counts { CountsFaults result self.old.faults self.new.faults }
         ensures left { IsCleanStore S.Store self.old → HasCleanDisk (state S.Store self.new.conn) → (db : Trees) → (state S.Store self.new.conn).may_leave db → IsLeft (meant change.now) (state S.Store self.old.conn).now db }
     {
-        self.check_own()?;
-        let made = make(alloc, &mut self.conn, &mut self.entries, change);
+        if let Err(fault) = self.check_own() {
+            return Err(told(&mut self.faults, fault));
+        }
+        let made = make(
+            alloc,
+            &mut self.conn,
+            &mut self.entries,
+            &mut self.faults,
+            change,
+        );
         self.mind.follow(change, &made);
         follow(alloc, &mut self.entries, change, &made);
         made
@@ -62,11 +75,16 @@ impl<S: Alter> Store<S> {
         ensures clean { IsCleanStore S.Store self.new → IsCleanStore S.Store self.old }
         ensures instance { IfOk result (λ i. IsCleanStore S.Store self.new → Good (kept_world S.Store self.old) → i ≡ meant_by.instance (kept_world S.Store self.old)) }
         ensures same { IsCleanStore S.Store self.new → kept_world S.Store self.new ≡ kept_world S.Store self.old }
+        ensures own { self.new.own ≡ self.old.own }
+        ensures lasts { Lasts S.Store self.old self.new }
+        ensures counts { CountsFaults result self.old.faults self.new.faults }
     {
-        self.check_own()?;
+        if let Err(fault) = self.check_own() {
+            return Err(told(&mut self.faults, fault));
+        }
         match &self.entries {
-            Some(entries) => instance_of(alloc, entries),
-            None => instance_in(alloc, &mut self.conn),
+            Some(entries) => instance_of(alloc, entries, &mut self.faults),
+            None => instance_in(alloc, &mut self.conn, &mut self.faults),
         }
     }
 
@@ -75,9 +93,20 @@ impl<S: Alter> Store<S> {
         ensures clean { IsCleanStore S.Store self.new → IsCleanStore S.Store self.old }
         ensures shown { IfOk result (λ view. IsCleanStore S.Store self.new → Good (kept_world S.Store self.old) → view ≡ seen.view (kept_world S.Store self.old) code.now) }
         ensures same { IsCleanStore S.Store self.new → kept_world S.Store self.new ≡ kept_world S.Store self.old }
+        ensures own { self.new.own ≡ self.old.own }
+        ensures lasts { Lasts S.Store self.old self.new }
+        ensures counts { CountsFaults result self.old.faults self.new.faults }
     {
-        self.check_own()?;
-        view_with(alloc, &mut self.conn, &mut self.mind, code)
+        if let Err(fault) = self.check_own() {
+            return Err(told(&mut self.faults, fault));
+        }
+        view_with(
+            alloc,
+            &mut self.conn,
+            &mut self.mind,
+            &mut self.faults,
+            code,
+        )
     }
 
     /// The code of the office. `Store` comes for an error of the connection, and where there is no row of the office.
@@ -86,9 +115,13 @@ impl<S: Alter> Store<S> {
         ensures code { IsCleanStore S.Store self.new → IfOk result (λ code. code ≡ (kept_world S.Store self.old).office) }
         ensures same { IsCleanStore S.Store self.new → kept_world S.Store self.new ≡ kept_world S.Store self.old }
         ensures own { self.new.own ≡ self.old.own }
+        ensures lasts { Lasts S.Store self.old self.new }
+        ensures counts { CountsFaults result self.old.faults self.new.faults }
     {
-        self.check_own()?;
-        office_of(alloc, &mut self.conn)
+        if let Err(fault) = self.check_own() {
+            return Err(told(&mut self.faults, fault));
+        }
+        office_of(alloc, &mut self.conn, &mut self.faults)
     }
 }
 
@@ -97,15 +130,45 @@ impl<S: Alter> Keeper for Store<S> {
 
     ghost clean = { λ s. IsCleanStore S.Store s };
 
-    fn view(&mut self, alloc: Global, code: &[u8]) -> Result<View, KeepFault> {
+    ghost faults = { λ s. s.faults };
+
+    fn view(&mut self, alloc: Global, code: &[u8]) -> Result<View, KeepFault>
+        ensures clean { IsCleanStore S.Store self.new → IsCleanStore S.Store self.old }
+        ensures shown { IfOk result (λ view. IsCleanStore S.Store self.new → Good (kept_world S.Store self.old) → view ≡ seen.view (kept_world S.Store self.old) code.now) }
+        ensures same { IsCleanStore S.Store self.new → kept_world S.Store self.new ≡ kept_world S.Store self.old }
+        ensures own { self.new.own ≡ self.old.own }
+        ensures lasts { Lasts S.Store self.old self.new }
+        ensures counts { CountsFaults result self.old.faults self.new.faults }
+    {
         self.shown(alloc, code)
     }
 
-    fn instance(&mut self, alloc: Global) -> Result<Instance, KeepFault> {
+    fn instance(&mut self, alloc: Global) -> Result<Instance, KeepFault>
+        requires good { IsCleanStore S.Store self.old → Good (kept_world S.Store self.old) }
+        ensures clean { IsCleanStore S.Store self.new → IsCleanStore S.Store self.old }
+        ensures instance { IfOk result (λ i. IsCleanStore S.Store self.new → i ≡ meant_by.instance (kept_world S.Store self.old)) }
+        ensures same { IsCleanStore S.Store self.new → kept_world S.Store self.new ≡ kept_world S.Store self.old }
+        ensures own { self.new.own ≡ self.old.own }
+        ensures lasts { Lasts S.Store self.old self.new }
+        ensures counts { CountsFaults result self.old.faults self.new.faults }
+    {
         self.meant(alloc)
     }
 
-    fn apply(&mut self, alloc: Global, change: &Change) -> Result<(), KeepFault> {
+    fn apply(&mut self, alloc: Global, change: &Change) -> Result<(), KeepFault>
+        requires good { IsCleanStore S.Store self.old → Good (kept_world S.Store self.old) }
+        requires leaves_good { IsCleanStore S.Store self.old → Good (changed (kept_world S.Store self.old) (meant change.now)) }
+        ensures clean { IsCleanStore S.Store self.new → IsCleanStore S.Store self.old }
+        ensures made { OnOk result (IsCleanStore S.Store self.new → kept_world S.Store self.new ≡ changed (kept_world S.Store self.old) (meant change.now)) }
+        ensures same { OnErr result (IsCleanStore S.Store self.new → kept_world S.Store self.new ≡ kept_world S.Store self.old) }
+        ensures own { self.new.own ≡ self.old.own }
+        ensures lasts { Lasts S.Store self.old self.new }
+        ensures counts { CountsFaults result self.old.faults self.new.faults }
+        ensures commits { IsTrue self.old.own → HasCleanDisk (state S.Store self.new.conn) → OnOk result (Commits (Turns (meant change.now)) (state S.Store self.old.conn) (state S.Store self.new.conn)) }
+        ensures durable { IsTrue self.old.own → HasCleanDisk (state S.Store self.new.conn) → OnOk result (LeavesOnly (state S.Store self.new.conn)) }
+        ensures crash { IsTrue self.old.own → Survives (state S.Store self.old.conn) (state S.Store self.new.conn) (IsAfter (Turns (meant change.now)) (state S.Store self.old.conn)) }
+        ensures left { IsCleanStore S.Store self.old → HasCleanDisk (state S.Store self.new.conn) → (db : Trees) → (state S.Store self.new.conn).may_leave db → IsLeft (meant change.now) (state S.Store self.old.conn).now db }
+    {
         self.change(alloc, change)
     }
 }

@@ -1,5 +1,6 @@
 //! Laws over the definitions alone: what a crash left can be opened again.
 
+ghost use Rattle.portal_store.specs.Kept.{LastsInMemory};
 ghost use Rattle.portal_store.specs.Crash.{OpensAgain, OpensFresh};
 
 /// What a crash of a change left shows the portal's own tables and a good world, whoever opens it: the world before the
@@ -11,4 +12,9 @@ pub fn opens_again()
 /// What `Store::create` made, or a crash left of it once the tables are there, opens with the empty world in setup.
 pub fn opens_fresh()
     ensures { OpensFresh }
+{}
+
+/// After every call that `Lasts` is said of, a store in memory that was clean is clean.
+pub fn lasts_in_memory()
+    ensures { LastsInMemory }
 {}

@@ -11,6 +11,7 @@ mod keeper;
 pub mod laws;
 mod lists;
 mod load;
+pub mod memory;
 mod office;
 mod open;
 mod phase;

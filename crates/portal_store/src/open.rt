@@ -1,6 +1,6 @@
 //! Opens a store over tables that are there.
 
-ghost use Rattle.std.specs.Prelude.{◌≡◌, ◌↔◌, ◌⊎◌, false, true, [], ◌∷◌, pos, Ok, Err, List, IfOk, IfErr, OnOk, IsTrue};
+ghost use Rattle.std.specs.Prelude.{◌≡◌, ◌≢◌, ◌↔◌, ◌⊎◌, false, true, [], ◌∷◌, pos, Ok, Err, List, IfOk, IfErr, OnOk, IsTrue};
 ghost use Rattle.std.specs.List.{AllByRecursion};
 ghost use Rattle.sqlite.specs.declared.types.Value.TheVariants.{Int};
 ghost use Rattle.sqlite.specs.Order.{Row as Cells, column};
@@ -16,7 +16,7 @@ ghost use Rattle.portal_tables.specs.Steps.{Stays};
 ghost use Rattle.portal_list.specs.Entries.{HasEntries};
 ghost use Rattle.portal_store.specs.Kept.{Stands, IsCleanStore, kept_world};
 ghost use Rattle.portal_store.specs.World.{world_of};
-ghost use Rattle.portal_store.specs.Asked.{Asks, Refutes, Admits};
+ghost use Rattle.portal_store.specs.Asked.{Asks, IsVersion1, Refutes, Admits};
 
 use crate::fault::{load_open_fault_of, open_fault_of, table_fault_of};
 use crate::sound::load_keeper;
@@ -36,7 +36,10 @@ use sqlite::{Alter, Connection, Error, Row};
 use std::alloc::Global;
 
 /// Whether a table could be queried.
-fn seen(answer: Result<Vec<Row>, Error>) -> Result<(), OpenFault> {
+fn seen(answer: Result<Vec<Row>, Error>) -> Result<(), OpenFault>
+    ensures damaged { result ≢ Err OpenFault.Damaged }
+    ensures version { result ≢ Err OpenFault.OtherVersion }
+{
     match answer {
         Ok(_) => Ok(()),
         Err(error) => Err(table_fault_of(error)),
@@ -49,6 +52,8 @@ fn see_tables<S: Alter>(conn: &mut Connection<S>, own: bool) -> Result<(), OpenF
     ensures idle { conn.new.in_transaction ≡ false }
     ensures same { IsTrue own → conn.new ≡ conn.old }
     ensures none { IsTrue own → IfErr result (λ _. ⊥) }
+    ensures damaged { result ≢ Err OpenFault.Damaged }
+    ensures version { result ≢ Err OpenFault.OtherVersion }
 {
     if own {
         return Ok(());
@@ -70,7 +75,9 @@ fn is_version_1(row: &Row) -> bool
 
 /// Whether there is a row of the office, of version 1.
 fn judge_office(rows: &[Row]) -> Result<(), OpenFault>
-    ensures none { result ≡ Err OpenFault.NotPortal → rows.now ≡ [] }
+    ensures none { (result ≡ Err OpenFault.NotPortal) ↔ (rows.now ≡ []) }
+    ensures version { OnOk result ((row : Cells) × (rest : List Cells) × (rows.now ≡ row ∷ rest) × (column row 1 ≡ Int (pos 1))) }
+    ensures there { result ≡ Err OpenFault.OtherVersion → rows.now ≢ [] }
     ensures other { result ≡ Err OpenFault.OtherVersion → (row : Cells) → rows.now ≡ row ∷ [] → column row 1 ≡ Int (pos 1) → ⊥ }
     ensures judged { IfErr result (λ fault. (fault ≡ OpenFault.Damaged) → ⊥) }
 {
@@ -92,6 +99,7 @@ fn see_office<S: Alter>(conn: &mut Connection<S>) -> Result<(), OpenFault>
     ensures idle { conn.new.in_transaction ≡ false }
     ensures asks { Asks result (state S.Store conn.old) (state S.Store conn.new) }
     ensures refused { IsOwn conn.old.schema → HasCleanDisk (state S.Store conn.new) → IfErr result (λ fault. Refutes fault (state S.Store conn.old).now.trees) }
+    ensures version { IsOwn conn.old.schema → HasCleanDisk (state S.Store conn.new) → OnOk result (IsVersion1 (state S.Store conn.old).now.trees) }
 {
     match portal_rows(conn) {
         Ok(rows) => judge_office(&rows),
@@ -155,7 +163,7 @@ fn see_world<S: Alter>(alloc: Global, conn: &mut Connection<S>) -> Result<Entrie
     requires idle { conn.old.in_transaction ≡ false }
     ensures idle { conn.new.in_transaction ≡ false }
     ensures asks { Asks result (state S.Store conn.old) (state S.Store conn.new) }
-    ensures refused { IsOwn conn.old.schema → IsDatabase (state S.Store conn.old).now → HasCleanDisk (state S.Store conn.new) → IfErr result (λ fault. Refutes fault (state S.Store conn.old).now.trees) }
+    ensures refused { IsOwn conn.old.schema → IsDatabase (state S.Store conn.old).now → HasCleanDisk (state S.Store conn.new) → IfErr result (λ fault. IsVersion1 (state S.Store conn.old).now.trees → Refutes fault (state S.Store conn.old).now.trees) }
     ensures stands { IsOwn conn.old.schema → IsDatabase (state S.Store conn.old).now → HasCleanDisk (state S.Store conn.new) → OnOk result (Stands (state S.Store conn.old).now.trees) }
     ensures entries { IsOwn conn.old.schema → IsDatabase (state S.Store conn.old).now → HasCleanDisk (state S.Store conn.new) → IfOk result (λ e. HasEntries e (world_of (state S.Store conn.old).now.trees)) }
 {
@@ -202,9 +210,10 @@ fn examine<S: Alter>(
 
 impl<S: Alter> Store<S> {
     /// Opens the portal in a database that has its tables, where they stand for a good world. A refusal hands the connection
-    /// back: `NotPortal` where a table cannot be queried or `portal` has no row, `OtherVersion`, `Damaged` where the rows
-    /// stand for no good world, `Store` for an error of the connection, and `Memory`. The first three tell of the tables, and
-    /// never come from a fault of the device or want of memory.
+    /// back: `NotPortal` where a table cannot be queried or `portal` has no row, `OtherVersion` where that row is of another
+    /// version, `Damaged` where it is of version 1 and the rows stand for no good world, `Store` for an error of the
+    /// connection, and `Memory`. The first three tell of the tables, and never come from a fault of the device or want of
+    /// memory.
     pub fn open(alloc: Global, mut conn: Connection<S>) -> Result<Store<S>, NotOpened<OpenFault, S>>
         requires idle { conn.in_transaction ≡ false }
         ensures own { IfOk result (λ s. IsTrue s.own ↔ IsOwn conn.schema) }
@@ -244,6 +253,7 @@ impl<S: Alter> Store<S> {
             pattern,
             mind: Remembered::nothing(),
             entries: Some(entries),
+            faults: 0,
         })
     }
 }

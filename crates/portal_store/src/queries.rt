@@ -1,8 +1,9 @@
 //! What a caller sees, by queries of what that caller may see.
 
 ghost use Rattle.std.specs.Prelude.{◌≡◌, ◌∷◌, [], pos, false, IfOk, OnOk, OnErr, IsTrue, None};
-ghost use Rattle.sqlite.specs.State.{HasCleanDisk, IsUnchanged};
+ghost use Rattle.sqlite.specs.State.{HasCleanDisk, IsUnchanged, Survives};
 ghost use Rattle.sqlite.specs.Held.{state};
+ghost use Rattle.portal_core.specs.Counting.{CountsFaults};
 ghost use Rattle.portal_core.specs.Good.{Good};
 ghost use Rattle.portal_core.specs.View as seen;
 ghost use Rattle.portal_core.specs.Remembered.{Remembers};
@@ -14,7 +15,7 @@ ghost use Rattle.portal_tables.specs.Rows.{portal_row};
 ghost use Rattle.portal_tables.specs.Steps.{Leaves};
 ghost use Rattle.portal_tables.specs.Office.{number_of};
 ghost use Rattle.portal_store.specs.World.{world_of};
-ghost use Rattle.portal_store.specs.Kept.{Holds};
+ghost use Rattle.portal_store.specs.Kept.{Endures, Holds};
 ghost use Rattle.portal_tables.specs.Reading.{Reads};
 ghost use Rattle.portal_store.specs.Reading.{KeepsInMind};
 
@@ -22,6 +23,7 @@ mod caller;
 mod offers;
 mod office;
 
+use crate::fault::told;
 use caller::{lecturer_in, student_in};
 use offers::shared_catalogue;
 use office::office_view;
@@ -84,7 +86,7 @@ fn student_sight<S: Alter>(
     ensures mind { KeepsInMind remembered.old remembered.new (state S.Store conn.old) (state S.Store conn.new) }
     ensures reads { Reads result (state S.Store conn.old) (state S.Store conn.new) }
 {
-    let Some(row) = student_in(conn, code)? else {
+    let Some(row) = student_in(alloc, conn, code)? else {
         return Ok(View::Nobody);
     };
     let catalogue = shared_catalogue(alloc, conn, remembered)?;
@@ -105,7 +107,7 @@ fn person_sight<S: Alter>(
     ensures mind { KeepsInMind remembered.old remembered.new (state S.Store conn.old) (state S.Store conn.new) }
     ensures reads { Reads result (state S.Store conn.old) (state S.Store conn.new) }
 {
-    let Some(row) = lecturer_in(conn, code)? else {
+    let Some(row) = lecturer_in(alloc, conn, code)? else {
         return student_sight(alloc, conn, remembered, phase, code);
     };
     let catalogue = shared_catalogue(alloc, conn, remembered)?;
@@ -125,6 +127,7 @@ fn sight<S: Alter>(
     ensures mind { KeepsInMind remembered.old remembered.new (state S.Store conn.old) (state S.Store conn.new) }
     ensures same { IsOwn conn.old.schema → HasCleanDisk (state S.Store conn.new) → OnOk result (IsUnchanged (state S.Store conn.old) (state S.Store conn.new)) }
     ensures err { IsOwn conn.old.schema → HasCleanDisk (state S.Store conn.new) → OnErr result (Leaves (state S.Store conn.old) (state S.Store conn.new)) }
+    ensures endures { Endures (state S.Store conn.old) (state S.Store conn.new) }
 {
     let office = office_in(alloc, conn)?;
     if office.code.as_bytes() == code {
@@ -133,11 +136,12 @@ fn sight<S: Alter>(
     person_sight(alloc, conn, remembered, office.phase, code)
 }
 
-/// What the caller with the code sees, with what is remembered, or is from now on.
+/// What the caller with the code sees, with what is remembered, or is from now on. A fault of the store is counted.
 pub(crate) fn view_with<S: Alter>(
     alloc: Global,
     conn: &mut Connection<S>,
     remembered: &mut Remembered,
+    faults: &mut u64,
     code: &[u8],
 ) -> Result<View, KeepFault>
     requires idle { conn.old.in_transaction ≡ false }
@@ -146,10 +150,12 @@ pub(crate) fn view_with<S: Alter>(
     ensures mind { KeepsInMind remembered.old remembered.new (state S.Store conn.old) (state S.Store conn.new) }
     ensures same { IsOwn conn.old.schema → HasCleanDisk (state S.Store conn.new) → OnOk result (IsUnchanged (state S.Store conn.old) (state S.Store conn.new)) }
     ensures err { IsOwn conn.old.schema → HasCleanDisk (state S.Store conn.new) → OnErr result (Leaves (state S.Store conn.old) (state S.Store conn.new)) }
+    ensures endures { Endures (state S.Store conn.old) (state S.Store conn.new) }
+    ensures counts { CountsFaults result faults.old faults.new }
 {
     match sight(alloc, conn, remembered, code) {
         Ok(view) => Ok(view),
-        Err(fault) => Err(KeepFault::from(fault)),
+        Err(fault) => Err(told(faults, fault)),
     }
 }
 
@@ -171,5 +177,6 @@ pub fn view<S: Alter>(
     ensures err { IsOwn conn.old.schema → HasCleanDisk (state S.Store conn.new) → OnErr result (Leaves (state S.Store conn.old) (state S.Store conn.new)) }
 {
     let mut remembered = Remembered::nothing();
-    view_with(alloc, conn, &mut remembered, code)
+    let mut faults = 0u64;
+    view_with(alloc, conn, &mut remembered, &mut faults, code)
 }

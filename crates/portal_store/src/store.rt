@@ -20,6 +20,8 @@ pub struct Store<S: Alter> {
     pub(crate) mind: Remembered,
     /// The entries of the world, once they were read and as long as they follow its changes.
     pub(crate) entries: Option<Entries>,
+    /// How many calls were answered with a fault of the store.
+    pub(crate) faults: u64,
 }
 
 impl<S: Alter> Model for Store<S> {
@@ -29,9 +31,9 @@ impl<S: Alter> Model for Store<S> {
 
     ghost coded = { seen_code S.code };
 
-    ghost view = { λ s. record { conn = s.conn; own = s.own } };
+    ghost view = { λ s. record { conn = s.conn; own = s.own; faults = s.faults } };
 
-    ghost invariant = { λ s. IsAtRest S.Store (record { conn = s.conn; own = s.own }) s.mind s.entries };
+    ghost invariant = { λ s. IsAtRest S.Store s.conn s.own s.mind s.entries };
 }
 
 /// Why there is no store, and the connection that was handed in.
@@ -78,6 +80,7 @@ impl<S: Alter> Store<S> {
             pattern: _,
             mind: _,
             entries: _,
+            faults: _,
         } = self;
         conn
     }

@@ -13,9 +13,11 @@ use portal_tables::decode::only;
 use portal_tables::fault::TableFault;
 use portal_tables::select::{lecturer_by_code, student_by_code};
 use sqlite::{Alter, Connection, Row};
+use std::alloc::Global;
 
 /// The row of the lecturer with the code.
 pub(super) fn lecturer_in<S: Alter>(
+    alloc: Global,
     conn: &mut Connection<S>,
     code: &[u8],
 ) -> Result<Option<Row>, TableFault>
@@ -23,12 +25,13 @@ pub(super) fn lecturer_in<S: Alter>(
     ensures reads { Reads result (state S.Store conn.old) (state S.Store conn.new) }
     ensures mode { conn.old.in_transaction ≡ false → conn.new.in_transaction ≡ false }
 {
-    let rows = lecturer_by_code(conn, code)?;
+    let rows = lecturer_by_code(alloc, conn, code)?;
     only(rows)
 }
 
 /// The row of the student with the code.
 pub(super) fn student_in<S: Alter>(
+    alloc: Global,
     conn: &mut Connection<S>,
     code: &[u8],
 ) -> Result<Option<Row>, TableFault>
@@ -36,6 +39,6 @@ pub(super) fn student_in<S: Alter>(
     ensures reads { Reads result (state S.Store conn.old) (state S.Store conn.new) }
     ensures mode { conn.old.in_transaction ≡ false → conn.new.in_transaction ≡ false }
 {
-    let rows = student_by_code(conn, code)?;
+    let rows = student_by_code(alloc, conn, code)?;
     only(rows)
 }

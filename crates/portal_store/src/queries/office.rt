@@ -18,13 +18,13 @@ ghost use Rattle.portal_tables.specs.Shown.{first, shown_lecturer, shown_project
 ghost use Rattle.portal_store.specs.Queried.{unlisted, waiting_key, office_from};
 
 use portal_core::{Listing, OfficeView, Phase};
-use portal_tables::applicants::are_closed;
+use portal_tables::applicants::{are_closed, is_chosen};
 use portal_tables::cells::{bytes_at, key_at, number_at};
 use portal_tables::fault::TableFault;
 use portal_tables::named::keys_without;
 use portal_tables::office::Office;
 use portal_tables::rolls::{Rolls, parts_of, rolls_in};
-use portal_tables::select::{choosers_of, listed_students};
+use portal_tables::select::listed_students;
 use spa_rows::Key;
 use sqlite::{Alter, Connection, Row};
 use std::alloc::Global;
@@ -40,7 +40,7 @@ fn without_list<S: Alter>(
     ensures reads { Reads result (state S.Store conn.old) (state S.Store conn.new) }
     ensures mode { conn.old.in_transaction ≡ false → conn.new.in_transaction ≡ false }
 {
-    let listed = listed_students(conn)?;
+    let listed = listed_students(alloc, conn)?;
     keys_without(alloc, students, &listed)
 }
 
@@ -57,8 +57,7 @@ fn is_chosen_of<S: Alter>(
     if bytes_at(project, 1) != bytes_at(lecturer, 0) {
         return Ok(false);
     }
-    let choosers = choosers_of(conn, bytes_at(project, 0))?;
-    Ok(!choosers.is_empty())
+    Ok(is_chosen(conn, bytes_at(project, 0))?)
 }
 
 /// Whether a student's list holds a project of the lecturer.
@@ -199,6 +198,6 @@ pub(super) fn office_view<S: Alter>(
     ensures reads { Reads result (state S.Store conn.old) (state S.Store conn.new) }
     ensures mode { conn.old.in_transaction ≡ false → conn.new.in_transaction ≡ false }
 {
-    let rolls = rolls_in(conn)?;
+    let rolls = rolls_in(alloc, conn)?;
     view_of_rolls(alloc, conn, office, catalogue, &rolls)
 }

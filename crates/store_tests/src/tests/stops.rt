@@ -2,7 +2,8 @@
 
 use crate::tests::steps::{ANN, BEA, CYR, LEE, MOE, OFFICE, office_code, request, written};
 use crate::tests::trial::{Fault, Plan, Trial};
-use portal_desk::Desk;
+use portal_core::Keeper;
+use portal_desk::{Cause, Counted, Desk};
 use portal_store::{NotOpened, OpenFault, Store};
 use sqlite::{Connection, FileStore, Files, Options};
 use sqlite_disk::{Crash, Disk, Memory};
@@ -467,4 +468,55 @@ fn a_write_is_in_doubt_in_ranking(rt: HostRuntime) {
 #[test]
 fn a_read_fails_in_ranking(rt: HostRuntime) {
     comes_in_ranking(&rt, Fault::Read, 60);
+}
+
+/// Why the serving of these bytes stopped early, and what was written.
+fn stopped<K: Keeper>(
+    rt: &(impl Abort + AllocGlobal),
+    desk: &mut Desk<K>,
+    bytes: &[u8],
+) -> (Option<Cause>, Vec<u8>) {
+    let mut source = Counted::new(bytes);
+    let mut sink = Counted::new(Vec::new(rt.alloc()));
+    let cause = match desk.serve(rt.alloc(), &mut source, &mut sink) {
+        Ok(_) => None,
+        Err(fault) => Some(fault.cause),
+    };
+    (cause, sink.into_inner())
+}
+
+/// The reply is 503, the serving stops for the store, and the desk says that it has failed.
+fn is_dead<K: Keeper>(rt: &(impl Abort + AllocGlobal), desk: &mut Desk<K>, ask: &str) {
+    let (cause, reply) = stopped(rt, desk, ask.as_bytes());
+    assert_eq!(rt; cause, Some(Cause::Store));
+    assert!(rt; reply.starts_with(b"HTTP/1.1 503"));
+    assert!(rt; desk.failed());
+}
+
+/// A disk that fails at a change: from then on the desk serves nobody.
+fn dies(rt: &(impl Abort + AllocGlobal), fault: Fault, change: &str) {
+    let setup = after(rt, blank(rt), SETUP);
+    let plan = Plan::new(fault);
+    let mut desk = desk_over(rt, connected(rt, &setup, &plan, TIGHT));
+    let (cause, _) = stopped(
+        rt,
+        &mut desk,
+        request(rt, ("GET", "/status", OFFICE, "")).as_bytes(),
+    );
+    assert_eq!(rt; cause, None);
+    assert!(rt; !desk.failed());
+    plan.arm(0);
+    is_dead(rt, &mut desk, change);
+    for (path, code) in SEEN {
+        is_dead(rt, &mut desk, &request(rt, ("GET", path, code, "")));
+    }
+    is_dead(rt, &mut desk, change);
+    let _left = left_of(rt, desk.into_keeper().into_connection());
+}
+
+#[test]
+fn a_store_that_failed_is_served_no_more(rt: HostRuntime) {
+    let change = request(&rt, ("POST", "/phase", OFFICE, r#"{"phase":"choosing"}"#));
+    dies(&rt, Fault::Stop, &change);
+    dies(&rt, Fault::Refusal, &change);
 }

@@ -3,7 +3,7 @@ use Rattle.sqlite.specs.Held.{state}
 use Rattle.portal_store.specs.World.{world_of}
 use Rattle.portal_store.proofs.instance.instance_in.Goals as goal
 
-pub returns-clause-instance : goal.returns-clause-instance
-returns-clause-instance g c own whole clean =
+pub returns-in-Ok-clause-instance : goal.returns-in-Ok-clause-instance
+returns-in-Ok-clause-instance g c own whole clean =
     let w = world_of (state g.S.Store c.args.conn.now).now.trees in
-    IfOk-weaker c.instance_of.result _ _ (λ i meant sound. meant w (c.in_ok-entries.ensures.entries own whole clean sound) sound) c.instance_of.ensures
+    IfOk-weaker c.instance_of.result _ _ (λ i meant sound. meant w (c.in-Ok.ensures.entries own whole clean sound) sound) c.instance_of.ensures.instance

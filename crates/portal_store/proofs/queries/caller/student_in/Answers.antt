@@ -1,7 +1,7 @@
-use Rattle.sqlite.specs.declared.error.Error.{Error}
 use Rattle.sqlite.specs.Held.{state}
 use Rattle.std.proofs.lemmas.Result.{IfOk-weaker}
-use Rattle.portal_tables.proofs.InTurn.{reads_of, reads_more, reads_failed}
+use Rattle.portal_tables.specs.declared.fault.TableFault.{TableFault}
+use Rattle.portal_tables.proofs.InTurn.{reads_more, reads_handed}
 use Rattle.portal_store.proofs.Queried.{student_found}
 use Rattle.portal_store.proofs.queries.caller.student_in.Goals as goal
 
@@ -11,12 +11,8 @@ returns-clause-found g c holds clean =
 
 pub returns-clause-reads : goal.returns-clause-reads
 returns-clause-reads g c =
-    let a = state g.S.Store c.args.conn.now in
-    let b = state g.S.Store c.student_by_code.new.conn in
-    reads_more {D = Error} c.in_ok-rows.rows c.only.result a b (reads_of _ a b c.in_ok-rows.ensures.same c.in_ok-rows.ensures.err c.in_ok-rows.ensures.survives)
+    reads_more {D = TableFault} c.in_ok-rows.rows c.only.result (state g.S.Store c.args.conn.now) (state g.S.Store c.student_by_code.new.conn) c.in_ok-rows.ensures.reads
 
 pub returns-in_err-rows-clause-reads : goal.returns-in_err-rows-clause-reads
 returns-in_err-rows-clause-reads g c =
-    let a = state g.S.Store c.args.conn.now in
-    let b = state g.S.Store c.student_by_code.new.conn in
-    reads_failed {U = Unit {0}} c.in_err-rows.field-0.0 c.from_residual.result a b c.from_residual.ensures.0 (reads_of _ a b c.in_err-rows.ensures.same c.in_err-rows.ensures.err c.in_err-rows.ensures.survives)
+    reads_handed c.in_err-rows.field-0.0 c.from_residual.result (state g.S.Store c.args.conn.now) (state g.S.Store c.student_by_code.new.conn) c.from_residual.ensures.0 c.in_err-rows.ensures.reads

@@ -1,10 +1,10 @@
 use Rattle.std.proofs.Common.{[], ◌∷◌, ◌∙◌, sym, subst}
 use Rattle.std.proofs.lemmas.Result.{IfOk-weaker}
-use Rattle.sqlite.specs.declared.error.Error.{Error}
 use Rattle.sqlite.specs.Held.{state}
 use Rattle.portal_tables.specs.Changes.{ListsBy, has_number, columns}
 use Rattle.portal_tables.specs.Tables.{choice_tree}
-use Rattle.portal_tables.proofs.InTurn.{reads_of, reads_more, reads_failed}
+use Rattle.portal_tables.specs.declared.fault.TableFault.{TableFault}
+use Rattle.portal_tables.proofs.InTurn.{reads_more, reads_handed}
 use Rattle.portal_store.proofs.OfficeSeen.{unlisted_are}
 use Rattle.portal_store.proofs.queries.office.without_list.Goals as goal
 
@@ -17,12 +17,8 @@ returns-clause-told g c holds clean =
 
 pub returns-clause-reads : goal.returns-clause-reads
 returns-clause-reads g c =
-    let a = state g.S.Store c.args.conn.now in
-    let b = state g.S.Store c.listed_students.new.conn in
-    reads_more {D = Error} c.in_ok-listed.listed c.keys_without.result a b (reads_of _ a b c.in_ok-listed.ensures.same c.in_ok-listed.ensures.err c.in_ok-listed.ensures.survives)
+    reads_more {D = TableFault} c.in_ok-listed.listed c.keys_without.result (state g.S.Store c.args.conn.now) (state g.S.Store c.listed_students.new.conn) c.in_ok-listed.ensures.reads
 
 pub returns-in_err-listed-clause-reads : goal.returns-in_err-listed-clause-reads
 returns-in_err-listed-clause-reads g c =
-    let a = state g.S.Store c.args.conn.now in
-    let b = state g.S.Store c.listed_students.new.conn in
-    reads_failed {U = Unit {0}} c.in_err-listed.field-0.0 c.from_residual.result a b c.from_residual.ensures.0 (reads_of _ a b c.in_err-listed.ensures.same c.in_err-listed.ensures.err c.in_err-listed.ensures.survives)
+    reads_handed c.in_err-listed.field-0.0 c.from_residual.result (state g.S.Store c.args.conn.now) (state g.S.Store c.listed_students.new.conn) c.from_residual.ensures.0 c.in_err-listed.ensures.reads

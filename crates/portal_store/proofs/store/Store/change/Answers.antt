@@ -1,41 +1,48 @@
-use Rattle.std.proofs.Common.{IsTrue}
+use Rattle.std.proofs.Common.{IsTrue, sym, subst}
 use Rattle.sqlite.specs.State.{HasCleanDisk}
 use Rattle.sqlite.specs.Held.{Held, state}
 use Rattle.portal_core.specs.Meaning.{meant}
 use Rattle.portal_tables.proofs.Runs.{clean_if_open}
-use Rattle.portal_store.proofs.Keeps.{change_keeps, change_shown, change_told, change_left, change_clean, change_made, change_same}
+use Rattle.portal_store.proofs.Keeps.{lasts_by, change_keeps, change_shown, change_told, change_left, change_clean, change_made, change_same}
+use Rattle.portal_tables.specs.Own.{IsOwn}
+use Rattle.portal_store.specs.Kept.{Seen}
 use Rattle.portal_store.proofs.store.Store.change.Given.{Over}
 use Rattle.portal_store.proofs.store.Store.change.Goals as goal
 
 law : (g : Over) (h : Held g.row.S.Denot) → IsTrue (state g.S.Store h).is_open → HasCleanDisk (state g.S.Store h)
 law g h = clean_if_open (state g.S.Store h).is_clean (state g.S.Store h).is_open (g.met.S.Store.shut_if_dirty h.store)
 
-pub invariant_of-self : goal.invariant_of-self
-invariant_of-self g c = record {
-  kept = change_keeps g.S.Store (meant c.args.change.now) c.self.inside.conn c.make-made.new.conn c.self.inside.own c.args.self.now c.self.view_is c.self.invariant.kept c.make-made.ensures.idle c.in_ok-check_own.ensures (law g c.make-made.new.conn) c.requires.good c.requires.leaves_good
+pub invariant_of-self-2 : goal.invariant_of-self-2
+invariant_of-self-2 g c = record {
+  kept = change_keeps g.S.Store (meant c.args.change.now) c.self.inside.conn c.make-made.new.conn c.self.inside.own c.self.inside.faults c.args.self.now c.self.view_is c.self.invariant.kept c.make-made.ensures.idle c.in_default.ensures (law g c.make-made.new.conn) c.requires.good c.requires.leaves_good
       c.make-made.result c.make-made.ensures.ok c.make-made.ensures.err;
-  shown = change_shown g.S.Store (meant c.args.change.now) c.self.inside.conn c.make-made.new.conn c.self.inside.own c.args.self.now c.self.view_is c.self.invariant.kept c.make-made.ensures.idle c.in_ok-check_own.ensures (law g c.make-made.new.conn) c.requires.good c.requires.leaves_good
+  shown = change_shown g.S.Store (meant c.args.change.now) c.self.inside.conn c.make-made.new.conn c.self.inside.own c.self.inside.faults c.args.self.now c.self.view_is c.self.invariant.kept c.make-made.ensures.idle c.in_default.ensures (law g c.make-made.new.conn) c.requires.good c.requires.leaves_good
       c.make-made.result c.make-made.ensures.ok c.make-made.ensures.err c.self.inside.mind c.follow.new.self c.self.invariant.shown c.follow.ensures.made c.follow.ensures.not_made;
-  entered = change_told g.S.Store (meant c.args.change.now) c.self.inside.conn c.make-made.new.conn c.self.inside.own c.args.self.now c.self.view_is c.self.invariant.kept c.make-made.ensures.idle c.in_ok-check_own.ensures (law g c.make-made.new.conn) c.requires.good c.requires.leaves_good
+  entered = change_told g.S.Store (meant c.args.change.now) c.self.inside.conn c.make-made.new.conn c.self.inside.own c.self.inside.faults c.args.self.now c.self.view_is c.self.invariant.kept c.make-made.ensures.idle c.in_default.ensures (law g c.make-made.new.conn) c.requires.good c.requires.leaves_good
       c.make-made.result c.make-made.ensures.ok c.make-made.ensures.err c.self.inside.entries c.make-made.new.entries c.follow-2.new.entries c.self.invariant.entered c.make-made.ensures.entries c.follow-2.ensures.made c.follow-2.ensures.not_made;
 }
 
 pub returns-clause-clean : goal.returns-clause-clean
 returns-clause-clean g c =
-    change_clean g.S.Store (meant c.args.change.now) c.self.inside.conn c.make-made.new.conn c.self.inside.own c.args.self.now c.self.view_is c.self.invariant.kept c.make-made.ensures.idle c.in_ok-check_own.ensures (law g c.make-made.new.conn) c.requires.good c.requires.leaves_good
+    change_clean g.S.Store (meant c.args.change.now) c.self.inside.conn c.make-made.new.conn c.self.inside.own c.self.inside.faults c.args.self.now c.self.view_is c.self.invariant.kept c.make-made.ensures.idle c.in_default.ensures (law g c.make-made.new.conn) c.requires.good c.requires.leaves_good
     c.make-made.result c.make-made.ensures.ok c.make-made.ensures.err
 
 pub returns-clause-made : goal.returns-clause-made
 returns-clause-made g c =
-    change_made g.S.Store (meant c.args.change.now) c.self.inside.conn c.make-made.new.conn c.self.inside.own c.args.self.now c.self.view_is c.self.invariant.kept c.make-made.ensures.idle c.in_ok-check_own.ensures (law g c.make-made.new.conn) c.requires.good c.requires.leaves_good
+    change_made g.S.Store (meant c.args.change.now) c.self.inside.conn c.make-made.new.conn c.self.inside.own c.self.inside.faults c.args.self.now c.self.view_is c.self.invariant.kept c.make-made.ensures.idle c.in_default.ensures (law g c.make-made.new.conn) c.requires.good c.requires.leaves_good
     c.make-made.result c.make-made.ensures.ok c.make-made.ensures.err
 
 pub returns-clause-same : goal.returns-clause-same
 returns-clause-same g c =
-    change_same g.S.Store (meant c.args.change.now) c.self.inside.conn c.make-made.new.conn c.self.inside.own c.args.self.now c.self.view_is c.self.invariant.kept c.make-made.ensures.idle c.in_ok-check_own.ensures (law g c.make-made.new.conn) c.requires.good c.requires.leaves_good
+    change_same g.S.Store (meant c.args.change.now) c.self.inside.conn c.make-made.new.conn c.self.inside.own c.self.inside.faults c.args.self.now c.self.view_is c.self.invariant.kept c.make-made.ensures.idle c.in_default.ensures (law g c.make-made.new.conn) c.requires.good c.requires.leaves_good
     c.make-made.result c.make-made.ensures.ok c.make-made.ensures.err
 
 pub returns-clause-left : goal.returns-clause-left
 returns-clause-left g c =
-    change_left g.S.Store (meant c.args.change.now) c.self.inside.conn c.make-made.new.conn c.self.inside.own c.args.self.now c.self.view_is c.self.invariant.kept c.make-made.ensures.idle c.in_ok-check_own.ensures (law g c.make-made.new.conn) c.requires.good c.requires.leaves_good
+    change_left g.S.Store (meant c.args.change.now) c.self.inside.conn c.make-made.new.conn c.self.inside.own c.self.inside.faults c.args.self.now c.self.view_is c.self.invariant.kept c.make-made.ensures.idle c.in_default.ensures (law g c.make-made.new.conn) c.requires.good c.requires.leaves_good
     (g.met.S.Store.settled c.self.inside.conn.store) c.make-made.ensures.crash
+
+pub returns-clause-lasts : goal.returns-clause-lasts
+returns-clause-lasts g c =
+    lasts_by g.S.Store c.self.inside.conn c.make-made.new.conn c.self.inside.own c.self.inside.faults c.make-made.new.faults c.args.self.now _ c.self.view_is
+    (λ mine. c.make-made.ensures.crash (subst (λ (s : Seen _). IsTrue s.own → IsOwn s.conn.schema) (sym c.self.view_is) c.in_default.ensures mine))

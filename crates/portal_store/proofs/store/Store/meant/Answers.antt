@@ -5,38 +5,38 @@ use Rattle.portal_tables.proofs.Runs.{clean_if_open}
 use Rattle.portal_core.specs.Good.{Good}
 use Rattle.portal_core.specs.Instance.{instance}
 use Rattle.std.proofs.lemmas.Result.{IfOk-weaker}
-use Rattle.portal_store.specs.Kept.{AreEntries, IsCleanStore, kept_world}
-use Rattle.portal_store.proofs.Keeps.{read_keeps, read_shown, read_still, read_clean, read_same, read_holds, when_ok}
+use Rattle.portal_store.specs.Kept.{AreEntries, kept_world}
+use Rattle.portal_store.proofs.Keeps.{lasts_by, read_keeps, read_shown, read_still, read_clean, read_same, read_holds, when_ok}
 use Rattle.portal_store.proofs.store.Store.meant.Given.{Over}
 use Rattle.portal_store.proofs.store.Store.meant.Goals as goal
 
 law : (g : Over) (h : Held g.row.S.Denot) → IsTrue (state g.S.Store h).is_open → HasCleanDisk (state g.S.Store h)
 law g h = clean_if_open (state g.S.Store h).is_clean (state g.S.Store h).is_open (g.met.S.Store.shut_if_dirty h.store)
 
-pub invariant_of-self : goal.invariant_of-self
-invariant_of-self g c = record {
-  kept = read_keeps g.S.Store c.self.inside.conn c.instance_in.new.conn c.self.inside.own c.args.self.now c.self.view_is c.self.invariant.kept c.instance_in.ensures.idle c.in_ok-check_own.ensures (law g c.instance_in.new.conn)
+pub invariant_of-self-in-None : goal.invariant_of-self-in-None
+invariant_of-self-in-None g c = record {
+  kept = read_keeps g.S.Store c.self.inside.conn c.instance_in.new.conn c.self.inside.own c.self.inside.faults c.args.self.now c.self.view_is c.self.invariant.kept c.instance_in.ensures.idle c.in_default.ensures (law g c.instance_in.new.conn)
       c.instance_in.result c.instance_in.ensures.same c.instance_in.ensures.err;
-  shown = read_shown g.S.Store c.self.inside.conn c.instance_in.new.conn c.self.inside.own c.args.self.now c.self.view_is c.self.invariant.kept c.instance_in.ensures.idle c.in_ok-check_own.ensures (law g c.instance_in.new.conn)
+  shown = read_shown g.S.Store c.self.inside.conn c.instance_in.new.conn c.self.inside.own c.self.inside.faults c.args.self.now c.self.view_is c.self.invariant.kept c.instance_in.ensures.idle c.in_default.ensures (law g c.instance_in.new.conn)
       c.instance_in.result c.instance_in.ensures.same c.instance_in.ensures.err c.self.inside.mind c.self.inside.mind c.self.invariant.shown (λ _ _ _ told. told);
-  entered = read_still g.S.Store c.self.inside.conn c.instance_in.new.conn c.self.inside.own c.args.self.now c.self.view_is c.self.invariant.kept c.instance_in.ensures.idle c.in_ok-check_own.ensures (law g c.instance_in.new.conn)
+  entered = read_still g.S.Store c.self.inside.conn c.instance_in.new.conn c.self.inside.own c.self.inside.faults c.args.self.now c.self.view_is c.self.invariant.kept c.instance_in.ensures.idle c.in_default.ensures (law g c.instance_in.new.conn)
       c.instance_in.result c.instance_in.ensures.same c.instance_in.ensures.err c.self.inside.entries c.self.invariant.entered;
 }
 
 pub returns-in-None-clause-clean : goal.returns-in-None-clause-clean
 returns-in-None-clause-clean g c =
-    read_clean g.S.Store c.self.inside.conn c.instance_in.new.conn c.self.inside.own c.args.self.now c.self.view_is c.self.invariant.kept c.instance_in.ensures.idle c.in_ok-check_own.ensures (law g c.instance_in.new.conn)
+    read_clean g.S.Store c.self.inside.conn c.instance_in.new.conn c.self.inside.own c.self.inside.faults c.args.self.now c.self.view_is c.self.invariant.kept c.instance_in.ensures.idle c.in_default.ensures (law g c.instance_in.new.conn)
     c.instance_in.result c.instance_in.ensures.same c.instance_in.ensures.err
 
 pub returns-in-None-clause-same : goal.returns-in-None-clause-same
 returns-in-None-clause-same g c =
-    read_same g.S.Store c.self.inside.conn c.instance_in.new.conn c.self.inside.own c.args.self.now c.self.view_is c.self.invariant.kept c.instance_in.ensures.idle c.in_ok-check_own.ensures (law g c.instance_in.new.conn)
+    read_same g.S.Store c.self.inside.conn c.instance_in.new.conn c.self.inside.own c.self.inside.faults c.args.self.now c.self.view_is c.self.invariant.kept c.instance_in.ensures.idle c.in_default.ensures (law g c.instance_in.new.conn)
     c.instance_in.result c.instance_in.ensures.same c.instance_in.ensures.err
 
 pub returns-in-None-clause-instance : goal.returns-in-None-clause-instance
 returns-in-None-clause-instance g c =
     when_ok _ _ _ c.instance_in.result
-    (λ on. read_holds g.S.Store c.self.inside.conn c.instance_in.new.conn c.self.inside.own c.args.self.now c.self.view_is c.self.invariant.kept c.instance_in.ensures.idle c.in_ok-check_own.ensures (law g c.instance_in.new.conn)
+    (λ on. read_holds g.S.Store c.self.inside.conn c.instance_in.new.conn c.self.inside.own c.self.inside.faults c.args.self.now c.self.view_is c.self.invariant.kept c.instance_in.ensures.idle c.in_default.ensures (law g c.instance_in.new.conn)
     c.instance_in.result c.instance_in.ensures.same c.instance_in.ensures.err _ (λ own clean holds. c.instance_in.ensures.instance own holds.sound clean) on)
     (λ i meant on good. meant on (subst (λ s. Good (kept_world g.S.Store s)) (sym c.self.view_is) good).sound ∙ ap (λ s. instance (kept_world g.S.Store s)) c.self.view_is)
 
@@ -45,8 +45,13 @@ returns-in-None-clause-instance g c =
 pub returns-in-Some-clause-instance : goal.returns-in-Some-clause-instance
 returns-in-Some-clause-instance g c =
     IfOk-weaker c.instance_of.result _ _ (λ i meant on good.
-    let w = kept_world g.S.Store (record { conn = c.self.inside.conn; own = c.self.inside.own }) in
-    let told : AreEntries c.self.inside.entries w = c.self.invariant.entered (subst (λ s. IsCleanStore g.S.Store s) (sym c.self.view_is) on) in
+    let w = kept_world g.S.Store (record { conn = c.self.inside.conn; own = c.self.inside.own; faults = c.self.inside.faults }) in
+    let told : AreEntries c.self.inside.entries w = c.self.invariant.entered on in
     meant w (subst (λ o. AreEntries o w) c.in-Some.is told) (subst (λ s. Good (kept_world g.S.Store s)) (sym c.self.view_is) good).sound
     ∙ ap (λ s. instance (kept_world g.S.Store s)) c.self.view_is)
-    c.instance_of.ensures
+    c.instance_of.ensures.instance
+
+pub returns-in-None-clause-lasts : goal.returns-in-None-clause-lasts
+returns-in-None-clause-lasts g c =
+    lasts_by g.S.Store c.self.inside.conn c.instance_in.new.conn c.self.inside.own c.self.inside.faults c.instance_in.new.faults c.args.self.now _ c.self.view_is
+    (λ mine. c.instance_in.ensures.survives)
