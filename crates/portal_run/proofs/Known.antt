@@ -6,7 +6,7 @@ use Rattle.std.proofs.lemmas.Bool.{cases_lt, lt-ltb}
 use Rattle.std.proofs.lemmas.List.{length-take, take_all}
 use Rattle.portal_answer.specs.Told.{Text, Told}
 use Rattle.portal_answer.specs.Answer.{IfLonger, IsAnswer}
-use Rattle.portal_run.specs.Run.{Answers}
+use Rattle.portal_run.specs.Run.{Answers, AnswersSome}
 use Rattle.portal_answer.specs.declared.answer.Task.{Task}
 
 -- of a longer file nothing is read
@@ -39,3 +39,7 @@ pub said : (task : Task) (k : Option Text) (bytes : Text) (old new : Option Text
 said task None bytes old new status t cut is done small = tt
 said task (Some b) bytes old new status t cut is done small =
     (t, cut_answer task b t (subst (λ (xs : Text). IsAnswer task xs t) cut is), said_status status t.status done.0 small, done.1 (omega arith))
+
+-- what was said is an answer to these bytes
+pub said_some : (task : Task) (bytes : Text) (old new : Option Text) (status : ℕ) (t : Told) → IsAnswer task bytes t → IsSaid status old new t → status < 3 → AnswersSome task status old new
+said_some task bytes old new status t is done small = (bytes, t, is, said_status status t.status done.0 small, done.1 (omega arith))

@@ -1,7 +1,7 @@
 //! The commands.
 
-ghost use Rattle.std.specs.Prelude.{◌≡◌, ◌*◌, ◌<◌, ◌≤◌, ◌⊎◌, ◌∷◌, [], codes, drop, map, None, IfOk, IsErr};
-ghost use Rattle.portal_run.specs.Run.{Answers, IsOfFile};
+ghost use Rattle.std.specs.Prelude.{◌≡◌, ◌*◌, ◌<◌, ◌≤◌, ◌⊎◌, ◌∷◌, [], codes, drop, map, None, IfSome, IfOk, IsErr};
+ghost use Rattle.portal_run.specs.Run.{Answers, AnswersSome, IsOfFile, task_of};
 ghost use Rattle.portal_desk.specs.Devices.{TakesAtMost as TakesFew};
 ghost use Rattle.portal_run.specs.Taken.{TakesAtMost};
 
@@ -24,6 +24,7 @@ fn answer<R: Read, W: Write>(alloc: Global, task: Task, reader: &mut R, writer: 
     ensures bound { result ≤ 3 }
     ensures takes { TakesAtMost 4194305 (R.remaining reader.old) (R.remaining reader.new) }
     ensures answers { result < 3 → Answers task (R.remaining reader.old) result (W.contents writer.old) (W.contents writer.new) }
+    ensures some { result < 3 → AnswersSome task result (W.contents writer.old) (W.contents writer.new) }
 {
     let bytes = match bytes_of(alloc, reader) {
         Ok(bytes) => bytes,
@@ -45,6 +46,7 @@ fn answer_opened<F: Read + Drop, W: Write>(
 ) -> u8
     ensures bound { result ≤ 3 }
     ensures answers { IfOk opened (λ f. result < 3 → Answers task (F.remaining f) result (W.contents writer.old) (W.contents writer.new)) }
+    ensures some { result < 3 → AnswersSome task result (W.contents writer.old) (W.contents writer.new) }
     ensures closed { IsErr opened → result ≡ 3 }
 {
     match opened {
@@ -64,6 +66,7 @@ fn answer_file<R: Read, W: Write>(
     ensures bound { result ≤ 3 }
     ensures takes { TakesAtMost 4194305 (R.remaining reader.old) (R.remaining reader.new) }
     ensures answers { file.entry ≡ None → result < 3 → Answers task (R.remaining reader.old) result (W.contents writer.old) (W.contents writer.new) }
+    ensures some { result < 3 → AnswersSome task result (W.contents writer.old) (W.contents writer.new) }
 {
     match file {
         None => answer(rt.alloc(), task, reader, writer),
@@ -71,9 +74,10 @@ fn answer_file<R: Read, W: Write>(
     }
 }
 
-/// Does a command.
+/// Does a command, and gives the exit status. What `check` and `solve` write of a file that is named is the answer, by that
+/// command's own task, to what the opened file gave; 3 where it could not be read or written.
 #[tactic(auto, using(crate::proofs::Taken::few_taken, crate::proofs::Taken::same_left))]
-fn act<R: Read, W: Write>(
+pub fn perform<R: Read, W: Write>(
     rt: &HostRuntime,
     command: Command<'_>,
     reader: &mut R,
@@ -83,6 +87,7 @@ fn act<R: Read, W: Write>(
     ensures takes { TakesFew (256 * 1064960) (R.remaining reader.old) (R.remaining reader.new) }
     ensures files { IsOfFile command.entry → TakesAtMost 4194305 (R.remaining reader.old) (R.remaining reader.new) }
     ensures check { command.entry ≡ Command.Check None → result < 3 → Answers Task.Check (R.remaining reader.old) result (W.contents writer.old) (W.contents writer.new) }
+    ensures own_task { IfSome (task_of command.entry) (λ task. result < 3 → AnswersSome task result (W.contents writer.old) (W.contents writer.new)) }
     ensures solve { command.entry ≡ Command.Solve None → result < 3 → Answers Task.Solve (R.remaining reader.old) result (W.contents writer.old) (W.contents writer.new) }
 {
     match command {
@@ -115,7 +120,7 @@ pub fn run<S: AsStr, R: Read, W: Write>(
     ensures solve { drop 1 (map S.text words.entry.now) ≡ codes "solve" ∷ [] → result < 3 → Answers Task.Solve (R.remaining reader.old) result (W.contents writer.old) (W.contents writer.new) }
 {
     match command_of(rt.alloc(), words) {
-        Ok(Asked::Do(command)) => act(rt, command, reader, writer),
+        Ok(Asked::Do(command)) => perform(rt, command, reader, writer),
         Ok(Asked::Show { text, status }) => say(writer, text.as_bytes(), status.min(MOST)),
         Err(_) => say_memory(writer),
     }

@@ -8,5 +8,5 @@ mod making;
 mod saying;
 mod year;
 
-pub use commands::run;
+pub use commands::{perform, run};
 pub use saying::say;

@@ -1,10 +1,12 @@
 //! Serves the connections of a socket, one after another.
 
-ghost use Rattle.std.specs.Prelude.{◌≡◌, ◌≤◌, true};
+ghost use Rattle.std.specs.Prelude.{◌≡◌, ◌≢◌, ◌≤◌, true};
+ghost use Rattle.portal_desk.specs.Outcome.{FailsByCount};
+ghost use Rattle.portal_serve.specs.Ends.{is_own_fault};
 
 use crate::line::{Ear, Line, Mouth};
 use portal_core::Keeper;
-use portal_desk::{Cause, Counted, Desk};
+use portal_desk::{Cause, Counted, Desk, ServeFault, Served};
 use std::net::{TcpListener, TcpStream};
 use std::time::Clock;
 
@@ -29,23 +31,41 @@ pub struct Hall {
     pub ended: Ended,
 }
 
-/// Serves one connection, and tells whether it ended by a fault of its own.
+/// Whether a connection ended by a fault of its own: the reader's, the writer's or want of memory, and not the store's.
+fn is_fault(ended: &Result<Served, ServeFault>) -> bool
+    ensures { result ≡ is_own_fault ended.now }
+{
+    match ended {
+        Ok(_) => false,
+        Err(fault) => match fault.cause {
+            Cause::Read | Cause::Write | Cause::Memory => true,
+            Cause::Store => false,
+        },
+    }
+}
+
+/// Serves one connection, and tells whether it ended by a fault of its own. Otherwise its last reply stands whole, and the
+/// connection is ended so that the client has it.
 fn attend<T: Clock + AllocGlobal, K: Keeper>(rt: &T, stream: &TcpStream, desk: &mut Desk<K>) -> bool
     ensures clean { K.clean desk.new.keeper → K.clean desk.old.keeper }
+    ensures counts { FailsByCount desk.old.failed desk.new.failed (K.faults desk.old.keeper) (K.faults desk.new.keeper) }
 {
     let _ = stream.set_nodelay(true);
     let line = Line::new(rt, stream);
     let mut ear = Counted::new(Ear { line: &line });
     let mut mouth = Counted::new(Mouth { line: &line });
-    match desk.serve(rt.alloc(), &mut ear, &mut mouth) {
-        Ok(_) => false,
-        Err(fault) => fault.cause != Cause::Store,
+    let ended = desk.serve(rt.alloc(), &mut ear, &mut mouth);
+    let fault = is_fault(&ended);
+    if !fault {
+        let _ = line.end();
     }
+    fault
 }
 
 /// Serves connections of a listener, one after another: so many, or until the desk fails or the listener does. A
-/// connection that is silent for 30 seconds, whose request is not whole 60 seconds after its first byte, or that does
-/// not take a reply in 60 seconds, ends by a fault.
+/// connection that is silent for 30 seconds, whose request is not whole 60 seconds after its first byte (or after the
+/// reply before it, with which that byte may have come), that does not take a reply in 60 seconds, or that asks for more
+/// 300 seconds after it began, ends by a fault.
 pub fn serve_on<T: Clock + AllocGlobal, K: Keeper>(
     rt: &T,
     listener: &TcpListener,
@@ -57,6 +77,8 @@ pub fn serve_on<T: Clock + AllocGlobal, K: Keeper>(
     ensures accepted { result.accepted ≤ connections }
     ensures full { result.ended ≡ Ended.Full → result.accepted ≡ connections }
     ensures store { result.ended ≡ Ended.StoreFault → desk.new.failed ≡ true }
+    ensures calm { result.ended ≢ Ended.StoreFault → desk.new.failed ≡ desk.old.failed }
+    ensures counts { FailsByCount desk.old.failed desk.new.failed (K.faults desk.old.keeper) (K.faults desk.new.keeper) }
 {
     let mut faults = 0u32;
     for accepted in 0..connections {

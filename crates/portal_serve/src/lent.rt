@@ -2,7 +2,7 @@
 
 ghost use Rattle.std.specs.Prelude.{◌≡◌};
 
-use portal_desk::{Failed, Sink, Source};
+use portal_desk::{Failed, Sink, Source, read_again, write_again};
 use std::io::{Read, Write};
 
 /// A reader or a writer of somebody else, with a count of the calls that failed: it passes on what the reader or writer
@@ -33,7 +33,7 @@ impl<'a, T: Read> Source for Lent<'a, T> {
     ghost failed = { λ lent. lent.failures };
 
     fn read(&mut self, buf: &mut [u8]) -> Result<usize, Failed> {
-        match self.device.read(buf) {
+        match read_again(&mut *self.device, buf) {
             Ok(n) => Ok(n),
             Err(_) => {
                 self.failures = self.failures.saturating_add(1);
@@ -55,7 +55,7 @@ impl<'a, T: Write> Sink for Lent<'a, T> {
     ghost failed = { λ lent. lent.failures };
 
     fn write(&mut self, buf: &[u8]) -> Result<usize, Failed> {
-        match self.device.write(buf) {
+        match write_again(&mut *self.device, buf) {
             Ok(n) => {
                 if n == 0 && !buf.is_empty() {
                     self.failures = self.failures.saturating_add(1);

@@ -1,9 +1,10 @@
 //! One connection of a socket, on which nobody is waited for without end.
 
+use portal_desk::{read_again, write_again};
 use std::cell::Cell;
 use std::io;
 use std::io::{ErrorKind, Read, Write};
-use std::net::TcpStream;
+use std::net::{Shutdown, TcpStream};
 use std::time::{Clock, Duration, Instant};
 
 /// How many seconds a connection may be silent.
@@ -12,12 +13,26 @@ const SILENCE: u64 = 30;
 /// How many seconds a request may take from its first byte on, and its reply.
 const WHOLE: u64 = 60;
 
+/// How many seconds a connection may take in all: no byte of a request is read after them.
+const LONGEST: u64 = 300;
+
+/// How many seconds a client may be silent that still sends when its connection is at its end.
+const PARTING: u64 = 5;
+
+/// The most bytes that are dropped when a connection is at its end: the longest head and the longest body.
+const DROPPED: usize = 1_064_960;
+
+/// The most bytes of one read that drops them.
+const PIECE: usize = 4096;
+
 /// What a connection has of its time.
 #[derive(Drop)]
 pub(crate) struct Line<'a, T: Clock> {
     clock: &'a T,
     stream: &'a TcpStream,
-    /// When the first byte of the request came that is not answered yet.
+    /// When the connection was first read from.
+    began: Cell<Option<Instant>>,
+    /// When the first byte of the request came that is not answered yet, or may have come.
     asked: Cell<Option<Instant>>,
     /// When the first byte of the reply went out, after which nothing was read yet.
     told: Cell<Option<Instant>>,
@@ -32,28 +47,45 @@ impl<'a, T: Clock> Line<'a, T> {
         Line {
             clock,
             stream,
+            began: Cell::new(None),
             asked: Cell::new(None),
             told: Cell::new(None),
         }
     }
 
-    /// What is left of the time of a request or a reply, which began then.
-    fn left(&self, began: Option<Instant>) -> io::Result<Duration> {
+    /// What is left of so many seconds that began then; all of them where nothing began.
+    fn left(&self, began: Option<Instant>, seconds: u64) -> io::Result<Duration> {
         let Some(began) = began else {
-            return Ok(Duration::from_secs(WHOLE));
+            return Ok(Duration::from_secs(seconds));
         };
         let gone = began.elapsed(self.clock)?;
-        match Duration::from_secs(WHOLE).checked_sub(gone) {
+        match Duration::from_secs(seconds).checked_sub(gone) {
             Some(left) if !left.is_zero() => Ok(left),
             _ => Err(too_late()),
         }
     }
 
-    /// Notes that bytes of a request came.
+    /// How long the next read may wait: while the request, and the connection, have time left, and no longer than a
+    /// connection may be silent.
+    fn patience(&self) -> io::Result<Duration> {
+        if self.began.get().is_none() {
+            self.began.set(Some(Instant::now(self.clock)?));
+        }
+        let whole = self.left(self.asked.get(), WHOLE)?;
+        let longest = self.left(self.began.get(), LONGEST)?;
+        Ok(whole.min(longest).min(Duration::from_secs(SILENCE)))
+    }
+
+    /// Notes that bytes of a request came. Where a reply was written since the last read, the request's first bytes may have
+    /// come with the one before it: its time then began with that reply.
     fn note_asked(&self) -> io::Result<()> {
+        let replied = self.told.get();
         self.told.set(None);
         if self.asked.get().is_none() {
-            self.asked.set(Some(Instant::now(self.clock)?));
+            match replied {
+                Some(then) => self.asked.set(Some(then)),
+                None => self.asked.set(Some(Instant::now(self.clock)?)),
+            }
         }
         Ok(())
     }
@@ -63,6 +95,33 @@ impl<'a, T: Clock> Line<'a, T> {
         self.asked.set(None);
         if self.told.get().is_none() {
             self.told.set(Some(Instant::now(self.clock)?));
+        }
+        Ok(())
+    }
+
+    /// How long the next read of what is dropped may wait, where that began then.
+    fn parting(&self, began: Option<Instant>) -> io::Result<Duration> {
+        let whole = self.left(began, WHOLE)?;
+        let longest = self.left(self.began.get(), LONGEST)?;
+        Ok(whole.min(longest).min(Duration::from_secs(PARTING)))
+    }
+
+    /// Ends the connection so that what was written reaches the client: a connection that is closed with bytes unread is
+    /// reset, and a reply may be lost. So nothing more is sent, and what still comes is dropped: within the connection's time,
+    /// for 60 seconds and 1,064,960 bytes at most, and until the client is silent for 5 seconds.
+    pub(crate) fn end(&self) -> io::Result<()> {
+        self.stream.shutdown(Shutdown::Write)?;
+        let began = Some(Instant::now(self.clock)?);
+        let mut piece = [0u8; PIECE];
+        let mut room = DROPPED;
+        for _ in 0..DROPPED {
+            self.stream.set_read_timeout(Some(self.parting(began)?))?;
+            let mut stream = self.stream;
+            let n = read_again(&mut stream, &mut piece)?;
+            if n == 0 || n >= room {
+                return Ok(());
+            }
+            room -= n;
         }
         Ok(())
     }
@@ -77,11 +136,9 @@ pub(crate) struct Ear<'a, T: Clock> {
 impl<'a, T: Clock> Read for Ear<'a, T> {
     fn read(&mut self, buf: &mut [u8]) -> io::Result<usize> {
         let line = self.line;
-        let left = line.left(line.asked.get())?;
-        line.stream
-            .set_read_timeout(Some(left.min(Duration::from_secs(SILENCE))))?;
+        line.stream.set_read_timeout(Some(line.patience()?))?;
         let mut stream = line.stream;
-        let n = stream.read(buf)?;
+        let n = read_again(&mut stream, buf)?;
         if n > 0 {
             line.note_asked()?;
         }
@@ -99,10 +156,10 @@ impl<'a, T: Clock> Write for Mouth<'a, T> {
     fn write(&mut self, buf: &[u8]) -> io::Result<usize> {
         let line = self.line;
         line.note_told()?;
-        let left = line.left(line.told.get())?;
-        line.stream.set_write_timeout(Some(left))?;
+        line.stream
+            .set_write_timeout(Some(line.left(line.told.get(), WHOLE)?))?;
         let mut stream = line.stream;
-        stream.write(buf)
+        write_again(&mut stream, buf)
     }
 
     fn flush(&mut self) -> io::Result<()> {

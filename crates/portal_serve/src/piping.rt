@@ -1,7 +1,9 @@
 //! Serves the one connection of a reader and a writer.
 
-ghost use Rattle.std.specs.Prelude.{◌*◌, IfOk, IfErr, IfSome};
-ghost use Rattle.portal_desk.specs.Serving.{Tells, Stops};
+ghost use Rattle.std.specs.Prelude.{◌≡◌, ◌*◌, true, IfOk, OnOk, IfErr, IfSome};
+ghost use Rattle.portal_desk.specs.Serving.{Tells, Stops, AtFirst};
+ghost use Rattle.portal_desk.specs.Outcome.{FailsByCount};
+ghost use Rattle.portal_desk.specs.declared.served.Cause.TheVariants.{Read as ReadFailed, Store as StoreFailed};
 ghost use Rattle.portal_desk.specs.Devices.{TakesAtMost};
 ghost use Rattle.portal_wire.specs.Conversation.{last};
 
@@ -28,6 +30,13 @@ pub fn pipe<K: Keeper, R: Read, W: Write>(
     ensures stopped { IfErr result (λ fault. IfSome (R.remaining reader.old) (λ bytes.
         Stops fault.cause desk.new.failed (K.clean desk.new.keeper) (K.world desk.old.keeper) (K.world desk.new.keeper) (R.remaining reader.new) (W.contents writer.old) (W.contents writer.new) bytes fault.requests)) }
     ensures taken { TakesAtMost (256 * 1064960) (R.remaining reader.old) (R.remaining reader.new) }
+    ensures stays { desk.old.failed ≡ true → desk.new ≡ desk.old }
+    ensures none { IfOk result (λ served. desk.old.failed ≡ true → served.requests ≡ 0) }
+    ensures first { IfErr result (λ fault. desk.old.failed ≡ true → AtFirst fault.cause fault.requests) }
+    ensures counts { FailsByCount desk.old.failed desk.new.failed (K.faults desk.old.keeper) (K.faults desk.new.keeper) }
+    ensures calm { OnOk result (desk.new.failed ≡ desk.old.failed) }
+    ensures unread { IfErr result (λ fault. fault.cause ≡ ReadFailed → desk.new.failed ≡ desk.old.failed) }
+    ensures store { IfErr result (λ fault. fault.cause ≡ StoreFailed → desk.new.failed ≡ true) }
 {
     let mut source = Lent::new(reader);
     let mut sink = Lent::new(writer);

@@ -29,9 +29,9 @@ connections_rule = record (number_rule (codes "connections") 1000000) { defaults
 abbrev pub serve_app : App
 serve_app = with_rule (with_rule (database_app (codes "serve")) port_rule) connections_rule
 
--- the command that waits for its subcommand
+-- the command that waits for its subcommand, and has a version to tell
 abbrev pub top_app : App
-top_app = on_top (λ s. record s { subcommand_required = true }) (new_app (codes "portal"))
+top_app = on_top (λ s. record s { has_version = true; subcommand_required = true }) (new_app (codes "portal"))
 
 -- the commands on instance files
 abbrev pub files_app : App

@@ -8,6 +8,9 @@ use clap::builder::ValueParser;
 use clap::{Arg, Command};
 use std::alloc::{AllocError, Global};
 
+/// The version of the portal, as `portal --version` prints it.
+const VERSION: &str = "1.0.0";
+
 const CHECK_PRINTS: &str =
     "Prints a line `block STUDENT PROJECT LETTER` for each pair, and then `blocking N`.
 Exit status: 0 no pair blocks, 1 some do, 2 the file is refused, 3 a device or memory failed.";
@@ -121,6 +124,7 @@ fn with_files<'a>(alloc: Global) -> Result<Command<'a>, AllocError>
     )?;
     Command::new(alloc, "portal")
         .about("Student-project allocation with lecturer preferences over students")
+        .version(VERSION)
         .subcommand_required(true)
         .subcommand(check)?
         .subcommand(solve)

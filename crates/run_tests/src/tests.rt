@@ -2,6 +2,7 @@
 
 mod checks;
 mod devices;
+mod files;
 mod generated;
 mod refusals;
 mod solves;

@@ -123,3 +123,15 @@ fn texts(rt: HostRuntime) -> Result<(), Fail> {
     }
     Ok(())
 }
+
+#[test]
+fn version(rt: HostRuntime) -> Result<(), Fail> {
+    match command_of(rt.alloc(), &["portal", "--version"])? {
+        Asked::Show { text, status } => {
+            assert!(rt; status == 0);
+            assert!(rt; text.as_bytes() == b"portal 1.0.0\n".as_slice(), "{text}");
+        }
+        Asked::Do(_) => assert!(rt; false),
+    }
+    Ok(())
+}

@@ -2,7 +2,7 @@ use Rattle.std.proofs.Common.{◌≢◌, subst}
 use Rattle.std.specs.Io.KnownBytes.{Appends}
 use Rattle.portal_answer.specs.Told.{Told}
 use Rattle.portal_answer.specs.Answer.{IsAnswer}
-use Rattle.portal_run.proofs.Known.{IsSaid, said, said_bound}
+use Rattle.portal_run.proofs.Known.{IsSaid, said, said_bound, said_some}
 use Rattle.portal_answer.proofs.Statuses.{answer_status}
 use Rattle.portal_run.proofs.commands.answer.Goals as goal
 
@@ -16,5 +16,6 @@ returns-in-Ok-answer_to g c =
     record {
       bound = said_bound _ _ done.0 (answer_status c.args.task c.in-Ok.bytes.items c.in-Ok-answer_to.told is);
       answers = said c.args.task (g.R.Read.remaining c.args.reader.now) c.in-Ok.bytes.items _ _ c.say.result c.in-Ok-answer_to.told c.in-Ok.ensures.all is done;
+      some = said_some c.args.task c.in-Ok.bytes.items _ _ c.say.result c.in-Ok-answer_to.told is done;
       takes = c.in-Ok.ensures.takes;
     }

@@ -1,8 +1,11 @@
-use Rattle.std.proofs.Common.{◌≤◌}
+use Rattle.std.proofs.Common.{◌≡◌, ◌≤◌}
+use Rattle.portal_desk.specs.Outcome.{FailsByCount}
 use Rattle.portal_serve.proofs.hall.serve_on.Given as goal
 
 abbrev pub invariant-loop-accepted : goal.invariant-loop-accepted
 invariant-loop-accepted g l = record {
   clean : g.K.Keeper.clean l.desk.keeper → g.K.Keeper.clean l.initial.desk.keeper;
   few : l.faults ≤ l.accepted;
+  counts : FailsByCount l.initial.desk.failed l.desk.failed (g.K.Keeper.faults l.initial.desk.keeper) (g.K.Keeper.faults l.desk.keeper);
+  calm : l.desk.failed ≡ l.initial.desk.failed;
 }

@@ -1,0 +1,45 @@
+//! Instance files that are named on the command line.
+
+use portal_run::run;
+use std::fs;
+use std::test::Fail;
+
+/// What a command tells of the file with these bytes, and its status.
+fn told_of(
+    rt: &HostRuntime,
+    command: &str,
+    path: &str,
+    bytes: &[u8],
+) -> Result<(u8, Vec<u8>), Fail> {
+    fs::write(rt, path, bytes)?;
+    let mut out = Vec::new(rt.alloc());
+    let mut input = b"".as_slice();
+    let status = run(rt, &["portal", command, path], &mut input, &mut out);
+    fs::remove_file(rt, path)?;
+    Ok((status, out))
+}
+
+#[test]
+fn each_command_does_its_own_task(rt: HostRuntime) -> Result<(), Fail> {
+    let file =
+        b"kind,key,value,list\nL,L1,1,S2 S1\nL,L2,1,S1 S2\nP,P1,1,L1\nP,P2,1,L2\nS,S1,,P1 P2\nS,S2,,P2 P1\nM,S1,P2,\n".as_slice();
+    let (status, text) = told_of(&rt, "check", "checked.csv", file)?;
+    assert!(rt; status == 1);
+    assert!(rt; text.as_slice() == b"block S1 P1 a\nblock S2 P1 a\nblocking 2\n".as_slice());
+    let (status, text) = told_of(&rt, "solve", "solved.csv", file)?;
+    assert!(rt; status == 0);
+    assert!(rt;
+        text.as_slice() == b"assign S1 P1\nassign S2 P2\nassigned 2 unassigned 0\n".as_slice()
+    );
+    Ok(())
+}
+
+#[test]
+fn a_named_file_is_refused_as_the_input_is(rt: HostRuntime) -> Result<(), Fail> {
+    for command in ["check", "solve"] {
+        let (status, text) = told_of(&rt, command, "empty.csv", b"".as_slice())?;
+        assert!(rt; status == 2);
+        assert!(rt; text.as_slice() == b"refused no_header\n".as_slice());
+    }
+    Ok(())
+}
