@@ -1,0 +1,117 @@
+"""The portal over a file, and the door in front of it: what each test of the page begins with."""
+
+import json
+import os
+import socket
+import subprocess
+import tempfile
+import time
+import urllib.error
+import urllib.request
+from pathlib import Path
+
+WEB = Path(__file__).resolve().parent.parent
+TOP = WEB.parent
+OFFICE = "office-of-2026"
+
+# One department at the door of deploy/Caddyfile, with a certificate of its own.
+SITE = """https://localhost:{port} {{
+    bind 127.0.0.1
+    tls {folder}/cert.pem {folder}/key.pem
+    import portal {portal_port} {folder}/site {folder}/notice
+}}
+"""
+CERTIFICATE = "openssl req -x509 -newkey ec -pkeyopt ec_paramgen_curve:prime256v1 -nodes -days 2 -subj /CN=localhost -keyout key.pem -out cert.pem"
+
+
+def program():
+    """The program to test, or None where it is not built."""
+    path = Path(os.environ.get("PORTAL_PROGRAM") or TOP / "crates/portal/out/portal")
+    return path.resolve() if path.is_file() else None
+
+
+def free_port():
+    with socket.socket() as free:
+        free.bind(("127.0.0.1", 0))
+        return free.getsockname()[1]
+
+
+def wait_for(port):
+    for _ in range(300):
+        with socket.socket() as client:
+            if client.connect_ex(("127.0.0.1", port)) == 0:
+                return
+        time.sleep(0.05)
+    raise RuntimeError(f"nothing listens on port {port}")
+
+
+class Door:
+    """One portal and one door. `site` has links to the files of web/ that are served, `notice` the notice where a test puts one."""
+
+    def __init__(self):
+        self.folder = tempfile.TemporaryDirectory(prefix="portal-page-")
+        self.path = Path(self.folder.name)
+        self.portal_port, self.port = free_port(), free_port()
+        self.address = f"https://localhost:{self.port}"
+        self.notice = self.path / "notice"
+        site = self.path / "site"
+        for folder in (site, self.notice):
+            folder.mkdir()
+        for file in WEB.iterdir():
+            if file.suffix in (".html", ".css", ".js", ".svg"):
+                (site / file.name).symlink_to(file)
+        subprocess.run([program(), "init", self.path / "year.db"], input=f"{OFFICE}\n", text=True, check=True, stdout=subprocess.DEVNULL)
+        self.start_portal()
+        self.start_door()
+
+    def start_portal(self):
+        words = [program(), "serve", self.path / "year.db", "--port", str(self.portal_port), "--connections", "100000"]
+        self.portal = subprocess.Popen(words, stdout=subprocess.DEVNULL)
+        wait_for(self.portal_port)
+
+    def stop_portal(self):
+        self.portal.kill()
+        self.portal.wait()
+
+    def start_door(self):
+        subprocess.run(CERTIFICATE.split(), cwd=self.path, check=True, stderr=subprocess.DEVNULL)
+        sites = self.path / "localhost.caddy"
+        sites.write_text(SITE.format(port=self.port, portal_port=self.portal_port, folder=self.path))
+        own = {"PORTAL_SITES": str(sites), "PORTAL_HTTP_PORT": str(free_port()), "HOME": str(self.path)}
+        own |= {"XDG_DATA_HOME": str(self.path / "data"), "XDG_CONFIG_HOME": str(self.path / "config")}
+        words = ["caddy", "run", "--config", TOP / "deploy/Caddyfile", "--adapter", "caddyfile"]
+        with open(self.path / "door.log", "w") as log:
+            self.door = subprocess.Popen(words, stdout=log, stderr=log, env={**os.environ, **own})
+        wait_for(self.port)
+
+    def stop(self):
+        for process in (self.portal, self.door):
+            process.terminate()
+            process.wait()
+        self.folder.cleanup()
+
+    def ask(self, code, method, path, body=None):
+        """Asks the portal itself, past the door: status and text."""
+        data = None if body is None else body if isinstance(body, bytes) else json.dumps(body).encode()
+        request = urllib.request.Request(f"http://127.0.0.1:{self.portal_port}{path}", data, {"Portal-Code": code, "Connection": "close"}, method=method)
+        try:
+            with urllib.request.urlopen(request, timeout=30) as reply:
+                return reply.status, reply.read().decode()
+        except urllib.error.HTTPError as refusal:
+            return refusal.code, refusal.read().decode()
+
+    def do(self, code, method, path, body=None):
+        """Asks, and is sure that it was done."""
+        status, text = self.ask(code, method, path, body)
+        assert status == 200, f"{method} {path}: {status} {text}"
+        return json.loads(text) if text.startswith("{") else text
+
+    def load_rolls(self, folder=TOP / "examples/year"):
+        for roll in ("lecturers", "projects", "students"):
+            self.do(OFFICE, "POST", f"/rolls/{roll}", (folder / f"{roll}.csv").read_bytes())
+
+    def move(self, phase):
+        self.do(OFFICE, "POST", "/phase", {"phase": phase})
+
+    def log(self):
+        return (self.path / "door.log").read_text()

@@ -1,0 +1,130 @@
+"""Names and titles of any kind stand on the page as they are; and how the page looks in each width."""
+
+from case import ADA, NOETHER, OFFICE, PageCase
+
+STRANGE = {
+    "html": "<img src=x onerror=alert(1)>&amp;<b>\"bold\"</b>",
+    "quotes": "\"It's\" `${1}` 'so' \\n",
+    "hebrew": "פרויקט על כוכבים, 2026 (שני)",
+    "arabic": "مشروع عن النجوم",
+    "long": "x" * 160,
+    "letters": "é" * 80,
+    "script": "</script><script>window.hacked = 1</script>",
+}
+
+
+def quoted(text):
+    return '"' + text.replace('"', '""') + '"'
+
+
+class Texts(PageCase):
+    def setUp(self):
+        super().setUp()
+        lecturers = "".join(f"l-{key},{quoted(text)},code-of-l-{key},1\n" for key, text in STRANGE.items())
+        projects = "".join(f"p-{key},l-{key},{quoted(text)},1\n" for key, text in STRANGE.items())
+        students = "".join(f"s-{key},{quoted(text)},code-of-s-{key}\n" for key, text in STRANGE.items())
+        self.door.do(OFFICE, "POST", "/rolls/lecturers", f"id,name,code,capacity\n{lecturers}".encode())
+        self.door.do(OFFICE, "POST", "/rolls/projects", f"id,lecturer,title,capacity\n{projects}".encode())
+        self.door.do(OFFICE, "POST", "/rolls/students", f"id,name,code\n{students}".encode())
+        self.codes += [f"code-of-{role}-{key}" for role in "ls" for key in STRANGE]
+        self.door.move("choosing")
+
+    def test_strange_texts(self):
+        self.open("code-of-s-html", "Choosing")
+        self.assertEqual(self.given("table[aria-label=Catalogue] td:first-child bdi"), [STRANGE[key] for key in sorted(STRANGE)])
+        self.assertEqual(self.given("table[aria-label=Catalogue] td:nth-child(2) bdi"), [STRANGE[key] for key in sorted(STRANGE)])
+        for key in STRANGE:
+            self.browser.press(f"Add p-{key}")
+            self.browser.says(STRANGE[key])
+        self.assertEqual(self.given("ol[aria-label='Your list'] bdi"), list(STRANGE.values()))
+        self.fits()
+        self.browser.press("Save list")
+        self.browser.says("Saved")
+        self.browser.sign_out()
+        self.door.move("ranking")
+        self.sign_in("code-of-l-script", "Ranking")
+        self.assertIn(STRANGE["html"], self.given("ul[aria-label=Applicants] bdi"))
+        self.fits()
+        self.browser.sign_out()
+        self.sign_in(OFFICE, "Ranking")
+        self.assertIn(STRANGE["hebrew"], self.browser.page_text())
+        self.answer("Fill missing rankings", "Fill the missing rankings now?")
+        self.browser.says("Filled for")
+        self.answer("Publish", "Publish now?")
+        self.browser.in_phase("Published")
+        self.assertEqual(self.given("table[aria-label='Who has what'] td:first-child bdi"), [STRANGE[key] for key in sorted(STRANGE)])
+        self.fits()
+        self.assertEqual(self.browser.script("document.querySelectorAll('img, b, body script').length"), 0)
+        self.assertIsNone(self.browser.script("window.hacked"))
+
+    def given(self, selector):
+        return self.browser.script("[...document.querySelectorAll(arguments[0])].map((e) => e.textContent)", selector)
+
+    def fits(self):
+        """Nothing stands out at the side, and what is pressed is large enough, in a narrow and in a wide window."""
+        for width in (360, 1280):
+            self.browser.resize(width)
+            self.assertLessEqual(self.browser.script("document.documentElement.scrollWidth"), width)
+            small = "[...document.querySelectorAll('button, input')].filter((e) => e.offsetParent).map((e) => e.getBoundingClientRect()).filter((r) => r.width < 24 || r.height < 24).length"
+            self.assertEqual(self.browser.script(small), 0)
+
+
+class Looks(PageCase):
+    """Every text that is seen has its contrast, in light and in dark; what can have the focus has a name; no id stands twice."""
+
+    CONTRAST = """
+    const luminance = ([r, g, b]) => [r, g, b].map((c) => c / 255).map((c) => c <= 0.04045 ? c / 12.92 : ((c + 0.055) / 1.055) ** 2.4).reduce((sum, c, i) => sum + c * [0.2126, 0.7152, 0.0722][i], 0);
+    const colour = (text) => text.match(/[\\d.]+/g).map(Number);
+    const ground = (e) => { for (; e; e = e.parentElement) { const c = colour(getComputedStyle(e).backgroundColor); if (c.length < 4 || c[3] > 0) return c; } return [255, 255, 255]; };
+    return [...document.querySelectorAll('body *')].filter((e) => e.offsetParent && [...e.childNodes].some((n) => n.nodeType === 3 && n.data.trim())).map((e) => {
+      const [a, b] = [luminance(colour(getComputedStyle(e).color)), luminance(ground(e))].sort((x, y) => y - x);
+      return [e.textContent.slice(0, 30), (a + 0.05) / (b + 0.05)];
+    }).filter(([, ratio]) => ratio < 4.5)
+    """
+
+    def test_every_page(self):
+        self.door.load_rolls()
+        self.open(OFFICE, "Setup")
+        self.choose_file("Students", self.write("bad.csv", "id,name,code\n,,\n"))
+        self.browser.warns("row 1")
+        self.look()
+        self.door.move("choosing")
+        self.browser.sign_out()
+        self.look()
+        self.browser.sign_in("nobody-has-this")
+        self.browser.warns("Nobody has")
+        self.look()
+        self.sign_in(ADA, "Choosing")
+        self.browser.press("Add rings")
+        self.look()
+        self.browser.press("Save list")
+        self.browser.says("Saved")
+        self.browser.sign_out()
+        self.door.move("ranking")
+        self.sign_in(NOETHER, "Ranking")
+        self.look()
+        self.browser.sign_out()
+        self.sign_in(OFFICE, "Ranking")
+        self.browser.press("Fill missing rankings")
+        self.browser.find("button", "Yes")
+        self.look()
+        self.browser.press("Yes")
+        self.browser.says("Filled")
+        self.door.move("published")
+        for code in (ADA, NOETHER, OFFICE):
+            self.browser.sign_out()
+            self.sign_in(code, "Published")
+            self.look()
+
+    def look(self):
+        for scheme in ("light", "dark"):
+            self.browser.prefer(scheme)
+            self.assertEqual(self.browser.driver.execute_script(self.CONTRAST), [])
+        nodes = self.browser.cdp("Accessibility.getFullAXTree")["nodes"]
+        nameless = [node["role"]["value"] for node in nodes if not node["ignored"] and self.is_focusable(node) and not node.get("name", {}).get("value")]
+        self.assertEqual([role for role in nameless if role not in ("main", "RootWebArea", "generic")], [])
+        doubled = "[...document.querySelectorAll('[id]')].map((e) => e.id).filter((id, at, all) => all.indexOf(id) !== at)"
+        self.assertEqual(self.browser.script(doubled), [])
+
+    def is_focusable(self, node):
+        return any(one["name"] == "focusable" and one["value"].get("value") for one in node.get("properties", []))

@@ -1,0 +1,203 @@
+"""A whole year in the browser: once by clicks, once by keyboard alone."""
+
+from selenium.webdriver.common.keys import Keys
+
+from case import ADA, BELL, BEN, CLEO, DORA, EMIL, NOETHER, OFFICE, PageCase, TURING, YEAR
+
+CHOICES = {ADA: ["pulsars", "rings"], BEN: ["pulsars", "comets"], CLEO: ["rings", "patterns"], DORA: ["patterns", "groups"]}
+RANKINGS = {BELL: ["ben", "ada"], NOETHER: ["cleo", "ada", "dora"], TURING: ["dora", "cleo"]}
+RESULT = {ADA: "Rings and their ideals", BEN: "Pulsars in old sky surveys", CLEO: "Rings and their ideals", DORA: "Patterns on shells"}
+
+
+class YearByClicks(PageCase):
+    def test_year(self):
+        self.open(OFFICE, "Setup")
+        self.rolls()
+        self.answer("Open choosing", "Open choosing now?", "No")
+        self.assertEqual(self.browser.phase(), "Setup")
+        self.assertIn("cannot be undone", self.answer("Open choosing", "Open choosing now?"))
+        self.browser.in_phase("Choosing")
+        self.browser.says("Choosing")
+        self.browser.sign_out()
+        for code, keys in CHOICES.items():
+            self.choose(code, keys)
+        self.office_in_choosing()
+        for code, keys in RANKINGS.items():
+            self.rank(code, keys)
+        self.publish()
+        self.results()
+
+    def rolls(self):
+        for field, count in (("Lecturers", 3), ("Projects", 5), ("Students", 5)):
+            self.choose_file(field, YEAR / f"{field.lower()}.csv")
+            self.browser.says(f"{field}: added {count}, same 0")
+        self.choose_file("Students", YEAR / "students.csv")
+        self.browser.says("Students: added 0, same 5")
+
+    def choose(self, code, keys):
+        self.sign_in(code, "Choosing")
+        save = self.browser.find("button", "Save list")
+        self.assertFalse(save.is_enabled())
+        for key in reversed(keys):
+            self.browser.press(f"Add {key}")
+        self.assertEqual(self.browser.entries("Your list"), keys[::-1])
+        self.browser.press(f"Move {keys[0]} up")
+        self.browser.says("is number 1 of 2")
+        self.assertEqual(self.browser.entries("Your list"), keys)
+        self.assertTrue(save.is_enabled())
+        save.click()
+        self.browser.says("Saved")
+        self.assertFalse(save.is_enabled())
+        self.assertEqual(self.door.do(code, "GET", "/choices"), {"projects": keys})
+        self.browser.sign_out()
+
+    def office_in_choosing(self):
+        self.sign_in(OFFICE, "Choosing")
+        self.assertIn("With a list: 4 of 5 students", self.browser.page_text())
+        self.browser.press("Copy names")
+        self.browser.says("Copied 1 name")
+        self.assertEqual(self.browser.driver.execute_async_script("navigator.clipboard.readText().then(arguments[0])"), "emil")
+        self.assertIn("Without a list: 1 student", self.answer("Open ranking", "Open ranking now?"))
+        self.browser.in_phase("Ranking")
+        self.assertIn("Still to rank: 3 of 3 lecturers", self.browser.page_text())
+        self.browser.sign_out()
+
+    def rank(self, code, keys):
+        self.sign_in(code, "Ranking")
+        self.browser.find("list", "Applicants")
+        save = self.browser.find("button", "Save ranking")
+        for key in sorted(keys):
+            self.assertFalse(save.is_enabled())
+            self.browser.press(f"Add {key}")
+        for place, key in enumerate(keys):
+            while self.browser.entries("Your ranking").index(key) > place:
+                self.browser.press(f"Move {key} up")
+        save.click()
+        self.browser.says("Saved")
+        self.assertEqual(self.door.do(code, "GET", "/ranking"), {"students": keys})
+        self.browser.sign_out()
+
+    def publish(self):
+        self.sign_in(OFFICE, "Ranking")
+        self.assertIn("Still to rank: 0 of 3 lecturers", self.browser.page_text())
+        self.assertFalse(self.browser.find("button", "Fill missing rankings").is_enabled())
+        self.answer("Publish", "Publish now?")
+        self.browser.in_phase("Published")
+        text = self.browser.page_text()
+        self.assertIn("With a project: 4 of 5 students", text)
+        self.assertIn("Emil Eke (emil)", text)
+        self.assertFalse(self.browser.has("button", "Open second round"))
+        self.office_table()
+        self.browser.press("Download CSV")
+        self.assertEqual(self.downloaded("allocation.csv").read_text(), self.door.do(OFFICE, "GET", "/allocation.csv"))
+        self.print_report()
+        self.browser.sign_out()
+
+    def office_table(self):
+        column = "[...document.querySelectorAll('table[aria-label=\"Who has what\"] tbody tr')].filter((r) => !r.hidden).map((r) => r.cells[arguments[0]].querySelector('.key, em').textContent)"
+        for name, sorted_by_title in (("Project", ["groups", "patterns", "pulsars", "rings"]), ("Student", ["ada", "ben", "cleo", "dora", "emil"])):
+            at = 1 if name == "Project" else 0
+            self.browser.press(name)
+            rising = self.browser.script(column, at)
+            self.browser.press(name)
+            self.assertEqual(self.browser.script(column, at), rising[::-1])
+            self.assertTrue(set(rising) <= {*sorted_by_title, "Nothing"})
+        self.browser.find("searchbox", "Search result").send_keys("noether")
+        self.assertEqual(sorted(self.browser.script(column, 0)), ["ada", "cleo"])
+
+    def print_report(self):
+        self.browser.script("(window.print = () => { window.seen = [...document.querySelectorAll('.printed')].map((e) => e.textContent); })")
+        self.browser.press("Print report")
+        self.assertEqual(self.browser.script("window.seen"), [self.door.do(OFFICE, "GET", "/report")])
+
+    def results(self):
+        for code, title in RESULT.items():
+            self.sign_in(code, "Published")
+            self.assertIn(f"You have the project {title} with", self.browser.page_text().replace("\u2068", "").replace("\u2069", ""))
+            self.browser.sign_out()
+        self.sign_in(EMIL, "Published")
+        self.assertIn("There is no project for you this time", self.browser.page_text())
+        self.browser.sign_out()
+        self.sign_in(NOETHER, "Published")
+        text = self.browser.page_text()
+        self.assertIn("Ada Ames", text)
+        self.assertIn("Cruz, Cleo", text)
+
+
+class YearByKeyboard(PageCase):
+    """Nothing is clicked: Tab, Enter, Space, the arrow keys and letters alone."""
+
+    def test_year(self):
+        self.door.load_rolls()
+        self.open()
+        self.by_keys(OFFICE, "Setup")
+        self.step("Open choosing")
+        self.browser.in_phase("Choosing")
+        self.leave()
+        for code, keys in CHOICES.items():
+            self.choose(code, keys)
+        self.by_keys(OFFICE, "Choosing")
+        self.step("Open ranking")
+        self.browser.in_phase("Ranking")
+        self.leave()
+        self.rank(BELL, RANKINGS[BELL])
+        self.rank(NOETHER, RANKINGS[NOETHER])
+        self.by_keys(OFFICE, "Ranking")
+        self.step("Fill missing rankings")
+        self.browser.says("Filled for Alan Turing (turing)")
+        self.step("Publish")
+        self.browser.in_phase("Published")
+        self.browser.tab_to("searchbox", "Search result")
+        self.browser.keys(*"dora")
+        self.browser.wait(lambda: "1 of 5 students" in self.browser.page_text(), "one row")
+        self.leave()
+        self.by_keys(DORA, "Published")
+        self.assertIn("You have the project", self.browser.page_text())
+
+    def by_keys(self, code, phase):
+        """The field has the focus when the page comes, so that the code can be typed at once."""
+        self.browser.find("textbox", "Your code")
+        self.browser.keys(code, Keys.ENTER)
+        self.browser.in_phase(phase)
+
+    def leave(self):
+        self.browser.driver.execute_script("document.activeElement.blur()")
+        self.browser.key_press("Sign out")
+
+    def step(self, name):
+        self.browser.key_press(name)
+        self.browser.find("button", "Yes")
+        self.browser.keys(Keys.ESCAPE)
+        self.assertFalse(self.browser.has("button", "Yes"))
+        self.browser.key_press(name)
+        self.browser.key_press("Yes", Keys.SPACE)
+
+    def choose(self, code, keys):
+        self.by_keys(code, "Choosing")
+        self.browser.tab_to("searchbox", "Search projects")
+        for key in reversed(keys):
+            self.browser.key_press(f"Add {key}", back=key != keys[-1] and key < keys[-1])
+        self.browser.key_press(f"Move {keys[0]} up", Keys.SPACE)
+        self.browser.says("is number 1 of 2")
+        self.assertEqual(self.browser.focused().accessible_name, f"Move {keys[0]} up")
+        self.browser.keys(Keys.ARROW_DOWN)
+        self.assertEqual(self.browser.entries("Your list"), keys[::-1])
+        self.browser.keys(Keys.HOME)
+        self.assertEqual(self.browser.entries("Your list"), keys)
+        self.browser.key_press("Save list")
+        self.browser.says("Saved")
+        self.assertEqual(self.door.do(code, "GET", "/choices"), {"projects": keys})
+        self.leave()
+
+    def rank(self, code, keys):
+        self.by_keys(code, "Ranking")
+        for key in sorted(keys):
+            self.browser.key_press(f"Add {key}")
+        for place, key in enumerate(keys):
+            while self.browser.entries("Your ranking").index(key) > place:
+                self.browser.driver.execute_script("document.activeElement.blur()")
+                self.browser.key_press(f"Move {key} up")
+        self.browser.key_press("Save ranking")
+        self.browser.says("Saved")
+        self.assertEqual(self.door.do(code, "GET", "/ranking"), {"students": keys})
+        self.leave()
