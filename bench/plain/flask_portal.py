@@ -8,9 +8,10 @@ import os
 import sqlite3
 import sys
 
-from asking import OFFICE, PHASES
-from tables import TABLES
-from year import best
+sys.path.insert(0, os.path.join(os.path.dirname(os.path.dirname(os.path.dirname(os.path.abspath(__file__)))), "checks", "plain"))
+from asking import OFFICE, PHASES  # noqa: E402
+from tables import TABLES  # noqa: E402
+from year import best  # noqa: E402
 
 
 FOREIGN_KEYS = os.environ.get("PLAIN_FOREIGN_KEYS", "ON")

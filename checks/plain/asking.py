@@ -7,7 +7,6 @@ import sqlite3
 import subprocess
 
 TOP = os.path.dirname(os.path.dirname(os.path.dirname(os.path.abspath(__file__))))
-OUT = os.path.join(TOP, "bench", "out")
 OFFICE = b"office-code-0"
 PHASES = ("setup", "choosing", "ranking", "published")
 
@@ -16,7 +15,7 @@ def built():
     """The path of the built program, which `./portal` builds first where it has to; or the one that PORTAL_PROGRAM names."""
     given = os.environ.get("PORTAL_PROGRAM")
     if given:
-        return given
+        return os.path.abspath(given)
     subprocess.run([os.path.join(TOP, "portal"), "--help"], stdout=subprocess.DEVNULL, check=True)
     return os.path.join(TOP, "crates", "portal", "out", "portal")
 
