@@ -64,8 +64,8 @@ fn attend<T: Clock + AllocGlobal, K: Keeper>(rt: &T, stream: &TcpStream, desk: &
 
 /// Serves connections of a listener, one after another: so many, or until the desk fails or the listener does. A
 /// connection that is silent for 30 seconds, whose request is not whole 60 seconds after its first byte (or after the
-/// reply before it, with which that byte may have come), that does not take a reply in 60 seconds, or that asks for more
-/// 300 seconds after it began, ends by a fault.
+/// reply before it began to be written, since that byte may have come with the request before), that does not take a
+/// reply in 60 seconds, or that asks for more 300 seconds after it began, ends by a fault.
 pub fn serve_on<T: Clock + AllocGlobal, K: Keeper>(
     rt: &T,
     listener: &TcpListener,
@@ -78,6 +78,7 @@ pub fn serve_on<T: Clock + AllocGlobal, K: Keeper>(
     ensures full { result.ended ≡ Ended.Full → result.accepted ≡ connections }
     ensures store { result.ended ≡ Ended.StoreFault → desk.new.failed ≡ true }
     ensures calm { result.ended ≢ Ended.StoreFault → desk.new.failed ≡ desk.old.failed }
+    ensures shut { result.ended ≢ Ended.StoreFault → desk.new.failed ≡ true → result.accepted ≡ 0 }
     ensures counts { FailsByCount desk.old.failed desk.new.failed (K.faults desk.old.keeper) (K.faults desk.new.keeper) }
 {
     let mut faults = 0u32;

@@ -1,4 +1,4 @@
-use Rattle.std.proofs.Common.{◌≡◌, ◌≤◌}
+use Rattle.std.proofs.Common.{◌≡◌, ◌≤◌, true}
 use Rattle.portal_desk.specs.Outcome.{FailsByCount}
 use Rattle.portal_serve.proofs.hall.serve_on.Given as goal
 
@@ -7,5 +7,6 @@ invariant-loop-accepted g l = record {
   clean : g.K.Keeper.clean l.desk.keeper → g.K.Keeper.clean l.initial.desk.keeper;
   few : l.faults ≤ l.accepted;
   counts : FailsByCount l.initial.desk.failed l.desk.failed (g.K.Keeper.faults l.initial.desk.keeper) (g.K.Keeper.faults l.desk.keeper);
+  shut : l.desk.failed ≡ true → l.accepted ≡ 0;
   calm : l.desk.failed ≡ l.initial.desk.failed;
 }
