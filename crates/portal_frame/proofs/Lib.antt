@@ -1,4 +1,5 @@
 pub mod Heads
+pub mod HeadLines
 pub mod Limits
 pub mod Overlong
 pub mod Unique

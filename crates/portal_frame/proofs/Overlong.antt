@@ -10,7 +10,9 @@ use Rattle.portal_frame.specs.Stream.{Opens, fault, bad_head}
 use Rattle.portal_frame.proofs.Heads.{opens_never}
 use Rattle.portal_frame.specs.declared.counting.At.{At}
 use Rattle.portal_frame.specs.declared.counting.At.TheVariants.{Leading, Fresh, Inside}
-use Rattle.portal_frame.specs.Lines.{step, stops, counts, lines_from, is_overlong}
+use Rattle.portal_frame.specs.Counting.{step, stops, counts, lines_from}
+use Rattle.portal_frame.specs.Lines.{head_lines, is_overlong}
+use Rattle.portal_frame.proofs.HeadLines.{counted_is}
 
 pub lines-append : (at : At) (xs ys : List ℕ) → lines_from at xs ≤ lines_from at (xs ++ ys)
 lines-append at [] ys = omega arith
@@ -90,9 +92,9 @@ pub record IsLined (h : RequestHead) : Type 0 where
   pub start : Starts (h.method ++ 32 ∷ h.target ++ 32 ∷ print_version h.minor)
   pub lines : FieldLines h.fields
 
-pub head_lines : (h : RequestHead) (rest : List ℕ) → IsLined h → lines_from Leading (print_request h ++ rest) ≡ 1 + length h.fields
+pub lines_counted : (h : RequestHead) (rest : List ℕ) → IsLined h → lines_from Leading (print_request h ++ rest) ≡ 1 + length h.fields
 unfolding print_request
-head_lines h rest lined =
+lines_counted h rest lined =
     let start = h.method ++ 32 ∷ h.target ++ 32 ∷ print_version h.minor in
     let after = print_section h.fields h.last ++ rest in
     ap (lines_from Leading) (shape (print_blank h.blank) h.method (32 ∷ h.target) (32 ∷ print_version h.minor) (print_end h.line_end) (print_section h.fields h.last) rest)
@@ -155,11 +157,11 @@ lined h is =
     }
 
 -- where the lines are too many each head has more than 32 fields, whatever follows
-pub overlong : (bytes : List ℕ) → 34 ≤ lines_from Leading bytes → RequestOverflows 32 bytes
+pub overlong : (bytes : List ℕ) → 34 ≤ length (head_lines bytes) → RequestOverflows 32 bytes
 overlong bytes long more h rest reads =
-    let most = head_lines h rest (lined h reads.0) in
+    let most = lines_counted h rest (lined h reads.0) in
     let same : lines_from Leading (bytes ++ more) ≡ 1 + length h.fields = ap (lines_from Leading) reads.1 ∙ most in
-    omega (arith, long, lines-append Leading bytes more, same)
+    omega (arith, long, counted_is bytes, lines-append Leading bytes more, same)
 
 pub opens_overlong : (bytes more : List ℕ) → is_overlong bytes ≡ true → Opens (bytes ++ more) (fault bad_head false)
-opens_overlong bytes more long = opens_never bytes more (overlong bytes (leb-true 34 (lines_from Leading bytes) long))
+opens_overlong bytes more long = opens_never bytes more (overlong bytes (leb-true 34 (length (head_lines bytes)) long))

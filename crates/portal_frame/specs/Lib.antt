@@ -1,4 +1,5 @@
 pub mod Heads
 pub mod Connection
+pub mod Counting
 pub mod Lines
 pub mod Stream

@@ -1,32 +1,51 @@
--- Lines of a head that has too many.
-use Rattle.std.specs.Prelude.{ℕ, ◌+◌, ◌==◌, if◌then◌else◌, Bool, false, nat_le, List, [], ◌∷◌}
-use Rattle.portal_frame.specs.declared.counting.At.{At}
-use Rattle.portal_frame.specs.declared.counting.At.TheVariants.{Leading, LeadingCr, Fresh, FreshCr, Inside}
+-- Heads with too many lines.
+use Rattle.std.specs.Prelude.{◌≡◌, refl, ℕ, ◌==◌, if◌then◌else◌, Bool, true, false, nat_le, List, [], ◌∷◌, ◌++◌, length, codes, replicate}
+use Rattle.std.specs.List.{flat_map}
 
--- the place in a line after one more byte that does not end the count
-abbrev pub step : At → ℕ → At
-step Leading b = if b == 10 then Leading else (if b == 13 then LeadingCr else Inside)
-step LeadingCr b = if b == 10 then Leading else Inside
-step Fresh b = if b == 13 then FreshCr else Inside
-step FreshCr b = Inside
-step Inside b = if b == 10 then Fresh else Inside
+-- nothing, or a CR alone
+abbrev pub is_empty_line : List ℕ → Bool
+is_empty_line [] = true
+is_empty_line (b ∷ []) = b == 13
+is_empty_line (b ∷ c ∷ line) = false
 
--- the byte ends an empty line
-abbrev pub stops : At → ℕ → Bool
-stops Fresh b = b == 10
-stops FreshCr b = b == 10
-stops _ b = false
+-- the lines that an LF ends, where `line` stands before the bytes; what no LF ends is no line
+abbrev pub lines_after : List ℕ → List ℕ → List (List ℕ)
+lines_after line [] = []
+lines_after line (b ∷ bytes) = if b == 10 then line ∷ lines_after [] bytes else lines_after (line ++ b ∷ []) bytes
 
--- the byte ends a line that is not empty
-abbrev pub counts : At → ℕ → ℕ
-counts Inside b = if b == 10 then 1 else 0
-counts _ b = 0
+-- without the empty lines in front
+abbrev pub without_leading : List (List ℕ) → List (List ℕ)
+without_leading [] = []
+without_leading (line ∷ lines) = if is_empty_line line then without_leading lines else line ∷ lines
 
--- how many whole lines stand there before the first empty one
-abbrev pub lines_from : At → List ℕ → ℕ
-lines_from at [] = 0
-lines_from at (b ∷ bytes) = if stops at b then 0 else counts at b + lines_from (step at b) bytes
+-- the lines before the first empty one, all where none is empty
+abbrev pub before_empty : List (List ℕ) → List (List ℕ)
+before_empty [] = []
+before_empty (line ∷ lines) = if is_empty_line line then [] else line ∷ before_empty lines
 
--- 34 lines follow the leading empty ones, and none of them is empty
+-- the lines of the head that stands at the front, whole or not
+abbrev pub head_lines : List ℕ → List (List ℕ)
+head_lines bytes = before_empty (without_leading (lines_after [] bytes))
+
+-- 34 lines, none of them empty: a head has at most 33, the start line and 32 fields
 abbrev pub is_overlong : List ℕ → Bool
-is_overlong bytes = nat_le 34 (lines_from Leading bytes)
+is_overlong bytes = nat_le 34 (length (head_lines bytes))
+
+-- empty lines in front, two lines, and the empty one after them
+two_lines : head_lines (codes "\n\r\na\r\nb\n\nc\n") ≡ codes "a\r" ∷ codes "b" ∷ []
+two_lines = refl
+
+-- what no LF ends is no line
+one_line : head_lines (codes "a\nb") ≡ codes "a" ∷ []
+one_line = refl
+
+-- lines of one letter
+abbrev lines_of_a : ℕ → List ℕ
+lines_of_a n = flat_map {X = ℕ} (λ k. codes "a\n") (replicate n 0)
+
+-- 33 lines are not too many, 34 are
+not_yet : is_overlong (codes "\n" ++ lines_of_a 33) ≡ false
+not_yet = refl
+
+too_many : is_overlong (codes "\n" ++ lines_of_a 34) ≡ true
+too_many = refl
