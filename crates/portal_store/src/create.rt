@@ -24,8 +24,7 @@ use std::alloc::Global;
 impl<S: Alter> Store<S> {
     /// Makes the portal's tables in a database that has none of them: the empty world in setup, whose office has this code.
     /// A refusal hands the connection back, and the file holds what it held where the connection is clean. `Exists` comes
-    /// where a table or a view of one of the six names is there, and only then. All else is an error of the connection: it is
-    /// told as `Memory` where the connection answered want of memory, and otherwise as `Store`.
+    /// where a table or a view of one of the six names is there, and only then; no clause says when `Store` or `Memory` comes.
     pub fn create(
         alloc: Global,
         mut conn: Connection<S>,

@@ -186,7 +186,7 @@ impl Model for Pattern {
 }
 
 impl Pattern {
-    /// Makes the tables in memory. An error is want of memory.
+    /// Makes the tables in memory. Any error of `sqlite` is handed on.
     pub fn new(alloc: Global) -> Result<Pattern, Error> {
         let conn = scratch(alloc)?;
         Ok(Pattern { conn })

@@ -23,8 +23,8 @@ pub trait Step {
         ensures survives { Survives (state S.Store tx.old.conn.now) (state S.Store tx.new.conn.now) (λ _. ⊥) };
 }
 
-/// Takes the step in a transaction of its own and commits it. After an error nothing is changed, and it is `Memory` for want of memory, else
-/// `Store`; after Ok a crash leaves what the step made.
+/// Takes the step in a transaction of its own and commits it. After an error nothing is changed, where the disk is clean and the
+/// connection is still open, and the fault is not `Damaged`; after Ok a crash leaves what the step made.
 pub fn commit<S: Alter, T: Step>(
     alloc: Global,
     conn: &mut Connection<S>,
