@@ -131,3 +131,12 @@ any_shown {X} {Y} p q f k (x ∷ xs) h = step (f x) refl (any_shown p q f k xs) 
         at : (b : Bool) → p y ≡ b → (b || list_any p (filter_map f xs)) ≡ true → (q x || list_any q xs) ≡ true
         at true t g = ap (λ b. b || list_any q xs) (k x y e t)
         at false t g = ap (λ b. q x || b) (rest g) ∙ or-true (q x)
+
+-- a change that keeps what is shown and the test
+pub kept_filtered : {X Y : Type 0} (key : X → Y) (f : X → X) (q : X → Bool) → ((x : X) → key (f x) ≡ key x) → ((x : X) → q (f x) ≡ q x) → (xs : List X) → map key (filter q (map f xs)) ≡ map key (filter q xs)
+kept_filtered key f q same alike [] = refl
+kept_filtered {X} key f q same alike (x ∷ xs) =
+    rw (alike x) (elim (q x) as (λ b. map key (cond b (f x ∷ filter q (map f xs)) (filter q (map f xs))) ≡ map key (cond b (x ∷ filter q xs) (filter q xs))) [
+      | true ↦ λ i. same x i ∷ kept_filtered key f q same alike xs i
+      | false ↦ kept_filtered key f q same alike xs
+    ])

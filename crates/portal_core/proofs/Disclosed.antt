@@ -1,14 +1,16 @@
 -- Replies do not tell the order within students' lists before the result is open.
-use Rattle.std.proofs.Common.{◌≡◌, Bool, true, false, List, [], ◌∷◌, refl, sym, ◌∙◌, ap, subst, inl, inr}
-use Rattle.std.specs.Prelude.{◌⊎◌, Option, Some, None, not, if◌then◌else◌}
+use Rattle.std.proofs.Common.{◌≡◌, Bool, true, false, cond, List, [], ◌∷◌, refl, sym, ◌∙◌, ap, subst, inl, inr}
+use Rattle.std.specs.Prelude.{◌⊎◌, Option, Some, None, is_none, if◌then◌else◌}
 use Rattle.std.specs.List.{AllZip}
 use Rattle.serde_json.specs.Data.{Data}
 use Rattle.portal_core.specs.Words.{Key, is_empty}
-use Rattle.portal_core.specs.World.{World, is_choosing, is_ranking, is_published, is_from_ranking}
+use Rattle.portal_core.specs.World.{World, is_choosing, is_ranking, is_from_ranking, has_result}
 use Rattle.portal_core.specs.Change.{Change, Choices, Ranks, Lecturers, Projects, Students, Fill, changed}
 use Rattle.portal_core.specs.declared.decision.Sheet.{Sheet}
 use Rattle.portal_core.specs.declared.phase.Phase.{Phase}
 use Rattle.portal_core.specs.declared.phase.Phase.TheVariants.{Setup, Choosing, Ranking, Published}
+use Rattle.portal_core.specs.declared.phase.Round.{Round}
+use Rattle.portal_core.specs.declared.phase.Round.TheVariants.{First, Second}
 use Rattle.portal_core.specs.declared.rows.Listing.{Listing}
 use Rattle.portal_core.specs.Sight.{StudentSees, OfficeSees}
 use Rattle.portal_core.specs.declared.view.View.{View as Sight}
@@ -18,7 +20,7 @@ use Rattle.portal_core.specs.Ask.{Ask}
 use Rattle.portal_core.specs.Bodies.{projects_body, students_body}
 use Rattle.portal_core.specs.Faults.{ListFault, choice_fault, ranking_fault}
 use Rattle.portal_core.specs.Rolls.{Taken, Faulty, Took, take_rows, lecturer_roll, project_roll, student_roll}
-use Rattle.portal_core.specs.Answer.{Answer, Said, Act, Nothing, Apply, Publish, Render, renders, fills, only, unless, applies, answered, refuses, added, moves, decision, answer, to_student}
+use Rattle.portal_core.specs.Answer.{Answer, Said, Act, Nothing, Apply, Publish, Render, renders, fills, only, unless, applies, already_placed, is_open_to_rolls, moves_on, moves_in, answered, refuses, added, decision, answer, to_student}
 use Rattle.portal_core.specs.Run.{Leaves, Step, Wish, Calls, Refused, Request, Answers, Run, AllAnswered}
 use Rattle.portal_core.specs.Places.{Reordered, SameButPlaces, SameWish, equal, sets, SameRequest, has_places, opens_result, Unless, AlikeUntilPublished}
 use Rattle.portal_core.proofs.Acts.{only_quiet}
@@ -58,18 +60,19 @@ same_ask x y s ask = by_path x y s ask
 
 -- lists in another order are both taken or both refused
 
-set_acts : (catalogue : List Listing) (me : Key) (ks ls : List Key) → Reordered ks ls → (b : Bool) (e f : Option ListFault) → choice_fault catalogue 1 [] ks ≡ e → choice_fault catalogue 1 [] ls ≡ f → (c d : Data)
-    → SameAct (only b (unless e (applies c (Choices me ks)))).act (only b (unless f (applies d (Choices me ls)))).act
-set_acts catalogue me ks ls r false e f ee ef c d = same_act Nothing
-set_acts catalogue me ks ls r true None None ee ef c d = reorders me r
-set_acts catalogue me ks ls r true (Some x) (Some y) ee ef c d = same_act Nothing
-set_acts catalogue me ks ls r true None (Some y) ee ef c d = let e : None ≡ Some y = sym (accepted_reordered catalogue ks ls r ee) ∙ ef in cc
-set_acts catalogue me ks ls r true (Some x) None ee ef c d = let e : None ≡ Some x = sym (accepted_reordered catalogue ls ks (reordered_back ks ls r) ef) ∙ ee in cc
+set_acts : (catalogue : List Listing) (me : Key) (ks ls : List Key) → Reordered ks ls → (b free : Bool) (e f : Option ListFault) → choice_fault catalogue 1 [] ks ≡ e → choice_fault catalogue 1 [] ls ≡ f → (c d : Data)
+    → SameAct (only b (cond free (unless e (applies c (Choices me ks))) already_placed)).act (only b (cond free (unless f (applies d (Choices me ls))) already_placed)).act
+set_acts catalogue me ks ls r false free e f ee ef c d = same_act Nothing
+set_acts catalogue me ks ls r true false e f ee ef c d = same_act Nothing
+set_acts catalogue me ks ls r true true None None ee ef c d = reorders me r
+set_acts catalogue me ks ls r true true (Some x) (Some y) ee ef c d = same_act Nothing
+set_acts catalogue me ks ls r true true None (Some y) ee ef c d = let e : None ≡ Some y = sym (accepted_reordered catalogue ks ls r ee) ∙ ef in cc
+set_acts catalogue me ks ls r true true (Some x) None ee ef c d = let e : None ≡ Some x = sym (accepted_reordered catalogue ls ks (reordered_back ks ls r) ef) ∙ ee in cc
 
 same_sets : (x y : Sight) → SameSight x y → (ks ls : List Key) → Reordered ks ls → SameAct (decision x (Ask.SetChoices ks)).act (decision y (Ask.SetChoices ls)).act
 same_sets (Student v) (Student u) s ks ls r =
     subst (λ z. SameAct (to_student v (Ask.SetChoices ks)).act (to_student z (Ask.SetChoices ls)).act) s
-    (set_acts v.catalogue v.me.key ks ls r (is_choosing v.phase) (choice_fault v.catalogue 1 [] ks) (choice_fault v.catalogue 1 [] ls) refl refl (projects_body ks) (projects_body ls))
+    (set_acts v.catalogue v.me.key ks ls r (is_choosing v.phase) (is_none v.result) (choice_fault v.catalogue 1 [] ks) (choice_fault v.catalogue 1 [] ls) refl refl (projects_body ks) (projects_body ls))
 same_sets Nobody y s ks ls r = subst (λ z. SameAct Nothing (decision z (Ask.SetChoices ls)).act) s (same_act Nothing)
 same_sets (Office v) y s ks ls r = subst (λ z. SameAct Nothing (decision z (Ask.SetChoices ls)).act) s (same_act Nothing)
 same_sets (Lecturer v) y s ks ls r = subst (λ z. SameAct Nothing (decision z (Ask.SetChoices ls)).act) s (same_act Nothing)
@@ -88,6 +91,12 @@ quiet_set true None body change = refl
 quiet_set true (Some f) body change = refl
 quiet_set false fault body change = refl
 
+pub quiet_free : (b free : Bool) (fault : Option ListFault) (body : Data) (change : Change) → is_publish (only b (cond free (unless fault (applies body change)) already_placed)).act ≡ false
+quiet_free true true None body change = refl
+quiet_free true true (Some f) body change = refl
+quiet_free true false fault body change = refl
+quiet_free false free fault body change = refl
+
 pub quiet_added : {X : Type 0} (b : Bool) (change : List X → Change) (t : Taken X) → is_publish (only b (added change t)).act ≡ false
 quiet_added false change t = refl
 quiet_added true change (Faulty f) = refl
@@ -105,37 +114,44 @@ never : (x : Sight) (ask : Ask) → is_publish (decision x ask).act ≡ false �
 never x ask e f = let e' : true ≡ false = sym f ∙ e in cc
 
 opens_if : (b : Bool) (body : Data) (refusal : Answer) → is_publish (if b then record { reply = answered 200 body; act = Publish } else refuses refusal).act ≡ true
-    → opens_result (Calls (Ask.Move Published)) (if b then record { reply = answered 200 body; act = Publish } else refuses refusal).reply ≡ true
-opens_if true body refusal e = refl
-opens_if false body refusal e = cc
+    → (named : Option Round) → opens_result (Calls (Ask.Move Published named)) (if b then record { reply = answered 200 body; act = Publish } else refuses refusal).reply ≡ true
+opens_if true body refusal e named = refl
+opens_if false body refusal e named = cc
 
-moves_open : (v : OfficeSees) (p q : Phase) → is_publish (moves v p q).act ≡ true → opens_result (Calls (Ask.Move q)) (moves v p q).reply ≡ true
-moves_open v Ranking Published e = opens_if (is_empty v.still_to_rank) _ _ e
-moves_open v Setup Setup e = cc
-moves_open v Setup Choosing e = cc
-moves_open v Choosing Choosing e = cc
-moves_open v Choosing Ranking e = cc
-moves_open v Ranking Ranking e = cc
-moves_open v Published Published e = cc
-moves_open v _ _ e = cc
+moves_open : (v : OfficeSees) (named : Option Round) (p q : Phase) → is_publish (moves_on v p q).act ≡ true → opens_result (Calls (Ask.Move q named)) (moves_on v p q).reply ≡ true
+moves_open v named Ranking Published e = opens_if (is_empty v.still_to_rank) _ _ e named
+moves_open v named Setup Setup e = cc
+moves_open v named Setup Choosing e = cc
+moves_open v named Choosing Choosing e = cc
+moves_open v named Choosing Ranking e = cc
+moves_open v named Ranking Ranking e = cc
+moves_open v named Published Published e = cc
+moves_open v named _ _ e = cc
+
+named_open : (v : OfficeSees) (q : Phase) (r s : Round) → is_publish (moves_in v r s q).act ≡ true → opens_result (Calls (Ask.Move q (Some s))) (moves_in v r s q).reply ≡ true
+named_open v q First First e = moves_open v (Some First) v.phase q e
+named_open v q Second Second e = moves_open v (Some Second) v.phase q e
+named_open v q First Second e = cc
+named_open v q Second First e = cc
 
 publishes_opens : (x : Sight) (ask : Ask) → is_publish (decision x ask).act ≡ true → opens_result (Calls ask) (answer x ask) ≡ true
 publishes_opens Nobody ask e = cc
-publishes_opens (Student v) (Ask.SetChoices list) e = never (Student v) (Ask.SetChoices list) (quiet_set (is_choosing v.phase) (choice_fault v.catalogue 1 [] list) (projects_body list) (Choices v.me.key list)) e
-publishes_opens (Student v) Ask.Result e = never (Student v) Ask.Result (ap is_publish (only_quiet (is_published v.phase) _ refl)) e
+publishes_opens (Student v) (Ask.SetChoices list) e = never (Student v) (Ask.SetChoices list) (quiet_free (is_choosing v.phase) (is_none v.result) (choice_fault v.catalogue 1 [] list) (projects_body list) (Choices v.me.key list)) e
+publishes_opens (Student v) Ask.Result e = never (Student v) Ask.Result (ap is_publish (only_quiet (has_result v.round v.phase) _ refl)) e
 publishes_opens (Student v) _ e = cc
 publishes_opens (Lecturer v) (Ask.SetRanking list) e = never (Lecturer v) (Ask.SetRanking list) (quiet_set (is_ranking v.phase) (ranking_fault v.applicants 1 [] list) (students_body (Some list)) (Ranks v.me.key list)) e
 publishes_opens (Lecturer v) Ask.Applicants e = never (Lecturer v) Ask.Applicants (ap is_publish (only_quiet (is_from_ranking v.phase) _ refl)) e
 publishes_opens (Lecturer v) Ask.ShowRanking e = never (Lecturer v) Ask.ShowRanking (ap is_publish (only_quiet (is_from_ranking v.phase) _ refl)) e
-publishes_opens (Lecturer v) Ask.Result e = never (Lecturer v) Ask.Result (ap is_publish (only_quiet (is_published v.phase) _ refl)) e
+publishes_opens (Lecturer v) Ask.Result e = never (Lecturer v) Ask.Result (ap is_publish (only_quiet (has_result v.round v.phase) _ refl)) e
 publishes_opens (Lecturer v) _ e = cc
-publishes_opens (Office v) (Ask.Move phase) e = moves_open v v.phase phase e
-publishes_opens (Office v) (Ask.AddLecturers rs) e = never (Office v) (Ask.AddLecturers rs) (quiet_added (not (is_from_ranking v.phase)) Lecturers (take_rows (lecturer_roll v) 1 v.lecturers rs)) e
-publishes_opens (Office v) (Ask.AddProjects rs) e = never (Office v) (Ask.AddProjects rs) (quiet_added (not (is_from_ranking v.phase)) Projects (take_rows (project_roll v) 1 v.projects rs)) e
-publishes_opens (Office v) (Ask.AddStudents rs) e = never (Office v) (Ask.AddStudents rs) (quiet_added (not (is_from_ranking v.phase)) Students (take_rows (student_roll v) 1 v.students rs)) e
-publishes_opens (Office v) Ask.Allocation e = never (Office v) Ask.Allocation (ap is_publish (only_quiet (is_published v.phase) _ refl)) e
-publishes_opens (Office v) Ask.AllocationCsv e = never (Office v) Ask.AllocationCsv (quiet_sheet (is_published v.phase) _ _) e
-publishes_opens (Office v) Ask.Report e = never (Office v) Ask.Report (quiet_sheet (is_published v.phase) _ _) e
+publishes_opens (Office v) (Ask.Move phase None) e = moves_open v None v.phase phase e
+publishes_opens (Office v) (Ask.Move phase (Some round)) e = named_open v phase v.round round e
+publishes_opens (Office v) (Ask.AddLecturers rs) e = never (Office v) (Ask.AddLecturers rs) (quiet_added (is_open_to_rolls v.round v.phase) Lecturers (take_rows (lecturer_roll v) 1 v.lecturers rs)) e
+publishes_opens (Office v) (Ask.AddProjects rs) e = never (Office v) (Ask.AddProjects rs) (quiet_added (is_open_to_rolls v.round v.phase) Projects (take_rows (project_roll v) 1 v.projects rs)) e
+publishes_opens (Office v) (Ask.AddStudents rs) e = never (Office v) (Ask.AddStudents rs) (quiet_added (is_open_to_rolls v.round v.phase) Students (take_rows (student_roll v) 1 v.students rs)) e
+publishes_opens (Office v) Ask.Allocation e = never (Office v) Ask.Allocation (ap is_publish (only_quiet (has_result v.round v.phase) _ refl)) e
+publishes_opens (Office v) Ask.AllocationCsv e = never (Office v) Ask.AllocationCsv (quiet_sheet (has_result v.round v.phase) _ _) e
+publishes_opens (Office v) Ask.Report e = never (Office v) Ask.Report (quiet_sheet (has_result v.round v.phase) _ _) e
 publishes_opens (Office v) Ask.FillRankings e = never (Office v) Ask.FillRankings (quiet_fill (is_ranking v.phase) v) e
 publishes_opens (Office v) _ e = cc
 

@@ -8,8 +8,9 @@ use Rattle.std.proofs.lemmas.List.{map-id}
 use Rattle.std.proofs.lemmas.Simd.{map-map}
 use Rattle.portal_core.specs.Words.{Key, is, has, AreDistinct, put}
 use Rattle.portal_core.specs.World as rows
-use Rattle.portal_core.specs.World.{World, lecturer_key, project_key, student_key, applicants_of, is_from_ranking, is_published}
-use Rattle.portal_core.specs.Change.{Lecturers, Projects, Students, changed, new_lecturer, new_student}
+use Rattle.portal_core.specs.World.{World, lecturer_key, project_key, student_key, applicants_of, is_from_ranking, is_published, is_left, in_play, projects_in}
+use Rattle.portal_core.specs.declared.phase.Round.TheVariants.{First}
+use Rattle.portal_core.specs.Change.{with_lecturers, with_projects, with_students, new_lecturer, new_student}
 use Rattle.portal_core.specs.Instance.{lecturer_keys, project_keys}
 use Rattle.portal_core.specs.declared.phase.Phase.{Phase}
 use Rattle.portal_core.specs.declared.phase.Phase.TheVariants.{Setup, Choosing, Ranking, Published}
@@ -52,7 +53,11 @@ distinct_swap (x ∷ xs) ys d = distinct_between ys xs x (distinct_swap xs ys d.
 still_has : {X : Type 0} (key : X → Key) (x : X) (ys : List X) (k : Key) → has (map key ys) k ≡ true → has (map key (put key x ys)) k ≡ true
 still_has key x ys k h = has_put key x key ys k ∙ ap (λ b. is k (key x) || b) h ∙ or-true (is k (key x))
 
-module _ (w : World) (early : is_from_ranking w.phase ≡ false) where
+module _ (w : World) (early : is_from_ranking w.phase ≡ false) (one : w.round ≡ First) where
+  -- in the first round each project takes part
+  all_take_part : (ls : List rows.Lecturer) (ps : List ProjectRow) (ss : List rows.Student) → project_keys (in_play (record w { lecturers = ls; projects = ps; students = ss })) ≡ map project_key ps
+  all_take_part ls ps ss = λ i. map project_key (projects_in (one i) ls ps ss)
+
   put_student : (ss : List rows.Student) (r : StudentRow) → Sound (record w { students = ss }) → IsStudent r → has (map student_key ss) r.key ≡ false
       → (student_roll (office_sees w)).is_bad (map (λ (s : rows.Student). s.row) ss) r ≡ false → length ss + 1 ≤ 2000 → Sound (record w { students = put student_key (new_student r) ss })
   put_student ss r g form key free room =
@@ -73,12 +78,18 @@ module _ (w : World) (early : is_from_ranking w.phase ≡ false) where
         few_students = omega arith;
         codes = distinct_put student_key (new_student r) (λ s. s.row.code) (w.office ∷ map (λ (l : rows.Lecturer). l.row.code) w.lecturers) ss g.codes code;
         lecturers_known = g.lecturers_known;
-        choices = all_put student_key (new_student r) (λ s. IsChoice (project_keys w) s.choice) ss (record { few = omega arith; known = tt; once = tt }) g.choices;
+        choices = subst (λ ks. AllByRecursion (λ s. IsChoice ks s.choice) (put student_key (new_student r) ss)) (sym (all_take_part w.lecturers w.projects (put student_key (new_student r) ss)))
+            (all_put student_key (new_student r) (λ s. IsChoice (project_keys w) s.choice) ss (record { few = omega arith; known = tt; once = tt })
+            (subst (λ ks. AllByRecursion (λ s. IsChoice ks s.choice) ss) (all_take_part w.lecturers w.projects ss) g.choices));
         no_choices_yet = λ h. all_put student_key (new_student r) (λ s. s.choice ≡ []) ss refl (g.no_choices_yet h);
         no_rankings_yet = g.no_rankings_yet;
         rankings = none_ranked (λ l. IsRanking (map student_key (applicants_of (record w { students = put student_key (new_student r) ss }) l.row.key))) w.lecturers (g.no_rankings_yet early);
         no_result_yet = λ h. all_put student_key (new_student r) (λ s. s.placed ≡ None) ss refl (g.no_result_yet h);
         all_ranked = λ h. let not' : is_published w.phase ≡ false = open_phase w.phase early in cc;
+        no_earlier_lists = λ h. all_put student_key (new_student r) (λ s. (s.earlier_choice ≡ []) × (s.earlier_place ≡ None)) ss (refl, refl) (g.no_earlier_lists h);
+        no_earlier_rankings = g.no_earlier_rankings;
+        no_second_setup = g.no_second_setup;
+        only_left = all_put student_key (new_student r) (λ s. is_left s ≡ false → (s.choice ≡ []) × (s.placed ≡ None)) ss (λ h. (refl, refl)) g.only_left;
       }
 
   put_lecturer : (ls : List rows.Lecturer) (r : LecturerRow) → Sound (record w { lecturers = ls }) → IsLecturer r → has (map lecturer_key ls) r.key ≡ false
@@ -108,12 +119,17 @@ module _ (w : World) (early : is_from_ranking w.phase ≡ false) where
         few_students = g.few_students;
         codes = (has_swap (map (λ (l : rows.Lecturer). l.row.code) (put lecturer_key (new_lecturer r) ls)) ss w.office ∙ more.0, distinct_swap ss (map (λ (l : rows.Lecturer). l.row.code) (put lecturer_key (new_lecturer r) ls)) more.1);
         lecturers_known = all_weaker _ _ (λ p h. still_has lecturer_key (new_lecturer r) ls p.lecturer h) w.projects g.lecturers_known;
-        choices = g.choices;
+        choices = subst (λ ks. AllByRecursion (λ s. IsChoice ks s.choice) w.students) (sym (all_take_part (put lecturer_key (new_lecturer r) ls) w.projects w.students))
+            (subst (λ ks. AllByRecursion (λ s. IsChoice ks s.choice) w.students) (all_take_part ls w.projects w.students) g.choices);
         no_choices_yet = g.no_choices_yet;
         no_rankings_yet = none;
         rankings = none_ranked (λ l. IsRanking (map student_key (applicants_of (record w { lecturers = put lecturer_key (new_lecturer r) ls }) l.row.key))) (put lecturer_key (new_lecturer r) ls) (none early);
         no_result_yet = g.no_result_yet;
         all_ranked = λ h. let not' : is_published w.phase ≡ false = open_phase w.phase early in cc;
+        no_earlier_lists = g.no_earlier_lists;
+        no_earlier_rankings = λ h. all_put lecturer_key (new_lecturer r) (λ l. l.earlier_ranking ≡ None) ls refl (g.no_earlier_rankings h);
+        no_second_setup = g.no_second_setup;
+        only_left = g.only_left;
       }
 
   put_project : (ps : List ProjectRow) (r : ProjectRow) → Sound (record w { projects = ps }) → IsProject r → has (map project_key ps) r.key ≡ false
@@ -135,32 +151,38 @@ module _ (w : World) (early : is_from_ranking w.phase ≡ false) where
         few_students = g.few_students;
         codes = g.codes;
         lecturers_known = all_put project_key r (λ p. has (lecturer_keys w) p.lecturer ≡ true) ps known g.lecturers_known;
-        choices = all_weaker _ _ (λ s c. record { few = c.few; known = all_weaker _ _ (λ p h. still_has project_key r ps p h) s.choice c.known; once = c.once }) w.students g.choices;
+        choices = subst (λ ks. AllByRecursion (λ s. IsChoice ks s.choice) w.students) (sym (all_take_part w.lecturers (put project_key r ps) w.students))
+            (all_weaker _ _ (λ s c. record { few = c.few; known = all_weaker _ _ (λ p h. still_has project_key r ps p h) s.choice c.known; once = c.once }) w.students
+            (subst (λ ks. AllByRecursion (λ s. IsChoice ks s.choice) w.students) (all_take_part w.lecturers ps w.students) g.choices));
         no_choices_yet = g.no_choices_yet;
         no_rankings_yet = g.no_rankings_yet;
         rankings = none_ranked (λ l. IsRanking (map student_key (applicants_of (record w { projects = put project_key r ps }) l.row.key))) w.lecturers (g.no_rankings_yet early);
         no_result_yet = g.no_result_yet;
         all_ranked = λ h. let not' : is_published w.phase ≡ false = open_phase w.phase early in cc;
+        no_earlier_lists = g.no_earlier_lists;
+        no_earlier_rankings = g.no_earlier_rankings;
+        no_second_setup = g.no_second_setup;
+        only_left = g.only_left;
       }
 
   itself : {X : Type 0} (xs : List X) → Alike xs xs
   itself xs = record { tests = λ p. refl; long = refl }
 
-  pub students_added : (rs new : List StudentRow) (same : ℕ) → Sound w → AllByRecursion IsStudent rs → take_rows (student_roll (office_sees w)) 1 (office_sees w).students rs ≡ Took new same → Sound (changed w (Students new))
+  pub students_added : (rs new : List StudentRow) (same : ℕ) → Sound w → AllByRecursion IsStudent rs → take_rows (student_roll (office_sees w)) 1 (office_sees w).students rs ≡ Took new same → Sound (with_students w new)
   students_added rs new same g forms e =
       taken (student_roll (office_sees w)) (λ s. s.row) new_student (λ r. refl) IsStudent (λ ss. Sound (record w { students = ss }))
       (λ xs ys r al. has_alike (λ (s : StudentRow). s.code) (w.office ∷ map (λ (l : LecturerRow). l.code) (office_sees w).lecturers) xs ys r.code al)
       put_student rs 1 (office_sees w).students w.students new same g (itself _) forms e
 
-  pub lecturers_added : (rs new : List LecturerRow) (same : ℕ) → Sound w → AllByRecursion IsLecturer rs → take_rows (lecturer_roll (office_sees w)) 1 (office_sees w).lecturers rs ≡ Took new same → Sound (changed w (Lecturers new))
+  pub lecturers_added : (rs new : List LecturerRow) (same : ℕ) → Sound w → AllByRecursion IsLecturer rs → take_rows (lecturer_roll (office_sees w)) 1 (office_sees w).lecturers rs ≡ Took new same → Sound (with_lecturers w new)
   lecturers_added rs new same g forms e =
       taken (lecturer_roll (office_sees w)) (λ l. l.row) new_lecturer (λ r. refl) IsLecturer (λ ls. Sound (record w { lecturers = ls }))
       (λ xs ys r al. has_alike (λ (l : LecturerRow). l.code) (w.office ∷ map (λ (s : StudentRow). s.code) (office_sees w).students) xs ys r.code al)
       put_lecturer rs 1 (office_sees w).lecturers w.lecturers new same g (itself _) forms e
 
-  pub projects_added : (rs new : List ProjectRow) (same : ℕ) → Sound w → AllByRecursion IsProject rs → take_rows (project_roll (office_sees w)) 1 (office_sees w).projects rs ≡ Took new same → Sound (changed w (Projects new))
+  pub projects_added : (rs new : List ProjectRow) (same : ℕ) → Sound w → AllByRecursion IsProject rs → take_rows (project_roll (office_sees w)) 1 (office_sees w).projects rs ≡ Took new same → Sound (with_projects w new)
   projects_added rs new same g forms e =
-      subst (λ ps. Sound (changed w (Projects ps))) (map-id new)
+      subst (λ ps. Sound (with_projects w ps)) (map-id new)
       (taken (project_roll (office_sees w)) (λ p. p) (λ p. p) (λ r. refl) IsProject (λ ps. Sound (record w { projects = ps }))
       (λ xs ys r al. refl)
       put_project rs 1 (office_sees w).projects w.projects new same g (subst (λ ps. Alike w.projects ps) (sym (map-id w.projects)) (itself w.projects)) forms e)

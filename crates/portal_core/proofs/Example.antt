@@ -1,5 +1,5 @@
--- The small world is good in each phase.
-use Rattle.std.proofs.Common.{◌≡◌, ℕ, suc, zero, ◌+◌, ◌<◌, ◌≤◌, true, false, cond, List, [], ◌∷◌, refl, ap, subst, arith}
+-- The small world is good in each phase of either round.
+use Rattle.std.proofs.Common.{◌≡◌, ℕ, suc, zero, ◌+◌, ◌<◌, ◌≤◌, true, false, cond, List, [], ◌∷◌, inl, refl, ap, subst, arith}
 use Rattle.std.specs.Prelude.{codes, ◌==◌, Option, Some, None, IfSome, map}
 use Rattle.std.specs.List.{AllByRecursion}
 use Rattle.std.proofs.lemmas.Bool.Decides.{nat_tests}
@@ -7,11 +7,15 @@ use Rattle.portal_core.specs.declared.phase.Phase.{Phase}
 use Rattle.portal_core.specs.declared.phase.Phase.TheVariants.{Setup, Choosing, Ranking, Published}
 use Rattle.spa_model.specs.declared.letter.Letter.{Letter}
 use Rattle.spa_model.specs.declared.letter.Letter.TheVariants.{A, B, C}
-use Rattle.spa_model.specs.Spa.{Spa, IsStable, IsOn, IsAcceptable, project_of, choices_of, at_project, at_lecturer, capacity_of, limit_of, Wants, Blocks, place}
+use Rattle.spa_model.specs.Spa.{Spa, IsStable, IsBest, IsAsGood, IsOn, IsAcceptable, project_of, choices_of, at_project, at_lecturer, capacity_of, limit_of, Wants, Blocks, place}
 use Rattle.portal_core.specs.World.{student_key, applicants_of, is_setup, is_published, is_from_ranking, is_still_to_rank}
 use Rattle.portal_core.specs.Instance.{project_keys}
 use Rattle.portal_core.specs.Good.{Good, Sound, IsChoice, IsRanking}
-use Rattle.portal_core.specs.Worked.{worked}
+use Rattle.portal_core.specs.Change.{Choices, Fill, changed}
+use Rattle.portal_core.specs.Ask.{Ask}
+use Rattle.portal_core.specs.Worked.{worked, again, again_ranking, again_published, cyr, office}
+use Rattle.portal_core.proofs.Opened.{begun_good}
+use Rattle.portal_core.proofs.Steps.{step_good}
 use Rattle.portal_core.proofs.Texts.{ascii_text}
 
 -- its rows
@@ -87,6 +91,10 @@ sound phase =
       rankings = rankings phase;
       no_result_yet = no_result phase;
       all_ranked = all_ranked phase;
+      no_earlier_lists = λ h. ((refl, refl), ((refl, refl), ((refl, refl), tt)));
+      no_earlier_rankings = λ h. (refl, (refl, tt));
+      no_second_setup = λ h. cc;
+      only_left = (λ h. cc, (λ h. cc, (λ h. cc, tt)));
     }
 
 -- its result
@@ -156,7 +164,73 @@ stable =
     }
 
 pub worked_good : (phase : Phase) → Good (worked phase)
-worked_good Published = record { sound = sound Published; stable = λ h. stable }
-worked_good Setup = record { sound = sound Setup; stable = λ h. cc }
-worked_good Choosing = record { sound = sound Choosing; stable = λ h. cc }
-worked_good Ranking = record { sound = sound Ranking; stable = λ h. cc }
+worked_good Published = record { sound = sound Published; stable = λ h. stable; before = λ h. cc }
+worked_good Setup = record { sound = sound Setup; stable = λ h. cc; before = λ h. cc }
+worked_good Choosing = record { sound = sound Choosing; stable = λ h. cc; before = λ h. cc }
+worked_good Ranking = record { sound = sound Ranking; stable = λ h. cc; before = λ h. cc }
+
+-- the second round: one student, one project and one lecturer
+
+abbrev small : Spa
+small =
+    record {
+      student_keys = codes "S3" ∷ [];
+      choices = (0 ∷ []) ∷ [];
+      project_keys = codes "P3" ∷ [];
+      lecturers = 0 ∷ [];
+      capacities = 1 ∷ [];
+      lecturer_keys = codes "L2" ∷ [];
+      rankings = (0 ∷ []) ∷ [];
+      limits = 1 ∷ [];
+    }
+
+small_acceptable : (s p : ℕ) → project_of (Some 0 ∷ []) s ≡ Some p → IsAcceptable small s p
+small_acceptable zero p e = let is : 0 ≡ p = cc in subst (λ q. IsOn (0 ∷ []) q) is (omega arith)
+small_acceptable (suc s) p e = cc
+
+small_room : (p : ℕ) → at_project (Some 0 ∷ []) p ≤ capacity_of small p
+small_room zero = omega arith
+small_room (suc p) = rw (unequal 0 (suc p) (omega arith)) (omega arith)
+
+small_limit : (l : ℕ) → at_lecturer small (Some 0 ∷ []) l ≤ limit_of small l
+small_limit zero = omega arith
+small_limit (suc l) = rw (unequal 0 (suc l) (omega arith)) (omega arith)
+
+small_wanted : (s p : ℕ) → Wants small (Some 0 ∷ []) s p → ⊥
+small_wanted zero p h = let better = h.1.0 in absurd (omega arith)
+small_wanted (suc s) p h = let listed = h.0 in absurd (omega arith)
+
+small_best : IsBest small (Some 0 ∷ [])
+small_best =
+    record {
+      stable = record {
+        matching = record { students = refl; acceptable = small_acceptable; projects = small_room; lecturers = small_limit };
+        unblocked = λ s p x h. small_wanted s p (small_wants s p x h);
+      };
+      best = λ n other s. as_good s (project_of n s) (λ q e. other.matching.acceptable s q e);
+    }
+  where
+    small_wants : (s p : ℕ) (x : Letter) → Blocks small (Some 0 ∷ []) s p x → Wants small (Some 0 ∷ []) s p
+    small_wants s p A h = h.0
+    small_wants s p B h = h.0
+    small_wants s p C h = h.0
+
+    as_good : (s : ℕ) (o : Option ℕ) → ((q : ℕ) → o ≡ Some q → IsAcceptable small s q) → IsAsGood small s (project_of (Some 0 ∷ []) s) o
+    as_good s None on = tt
+    as_good zero (Some zero) on = inl refl
+    as_good zero (Some (suc q)) on = let listed = on (suc q) refl in absurd (let off : (0 == suc q) ≡ false = unequal 0 (suc q) (omega arith) in grind (arith, nat_tests))
+    as_good (suc s) (Some q) on = let listed = on q refl in absurd (omega arith)
+
+pub again_good : Good again
+again_good = begun_good (worked Published) (worked_good Published) refl refl
+
+pub again_ranking_good : Good again_ranking
+again_ranking_good =
+    let listed : Good (changed again (Choices (codes "S3") (codes "P3" ∷ [])))
+    = step_good again _ cyr (Ask.SetChoices (codes "P3" ∷ [])) _ again_good (record { form = tt; told = refl; left = refl }) in
+    step_good _ again_ranking office (Ask.Move Ranking None) _ listed (record { form = tt; told = refl; left = refl })
+
+pub again_published_good : Good again_published
+again_published_good =
+    let ranked : Good (changed again_ranking Fill) = step_good again_ranking _ office Ask.FillRankings _ again_ranking_good (record { form = tt; told = refl; left = refl }) in
+    step_good _ again_published office (Ask.Move Published None) _ ranked (record { form = tt; told = refl; left = ((codes "S3", codes "P3") ∷ [], refl, small_best) })

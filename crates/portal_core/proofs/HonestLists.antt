@@ -1,6 +1,6 @@
 -- No other list gains anything: of worlds.
-use Rattle.std.proofs.Common.{◌≡◌, ℕ, zero, suc, ◌+◌, ◌<◌, ◌≤◌, Bool, true, false, not, cond, eqb, inl, inr, List, [], ◌∷◌, map, length, get_or, refl, sym, ◌∙◌, ap, subst, arith}
-use Rattle.std.specs.Prelude.{Option, Some, None, IfSome, option_map, unwrap_or, is_none, ◌&&◌, ◌||◌, filter}
+use Rattle.std.proofs.Common.{◌≡◌, ℕ, zero, suc, ◌+◌, ◌-◌, ◌<◌, ◌≤◌, Bool, true, false, not, cond, eqb, inl, inr, List, [], ◌∷◌, map, length, get_or, refl, sym, ◌∙◌, ap, subst, arith}
+use Rattle.std.specs.Prelude.{Option, Some, None, IfSome, option_map, unwrap_or, is_none, nat_lt, count_by, ◌&&◌, ◌||◌, filter}
 use Rattle.std.specs.List.{AllByRecursion, AllZip, list_any, find}
 use Rattle.std.proofs.Math.Bool.{or-true}
 use Rattle.std.proofs.lemmas.Bool.{eqb-true, eq-eqb, cases_lt}
@@ -8,17 +8,20 @@ use Rattle.std.proofs.lemmas.List.{get_or-map, length-map, get_or_past}
 use Rattle.std.proofs.lemmas.List.Elements.{AllZip-get_or}
 use Rattle.std.proofs.lemmas.Slice.Zip.{AllZip-long}
 use Rattle.std.proofs.lemmas.List.Folds.{list_any_at}
-use Rattle.spa_model.specs.Spa.{place, project_of, choices_of, lecturer_of, ranking_of, IsOn, IsAcceptable, IsAsGood, IsDistinct}
+use Rattle.spa_model.specs.Spa.{IsBest, place, project_of, choices_of, lecturer_of, ranking_of, IsOn, IsAcceptable, IsAsGood, IsDistinct}
 use Rattle.spa_model.specs.Pairs.{number_in}
 use Rattle.spa_model.proofs.Numbers.{number_is, number_known}
+use Rattle.spa_model.proofs.PairFaults.{count_by-map}
 use Rattle.spa_student.specs.Machine.{IsRanked}
 use Rattle.spa_student.proofs.CutSteps.{acceptable_in_range}
 use Rattle.spa_honest.specs.Honest as instances
 use Rattle.spa_honest.proofs.Gains.{honest_is_best as honest_by_number}
 use Rattle.portal_core.specs.declared.rows.ProjectRow.{ProjectRow}
 use Rattle.portal_core.specs.Words.{Key, is, has, is_empty, AreDistinct}
-use Rattle.portal_core.specs.World.{World, Lecturer, Student, lecturer_key, project_key, student_key, projects_of, applicants_of, is_published}
-use Rattle.portal_core.specs.Instance.{instance, matching_of, lecturer_keys, project_keys, student_keys}
+use Rattle.portal_core.specs.World.{World, Lecturer, Student, lecturer_key, project_key, student_key, projects_of, applicants_of, is_published, is_at, is_left, given_with, lowered_lecturer, lowered_project, lecturers_left, students_left, lecturers_in, projects_in, students_in, in_play, alone, alone_lecturer, alone_student}
+use Rattle.portal_core.specs.declared.phase.Round.{Round}
+use Rattle.portal_core.specs.declared.phase.Round.TheVariants.{First, Second}
+use Rattle.portal_core.specs.Instance.{instance, instance_of, places_of, lecturer_keys, project_keys, student_keys}
 use Rattle.portal_core.specs.View.{OfficeCaller, caller_among, lecturer_with, student_with, sight_of, view, student_sees}
 use Rattle.portal_core.specs.Good.{Sound, IsChoice, IsRanking}
 use Rattle.portal_core.specs.Sight.{StudentSees}
@@ -28,6 +31,9 @@ use Rattle.portal_core.proofs.Keys.{is_same, is_own}
 use Rattle.portal_core.proofs.AllLaws.{all_at, any_map, filtered_any}
 use Rattle.portal_core.proofs.Only.{has_contains, on_roll}
 use Rattle.portal_core.proofs.Published.{number_back}
+use Rattle.portal_core.proofs.Capacities.{first_plays}
+use Rattle.portal_core.proofs.InPlay.{lecturers_given, projects_given}
+use Rattle.portal_core.proofs.Alone.{played_alone, rows_alone, places_alone}
 
 -- numbers of keys
 
@@ -97,13 +103,13 @@ module _ (keys : List Key) where
 -- rows by number
 
 no_student : Student
-no_student = record { row = record { key = []; name = []; code = [] }; choice = []; placed = None }
+no_student = record { row = record { key = []; name = []; code = [] }; choice = []; placed = None; earlier_choice = []; earlier_place = None }
 
 no_project : ProjectRow
 no_project = record { key = []; lecturer = []; title = []; capacity = 0 }
 
 no_lecturer : Lecturer
-no_lecturer = record { row = record { key = []; name = []; code = []; capacity = 0 }; ranking = None }
+no_lecturer = record { row = record { key = []; name = []; code = []; capacity = 0 }; ranking = None; earlier_ranking = None }
 
 -- an applicant stands on the ranking, where nobody is still to rank
 on_ranking : (apps : List Student) (k : Key) (o : Option (List Key)) → IfSome o (IsRanking (map student_key apps)) → (not (is_empty apps) && is_none o) ≡ false → has (map student_key apps) k ≡ true → has (unwrap_or o []) k ≡ true
@@ -117,26 +123,29 @@ both_hold : (a b : Bool) → a ≡ true → b ≡ true → (a && b) ≡ true
 both_hold true b e f = f
 both_hold false b e f = absurd (cc)
 
-module _ (w : World) (sound : Sound w) (published : is_published w.phase ≡ true) where
+module _ (w : World) (sound : Sound w) (one : w.round ≡ First) (published : is_published w.phase ≡ true) where
+  chosen : AllByRecursion (λ (x : Student). IsChoice (project_keys w) x.choice) w.students
+  chosen = subst (λ u. AllByRecursion (λ (x : Student). IsChoice (project_keys u) x.choice) w.students) (first_plays w one) sound.choices
+
   student : ℕ → Student
   student s = get_or w.students s no_student
 
-  choices : (s : ℕ) (d : Student) → s < length w.students → choices_of (instance w) s ≡ map (number_in (project_keys w)) (get_or w.students s d).choice
+  choices : (s : ℕ) (d : Student) → s < length w.students → choices_of (instance_of w) s ≡ map (number_in (project_keys w)) (get_or w.students s d).choice
   choices s d h = get_or-map (λ (x : Student). map (number_in (project_keys w)) x.choice) w.students s d [] h
 
   choice : (s : ℕ) (d : Student) → s < length w.students → IsChoice (project_keys w) (get_or w.students s d).choice
-  choice s d h = all_at (λ (x : Student). IsChoice (project_keys w) x.choice) w.students s d sound.choices h
+  choice s d h = all_at (λ (x : Student). IsChoice (project_keys w) x.choice) w.students s d chosen h
 
-  in_range : (s p : ℕ) → IsAcceptable (instance w) s p → s < length w.students
-  in_range s p on = omega (arith, acceptable_in_range (instance w) s p on, length-map w.students (λ (x : Student). map (number_in (project_keys w)) x.choice))
+  in_range : (s p : ℕ) → IsAcceptable (instance_of w) s p → s < length w.students
+  in_range s p on = omega (arith, acceptable_in_range (instance_of w) s p on, length-map w.students (λ (x : Student). map (number_in (project_keys w)) x.choice))
 
-  known_key : (s p : ℕ) → IsAcceptable (instance w) s p → p < length (project_keys w)
-  known_key s p on = on_roll (project_keys w) w.students sound.choices s p on
+  known_key : (s p : ℕ) → IsAcceptable (instance_of w) s p → p < length (project_keys w)
+  known_key s p on = on_roll (project_keys w) w.students chosen s p on
 
-  known : (s p : ℕ) → IsAcceptable (instance w) s p → p < length w.projects
+  known : (s p : ℕ) → IsAcceptable (instance_of w) s p → p < length w.projects
   known s p on = omega (arith, known_key s p on, length-map w.projects project_key)
 
-  lecturer_at : (p : ℕ) → p < length w.projects → lecturer_of (instance w) p ≡ number_in (lecturer_keys w) (get_or w.projects p no_project).lecturer
+  lecturer_at : (p : ℕ) → p < length w.projects → lecturer_of (instance_of w) p ≡ number_in (lecturer_keys w) (get_or w.projects p no_project).lecturer
   lecturer_at p h = get_or-map (λ (q : ProjectRow). number_in (lecturer_keys w) q.lecturer) w.projects p no_project 0 h
 
   lecturer_known : (p : ℕ) → p < length w.projects → number_in (lecturer_keys w) (get_or w.projects p no_project).lecturer < length (lecturer_keys w)
@@ -156,7 +165,7 @@ module _ (w : World) (sound : Sound w) (published : is_published w.phase ≡ tru
       ∙ list_any_at (λ (y : Student). list_any (λ (q : ProjectRow). has y.choice q.key) (projects_of w l) && is x.row.key y.row.key) w.students s no_student s_in
       (both_hold (list_any (λ (q : ProjectRow). has x.choice q.key) (projects_of w l)) (is x.row.key x.row.key) wants (is_own x.row.key))
 
-  ranked : (s p : ℕ) → IsAcceptable (instance w) s p → IsOn (ranking_of (instance w) (lecturer_of (instance w) p)) s
+  ranked : (s p : ℕ) → IsAcceptable (instance_of w) s p → IsOn (ranking_of (instance_of w) (lecturer_of (instance_of w) p)) s
   ranked s p on =
       let s_in : s < length w.students = in_range s p on in
       let p_in : p < length w.projects = known s p on in
@@ -178,22 +187,22 @@ module _ (w : World) (sound : Sound w) (published : is_published w.phase ≡ tru
       let s_key : get_or (student_keys w) s [] ≡ x.row.key = get_or-map student_key w.students s no_student [] s_in in
       let s_low : s < length (student_keys w) = omega (arith, length-map w.students student_key) in
       let s_number : number_in (student_keys w) x.row.key ≡ s = ap (number_in (student_keys w)) (sym s_key) ∙ number_back (student_keys w) s sound.students_rise s_low in
-      let ranking : ranking_of (instance w) l ≡ map (number_in (student_keys w)) (unwrap_or row.ranking []) =
+      let ranking : ranking_of (instance_of w) l ≡ map (number_in (student_keys w)) (unwrap_or row.ranking []) =
       get_or-map (λ (y : Lecturer). map (number_in (student_keys w)) (unwrap_or y.ranking [])) w.lecturers l no_lecturer [] l_in in
       let stands : IsOn (map (number_in (student_keys w)) (unwrap_or row.ranking [])) s =
       subst (IsOn (map (number_in (student_keys w)) (unwrap_or row.ranking []))) s_number
       (on_number (student_keys w) (unwrap_or row.ranking []) x.row.key (subst (λ n. n < length (student_keys w)) (sym s_number) s_low) there) in
-      subst (λ n. IsOn (ranking_of (instance w) n) s) (sym (lecturer_at p p_in)) (subst (λ list. IsOn list s) (sym ranking) stands)
+      subst (λ n. IsOn (ranking_of (instance_of w) n) s) (sym (lecturer_at p p_in)) (subst (λ list. IsOn list s) (sym ranking) stands)
 
-  -- the instance of a good world in published is ranked
-  pub world_ranked : IsRanked (instance w)
+  -- the instance of a sound world in published is ranked
+  world_ranked : IsRanked (instance_of w)
   world_ranked = record {
     known = λ s p on. omega (arith, known s p on, length-map w.projects (λ (q : ProjectRow). number_in (lecturer_keys w) q.lecturer));
     offered = λ p h. offered p (omega (arith, length-map w.projects (λ (q : ProjectRow). number_in (lecturer_keys w) q.lecturer)));
     ranked = ranked;
-    choices_distinct = distinct w.students sound.choices;
+    choices_distinct = distinct w.students chosen;
   } where
-    offered : (p : ℕ) → p < length w.projects → lecturer_of (instance w) p < length (instance w).rankings
+    offered : (p : ℕ) → p < length w.projects → lecturer_of (instance_of w) p < length (instance_of w).rankings
     offered p h = rw (lecturer_at p h) (omega (arith, lecturer_known p h, length-map w.lecturers lecturer_key, length-map w.lecturers (λ (y : Lecturer). map (number_in (student_keys w)) (unwrap_or y.ranking []))))
 
     distinct : (ss : List Student) → AllByRecursion (λ x. IsChoice (project_keys w) x.choice) ss → (s : ℕ) → IsDistinct (get_or (map (λ (x : Student). map (number_in (project_keys w)) x.choice) ss) s [])
@@ -202,7 +211,7 @@ module _ (w : World) (sound : Sound w) (published : is_published w.phase ≡ tru
     distinct (x ∷ ss) all (suc s) = distinct ss all.1 s
 
   -- the project that the matching gives is the place in the result
-  given : (s : ℕ) (d : Student) → s < length w.students → project_of (matching_of w) s ≡ option_map (number_in (project_keys w)) (get_or w.students s d).placed
+  given : (s : ℕ) (d : Student) → s < length w.students → project_of (places_of w) s ≡ option_map (number_in (project_keys w)) (get_or w.students s d).placed
   given s d h = get_or-map (λ (x : Student). option_map (number_in (project_keys w)) x.placed) w.students s d None h
 
 -- the student of this number on the roll
@@ -211,28 +220,25 @@ record IsStudent (w : World) (s : ℕ) (x : Student) : Type 0 where
   pub is : get_or w.students s x ≡ x
 
 -- from numbers to keys
-module _ (w : World) (sound : Sound w) (published : is_published w.phase ≡ true) (s : ℕ) (x : Student) (is_x : IsStudent w s x) where
-  x_choices : choices_of (instance w) s ≡ map (number_in (project_keys w)) x.choice
-  x_choices = subst (λ (y : Student). choices_of (instance w) s ≡ map (number_in (project_keys w)) y.choice) is_x.is (choices w sound published s x is_x.in_range)
+module _ (w : World) (sound : Sound w) (one : w.round ≡ First) (published : is_published w.phase ≡ true) (s : ℕ) (x : Student) (is_x : IsStudent w s x) where
+  x_choices : choices_of (instance_of w) s ≡ map (number_in (project_keys w)) x.choice
+  x_choices = subst (λ (y : Student). choices_of (instance_of w) s ≡ map (number_in (project_keys w)) y.choice) is_x.is (choices w sound one published s x is_x.in_range)
 
-  x_given : project_of (matching_of w) s ≡ option_map (number_in (project_keys w)) x.placed
-  x_given = subst (λ (y : Student). project_of (matching_of w) s ≡ option_map (number_in (project_keys w)) y.placed) is_x.is (given w sound published s x is_x.in_range)
-
-  shown : (student_sees w x).result ≡ x.placed
-  shown = rw published refl
+  x_given : project_of (places_of w) s ≡ option_map (number_in (project_keys w)) x.placed
+  x_given = subst (λ (y : Student). project_of (places_of w) s ≡ option_map (number_in (project_keys w)) y.placed) is_x.is (given w sound one published s x is_x.in_range)
 
   -- a project on the list is acceptable by its number
-  x_acceptable : (p : Key) → number_in (project_keys w) p < length (project_keys w) → has x.choice p ≡ true → IsAcceptable (instance w) s (number_in (project_keys w) p)
+  x_acceptable : (p : Key) → number_in (project_keys w) p < length (project_keys w) → has x.choice p ≡ true → IsAcceptable (instance_of w) s (number_in (project_keys w) p)
   x_acceptable p low there = rw x_choices (on_number (project_keys w) x.choice p low there)
 
-  x_no_worse : (p : Key) → number_in (project_keys w) p < length (project_keys w) → has x.choice p ≡ true → (o : Option Key) → ((q : Key) → o ≡ Some q → IsAcceptable (instance w) s (number_in (project_keys w) q))
-      → IsAsGood (instance w) s (option_map (number_in (project_keys w)) o) (Some (number_in (project_keys w) p))
+  x_no_worse : (p : Key) → number_in (project_keys w) p < length (project_keys w) → has x.choice p ≡ true → (o : Option Key) → ((q : Key) → o ≡ Some q → IsAcceptable (instance_of w) s (number_in (project_keys w) q))
+      → IsAsGood (instance_of w) s (option_map (number_in (project_keys w)) o) (Some (number_in (project_keys w) p))
       → (q : Key) × (o ≡ Some q) × (has x.choice q ≡ true) × (number_in x.choice q ≤ number_in x.choice p)
   x_no_worse p low there None on good = absurd good
   x_no_worse p low there (Some q) on good =
       let keys : List Key = project_keys w in
       let q_on : IsOn (map (number_in (project_keys w)) x.choice) (number_in (project_keys w) q) = rw x_choices at (on q refl) in
-      let q_low : number_in (project_keys w) q < length (project_keys w) = known_key w sound published s (number_in (project_keys w) q) (on q refl) in
+      let q_low : number_in (project_keys w) q < length (project_keys w) = known_key w sound one published s (number_in (project_keys w) q) (on q refl) in
       let at_p : place (map (number_in (project_keys w)) x.choice) (number_in (project_keys w) p) ≡ number_in x.choice p = place_number (project_keys w) x.choice p low in
       let at_q : place (map (number_in (project_keys w)) x.choice) (number_in (project_keys w) q) ≡ number_in x.choice q = place_number (project_keys w) x.choice q q_low in (
         q,
@@ -318,13 +324,13 @@ module _ (w v : World) (sound : Sound w) (good : Sound v) (s : ℕ) (key : Key) 
       let low_s : s < length (student_keys w) = omega (arith, length-map w.students student_key) in
       other (sym (number_back (student_keys w) t sound.students_rise low) ∙ ap (number_in (student_keys w)) (t_key ∙ sym s_key) ∙ number_back (student_keys w) s sound.students_rise low_s)
 
-  choices_in : (x : World) (t : ℕ) → t < length x.students → choices_of (instance x) t ≡ map (number_in (project_keys x)) (get_or x.students t no_student).choice
+  choices_in : (x : World) (t : ℕ) → t < length x.students → choices_of (instance_of x) t ≡ map (number_in (project_keys x)) (get_or x.students t no_student).choice
   choices_in x t h = get_or-map (λ (y : Student). map (number_in (project_keys x)) y.choice) x.students t no_student [] h
 
-  ranking_in : (x : World) (l : ℕ) → l < length x.lecturers → ranking_of (instance x) l ≡ map (number_in (student_keys x)) (unwrap_or (get_or x.lecturers l no_lecturer).ranking [])
+  ranking_in : (x : World) (l : ℕ) → l < length x.lecturers → ranking_of (instance_of x) l ≡ map (number_in (student_keys x)) (unwrap_or (get_or x.lecturers l no_lecturer).ranking [])
   ranking_in x l h = get_or-map (λ (y : Lecturer). map (number_in (student_keys x)) (unwrap_or y.ranking [])) x.lecturers l no_lecturer [] h
 
-  differ_by_number : instances.DifferInOneList (instance w) (instance v) s
+  differ_by_number : instances.DifferInOneList (instance_of w) (instance_of v) s
   differ_by_number = record {
     students = length-map v.students _ ∙ count_students ∙ sym (length-map w.students _);
     lecturers = λ i. map (λ (p : ProjectRow). number_in (lecturers_same i) p.lecturer) (differ.projects i);
@@ -333,29 +339,29 @@ module _ (w v : World) (sound : Sound w) (good : Sound v) (s : ℕ) (key : Key) 
     others = others;
     orders = orders;
   } where
-    others : (t : ℕ) → (t ≡ s → ⊥) → choices_of (instance v) t ≡ choices_of (instance w) t
+    others : (t : ℕ) → (t ≡ s → ⊥) → choices_of (instance_of v) t ≡ choices_of (instance_of w) t
     others t other = elim (cases_lt t (length w.students)) [
       | inl t_in ↦
           let alike = AllZip-get_or (ListAlike key) w.students v.students t no_student no_student differ.students t_in in
           choices_in v t (omega (arith, count_students))
           ∙ (λ i. map (number_in (projects_same i)) (alike.1 (other_key t t_in other) i))
           ∙ sym (choices_in w t t_in)
-      | inr past ↦ get_or_past (instance v).choices t [] (omega (arith, count_students, length-map v.students (λ (y : Student). map (number_in (project_keys v)) y.choice)))
-          ∙ sym (get_or_past (instance w).choices t [] (omega (arith, length-map w.students (λ (y : Student). map (number_in (project_keys w)) y.choice))))
+      | inr past ↦ get_or_past (instance_of v).choices t [] (omega (arith, count_students, length-map v.students (λ (y : Student). map (number_in (project_keys v)) y.choice)))
+          ∙ sym (get_or_past (instance_of w).choices t [] (omega (arith, length-map w.students (λ (y : Student). map (number_in (project_keys w)) y.choice))))
     ]
 
-    orders : (l : ℕ) → instances.OrderAlike (ranking_of (instance w) l) (ranking_of (instance v) l)
+    orders : (l : ℕ) → instances.OrderAlike (ranking_of (instance_of w) l) (ranking_of (instance_of v) l)
     orders l = elim (cases_lt l (length w.lecturers)) [
       | inl l_in ↦
           let alike = AllZip-get_or RankAlike w.lecturers v.lecturers l no_lecturer no_lecturer differ.lecturers l_in in
           let v_in : l < length v.lecturers = omega (arith, count_lecturers) in
           let by_keys = order_numbers (student_keys v) (unwrap_or (get_or w.lecturers l no_lecturer).ranking []) (unwrap_or (get_or v.lecturers l no_lecturer).ranking []) (rank_known v good l no_lecturer v_in) alike.1 in
-          let first : map (number_in (student_keys v)) (unwrap_or (get_or w.lecturers l no_lecturer).ranking []) ≡ ranking_of (instance w) l =
+          let first : map (number_in (student_keys v)) (unwrap_or (get_or w.lecturers l no_lecturer).ranking []) ≡ ranking_of (instance_of w) l =
           ap (λ keys. map (number_in keys) (unwrap_or (get_or w.lecturers l no_lecturer).ranking [])) students_same ∙ sym (ranking_in w l l_in) in
-          subst (λ xs. instances.OrderAlike xs (ranking_of (instance v) l)) first
+          subst (λ xs. instances.OrderAlike xs (ranking_of (instance_of v) l)) first
           (subst (instances.OrderAlike (map (number_in (student_keys v)) (unwrap_or (get_or w.lecturers l no_lecturer).ranking []))) (sym (ranking_in v l v_in)) by_keys)
       | inr past ↦
-          let none : ranking_of (instance v) l ≡ [] = get_or_past (instance v).rankings l [] (omega (arith, count_lecturers, length-map v.lecturers (λ (y : Lecturer). map (number_in (student_keys v)) (unwrap_or y.ranking [])))) in
+          let none : ranking_of (instance_of v) l ≡ [] = get_or_past (instance_of v).rankings l [] (omega (arith, count_lecturers, length-map v.lecturers (λ (y : Lecturer). map (number_in (student_keys v)) (unwrap_or y.ranking [])))) in
           λ a b on_a on_b before. absurd (let off : IsOn [] a = rw none at on_a in omega (arith, off))
     ]
 
@@ -386,35 +392,169 @@ same_place key code x y (s ∷ ss) (t ∷ ts) z e f = by_test (is s.row.code cod
     by_test false true same r e f = absurd (cc)
     by_test false false same r e f = let rest = r e f in (suc rest.0, omega (arith, rest.1), rest.2, omega (arith, rest.3), rest.4)
 
--- NO OTHER LIST GAINS
-by_rows : (w v : World) (s : ℕ) (x y : Student) → HasBest w → HasBest v → project_keys v ≡ project_keys w → instances.DifferInOneList (instance w) (instance v) s → IsStudent w s x → IsStudent v s y → IsNoWorse x.choice (student_sees w x).result (student_sees v y).result
+-- a world of one round in published, whose result is the best for the students
+record IsBestRound (w : World) : Type 0 where
+  pub sound : Sound w
+  pub one : w.round ≡ First
+  pub published : is_published w.phase ≡ true
+  pub best : IsBest (instance_of w) (places_of w)
+
+by_rows : (w v : World) (s : ℕ) (x y : Student) → IsBestRound w → IsBestRound v → project_keys v ≡ project_keys w → instances.DifferInOneList (instance_of w) (instance_of v) s → IsStudent w s x → IsStudent v s y → IsNoWorse x.choice x.placed y.placed
 by_rows w v s x y one other same_projects differ is_x is_y p shows there =
-    let gives : project_of (matching_of v) s ≡ Some (number_in (project_keys w) p) =
-    x_given v other.good.sound other.published s y is_y ∙ ap (option_map (number_in (project_keys v))) (sym (shown v other.good.sound other.published s y is_y) ∙ shows) ∙ ap (λ keys. Some (number_in keys p)) same_projects in
+    let gives : project_of (places_of v) s ≡ Some (number_in (project_keys w) p) =
+    x_given v other.sound other.one other.published s y is_y ∙ ap (option_map (number_in (project_keys v))) shows ∙ ap (λ keys. Some (number_in keys p)) same_projects in
     let low : number_in (project_keys w) p < length (project_keys w) = known_p in
-    let good : IsAsGood (instance w) s (project_of (matching_of w) s) (Some (number_in (project_keys w) p)) =
-    honest_by_number (instance w) (instance v) s (matching_of w) (matching_of v) (world_ranked w one.good.sound one.published) (world_ranked v other.good.sound other.published) differ one.best other.best.stable
-    (number_in (project_keys w) p) gives (x_acceptable w one.good.sound one.published s x is_x p low there) in
-    let best = x_no_worse w one.good.sound one.published s x is_x p low there x.placed
-    (λ q e. one.best.stable.matching.acceptable s (number_in (project_keys w) q) (x_given w one.good.sound one.published s x is_x ∙ ap (option_map (number_in (project_keys w))) e))
-    (subst (λ o. IsAsGood (instance w) s o (Some (number_in (project_keys w) p))) (x_given w one.good.sound one.published s x is_x) good) in
-    (best.0, shown w one.good.sound one.published s x is_x ∙ best.1, best.2, best.3)
+    let good : IsAsGood (instance_of w) s (project_of (places_of w) s) (Some (number_in (project_keys w) p)) =
+    honest_by_number (instance_of w) (instance_of v) s (places_of w) (places_of v) (world_ranked w one.sound one.one one.published) (world_ranked v other.sound other.one other.published) differ one.best other.best.stable
+    (number_in (project_keys w) p) gives (x_acceptable w one.sound one.one one.published s x is_x p low there) in
+    x_no_worse w one.sound one.one one.published s x is_x p low there x.placed
+    (λ q e. one.best.stable.matching.acceptable s (number_in (project_keys w) q) (x_given w one.sound one.one one.published s x is_x ∙ ap (option_map (number_in (project_keys w))) e))
+    (subst (λ o. IsAsGood (instance_of w) s o (Some (number_in (project_keys w) p))) (x_given w one.sound one.one one.published s x is_x) good)
   where
     known_p : number_in (project_keys w) p < length (project_keys w)
     known_p =
         let at = has_contains x.choice p there in
-        let x_choice : IsChoice (project_keys w) x.choice = subst (λ (z : Student). IsChoice (project_keys w) z.choice) is_x.is (choice w one.good.sound one.published s x is_x.in_range) in
+        let x_choice : IsChoice (project_keys w) x.choice = subst (λ (z : Student). IsChoice (project_keys w) z.choice) is_x.is (choice w one.sound one.one one.published s x is_x.in_range) in
         has_number (project_keys w) p (subst (λ k. has (project_keys w) k ≡ true) at.2 (all_at (λ k. has (project_keys w) k ≡ true) x.choice at.0 p x_choice.known at.1))
+
+-- from a round to the world that it is played in
+
+zip_kept : {X : Type 0} (R : X → X → Type 0) (q : X → Bool) → ((x y : X) → R x y → q y ≡ q x) → (xs ys : List X) → AllZip R xs ys → AllZip R (filter q xs) (filter q ys)
+zip_kept R q same [] [] z = tt
+zip_kept R q same [] (y ∷ ys) z = absurd z
+zip_kept R q same (x ∷ xs) [] z = absurd z
+zip_kept {X} R q same (x ∷ xs) (y ∷ ys) z =
+    subst (λ b. AllZip R (cond (q x) (x ∷ filter q xs) (filter q xs)) (cond b (y ∷ filter q ys) (filter q ys))) (sym (same x y z.0))
+    (elim (q x) as (λ b. AllZip R (cond b (x ∷ filter q xs) (filter q xs)) (cond b (y ∷ filter q ys) (filter q ys))) [
+      | true ↦ (z.0, zip_kept R q same xs ys z.1)
+      | false ↦ zip_kept R q same xs ys z.1
+    ])
+
+zip_mapped : {X : Type 0} (R : X → X → Type 0) (f : X → X) → ((x y : X) → R x y → R (f x) (f y)) → (xs ys : List X) → AllZip R xs ys → AllZip R (map f xs) (map f ys)
+zip_mapped R f same [] [] z = tt
+zip_mapped R f same [] (y ∷ ys) z = absurd z
+zip_mapped R f same (x ∷ xs) [] z = absurd z
+zip_mapped R f same (x ∷ xs) (y ∷ ys) z = (same x y z.0, zip_mapped R f same xs ys z.1)
+
+module _ (ps : List ProjectRow) (ss : List Student) where
+  staff_zip : (r : Round) (ls ks : List Lecturer) → AllZip RankAlike ls ks → AllZip RankAlike (lecturers_in r ls ps ss) (lecturers_in r ks ps ss)
+  staff_zip First ls ks z = z
+  staff_zip Second ls ks z =
+      zip_kept RankAlike (λ l. nat_lt 0 l.row.capacity) (λ l k r. ap (λ row. nat_lt 0 row.capacity) r.0) (map (lowered_lecturer ps ss) ls) (map (lowered_lecturer ps ss) ks)
+      (zip_mapped RankAlike (lowered_lecturer ps ss) (λ l k r. ((λ i. record (r.0 i) { capacity = (r.0 i).capacity - given_with ps ss (r.0 i).key }), r.1)) ls ks z)
+
+  offers_same : (r : Round) (ls ks : List Lecturer) → AllZip RankAlike ls ks → projects_in r ks ps ss ≡ projects_in r ls ps ss
+  offers_same First ls ks z = refl
+  offers_same Second ls ks z =
+      let keys : map lecturer_key (lecturers_left ks ps ss) ≡ map lecturer_key (lecturers_left ls ps ss) =
+      rows_same RankAlike lecturer_key (λ l k r. ap (λ row. row.key) r.0) (lecturers_left ls ps ss) (lecturers_left ks ps ss) (staff_zip Second ls ks z) in
+      λ i. filter (λ p. nat_lt 0 p.capacity && has (keys i) p.lecturer) (map (lowered_project ss) ps)
+
+group_zip : (key : Key) (r : Round) (ss ts : List Student) → AllZip (ListAlike key) ss ts → AllZip (ListAlike key) (students_in r ss) (students_in r ts)
+group_zip key First ss ts z = z
+group_zip key Second ss ts z = zip_kept (ListAlike key) is_left (λ x y r. ap is_none r.2) ss ts z
+
+-- two rounds that differ in one list are so when each stands alone
+module _ (w v : World) (key : Key) (differ : DifferInOneList w v key) where
+  count_same : (q : Option Key → Bool) → count_by (λ (s : Student). q s.earlier_place) v.students ≡ count_by (λ s. q s.earlier_place) w.students
+  count_same q =
+      sym (count_by-map q (λ (s : Student). s.earlier_place) v.students)
+      ∙ ap (count_by q) (rows_same (ListAlike key) (λ (s : Student). s.earlier_place) (λ x y r. r.2) w.students v.students differ.students)
+      ∙ count_by-map q (λ (s : Student). s.earlier_place) w.students
+
+  staff_given : (ls : List Lecturer) → lecturers_in v.round ls v.projects v.students ≡ lecturers_in w.round ls w.projects w.students
+  staff_given ls =
+      (λ i. lecturers_in (differ.round i) ls (differ.projects i) v.students)
+      ∙ lecturers_given v.students w.students (λ p. count_same (is_at p)) (λ ps l. count_same (λ o. list_any (λ p. is p.lecturer l && is_at p.key o) ps)) w.round ls w.projects
+
+  offers_given : (ls : List Lecturer) → projects_in v.round ls v.projects v.students ≡ projects_in w.round ls w.projects w.students
+  offers_given ls =
+      (λ i. projects_in (differ.round i) ls (differ.projects i) v.students)
+      ∙ projects_given v.students w.students (λ p. count_same (is_at p)) (λ ps l. count_same (λ o. list_any (λ p. is p.lecturer l && is_at p.key o) ps)) w.round ls w.projects
+
+  differ_alone : DifferInOneList (alone (in_play w)) (alone (in_play v)) key
+  differ_alone = record {
+    round = refl;
+    lecturers = zip_mapped RankAlike alone_lecturer (λ l k r. r) (in_play w).lecturers (in_play v).lecturers
+        (subst (AllZip RankAlike (in_play w).lecturers) (sym (staff_given v.lecturers)) (staff_zip w.projects w.students w.round w.lecturers v.lecturers differ.lecturers));
+    projects = offers_given v.lecturers ∙ offers_same w.projects w.students w.round w.lecturers v.lecturers differ.lecturers;
+    students = zip_mapped (ListAlike key) alone_student (λ x y r. (r.0, r.1, refl)) (in_play w).students (in_play v).students
+        (subst (λ r. AllZip (ListAlike key) (students_in w.round w.students) (students_in r v.students)) (sym differ.round) (group_zip key w.round w.students v.students differ.students));
+  }
+
+best_alone : (w : World) → HasBest w → IsBestRound (alone (in_play w))
+best_alone w h = record {
+  sound = (played_alone w h.good).0.sound;
+  one = refl;
+  published = h.published;
+  best = subst (λ i. IsBest i (places_of (alone (in_play w)))) (sym (rows_alone (in_play w))) (subst (IsBest (instance w)) (sym (places_alone (in_play w))) h.best);
+}
+
+-- who is left by the first round is found among those who are
+find_left : (q : Student → Bool) (ss : List Student) (x : Student) → find q ss ≡ Some x → is_left x ≡ true → find q (students_left ss) ≡ Some x
+find_left q [] x e left = absurd (cc)
+find_left q (s ∷ ss) x e left = by_tests (q s) (is_left s) refl refl (λ f. find_left q ss x f left) e
+  where
+    by_tests : (a b : Bool) → q s ≡ a → is_left s ≡ b → (find q ss ≡ Some x → find q (students_left ss) ≡ Some x) → cond a (Some s) (find q ss) ≡ Some x → find q (cond b (s ∷ students_left ss) (students_left ss)) ≡ Some x
+    by_tests true true f g r e = ap (λ c. cond c (Some s) (find q (students_left ss))) f ∙ e
+    by_tests true false f g r e = let here : s ≡ x = cc in let gone : is_left x ≡ false = subst (λ z. is_left z ≡ false) here g in absurd (cc)
+    by_tests false true f g r e = ap (λ c. cond c (Some s) (find q (students_left ss))) f ∙ r e
+    by_tests false false f g r e = r e
+
+find_alone : (code : Key) (ss : List Student) (x : Student) → find (λ s. is s.row.code code) ss ≡ Some x → find (λ s. is s.row.code code) (map alone_student ss) ≡ Some (alone_student x)
+find_alone code [] x e = absurd (cc)
+find_alone code (s ∷ ss) x e = by_test (is s.row.code code) (find_alone code ss x) e
+  where
+    by_test : (b : Bool) → (find (λ s. is s.row.code code) ss ≡ Some x → find (λ s. is s.row.code code) (map alone_student ss) ≡ Some (alone_student x))
+        → cond b (Some s) (find (λ s. is s.row.code code) ss) ≡ Some x → cond b (Some (alone_student s)) (find (λ s. is s.row.code code) (map alone_student ss)) ≡ Some (alone_student x)
+    by_test true r e = ap (option_map alone_student) e
+    by_test false r e = r e
+
+found_alone : (w : World) (code : Key) (x : Student) → student_with w code ≡ Some x → is_left x ≡ true → find (λ s. is s.row.code code) (alone (in_play w)).students ≡ Some (alone_student x)
+found_alone w code x e left = find_alone code (students_in w.round w.students) x (by_round w.round)
+  where
+    by_round : (r : Round) → find (λ s. is s.row.code code) (students_in r w.students) ≡ Some x
+    by_round First = e
+    by_round Second = find_left (λ s. is s.row.code code) w.students x e left
+
+-- who is left is shown the place of the round
+shown : (w : World) (x : Student) → is_published w.phase ≡ true → x.earlier_place ≡ None → (student_sees w x).result ≡ x.placed
+shown w x published left = rw (left, published) refl
+
+-- NO OTHER LIST GAINS
+of_round : (w v : World) (code key : Key) (x y : Student) → HasBest w → HasBest v → DifferInOneList w v key → student_with w code ≡ Some x → student_with v code ≡ Some y → x.row.key ≡ key → x.earlier_place ≡ None → y.earlier_place ≡ None
+    → IsNoWorse x.choice x.placed y.placed
+of_round w v code key x y one other differ found_x found_y is_key left_x left_y =
+    let best : IsBestRound (alone (in_play w)) = best_alone w one in
+    let rival : IsBestRound (alone (in_play v)) = best_alone v other in
+    let apart : DifferInOneList (alone (in_play w)) (alone (in_play v)) key = differ_alone w v key differ in
+    let at = same_place key code (alone_student x) (alone_student y) (alone (in_play w)).students (alone (in_play v)).students apart.students (found_alone w code x found_x (ap is_none left_x)) (found_alone v code y found_y (ap is_none left_y)) in
+    let s_key : get_or (student_keys (alone (in_play w))) at.0 [] ≡ key = get_or-map student_key (alone (in_play w)).students at.0 (alone_student x) [] at.1 ∙ ap student_key at.2 ∙ is_key in
+    by_rows (alone (in_play w)) (alone (in_play v)) at.0 (alone_student x) (alone_student y) best rival (ap (map project_key) apart.projects)
+    (differ_by_number (alone (in_play w)) (alone (in_play v)) best.sound rival.sound at.0 key apart at.1 s_key)
+    (record { in_range = at.1; is = at.2 }) (record { in_range = at.3; is = at.4 })
 
 pub honest_is_best : (w v : World) (code : Key) (a b : StudentSees) → HasBest w → HasBest v → view w code ≡ sees.Student a → view v code ≡ sees.Student b → DifferInOneList w v a.me.key → IsNoWorse a.choices a.result b.result
 honest_is_best w v code a b one other sees_a sees_b differ =
     let x = shown_student w code a sees_a in
     let y = shown_student v code b sees_b in
     let at = same_place a.me.key code x.0 y.0 w.students v.students differ.students x.1 y.1 in
-    let s_key : get_or (student_keys w) at.0 [] ≡ a.me.key = get_or-map student_key w.students at.0 x.0 [] at.1 ∙ ap student_key at.2 ∙ ap (λ (z : StudentSees). z.me.key) x.2 in
-    let no_worse : IsNoWorse x.0.choice (student_sees w x.0).result (student_sees v y.0).result =
-    by_rows w v at.0 x.0 y.0 one other (ap (map project_key) differ.projects)
-    (differ_by_number w v one.good.sound other.good.sound at.0 a.me.key differ at.1 s_key)
-    (record { in_range = at.1; is = at.2 }) (record { in_range = at.3; is = at.4 }) in
+    let is_key : x.0.row.key ≡ a.me.key = ap (λ (z : StudentSees). z.me.key) x.2 in
+    let alike = AllZip-get_or (ListAlike a.me.key) w.students v.students at.0 x.0 y.0 differ.students at.1 in
+    let given : y.0.earlier_place ≡ x.0.earlier_place = ap (λ (s : Student). s.earlier_place) (sym at.4) ∙ alike.2 ∙ ap (λ (s : Student). s.earlier_place) at.2 in
+    let out : is_left x.0 ≡ false → (x.0.choice ≡ []) × (x.0.placed ≡ None)
+    = subst (λ (s : Student). is_left s ≡ false → (s.choice ≡ []) × (s.placed ≡ None)) at.2
+    (all_at (λ (s : Student). is_left s ≡ false → (s.choice ≡ []) × (s.placed ≡ None)) w.students at.0 x.0 one.good.sound.only_left at.1) in
+    let no_worse : IsNoWorse x.0.choice (student_sees w x.0).result (student_sees v y.0).result
+    = by_place x.0 y.0 x.1 y.1 is_key given out x.0.earlier_place refl in
     subst (λ (z : StudentSees). IsNoWorse a.choices a.result z.result) y.2
     (subst (λ (z : StudentSees). IsNoWorse z.choices z.result (student_sees v y.0).result) x.2 no_worse)
+  where
+    by_place : (x y : Student) → student_with w code ≡ Some x → student_with v code ≡ Some y → x.row.key ≡ a.me.key → y.earlier_place ≡ x.earlier_place → (is_left x ≡ false → (x.choice ≡ []) × (x.placed ≡ None)) → (o : Option Key) → x.earlier_place ≡ o
+        → IsNoWorse x.choice (student_sees w x).result (student_sees v y).result
+    by_place x y found_x found_y is_key given out None left =
+        subst (λ o. IsNoWorse x.choice o (student_sees v y).result) (sym (shown w x one.published left))
+        (subst (IsNoWorse x.choice x.placed) (sym (shown v y other.published (given ∙ left)))
+        (of_round w v code a.me.key x y one other differ found_x found_y is_key left (given ∙ left)))
+    by_place x y found_x found_y is_key given out (Some p) placed =
+        subst (λ list. IsNoWorse list (student_sees w x).result (student_sees v y).result) (sym (out (ap is_none placed)).0) (λ q shows there. absurd (cc))

@@ -8,24 +8,25 @@ use Rattle.spa_model.specs.Spa.{IsBest, IsStable}
 use Rattle.spa_model.specs.Pairs.{number_in}
 use Rattle.portal_core.specs.Words.{Key, is, has, is_empty, Rise, AreDistinct}
 use Rattle.portal_core.specs.World as rows
-use Rattle.portal_core.specs.World.{World, lecturer_key, project_key, student_key, applicants_to, projects_of, applicants_of, is_still_to_rank, is_setup, is_choosing, is_ranking, is_published, is_from_ranking}
-use Rattle.portal_core.specs.Change.{Choices, Ranks, To, Places, changed, with_choice, with_ranking, with_place}
-use Rattle.portal_core.specs.Instance.{instance, matching_of, project_keys, student_keys}
+use Rattle.portal_core.specs.World.{World, lecturer_key, project_key, student_key, applicants_to, projects_of, applicants_of, is_still_to_rank, is_setup, is_choosing, is_ranking, is_published, is_from_ranking, is_second, is_left, in_play, first, first_placed, first_published}
+use Rattle.portal_core.specs.Change.{Choices, Ranks, To, Places, changed, with_choice, with_ranking, with_place, place_in}
+use Rattle.portal_core.specs.Instance.{instance, instance_of, matching_of, project_keys, student_keys}
 use Rattle.portal_core.specs.declared.phase.Phase.{Phase}
 use Rattle.portal_core.specs.declared.phase.Phase.TheVariants.{Setup, Choosing, Ranking, Published}
 use Rattle.portal_core.specs.declared.rows.Listing.{Listing}
 use Rattle.portal_core.specs.declared.rows.Person.{Person}
 use Rattle.portal_core.specs.declared.rows.ProjectRow.{ProjectRow}
-use Rattle.portal_core.specs.View.{catalogue, office_sees, persons, name_in, listing_with}
+use Rattle.portal_core.specs.View.{catalogue, listings, office_sees, persons, name_in, listing_with}
 use Rattle.portal_core.specs.Faults.{ListFault, choice_fault, ranking_fault, in_catalogue, is_applicant, lacks_one}
-use Rattle.portal_core.specs.Good.{Good, Sound, IsChoice, IsRanking, IsStudent, IsLecturer}
+use Rattle.portal_core.specs.Good.{Good, IsRound, Sound, IsChoice, IsRanking, IsStudent, IsLecturer}
 use Rattle.portal_core.proofs.Keys.{is_same}
 use Rattle.portal_core.proofs.Acts.{choice_row, ranking_row}
-use Rattle.portal_core.proofs.AllLaws.{all_map, all_weaker, map_same, is_sym, none_is, split_append, any_map, any_shown, any_alike, any_or, any_nowhere, filtered_any, none_passes}
+use Rattle.portal_core.proofs.InPlay.{play_chosen, play_ranked, play_placed}
+use Rattle.portal_core.proofs.AllLaws.{kept_filtered, all_map, all_both, all_weaker, map_same, is_sym, none_is, split_append, any_map, any_shown, any_alike, any_or, any_nowhere, filtered_any, none_passes}
 
 -- before the result is published nothing has to be stable
-pub not_published : (w : World) → Sound w → is_published w.phase ≡ false → Good w
-not_published w g shut = record { sound = g; stable = λ h. cc }
+pub not_published : (w : World) → Sound w → is_published w.phase ≡ false → (is_second w.round ≡ true → IsRound (first w)) → Good w
+not_published w g shut before = record { sound = g; stable = λ h. cc; before = before }
 
 -- phases
 
@@ -50,6 +51,10 @@ to_choosing w g e =
       rankings = g.rankings;
       no_result_yet = λ h. g.no_result_yet (ap is_published e);
       all_ranked = λ h. cc;
+      no_earlier_lists = g.no_earlier_lists;
+      no_earlier_rankings = g.no_earlier_rankings;
+      no_second_setup = λ h. refl;
+      only_left = g.only_left;
     }
 
 pub to_ranking : (w : World) → Sound w → w.phase ≡ Choosing → Sound (changed w (To Ranking))
@@ -73,26 +78,44 @@ to_ranking w g e =
       rankings = g.rankings;
       no_result_yet = λ h. g.no_result_yet (ap is_published e);
       all_ranked = λ h. cc;
+      no_earlier_lists = g.no_earlier_lists;
+      no_earlier_rankings = g.no_earlier_rankings;
+      no_second_setup = λ h. refl;
+      only_left = g.only_left;
     }
 
 -- the result
-
--- a place changes neither who applies nor the instance
-kept_filtered : {X Y : Type 0} (key : X → Y) (f : X → X) (q : X → Bool) → ((x : X) → key (f x) ≡ key x) → ((x : X) → q (f x) ≡ q x) → (xs : List X) → map key (filter q (map f xs)) ≡ map key (filter q xs)
-kept_filtered key f q same alike [] = refl
-kept_filtered {X} key f q same alike (x ∷ xs) =
-    rw (alike x) (elim (q x) as (λ b. map key (cond b (f x ∷ filter q (map f xs)) (filter q (map f xs))) ≡ map key (cond b (x ∷ filter q xs) (filter q xs))) [
-      | true ↦ λ i. same x i ∷ kept_filtered key f q same alike xs i
-      | false ↦ kept_filtered key f q same alike xs
-    ])
 
 pub empty_map : {X Y : Type 0} (f : X → Y) (xs : List X) → is_empty (map f xs) ≡ is_empty xs
 empty_map f [] = refl
 empty_map f (x ∷ xs) = refl
 
+-- a place changes neither the row nor the list, nor the earlier round
+pub place_row : (pairs : List (Key × Key)) (s : rows.Student) → (with_place pairs s).row ≡ s.row
+place_row pairs s = elim (is_left s) as (λ b. (cond b (record s { placed = place_in pairs s.row.key }) s).row ≡ s.row) [ true ↦ refl | false ↦ refl ]
+
+place_choice : (pairs : List (Key × Key)) (s : rows.Student) → (with_place pairs s).choice ≡ s.choice
+place_choice pairs s = elim (is_left s) as (λ b. (cond b (record s { placed = place_in pairs s.row.key }) s).choice ≡ s.choice) [ true ↦ refl | false ↦ refl ]
+
+pub place_first : (pairs : List (Key × Key)) (s : rows.Student) → first_placed (with_place pairs s) ≡ first_placed s
+place_first pairs s = elim (is_left s) as (λ b. first_placed (cond b (record s { placed = place_in pairs s.row.key }) s) ≡ first_placed s) [ true ↦ refl | false ↦ refl ]
+
+-- who is out of the round has no place of it
+abbrev StaysOut : rows.Student → Type 0
+StaysOut s = is_left s ≡ false → (s.choice ≡ []) × (s.placed ≡ None)
+
+place_out : (pairs : List (Key × Key)) (s : rows.Student) → StaysOut s → StaysOut (with_place pairs s)
+place_out pairs s h =
+    (elim (is_left s) as (λ b. is_left s ≡ b → StaysOut (cond b (record s { placed = place_in pairs s.row.key }) s)) [
+      | true ↦ λ e f. let f' : is_left s ≡ false = f in cc
+      | false ↦ λ e. h
+    ]) refl
+
 module _ (w : World) (pairs : List (Key × Key)) where
   applicants_placed : (l : Key) → map student_key (applicants_of (changed w (Places pairs)) l) ≡ map student_key (applicants_of w l)
-  applicants_placed l = kept_filtered student_key (with_place pairs) (λ s. list_any (λ p. has s.choice p.key) (projects_of w l)) (λ s. refl) (λ s. refl) w.students
+  applicants_placed l =
+      kept_filtered student_key (with_place pairs) (λ s. list_any (λ p. has s.choice p.key) (projects_of w l)) (λ s. ap (λ r. r.key) (place_row pairs s))
+      (λ s. ap (λ c. list_any (λ p. has c p.key) (projects_of w l)) (place_choice pairs s)) w.students
 
   ranked_placed : (l : rows.Lecturer) → is_still_to_rank (changed w (Places pairs)) l ≡ is_still_to_rank w l
   ranked_placed l =
@@ -100,18 +123,24 @@ module _ (w : World) (pairs : List (Key × Key)) where
       (sym (empty_map student_key (applicants_of (changed w (Places pairs)) l.row.key)) ∙ ap is_empty (applicants_placed l.row.key) ∙ empty_map student_key (applicants_of w l.row.key))
 
   keys_placed : student_keys (changed w (Places pairs)) ≡ student_keys w
-  keys_placed = map_same student_key (with_place pairs) (λ s. refl) w.students
+  keys_placed = map_same student_key (with_place pairs) (λ s. ap (λ r. r.key) (place_row pairs s)) w.students
 
-  pub instance_placed : instance (changed w (Places pairs)) ≡ instance w
-  instance_placed = λ i. record (instance w) {
+  rows_placed : instance_of (changed w (Places pairs)) ≡ instance_of w
+  rows_placed = λ i. record (instance_of w) {
     student_keys = keys_placed i;
-    choices = map_same (λ (s : rows.Student). map (number_in (project_keys w)) s.choice) (with_place pairs) (λ s. refl) w.students i;
+    choices = map_same (λ (s : rows.Student). map (number_in (project_keys w)) s.choice) (with_place pairs) (λ s. ap (map (number_in (project_keys w))) (place_choice pairs s)) w.students i;
     rankings = map (λ (l : rows.Lecturer). map (number_in (keys_placed i)) (unwrap_or l.ranking [])) w.lecturers;
   }
 
+  catalogue_placed : project_keys (in_play (changed w (Places pairs))) ≡ project_keys (in_play w)
+  catalogue_placed = λ i. map project_key (play_placed w pairs i).projects
+
+  pub first_kept : first (changed w (Places pairs)) ≡ first w
+  first_kept = λ i. record (first w) { students = map_same first_placed (with_place pairs) (place_first pairs) w.students i }
+
   pub placed_sound : Sound w → is_setup w.phase ≡ false → AllByRecursion (λ l. is_still_to_rank w l ≡ false) w.lecturers → Sound (changed w (Places pairs))
   placed_sound g late ranked =
-      let codes : map (λ (s : rows.Student). s.row.code) (map (with_place pairs) w.students) ≡ map (λ s. s.row.code) w.students = map_same _ (with_place pairs) (λ s. refl) w.students in
+      let codes : map (λ (s : rows.Student). s.row.code) (map (with_place pairs) w.students) ≡ map (λ s. s.row.code) w.students = map_same _ (with_place pairs) (λ s. ap (λ r. r.code) (place_row pairs s)) w.students in
       let long : length (map (with_place pairs) w.students) ≡ length w.students = length-map w.students (with_place pairs) in
       record {
         lecturers_rise = g.lecturers_rise;
@@ -119,27 +148,38 @@ module _ (w : World) (pairs : List (Key × Key)) where
         students_rise = subst Rise (sym keys_placed) g.students_rise;
         lecturer_forms = g.lecturer_forms;
         project_forms = g.project_forms;
-        student_forms = all_map (λ s. IsStudent s.row) (with_place pairs) w.students g.student_forms;
+        student_forms = all_map (λ s. IsStudent s.row) (with_place pairs) w.students (all_weaker _ _ (λ s h. subst IsStudent (sym (place_row pairs s)) h) w.students g.student_forms);
         office_form = g.office_form;
         few_lecturers = g.few_lecturers;
         few_projects = g.few_projects;
         few_students = let few = g.few_students in omega arith;
         codes = subst (λ cs. AreDistinct (w.office ∷ map (λ (l : rows.Lecturer). l.row.code) w.lecturers ++ cs)) (sym codes) g.codes;
         lecturers_known = g.lecturers_known;
-        choices = all_map (λ s. IsChoice (project_keys w) s.choice) (with_place pairs) w.students g.choices;
+        choices = subst (λ ks. AllByRecursion (λ s. IsChoice ks s.choice) (map (with_place pairs) w.students)) (sym catalogue_placed)
+            (all_map (λ s. IsChoice (project_keys (in_play w)) s.choice) (with_place pairs) w.students (all_weaker _ _ (λ s h. subst (IsChoice (project_keys (in_play w))) (sym (place_choice pairs s)) h) w.students g.choices));
         no_choices_yet = λ h. cc;
         no_rankings_yet = λ h. cc;
         rankings = all_weaker _ _ (λ l h. subst (λ ks. IfSome l.ranking (IsRanking ks)) (sym (applicants_placed l.row.key)) h) w.lecturers g.rankings;
         no_result_yet = λ h. cc;
         all_ranked = λ h. all_weaker _ _ (λ l e. ranked_placed l ∙ e) w.lecturers ranked;
+        no_earlier_lists = λ h. all_map (λ (s : rows.Student). (s.earlier_choice ≡ []) × (s.earlier_place ≡ None)) (with_place pairs) w.students
+            (all_weaker _ _ (λ s e. (ap (λ x. x.choice) (place_first pairs s) ∙ e.0, ap (λ x. x.placed) (place_first pairs s) ∙ e.1)) w.students (g.no_earlier_lists h));
+        no_earlier_rankings = g.no_earlier_rankings;
+        no_second_setup = λ h. refl;
+        only_left = all_map StaysOut (with_place pairs) w.students (all_weaker _ _ (λ s h. place_out pairs s h) w.students g.only_left);
       }
 
-  pub to_published : Good w → is_setup w.phase ≡ false → AllByRecursion (λ l. is_still_to_rank w l ≡ false) w.lecturers → IsBest (instance w) (matching_of (changed w (Places pairs))) → Good (changed w (Places pairs))
-  to_published g late ranked best =
-      record {
-        sound = placed_sound g.sound late ranked;
-        stable = λ h. subst (λ i. IsStable i (matching_of (changed w (Places pairs)))) (sym instance_placed) best.stable;
-      }
+-- the instance of the round is the same
+pub instance_placed : (w : World) (pairs : List (Key × Key)) → instance (changed w (Places pairs)) ≡ instance w
+instance_placed w pairs = ap instance_of (play_placed w pairs) ∙ rows_placed (in_play w) pairs
+
+pub to_published : (w : World) (pairs : List (Key × Key)) → Good w → is_setup w.phase ≡ false → AllByRecursion (λ l. is_still_to_rank w l ≡ false) w.lecturers → IsBest (instance w) (matching_of (changed w (Places pairs))) → Good (changed w (Places pairs))
+to_published w pairs g late ranked best =
+    record {
+      sound = placed_sound w pairs g.sound late ranked;
+      stable = λ h. subst (λ i. IsStable i (matching_of (changed w (Places pairs)))) (sym (instance_placed w pairs)) best.stable;
+      before = λ h. subst IsRound (sym (first_kept w pairs)) (g.before h);
+    }
 
 -- nobody is still to rank
 pub all_ranked : (w : World) → is_from_ranking w.phase ≡ true → is_empty (office_sees w).still_to_rank ≡ true → AllByRecursion (λ l. is_still_to_rank w l ≡ false) w.lecturers
@@ -182,7 +222,7 @@ no_fault cat at earlier (k ∷ ks) low e = passes (λ room h. no_fault cat (at +
     passes again false true false ef ek et a b c h = let room : at + 1 ≤ 21 = below ef low in next ek et room (again room h)
 
 -- the catalogue has the projects' keys
-listed_is_there : (w : World) (k : Key) → in_catalogue (catalogue w) k ≡ true → has (map project_key w.projects) k ≡ true
+listed_is_there : (w : World) (k : Key) → in_catalogue (listings w.lecturers w.projects) k ≡ true → has (map project_key w.projects) k ≡ true
 listed_is_there w k h = any_map (is k) project_key w.projects ∙ any_shown (λ (l : Listing). is l.key k) (λ p. is k p.key) _ here w.projects h
   where
     here : (p : ProjectRow) (l : Listing) → option_map (listing_with p) (name_in w.lecturers p.lecturer) ≡ Some l → is l.key k ≡ true → is k p.key ≡ true
@@ -192,12 +232,12 @@ listed_is_there w k h = any_map (is k) project_key w.projects ∙ any_shown (λ 
         of_name None f = cc
         of_name (Some name) f = let same : listing_with p name ≡ l = cc in is_sym k p.key ∙ ap (λ (x : Listing). is x.key k) same ∙ t
 
-chosen_good : (w : World) (list : List Key) → choice_fault (catalogue w) 1 [] list ≡ None → IsChoice (project_keys w) list
+chosen_good : (w : World) (list : List Key) → choice_fault (catalogue w) 1 [] list ≡ None → IsChoice (project_keys (in_play w)) list
 chosen_good w list e =
     let c : Chooses (catalogue w) 1 [] list = no_fault (catalogue w) 1 [] list (omega arith) e in
     record {
       few = let few = c.few in omega arith;
-      known = all_weaker _ _ (λ k h. listed_is_there w k h) list c.known;
+      known = all_weaker _ _ (λ k h. listed_is_there (in_play w) k h) list c.known;
       once = c.once;
     }
 
@@ -217,8 +257,20 @@ none_ranked P (l ∷ ls) all = (rw all.0 tt, none_ranked P ls all.1)
 choice_placed : (k : Key) (list : List Key) (s : rows.Student) → (with_choice k list s).placed ≡ s.placed
 choice_placed k list s = elim (is s.row.key k) as (λ b. (cond b (record s { choice = list }) s).placed ≡ s.placed) [ true ↦ refl | false ↦ refl ]
 
-pub choosing : (w : World) (k : Key) (list : List Key) → Sound w → is_choosing w.phase ≡ true → choice_fault (catalogue w) 1 [] list ≡ None → Sound (changed w (Choices k list))
-choosing w k list g e none =
+pub choice_first : (k : Key) (list : List Key) (s : rows.Student) → first_placed (with_choice k list s) ≡ first_placed s
+choice_first k list s = elim (is s.row.key k) as (λ b. first_placed (cond b (record s { choice = list }) s) ≡ first_placed s) [ true ↦ refl | false ↦ refl ]
+
+choice_out : (k : Key) (list : List Key) (s : rows.Student) → (is s.row.key k ≡ true → is_left s ≡ true) → StaysOut s → StaysOut (with_choice k list s)
+choice_out k list s mine h =
+    (elim (is s.row.key k) as (λ b. is s.row.key k ≡ b → StaysOut (cond b (record s { choice = list }) s)) [
+      | true ↦ λ e f. let f' : is_left s ≡ false = f in let t : is_left s ≡ true = mine e in cc
+      | false ↦ λ e. h
+    ]) refl
+
+-- who makes a list has no project of the earlier round
+pub choosing : (w : World) (k : Key) (list : List Key) → Sound w → is_choosing w.phase ≡ true → AllByRecursion (λ s. is s.row.key k ≡ true → is_left s ≡ true) w.students → choice_fault (catalogue w) 1 [] list ≡ None
+    → Sound (changed w (Choices k list))
+choosing w k list g e mine none =
     let keys : map student_key (map (with_choice k list) w.students) ≡ map student_key w.students = map_same student_key (with_choice k list) (λ s. ap (λ r. r.key) (choice_row k list s)) w.students in
     let codes : map (λ (s : rows.Student). s.row.code) (map (with_choice k list) w.students) ≡ map (λ s. s.row.code) w.students = map_same _ (with_choice k list) (λ s. ap (λ r. r.code) (choice_row k list s)) w.students in
     let long : length (map (with_choice k list) w.students) ≡ length w.students = length-map w.students (with_choice k list) in
@@ -236,12 +288,18 @@ choosing w k list g e none =
       few_students = let few = g.few_students in omega arith;
       codes = subst (λ cs. AreDistinct (w.office ∷ map (λ (l : rows.Lecturer). l.row.code) w.lecturers ++ cs)) (sym codes) g.codes;
       lecturers_known = g.lecturers_known;
-      choices = choice_with (IsChoice (project_keys w)) k list (chosen_good w list none) w.students g.choices;
+      choices = subst (λ ks. AllByRecursion (λ s. IsChoice ks s.choice) (map (with_choice k list) w.students)) (λ i. map project_key (sym (play_chosen w k list) i).projects)
+          (choice_with (IsChoice (project_keys (in_play w))) k list (chosen_good w list none) w.students g.choices);
       no_choices_yet = λ h. cc;
       no_rankings_yet = g.no_rankings_yet;
       rankings = none_ranked (λ l. IsRanking (map student_key (applicants_of (changed w (Choices k list)) l.row.key))) w.lecturers (g.no_rankings_yet shut.1);
       no_result_yet = λ h. all_map (λ (s : rows.Student). s.placed ≡ None) (with_choice k list) w.students (all_weaker _ _ (λ s e. choice_placed k list s ∙ e) w.students (g.no_result_yet h));
       all_ranked = λ h. cc;
+      no_earlier_lists = λ h. all_map (λ (s : rows.Student). (s.earlier_choice ≡ []) × (s.earlier_place ≡ None)) (with_choice k list) w.students
+          (all_weaker _ _ (λ s e. (ap (λ x. x.choice) (choice_first k list s) ∙ e.0, ap (λ x. x.placed) (choice_first k list s) ∙ e.1)) w.students (g.no_earlier_lists h));
+      no_earlier_rankings = g.no_earlier_rankings;
+      no_second_setup = g.no_second_setup;
+      only_left = all_map StaysOut (with_choice k list) w.students (all_weaker _ _ (λ s h. choice_out k list s h.0 h.1) w.students (all_both _ _ w.students mine g.only_left));
     }
   where
     only_choosing : (phase : Phase) → is_choosing phase ≡ true → (is_setup phase ≡ false) × (is_from_ranking phase ≡ false) × (is_published phase ≡ false)
@@ -345,6 +403,9 @@ ranking_with P k list new (l ∷ ls) all = (
   ranking_with P k list new ls all.1,
 )
 
+pub ranking_first : (k : Key) (list : List Key) (l : rows.Lecturer) → first_published (with_ranking k list l) ≡ first_published l
+ranking_first k list l = elim (is l.row.key k) as (λ b. first_published (cond b (record l { ranking = Some list }) l) ≡ first_published l) [ true ↦ refl | false ↦ refl ]
+
 pub ranking : (w : World) (k : Key) (list : List Key) → Sound w → is_ranking w.phase ≡ true → ranking_fault (shown_sets w k (is_from_ranking w.phase)) 1 [] list ≡ None → Sound (changed w (Ranks k list))
 ranking w k list g e none =
     let keys : map lecturer_key (map (with_ranking k list) w.lecturers) ≡ map lecturer_key w.lecturers = map_same lecturer_key (with_ranking k list) (λ l. ap (λ r. r.key) (ranking_row k list l)) w.lecturers in
@@ -364,12 +425,17 @@ ranking w k list g e none =
       few_students = g.few_students;
       codes = subst (λ cs. AreDistinct (w.office ∷ cs ++ map (λ (s : rows.Student). s.row.code) w.students)) (sym codes) g.codes;
       lecturers_known = subst (λ ks. AllByRecursion (λ p. has ks p.lecturer ≡ true) w.projects) (sym keys) g.lecturers_known;
-      choices = g.choices;
+      choices = subst (λ ks. AllByRecursion (λ s. IsChoice ks s.choice) w.students) (λ i. map project_key (sym (play_ranked w k list) i).projects) g.choices;
       no_choices_yet = g.no_choices_yet;
       no_rankings_yet = λ h. cc;
       rankings = ranking_with (λ q. IsRanking (map student_key (applicants_of w q))) k list (ranks_all w k list (subst (λ b. ranking_fault (shown_sets w k b) 1 [] list ≡ None) now.1 none)) w.lecturers g.rankings;
       no_result_yet = g.no_result_yet;
       all_ranked = λ h. cc;
+      no_earlier_lists = g.no_earlier_lists;
+      no_earlier_rankings = λ h. all_map (λ (l : rows.Lecturer). l.earlier_ranking ≡ None) (with_ranking k list) w.lecturers
+          (all_weaker _ _ (λ l e. ap (λ x. x.ranking) (ranking_first k list l) ∙ e) w.lecturers (g.no_earlier_rankings h));
+      no_second_setup = g.no_second_setup;
+      only_left = g.only_left;
     }
   where
     only_ranking : (phase : Phase) → is_ranking phase ≡ true → (is_setup phase ≡ false) × (is_from_ranking phase ≡ true) × (is_published phase ≡ false)

@@ -4,12 +4,16 @@ pub mod AllLaws
 pub mod Adjacent
 pub mod Persons
 pub mod Puts
+pub mod InPlay
 pub mod Fills
 pub mod Numbers
+pub mod InRound
 pub mod Acts
 pub mod Hearing
 pub mod Unseen
 pub mod Kept
+pub mod Opened
+mod Stays
 pub mod Adds
 pub mod Enrol
 pub mod Steps
@@ -27,6 +31,8 @@ pub mod Named
 pub mod Play
 pub mod Only
 pub mod Published
+pub mod Capacities
+pub mod Alone
 pub mod Scan
 pub mod Pieces
 pub mod Tables

@@ -1,23 +1,25 @@
 -- Each body is JSON with whole numbers, or a sheet.
 use Rattle.std.proofs.Common.{◌≡◌, ℕ, Bool, true, false, List, [], ◌∷◌, refl, sym, subst}
-use Rattle.std.specs.Prelude.{Option, Some, None, map, codes}
+use Rattle.std.specs.Prelude.{Option, Some, None, is_none, map, codes, if◌then◌else◌}
 use Rattle.serde_json.specs.Data.{Data, string}
 use Rattle.serde_json.specs.View.{items_of}
-use Rattle.serde_json.specs.Written.{has_float, items_have_float}
+use Rattle.serde_json.specs.Written.{has_float, items_have_float, members_have_float}
 use Rattle.portal_core.specs.declared.phase.Phase.{Phase}
 use Rattle.portal_core.specs.declared.phase.Phase.TheVariants.{Setup, Choosing, Ranking, Published}
+use Rattle.portal_core.specs.declared.phase.Round.{Round}
+use Rattle.portal_core.specs.declared.phase.Round.TheVariants.{First, Second}
 use Rattle.portal_core.specs.declared.rows.Person.{Person}
 use Rattle.portal_core.specs.declared.decision.Sheet.TheVariants as sheet
 use Rattle.portal_core.specs.Words.{Key, is_empty}
-use Rattle.portal_core.specs.World.{is_choosing, is_ranking, is_published, is_from_ranking}
+use Rattle.portal_core.specs.World.{is_choosing, is_ranking, is_from_ranking, has_result}
 use Rattle.portal_core.specs.Change.{Change, Lecturers, Projects, Students}
 use Rattle.portal_core.specs.Sight.{StudentSees, LecturerSees, OfficeSees}
 use Rattle.portal_core.specs.Ask.{Ask}
-use Rattle.portal_core.specs.Json.{texts_or_null, text_or_null, dictionary, several}
-use Rattle.portal_core.specs.Bodies.{listing, person, status_body, unassigned, applicants_body, placed_body, allocation_body}
+use Rattle.portal_core.specs.Json.{texts_or_null, text_or_null, dictionary, several, members}
+use Rattle.portal_core.specs.Bodies.{listing, person, round_member, phase_body, status_body, unassigned, applicants_body, placed_body, allocation_body}
 use Rattle.portal_core.specs.Faults.{ListFault, choice_fault, ranking_fault}
 use Rattle.portal_core.specs.Rolls.{Taken, Faulty, Took, take_rows, lecturer_roll, project_roll, student_roll}
-use Rattle.portal_core.specs.Answer.{Said, Act, Nothing, Apply, Publish, Render, Decision, only, unless, added, row_fault, moves, publishes, to_student, to_lecturer, to_office, unwritten, emptied, IsWhole}
+use Rattle.portal_core.specs.Answer.{Said, Act, Nothing, Apply, Publish, Render, Decision, only, unless, added, row_fault, already_placed, moves_on, moves_in, moves, publishes, to_student, to_lecturer, to_office, unwritten, emptied, IsWhole}
 
 -- no body has a number that is not whole
 
@@ -44,11 +46,26 @@ unless_whole : (o : Option ListFault) (d : Decision) → IsWhole d.reply.body �
 unless_whole None d e = e
 unless_whole (Some fault) d e = refl
 
+-- nor has the round
+round_whole : (r : Round) → members_have_float (members (round_member r)) ≡ false
+round_whole First = refl
+round_whole Second = refl
+
+phase_whole : (r : Round) (phase : Phase) → has_float (phase_body r phase) ≡ false
+phase_whole First phase = refl
+phase_whole Second phase = refl
+
+placed_or : (b : Bool) (d : Decision) → IsWhole d.reply.body → IsWhole (if b then d else already_placed).reply.body
+placed_or true d e = e
+placed_or false d e = refl
+
 student_whole : (v : StudentSees) (ask : Ask) → IsWhole (to_student v ask).reply.body
 student_whole v Ask.Catalogue = rw (none_of listing (λ l. refl) v.catalogue) refl
 student_whole v Ask.ShowChoices = rw (of_texts v.choices) refl
-student_whole v (Ask.SetChoices list) = only_whole (is_choosing v.phase) _ (unless_whole (choice_fault v.catalogue 1 [] list) _ (rw (of_texts list) refl))
-student_whole v Ask.Result = only_whole (is_published v.phase) _ (rw (of_one v.result) refl)
+student_whole v Ask.Me = round_whole v.round
+student_whole v (Ask.SetChoices list) =
+    only_whole (is_choosing v.phase) _ (placed_or (is_none v.result) _ (unless_whole (choice_fault v.catalogue 1 [] list) _ (rw (of_texts list) refl)))
+student_whole v Ask.Result = only_whole (has_result v.round v.phase) _ (rw (of_one v.result) refl)
 student_whole v _ = refl
 
 with_applicants : Key × List Person → Data
@@ -78,7 +95,8 @@ lecturer_whole v Ask.Catalogue = rw (none_of listing (λ l. refl) v.catalogue) r
 lecturer_whole v Ask.Applicants = only_whole (is_from_ranking v.phase) _ (applicants_whole v.applicants)
 lecturer_whole v Ask.ShowRanking = only_whole (is_from_ranking v.phase) _ (rw (of_option v.ranking) refl)
 lecturer_whole v (Ask.SetRanking list) = only_whole (is_ranking v.phase) _ (unless_whole (ranking_fault v.applicants 1 [] list) _ (rw (of_texts list) refl))
-lecturer_whole v Ask.Result = only_whole (is_published v.phase) _ (placed_whole v.placed)
+lecturer_whole v Ask.Me = round_whole v.round
+lecturer_whole v Ask.Result = only_whole (has_result v.round v.phase) _ (placed_whole v.placed)
 lecturer_whole v _ = refl
 
 row_whole : (status : ℕ) (word : List ℕ) (row : Option ℕ) → IsWhole (row_fault status word row).body
@@ -90,22 +108,34 @@ added_whole change (Faulty fault) = row_whole fault.status fault.word fault.row
 added_whole change (Took new same) = refl
 
 publishes_whole : (v : OfficeSees) (b : Bool) → is_empty v.still_to_rank ≡ b → IsWhole (publishes v).reply.body
-publishes_whole v true e = rw e refl
+publishes_whole v true e = rw e (phase_whole v.round Published)
 publishes_whole v false e = rw (e, of_texts v.still_to_rank) refl
 
-moves_whole : (v : OfficeSees) (old new : Phase) → IsWhole (moves v old new).reply.body
-moves_whole v Ranking Published = publishes_whole v (is_empty v.still_to_rank) refl
-moves_whole v Setup Setup = refl
-moves_whole v Setup Choosing = refl
-moves_whole v Choosing Choosing = refl
-moves_whole v Choosing Ranking = refl
-moves_whole v Ranking Ranking = refl
-moves_whole v Published Published = refl
-moves_whole v _ _ = refl
+moved_whole : (v : OfficeSees) (old new : Phase) → IsWhole (moves_on v old new).reply.body
+moved_whole v Ranking Published = publishes_whole v (is_empty v.still_to_rank) refl
+moved_whole v Setup Setup = phase_whole v.round Setup
+moved_whole v Setup Choosing = phase_whole v.round Choosing
+moved_whole v Choosing Choosing = phase_whole v.round Choosing
+moved_whole v Choosing Ranking = phase_whole v.round Ranking
+moved_whole v Ranking Ranking = phase_whole v.round Ranking
+moved_whole v Published Published = phase_whole v.round Published
+moved_whole v _ _ = refl
 
-status_whole : (v : OfficeSees) (b : Bool) → is_published v.phase ≡ b → has_float (status_body v) ≡ false
-status_whole v true e = rw (e, of_texts v.still_to_rank, of_texts (unassigned v), of_texts v.without_list) refl
-status_whole v false e = rw (e, of_texts v.still_to_rank, of_texts v.without_list) refl
+named_whole : (v : OfficeSees) (old new : Round) (phase : Phase) → IsWhole (moves_in v old new phase).reply.body
+named_whole v First First phase = moved_whole v v.phase phase
+named_whole v Second Second phase = moved_whole v v.phase phase
+named_whole v First Second phase = refl
+named_whole v Second First phase = refl
+
+moves_whole : (v : OfficeSees) (phase : Phase) (round : Option Round) → IsWhole (moves v phase round).reply.body
+moves_whole v phase None = moved_whole v v.phase phase
+moves_whole v phase (Some round) = named_whole v v.round round phase
+
+status_whole : (v : OfficeSees) (r : Round) → v.round ≡ r → (b : Bool) → has_result v.round v.phase ≡ b → has_float (status_body v) ≡ false
+status_whole v First f true e = rw (e, f, of_texts v.still_to_rank, of_texts (unassigned v), of_texts v.without_list) refl
+status_whole v First f false e = rw (e, f, of_texts v.still_to_rank, of_texts v.without_list) refl
+status_whole v Second f true e = rw (e, f, of_texts v.still_to_rank, of_texts (unassigned v), of_texts v.without_list) refl
+status_whole v Second f false e = rw (e, f, of_texts v.still_to_rank, of_texts v.without_list) refl
 
 as_pair : Key × Key → Data
 as_pair x = dictionary ((codes "project", string x.1) ∷ (codes "student", string x.0) ∷ [])
@@ -123,11 +153,12 @@ office_whole v Ask.Catalogue = rw (none_of listing (λ l. refl) v.catalogue) ref
 office_whole v (Ask.AddLecturers rows) = only_whole _ _ (added_whole Lecturers (take_rows (lecturer_roll v) 1 v.lecturers rows))
 office_whole v (Ask.AddProjects rows) = only_whole _ _ (added_whole Projects (take_rows (project_roll v) 1 v.projects rows))
 office_whole v (Ask.AddStudents rows) = only_whole _ _ (added_whole Students (take_rows (student_roll v) 1 v.students rows))
-office_whole v (Ask.Move phase) = moves_whole v v.phase phase
-office_whole v Ask.Status = status_whole v (is_published v.phase) refl
-office_whole v Ask.Allocation = only_whole (is_published v.phase) _ (pairs_whole v.pairs)
-office_whole v Ask.AllocationCsv = only_whole (is_published v.phase) _ tt
-office_whole v Ask.Report = only_whole (is_published v.phase) _ tt
+office_whole v Ask.Me = round_whole v.round
+office_whole v (Ask.Move phase round) = moves_whole v phase round
+office_whole v Ask.Status = status_whole v v.round refl (has_result v.round v.phase) refl
+office_whole v Ask.Allocation = only_whole (has_result v.round v.phase) _ (pairs_whole v.pairs)
+office_whole v Ask.AllocationCsv = only_whole (has_result v.round v.phase) _ tt
+office_whole v Ask.Report = only_whole (has_result v.round v.phase) _ tt
 office_whole v Ask.FillRankings = only_whole (is_ranking v.phase) _ (rw (of_texts v.still_to_rank) refl)
 office_whole v _ = refl
 

@@ -6,6 +6,8 @@ use lib.Pointwise.{bytes_decides}
 use Rattle.portal_core.specs.Words.{Key}
 use Rattle.portal_core.specs.World.{World}
 use Rattle.portal_core.specs.declared.phase.Phase.{Phase}
+use Rattle.portal_core.specs.declared.phase.Round.{Round}
+use Rattle.portal_core.specs.declared.phase.Round.TheVariants.{First, Second}
 use Rattle.portal_core.specs.declared.phase.Phase.TheVariants.{Setup, Choosing, Ranking, Published}
 use Rattle.portal_core.specs.declared.rows.Person.{Person}
 use Rattle.portal_core.specs.declared.rows.Listing.{Listing}
@@ -46,6 +48,12 @@ phase_decided Setup _ = inr (λ e. cc)
 phase_decided Choosing _ = inr (λ e. cc)
 phase_decided Ranking _ = inr (λ e. cc)
 phase_decided Published _ = inr (λ e. cc)
+
+round_decided : Decided Round
+round_decided First First = inl refl
+round_decided Second Second = inl refl
+round_decided First _ = inr (λ e. cc)
+round_decided Second _ = inr (λ e. cc)
 
 pair_decided : {X Y : Type 0} → Decided X → Decided Y → Decided (X × Y)
 pair_decided {X} {Y} t u a b = go (t a.0 b.0) (u a.1 b.1)
@@ -114,24 +122,24 @@ sets_decided = list_decided (pair_decided key_decided (list_decided person_decid
 
 student_sees_decided : Decided StudentSees
 student_sees_decided =
-    by_fields {Y = Phase × (Person × (List Listing × (List Key × Option Key)))} (λ v. (v.phase, (v.me, (v.catalogue, (v.choices, v.result)))))
-    (λ t. record { phase = t.0; me = t.1.0; catalogue = t.1.1.0; choices = t.1.1.1.0; result = t.1.1.1.1 }) (λ v. refl)
-    (pair_decided phase_decided (pair_decided person_decided (pair_decided (list_decided listing_decided) (pair_decided keys_decided (option_decided key_decided)))))
+    by_fields {Y = Round × (Phase × (Person × (List Listing × (List Key × Option Key))))} (λ v. (v.round, (v.phase, (v.me, (v.catalogue, (v.choices, v.result))))))
+    (λ t. record { round = t.0; phase = t.1.0; me = t.1.1.0; catalogue = t.1.1.1.0; choices = t.1.1.1.1.0; result = t.1.1.1.1.1 }) (λ v. refl)
+    (pair_decided round_decided (pair_decided phase_decided (pair_decided person_decided (pair_decided (list_decided listing_decided) (pair_decided keys_decided (option_decided key_decided))))))
 
 lecturer_sees_decided : Decided LecturerSees
 lecturer_sees_decided =
-    by_fields {Y = Phase × (Person × (ℕ × (List Listing × (List (Key × List Person) × (Option (List Key) × List (Key × List Person))))))}
-    (λ v. (v.phase, (v.me, (v.capacity, (v.catalogue, (v.applicants, (v.ranking, v.placed)))))))
-    (λ t. record { phase = t.0; me = t.1.0; capacity = t.1.1.0; catalogue = t.1.1.1.0; applicants = t.1.1.1.1.0; ranking = t.1.1.1.1.1.0; placed = t.1.1.1.1.1.1 }) (λ v. refl)
-    (pair_decided phase_decided (pair_decided person_decided (pair_decided number_decided (pair_decided (list_decided listing_decided) (pair_decided sets_decided (pair_decided (option_decided keys_decided) sets_decided))))))
+    by_fields {Y = Round × (Phase × (Person × (ℕ × (List Listing × (List (Key × List Person) × (Option (List Key) × List (Key × List Person)))))))}
+    (λ v. (v.round, (v.phase, (v.me, (v.capacity, (v.catalogue, (v.applicants, (v.ranking, v.placed))))))))
+    (λ t. record { round = t.0; phase = t.1.0; me = t.1.1.0; capacity = t.1.1.1.0; catalogue = t.1.1.1.1.0; applicants = t.1.1.1.1.1.0; ranking = t.1.1.1.1.1.1.0; placed = t.1.1.1.1.1.1.1 }) (λ v. refl)
+    (pair_decided round_decided (pair_decided phase_decided (pair_decided person_decided (pair_decided number_decided (pair_decided (list_decided listing_decided) (pair_decided sets_decided (pair_decided (option_decided keys_decided) sets_decided)))))))
 
 office_sees_decided : Decided OfficeSees
 office_sees_decided =
-    by_fields {Y = Phase × (Key × (List LecturerRow × (List ProjectRow × (List StudentRow × (List Listing × (List Key × (List Key × List (Key × Key))))))))}
-    (λ v. (v.phase, (v.office_code, (v.lecturers, (v.projects, (v.students, (v.catalogue, (v.without_list, (v.still_to_rank, v.pairs)))))))))
-    (λ t. record { phase = t.0; office_code = t.1.0; lecturers = t.1.1.0; projects = t.1.1.1.0; students = t.1.1.1.1.0; catalogue = t.1.1.1.1.1.0; without_list = t.1.1.1.1.1.1.0; still_to_rank = t.1.1.1.1.1.1.1.0; pairs = t.1.1.1.1.1.1.1.1 }) (λ v. refl)
-    (pair_decided phase_decided (pair_decided key_decided (pair_decided (list_decided lecturer_decided) (pair_decided (list_decided project_decided) (pair_decided (list_decided student_decided)
-    (pair_decided (list_decided listing_decided) (pair_decided keys_decided (pair_decided keys_decided (list_decided (pair_decided key_decided key_decided))))))))))
+    by_fields {Y = Round × (Phase × (Key × (List LecturerRow × (List ProjectRow × (List StudentRow × (List Listing × (List Key × (List Key × List (Key × Key)))))))))}
+    (λ v. (v.round, (v.phase, (v.office_code, (v.lecturers, (v.projects, (v.students, (v.catalogue, (v.without_list, (v.still_to_rank, v.pairs))))))))))
+    (λ t. record { round = t.0; phase = t.1.0; office_code = t.1.1.0; lecturers = t.1.1.1.0; projects = t.1.1.1.1.0; students = t.1.1.1.1.1.0; catalogue = t.1.1.1.1.1.1.0; without_list = t.1.1.1.1.1.1.1.0; still_to_rank = t.1.1.1.1.1.1.1.1.0; pairs = t.1.1.1.1.1.1.1.1.1 }) (λ v. refl)
+    (pair_decided round_decided (pair_decided phase_decided (pair_decided key_decided (pair_decided (list_decided lecturer_decided) (pair_decided (list_decided project_decided) (pair_decided (list_decided student_decided)
+    (pair_decided (list_decided listing_decided) (pair_decided keys_decided (pair_decided keys_decided (list_decided (pair_decided key_decided key_decided)))))))))))
 
 inside : {X : Type 0} (make : X → Sight) (x y : X) → ((make x ≡ make y) → x ≡ y) → (x ≡ y) ⊎ (x ≢ y) → (make x ≡ make y) ⊎ (make x ≢ make y)
 inside make x y out (inl e) = inl (ap make e)

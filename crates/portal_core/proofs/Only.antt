@@ -12,16 +12,19 @@ use Rattle.spa_model.proofs.Numbers.{number_is, number_known}
 use Rattle.spa_model.proofs.OneOnly.{best_is_one}
 use Rattle.portal_core.specs.Words.{Key, is, has}
 use Rattle.portal_core.specs.World as rows
-use Rattle.portal_core.specs.World.{World, project_key}
+use Rattle.portal_core.specs.World.{World, in_play, project_key, is_left, students_left, students_in}
+use Rattle.portal_core.specs.declared.phase.Round.{Round}
+use Rattle.portal_core.specs.declared.phase.Round.TheVariants.{First, Second}
 use Rattle.portal_core.specs.Change.{Places, place_in, with_place, changed}
-use Rattle.portal_core.specs.Instance.{instance, matching_of, project_keys}
+use Rattle.portal_core.specs.Instance.{instance, matching_of, places_of, project_keys}
 use Rattle.portal_core.specs.View.{view}
 use Rattle.portal_core.specs.Ask.{Ask}
 use Rattle.portal_core.specs.Answer.{Answer, Act, Nothing, Apply, Publish, Render, decision}
 use Rattle.portal_core.specs.declared.rows.ProjectRow.{ProjectRow}
-use Rattle.portal_core.specs.Run.{Leaves, Step, Wish, Calls, Refused, Request, Answers, Run, AllAnswered}
 use Rattle.portal_core.specs.Good.{IsChoice}
+use Rattle.portal_core.specs.Run.{Leaves, Step, Wish, Calls, Refused, Request, Answers, Run, AllAnswered}
 use Rattle.portal_core.proofs.Keys.{is_same}
+use Rattle.portal_core.proofs.InPlay.{play_placed}
 use Rattle.portal_core.proofs.Hearing.{really}
 
 pub has_contains : (ks : List Key) (c : Key) → has ks c ≡ true → Contains ks c
@@ -63,10 +66,31 @@ module _ (keys : List Key) where
       → ((s n : ℕ) → get_or (map number_of (map (with_place p) ss)) s None ≡ Some n → n < length keys) → map (with_place p) ss ≡ map (with_place q) ss
   same_places p q [] e low = refl
   same_places p q (x ∷ ss) e low =
-      let first : option_map (number_in keys) (place_in p x.row.key) ≡ option_map (number_in keys) (place_in q x.row.key) = cc in
+      let here : number_of (with_place p x) ≡ number_of (with_place q x) = cc in
       let rest : map number_of (map (with_place p) ss) ≡ map number_of (map (with_place q) ss) = cc in
-      let here : place_in p x.row.key ≡ place_in q x.row.key = same_key (place_in p x.row.key) (place_in q x.row.key) first (λ n f. low 0 n f) in
-      λ i. record x { placed = here i } ∷ same_places p q ss rest (λ s n f. low (suc s) n f) i
+      let one : with_place p x ≡ with_place q x
+      = (elim (is_left x) as (λ b. number_of (cond b (record x { placed = place_in p x.row.key }) x) ≡ number_of (cond b (record x { placed = place_in q x.row.key }) x)
+      → ((n : ℕ) → number_of (cond b (record x { placed = place_in p x.row.key }) x) ≡ Some n → n < length keys)
+      → cond b (record x { placed = place_in p x.row.key }) x ≡ cond b (record x { placed = place_in q x.row.key }) x) [
+        | true ↦ λ e below. ap (λ o. record x { placed = o }) (same_key (place_in p x.row.key) (place_in q x.row.key) e below)
+        | false ↦ λ e below. refl
+      ]) here (λ n f. low 0 n f) in
+      λ i. one i ∷ same_places p q ss rest (λ s n f. low (suc s) n f) i
+
+-- those who stay out of the round keep their place
+in_whole : (r : Round) (p q : List (Key × Key)) (ss : List rows.Student) → map (with_place p) (students_in r ss) ≡ map (with_place q) (students_in r ss) → map (with_place p) ss ≡ map (with_place q) ss
+in_whole First p q ss e = e
+in_whole Second p q [] e = refl
+in_whole Second p q (x ∷ ss) e =
+    (elim (is_left x) as (λ b. map (with_place p) (cond b (x ∷ students_left ss) (students_left ss)) ≡ map (with_place q) (cond b (x ∷ students_left ss) (students_left ss)) → is_left x ≡ b → map (with_place p) (x ∷ ss) ≡ map (with_place q) (x ∷ ss)) [
+      | true ↦ λ f t.
+          let one : with_place p x ≡ with_place q x = cc in
+          let rest : map (with_place p) (students_left ss) ≡ map (with_place q) (students_left ss) = cc in
+          λ i. one i ∷ in_whole Second p q ss rest i
+      | false ↦ λ f t.
+          let stays : (pairs : List (Key × Key)) → with_place pairs x ≡ x = λ pairs. ap (λ b. cond b (record x { placed = place_in pairs x.row.key }) x) t in
+          λ i. (stays p ∙ sym (stays q)) i ∷ in_whole Second p q ss f i
+    ]) e refl
 
 -- who has a project is counted there, so that it has room, and is one of the roll
 
@@ -82,15 +106,18 @@ with_room [] n h = absurd (omega (arith, h))
 with_room (x ∷ ns) zero h = omega arith
 with_room (x ∷ ns) (suc n) h = let rest : n < length ns = with_room ns n h in omega arith
 
-placed_known : (w : World) (m : List (Option ℕ)) → IsMatching (instance w) m → (s n : ℕ) → project_of m s ≡ Some n → n < length (project_keys w)
+placed_known : (w : World) (m : List (Option ℕ)) → IsMatching (instance w) m → (s n : ℕ) → project_of m s ≡ Some n → n < length (project_keys (in_play w))
 placed_known w m matching s n e =
-    let low : n < length (map (λ (p : ProjectRow). p.capacity) w.projects) = with_room _ n (omega (arith, counted m s n e, matching.projects n)) in
-    omega (arith, low, length-map w.projects (λ (p : ProjectRow). p.capacity), length-map w.projects project_key)
+    let low : n < length (map (λ (p : ProjectRow). p.capacity) (in_play w).projects) = with_room _ n (omega (arith, counted m s n e, matching.projects n)) in
+    omega (arith, low, length-map (in_play w).projects (λ (p : ProjectRow). p.capacity), length-map (in_play w).projects project_key)
 
 published_once : (w : World) (p q : List (Key × Key)) → IsBest (instance w) (matching_of (changed w (Places p))) → IsBest (instance w) (matching_of (changed w (Places q))) → changed w (Places p) ≡ changed w (Places q)
 published_once w p q a b =
+    let one : IsBest (instance w) (places_of (changed (in_play w) (Places p))) = subst (λ u. IsBest (instance w) (places_of u)) (play_placed w p) a in
+    let other : IsBest (instance w) (places_of (changed (in_play w) (Places q))) = subst (λ u. IsBest (instance w) (places_of u)) (play_placed w q) b in
     ap (λ ss. record (changed w (Places p)) { students = ss })
-    (same_places (project_keys w) p q w.students (best_is_one (instance w) _ _ a b) (placed_known w _ a.stable.matching))
+    (in_whole w.round p q w.students
+    (same_places (project_keys (in_play w)) p q (in_play w).students (best_is_one (instance w) _ _ one other) (placed_known w _ one.stable.matching)))
 
 one_end : (w v u : World) (a : Act) → Leaves w a v → Leaves w a u → v ≡ u
 one_end w v u Nothing l m = l ∙ sym m

@@ -1,5 +1,5 @@
 -- The pairs of a matching by numbers place the students as the matching does.
-use Rattle.std.proofs.Common.{◌≡◌, ℕ, zero, suc, ◌+◌, ◌<◌, Bool, true, false, List, [], ◌∷◌, map, length, get_or, refl, sym, ◌∙◌, ap, subst, arith}
+use Rattle.std.proofs.Common.{◌≡◌, ℕ, zero, suc, ◌+◌, ◌<◌, Bool, true, false, cond, List, [], ◌∷◌, map, length, get_or, refl, sym, ◌∙◌, ap, subst, arith}
 use Rattle.std.specs.Prelude.{Option, Some, None, option_map}
 use Rattle.std.specs.List.{AllByRecursion}
 use Rattle.std.proofs.lemmas.List.{length-map}
@@ -7,14 +7,16 @@ use Rattle.spa_model.specs.Spa.{IsMatching}
 use Rattle.spa_model.specs.Pairs.{number_in}
 use Rattle.portal_core.specs.Words.{Key, is, is_before, Rise}
 use Rattle.portal_core.specs.World as rows
-use Rattle.portal_core.specs.World.{World, student_key}
+use Rattle.portal_core.specs.World.{World, in_play, is_left, student_key}
 use Rattle.portal_core.specs.Change.{Places, place_in, with_place, changed}
-use Rattle.portal_core.specs.Instance.{instance, matching_of, pairs_by, project_keys, student_keys}
+use Rattle.portal_core.specs.Instance.{instance, matching_of, places_of, pairs_by, project_keys, student_keys}
 use Rattle.portal_core.specs.Good.{Sound}
 use Rattle.portal_core.proofs.Keys.{is_same, is_own, all_unmap}
 use Rattle.portal_core.proofs.AllLaws.{all_at}
 use Rattle.portal_core.proofs.Fills.{before_other}
 use Rattle.portal_core.proofs.Only.{on_roll}
+use Rattle.portal_core.proofs.InPlay.{play_placed}
+use Rattle.portal_core.proofs.InRound.{students_rise_in, projects_rise_in, choices_in, left_in}
 
 -- the number of the key with a number
 pub number_back : (keys : List Key) (n : ℕ) → Rise keys → n < length keys → number_in keys (get_or keys n []) ≡ n
@@ -70,16 +72,20 @@ module _ (projects : List Key) (rise : Rise projects) where
       let rest = placed_back ss places up.1 (omega arith) (λ n q e. low (suc n) q e) in
       λ i. here i ∷ rest i
 
-placed_map : (pairs : List (Key × Key)) (projects : List Key) (ss : List rows.Student)
+placed_map : (pairs : List (Key × Key)) (projects : List Key) (ss : List rows.Student) → AllByRecursion (λ s. is_left s ≡ true) ss
     → map (λ (s : rows.Student). option_map (number_in projects) s.placed) (map (with_place pairs) ss) ≡ map (λ (s : rows.Student). option_map (number_in projects) (place_in pairs s.row.key)) ss
-placed_map pairs projects [] = refl
-placed_map pairs projects (s ∷ ss) = λ i. option_map (number_in projects) (place_in pairs s.row.key) ∷ placed_map pairs projects ss i
+placed_map pairs projects [] left = refl
+placed_map pairs projects (s ∷ ss) left =
+    λ i. option_map (number_in projects) (cond (left.0 i) (record s { placed = place_in pairs s.row.key }) s).placed ∷ placed_map pairs projects ss left.1 i
 
 -- what a matching's pairs leave is the matching
 pub pairs_place : (w : World) (places : List (Option ℕ)) → Sound w → IsMatching (instance w) places
-    → matching_of (changed w (Places (pairs_by (student_keys w) (project_keys w) places))) ≡ places
+    → matching_of (changed w (Places (pairs_by (student_keys (in_play w)) (project_keys (in_play w)) places))) ≡ places
 pairs_place w places sound matching =
-    placed_map (pairs_by (student_keys w) (project_keys w) places) (project_keys w) w.students
-    ∙ placed_back (project_keys w) sound.projects_rise w.students places sound.students_rise
-    (matching.students ∙ length-map w.students _)
-    (λ s p e. on_roll (project_keys w) w.students sound.choices s p (matching.acceptable s p e))
+    let u = in_play w in
+    let pairs = pairs_by (student_keys u) (project_keys u) places in
+    ap places_of (play_placed w pairs)
+    ∙ placed_map pairs (project_keys u) u.students (left_in w sound)
+    ∙ placed_back (project_keys u) (projects_rise_in w sound) u.students places (students_rise_in w sound)
+    (matching.students ∙ length-map u.students _)
+    (λ s p e. on_roll (project_keys u) u.students (choices_in w sound) s p (matching.acceptable s p e))

@@ -1,14 +1,16 @@
 -- What the office sees after a list or a ranking was put.
 use Rattle.std.proofs.Common.{◌≡◌, Bool, true, false, cond, List, [], ◌∷◌, refl, sym, ◌∙◌, ap}
-use Rattle.std.specs.Prelude.{map, filter, Some, not, ◌&&◌, is_none}
+use Rattle.std.specs.Prelude.{map, filter, Option, Some, option_map, not, ◌&&◌, is_none}
+use Rattle.std.specs.List.{filter_map, cons_option}
 use Rattle.portal_core.specs.Words.{Key, is, is_empty}
 use Rattle.portal_core.specs.World as rows
-use Rattle.portal_core.specs.World.{World, is_still_to_rank, applicants_of, is_from_ranking, is_published, pairs_of}
+use Rattle.portal_core.specs.World.{World, in_play, shown_place, is_still_to_rank, applicants_of, is_from_ranking, pairs_of}
 use Rattle.portal_core.specs.Change.{Choices, Ranks, changed, with_choice, with_ranking}
 use Rattle.portal_core.specs.declared.phase.Phase.TheVariants.{Choosing, Ranking}
 use Rattle.portal_core.specs.declared.rows.LecturerRow.{LecturerRow}
-use Rattle.portal_core.specs.View.{office_sees, catalogue}
-use Rattle.portal_core.proofs.Acts.{choice_row, ranking_row, catalogue_ranked}
+use Rattle.portal_core.specs.View.{office_sees}
+use Rattle.portal_core.proofs.Acts.{choice_row, ranking_row, catalogue_chosen, catalogue_ranked}
+use Rattle.portal_core.proofs.InPlay.{play_chosen}
 use Rattle.portal_core.proofs.AllLaws.{map_same}
 
 -- Where a change keeps the keys, and takes those from the chosen whose key has not the mark: their keys, without these.
@@ -49,6 +51,20 @@ still : (w : World) (k : Key) (list : List Key) (l : rows.Lecturer) → is_still
 still w k list l = ap (λ (r : LecturerRow). not (is_empty (applicants_of w r.key)) && is_none (with_ranking k list l).ranking) (ranking_row k list l)
     ∙ ranked (not (is_empty (applicants_of w l.row.key))) k list l
 
+-- a list changes no place that is shown
+pairs_chosen : (w : World) (k : Key) (list : List Key) → pairs_of (changed w (Choices k list)) ≡ pairs_of w
+pairs_chosen w k list = go w.students
+  where
+    pair : rows.Student → Option (Key × Key)
+    pair s = option_map (λ p. (s.row.key, p)) (shown_place w.phase s)
+
+    same : (s : rows.Student) → pair (with_choice k list s) ≡ pair s
+    same s = elim (is s.row.key k) as (λ b. pair (cond b (record s { choice = list }) s) ≡ pair s) [ true ↦ refl | false ↦ refl ]
+
+    go : (ss : List rows.Student) → filter_map pair (map (with_choice k list) ss) ≡ filter_map pair ss
+    go [] = refl
+    go (s ∷ ss) = λ i. cons_option (same s i) (go ss i)
+
 -- a list of some projects that is put while students choose takes the student from those without one, and changes nothing else
 pub choosing_seen : (w : World) (k : Key) (list : List Key) → w.phase ≡ Choosing → is_empty list ≡ false
     → office_sees (changed w (Choices k list)) ≡ record (office_sees w) { without_list = filter (λ x. not (is x k)) (office_sees w).without_list }
@@ -56,16 +72,18 @@ choosing_seen w k [] e some = cc
 choosing_seen w k (p ∷ ps) e some =
     let to : World = changed w (Choices k (p ∷ ps)) in
     λ i. record {
+      round = w.round;
       phase = w.phase;
       office_code = w.office;
       lecturers = map (λ l. l.row) w.lecturers;
       projects = w.projects;
       students = map_same (λ (s : rows.Student). s.row) (with_choice k (p ∷ ps)) (choice_row k (p ∷ ps)) w.students i;
-      catalogue = catalogue w;
-      without_list = chosen_after (λ s. s.row.key) (λ s. is_empty s.choice) (with_choice k (p ∷ ps)) (λ x. not (is x k)) (λ s. ap (λ r. r.key) (choice_row k (p ∷ ps) s)) (listed k p ps) w.students i;
+      catalogue = catalogue_chosen w k (p ∷ ps) i;
+      without_list = ((λ j. map (λ (s : rows.Student). s.row.key) (filter (λ s. is_empty s.choice) (play_chosen w k (p ∷ ps) j).students))
+          ∙ chosen_after (λ s. s.row.key) (λ s. is_empty s.choice) (with_choice k (p ∷ ps)) (λ x. not (is x k)) (λ s. ap (λ r. r.key) (choice_row k (p ∷ ps) s)) (listed k p ps) (in_play w).students) i;
       still_to_rank = ((λ j. cond (is_from_ranking (e j)) (map (λ (l : rows.Lecturer). l.row.key) (filter (is_still_to_rank to) w.lecturers)) [])
           ∙ sym (λ j. cond (is_from_ranking (e j)) (map (λ (l : rows.Lecturer). l.row.key) (filter (is_still_to_rank w) w.lecturers)) [])) i;
-      pairs = ((λ j. cond (is_published (e j)) (pairs_of to) []) ∙ sym (λ j. cond (is_published (e j)) (pairs_of w) [])) i;
+      pairs = pairs_chosen w k (p ∷ ps) i;
     }
 
 -- a ranking that is put while lecturers rank takes the lecturer from those still to rank, and changes nothing else
@@ -75,15 +93,16 @@ ranking_seen w k list e =
     let to : World = changed w (Ranks k list) in
     let own : (ls : List rows.Lecturer) → List Key = λ ls. map (λ l. l.row.key) ls in
     λ i. record {
+      round = w.round;
       phase = w.phase;
       office_code = w.office;
       lecturers = map_same (λ (l : rows.Lecturer). l.row) (with_ranking k list) (ranking_row k list) w.lecturers i;
       projects = w.projects;
       students = map (λ s. s.row) w.students;
       catalogue = catalogue_ranked w k list i;
-      without_list = map (λ s. s.row.key) (filter (λ s. is_empty s.choice) w.students);
+      without_list = map (λ s. s.row.key) (filter (λ s. is_empty s.choice) (in_play w).students);
       still_to_rank = ((λ j. cond (is_from_ranking (e j)) (own (filter (is_still_to_rank to) to.lecturers)) [])
           ∙ chosen_after (λ l. l.row.key) (is_still_to_rank w) (with_ranking k list) (λ x. not (is x k)) (λ l. ap (λ r. r.key) (ranking_row k list l)) (still w k list) w.lecturers
           ∙ sym (λ j. filter (λ x. not (is x k)) (cond (is_from_ranking (e j)) (own (filter (is_still_to_rank w) w.lecturers)) []))) i;
-      pairs = ((λ j. cond (is_published (e j)) (pairs_of to) []) ∙ sym (λ j. cond (is_published (e j)) (pairs_of w) [])) i;
+      pairs = pairs_of w;
     }

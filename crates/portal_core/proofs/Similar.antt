@@ -1,16 +1,22 @@
 -- Worlds that differ in the order within students' lists show the same, but for these lists, and stay so.
 use Rattle.std.proofs.Common.{◌≡◌, Bool, true, false, cond, List, [], ◌∷◌, refl, sym, ◌∙◌, ap, subst}
-use Rattle.std.specs.Prelude.{map, filter, Option, Some, None, option_map, not, ◌&&◌, is_none}
+use Rattle.std.specs.Prelude.{count_by, map, filter, Option, Some, None, option_map, not, ◌&&◌, is_none}
 use Rattle.std.specs.List.{list_any, find, filter_map, cons_option, AllZip}
 use Rattle.portal_core.specs.Words.{Key, is, has, is_empty, is_before, put, put_all}
 use Rattle.portal_core.specs.World as rows
-use Rattle.portal_core.specs.World.{World, lecturer_key, project_key, student_key, applicants_to, projects_of, applicants_of, placed_at, is_at, is_still_to_rank, is_published, is_from_ranking}
-use Rattle.portal_core.specs.Change.{Change, Choices, Ranks, Lecturers, Projects, Students, To, Places, Fill, changed, with_choice, with_ranking, with_place, with_fill, place_in, new_lecturer, new_student}
+use Rattle.portal_core.specs.World.{World, lecturer_key, project_key, student_key, applicants_to, projects_of, applicants_of, placed_at, is_at, is_left, shown_place, in_play, given_to, given_with, lowered_lecturer, lowered_project, lecturers_left, projects_left, students_left, lecturers_in, projects_in, students_in, pairs_of, is_still_to_rank, is_from_ranking}
+use Rattle.portal_core.specs.declared.phase.Round.{Round}
+use Rattle.portal_core.specs.declared.phase.Round.TheVariants.{First, Second}
+use Rattle.portal_core.specs.declared.phase.Phase.{Phase}
+use Rattle.portal_core.specs.declared.rows.ProjectRow.{ProjectRow}
+use Rattle.spa_model.proofs.PairFaults.{count_by-map}
+use Rattle.portal_core.specs.Change.{Change, Choices, Ranks, Lecturers, Projects, Students, To, Places, Fill, changed, in_first, with_lecturers, with_projects, with_students, with_choice, with_ranking, with_place, with_fill, place_in, new_lecturer, new_student}
 use Rattle.portal_core.specs.declared.rows.Person.{Person}
 use Rattle.portal_core.specs.declared.view.View.{View as Sight}
 use Rattle.portal_core.specs.declared.view.View.TheVariants.{Office, Lecturer, Student}
-use Rattle.portal_core.specs.View.{OfficeCaller, caller_among, lecturer_with, student_with, sight_of, view, student_sees, lecturer_sees, office_sees, persons}
+use Rattle.portal_core.specs.View.{OfficeCaller, caller_among, lecturer_with, student_with, sight_of, view, student_sees, lecturer_sees, office_sees, persons, listings, catalogue}
 use Rattle.portal_core.specs.Places.{Reordered, SameStudent, SameButPlaces}
+use Rattle.portal_core.proofs.InPlay.{lecturers_given, projects_given}
 use Rattle.portal_core.proofs.Kept.{empty_map}
 use Rattle.portal_core.proofs.Reorder.{any_reordered, empty_reordered, reordered_itself}
 
@@ -47,19 +53,48 @@ zip_with f g same (s ∷ ss) [] z = absurd z
 zip_with f g same (s ∷ ss) (t ∷ ts) z = (same s t z.0, zip_with f g same ss ts z.1)
 
 zip_put : (x : rows.Student) (ss ts : List rows.Student) → AllZip SameStudent ss ts → AllZip SameStudent (put student_key x ss) (put student_key x ts)
-zip_put x [] [] z = (record { row = refl; choice = reordered_itself x.choice; placed = refl }, tt)
+zip_put x [] [] z = (record { row = refl; choice = reordered_itself x.choice; placed = refl; earlier_choice = reordered_itself x.earlier_choice; earlier_place = refl }, tt)
 zip_put x [] (t ∷ ts) z = absurd z
 zip_put x (s ∷ ss) [] z = absurd z
 zip_put x (s ∷ ss) (t ∷ ts) z =
     subst (λ r. AllZip SameStudent (cond (is_before x.row.key s.row.key) (x ∷ s ∷ ss) (s ∷ put student_key x ss)) (cond (is_before x.row.key r.key) (x ∷ t ∷ ts) (t ∷ put student_key x ts))) z.0.row
     (elim (is_before x.row.key s.row.key) as (λ b. AllZip SameStudent (cond b (x ∷ s ∷ ss) (s ∷ put student_key x ss)) (cond b (x ∷ t ∷ ts) (t ∷ put student_key x ts))) [
-      | true ↦ (record { row = refl; choice = reordered_itself x.choice; placed = refl }, z)
+      | true ↦ (record { row = refl; choice = reordered_itself x.choice; placed = refl; earlier_choice = reordered_itself x.earlier_choice; earlier_place = refl }, z)
       | false ↦ (z.0, zip_put x ss ts z.1)
     ])
 
 zip_put_all : (xs ss ts : List rows.Student) → AllZip SameStudent ss ts → AllZip SameStudent (put_all student_key xs ss) (put_all student_key xs ts)
 zip_put_all [] ss ts z = z
 zip_put_all (x ∷ xs) ss ts z = zip_put_all xs (put student_key x ss) (put student_key x ts) (zip_put x ss ts z)
+
+zip_left : (ss ts : List rows.Student) → AllZip SameStudent ss ts → AllZip SameStudent (students_left ss) (students_left ts)
+zip_left [] [] z = tt
+zip_left [] (t ∷ ts) z = absurd z
+zip_left (s ∷ ss) [] z = absurd z
+zip_left (s ∷ ss) (t ∷ ts) z =
+    subst (λ o. AllZip SameStudent (cond (is_left s) (s ∷ students_left ss) (students_left ss)) (cond (is_none o) (t ∷ students_left ts) (students_left ts))) z.0.earlier_place
+    (elim (is_left s) as (λ b. AllZip SameStudent (cond b (s ∷ students_left ss) (students_left ss)) (cond b (t ∷ students_left ts) (students_left ts))) [
+      | true ↦ (z.0, zip_left ss ts z.1)
+      | false ↦ zip_left ss ts z.1
+    ])
+
+zip_in : (r : Round) (ss ts : List rows.Student) → AllZip SameStudent ss ts → AllZip SameStudent (students_in r ss) (students_in r ts)
+zip_in First ss ts z = z
+zip_in Second ss ts z = zip_left ss ts z
+
+same_shown : (phase : Phase) (s t : rows.Student) → SameStudent s t → shown_place phase s ≡ shown_place phase t
+same_shown phase s t same = λ i. shown_place phase (record s { placed = same.placed i; earlier_place = same.earlier_place i })
+
+-- what is left depends on the earlier places alone
+module _ (ss ts : List rows.Student) (z : AllZip SameStudent ss ts) where
+  count_same : (q : Option Key → Bool) → count_by (λ (s : rows.Student). q s.earlier_place) ss ≡ count_by (λ s. q s.earlier_place) ts
+  count_same q = sym (count_by-map q (λ (s : rows.Student). s.earlier_place) ss) ∙ ap (count_by q) (zip_map (λ s. s.earlier_place) (λ s t same. same.earlier_place) ss ts z) ∙ count_by-map q (λ (s : rows.Student). s.earlier_place) ts
+
+  lecturers_same : (r : Round) (ls : List rows.Lecturer) (ps : List ProjectRow) → lecturers_in r ls ps ss ≡ lecturers_in r ls ps ts
+  lecturers_same = lecturers_given ss ts (λ p. count_same (is_at p)) (λ ps l. count_same (λ o. list_any (λ p. is p.lecturer l && is_at p.key o) ps))
+
+  projects_same : (r : Round) (ls : List rows.Lecturer) (ps : List ProjectRow) → projects_in r ls ps ss ≡ projects_in r ls ps ts
+  projects_same = projects_given ss ts (λ p. count_same (is_at p)) (λ ps l. count_same (λ o. list_any (λ p. is p.lecturer l && is_at p.key o) ps))
 
 -- whom a code names
 
@@ -98,11 +133,14 @@ module _ (w : World) (ss ts : List rows.Student) (z : AllZip SameStudent ss ts) 
   same_person : (s t : rows.Student) → SameStudent s t → person_of s ≡ person_of t
   same_person s t same = λ i. record { key = (same.row i).key; name = (same.row i).name }
 
+  catalogue_same : catalogue one ≡ catalogue other
+  catalogue_same = λ i. listings (lecturers_same ss ts z w.round w.lecturers w.projects i) (projects_same ss ts z w.round w.lecturers w.projects i)
+
   applicants_same : (p : Key) → persons (applicants_to one p) ≡ persons (applicants_to other p)
   applicants_same p = zip_filter person_of (λ s. has s.choice p) same_person (λ s t same. any_reordered (is p) s.choice t.choice same.choice) ss ts z
 
   placed_same : (p : Key) → persons (placed_at one p) ≡ persons (placed_at other p)
-  placed_same p = zip_filter person_of (λ s. is_at p s.placed) same_person (λ s t same. ap (is_at p) same.placed) ss ts z
+  placed_same p = zip_filter person_of (λ s. is_at p (shown_place w.phase s)) same_person (λ s t same. ap (is_at p) (same_shown w.phase s t same)) ss ts z
 
   same_any : (s t : rows.Student) → SameStudent s t → (l : Key) → list_any (λ p. has s.choice p.key) (projects_of w l) ≡ list_any (λ p. has t.choice p.key) (projects_of w l)
   same_any s t same l = λ i. list_any (λ p. any_reordered (is p.key) s.choice t.choice same.choice i) (projects_of w l)
@@ -121,21 +159,24 @@ module _ (w : World) (ss ts : List rows.Student) (z : AllZip SameStudent ss ts) 
   office_same : office_sees one ≡ office_sees other
   office_same = λ i. record (office_sees one) {
     students = zip_map (λ s. s.row) (λ s t same. same.row) ss ts z i;
-    without_list = zip_filter student_key (λ s. is_empty s.choice) (λ s t same. ap (λ r. r.key) same.row) (λ s t same. empty_reordered s.choice t.choice same.choice) ss ts z i;
+    catalogue = catalogue_same i;
+    without_list = zip_filter student_key (λ s. is_empty s.choice) (λ s t same. ap (λ r. r.key) same.row) (λ s t same. empty_reordered s.choice t.choice same.choice) (students_in w.round ss) (students_in w.round ts) (zip_in w.round ss ts z) i;
     still_to_rank = cond (is_from_ranking w.phase) (map lecturer_key (filter (λ l. ranked_same l i) w.lecturers)) [];
-    pairs = cond (is_published w.phase) (zip_some (λ s. option_map (λ p. (s.row.key, p)) s.placed) (λ s t same. λ j. option_map (λ p. ((same.row j).key, p)) (same.placed j)) ss ts z i) [];
+    pairs = zip_some (λ s. option_map (λ p. (s.row.key, p)) (shown_place w.phase s)) (λ s t same. λ j. option_map (λ p. ((same.row j).key, p)) (same_shown w.phase s t same j)) ss ts z i;
   }
 
   lecturer_same : (l : rows.Lecturer) → lecturer_sees one l ≡ lecturer_sees other l
   lecturer_same l = λ i. record (lecturer_sees one l) {
     applicants = map (λ p. (p.key, cond (is_from_ranking w.phase) (applicants_same p.key i) [])) (projects_of w l.row.key);
-    placed = map (λ p. (p.key, cond (is_published w.phase) (placed_same p.key i) [])) (projects_of w l.row.key);
+    catalogue = catalogue_same i;
+    placed = map (λ p. (p.key, placed_same p.key i)) (projects_of w l.row.key);
   }
 
   student_same : (s t : rows.Student) → SameStudent s t → record (student_sees one s) { choices = t.choice } ≡ student_sees other t
   student_same s t same = λ i. record (student_sees other t) {
     me = record { key = (same.row i).key; name = (same.row i).name };
-    result = cond (is_published w.phase) (same.placed i) None;
+    catalogue = catalogue_same i;
+    result = same_shown w.phase s t same i;
   }
 
   seen_same : (b : Bool) (l : Option rows.Lecturer) (o p : Option rows.Student) → SameFound o p → SameSight (sight_of one (cond b OfficeCaller (caller_among l o))) (sight_of other (cond b OfficeCaller (caller_among l p)))
@@ -151,7 +192,7 @@ module _ (w : World) (ss ts : List rows.Student) (z : AllZip SameStudent ss ts) 
 
 -- the first world with the rest of the second
 pub but_students : (v w : World) (s : SameButPlaces v w) → v ≡ record w { students = v.students }
-but_students v w s = λ i. record { phase = s.phase i; office = s.office i; lecturers = s.lecturers i; projects = s.projects i; students = v.students }
+but_students v w s = λ i. record { round = s.round i; phase = s.phase i; office = s.office i; lecturers = s.lecturers i; projects = s.projects i; students = v.students }
 
 pub same_view : (v w : World) → SameButPlaces v w → (c : Key) → SameSight (view v c) (view w c)
 same_view v w s c = subst (λ u. SameSight (view u c) (view w c)) (sym (but_students v w s)) (view_same w v.students w.students s.students c)
@@ -159,32 +200,42 @@ same_view v w s c = subst (λ u. SameSight (view u c) (view w c)) (sym (but_stud
 -- a change of both
 
 pub both_choose : (v w : World) (k : Key) (ks ls : List Key) → Reordered ks ls → SameButPlaces v w → SameButPlaces (changed v (Choices k ks)) (changed w (Choices k ls))
-both_choose v w k ks ls r s = record { phase = s.phase; office = s.office; lecturers = s.lecturers; projects = s.projects; students = zip_with (with_choice k ks) (with_choice k ls) each v.students w.students s.students }
+both_choose v w k ks ls r s = record { round = s.round; phase = s.phase; office = s.office; lecturers = s.lecturers; projects = s.projects; students = zip_with (with_choice k ks) (with_choice k ls) each v.students w.students s.students }
   where
     each : (s t : rows.Student) → SameStudent s t → SameStudent (with_choice k ks s) (with_choice k ls t)
     each s t same =
         subst (λ r. SameStudent (with_choice k ks s) (cond (is r.key k) (record t { choice = ls }) t)) same.row
         (elim (is s.row.key k) as (λ b. SameStudent (cond b (record s { choice = ks }) s) (cond b (record t { choice = ls }) t)) [
-          | true ↦ record { row = same.row; choice = r; placed = same.placed }
+          | true ↦ record { row = same.row; choice = r; placed = same.placed; earlier_choice = same.earlier_choice; earlier_place = same.earlier_place }
           | false ↦ same
         ])
 
+-- new rows of both, in the first round
+both_first : (v w p q : World) → SameButPlaces v w → SameButPlaces p q → SameButPlaces (in_first v.round p v) (in_first w.round q w)
+both_first v w p q s t = subst (λ r. SameButPlaces (in_first v.round p v) (in_first r q w)) s.round (elim v.round as (λ r. SameButPlaces (in_first r p v) (in_first r q w)) [ First ↦ t | Second ↦ s ])
+
 pub both_changed : (v w : World) (change : Change) → SameButPlaces v w → SameButPlaces (changed v change) (changed w change)
 both_changed v w (Choices k list) s = both_choose v w k list list (reordered_itself list) s
-both_changed v w (Ranks k list) s = record { phase = s.phase; office = s.office; lecturers = ap (map (with_ranking k list)) s.lecturers; projects = s.projects; students = s.students }
-both_changed v w (Lecturers rows) s = record { phase = s.phase; office = s.office; lecturers = ap (put_all lecturer_key (map new_lecturer rows)) s.lecturers; projects = s.projects; students = s.students }
-both_changed v w (Projects rows) s = record { phase = s.phase; office = s.office; lecturers = s.lecturers; projects = ap (put_all project_key rows) s.projects; students = s.students }
-both_changed v w (Students rows) s = record { phase = s.phase; office = s.office; lecturers = s.lecturers; projects = s.projects; students = zip_put_all (map new_student rows) v.students w.students s.students }
-both_changed v w (To phase) s = record { phase = refl; office = s.office; lecturers = s.lecturers; projects = s.projects; students = s.students }
+both_changed v w (Ranks k list) s = record { round = s.round; phase = s.phase; office = s.office; lecturers = ap (map (with_ranking k list)) s.lecturers; projects = s.projects; students = s.students }
+both_changed v w (Lecturers rows) s = both_first v w (with_lecturers v rows) (with_lecturers w rows) s (record { round = s.round; phase = s.phase; office = s.office; lecturers = ap (put_all lecturer_key (map new_lecturer rows)) s.lecturers; projects = s.projects; students = s.students })
+both_changed v w (Projects rows) s = both_first v w (with_projects v rows) (with_projects w rows) s (record { round = s.round; phase = s.phase; office = s.office; lecturers = s.lecturers; projects = ap (put_all project_key rows) s.projects; students = s.students })
+both_changed v w (Students rows) s = both_first v w (with_students v rows) (with_students w rows) s (record { round = s.round; phase = s.phase; office = s.office; lecturers = s.lecturers; projects = s.projects; students = zip_put_all (map new_student rows) v.students w.students s.students })
+both_changed v w (To phase) s = record { round = s.round; phase = refl; office = s.office; lecturers = s.lecturers; projects = s.projects; students = s.students }
 both_changed v w Fill s =
     record {
+      round = s.round;
       phase = s.phase;
       office = s.office;
       lecturers = subst (λ u. map (with_fill u) u.lecturers ≡ map (with_fill w) w.lecturers) (sym (but_students v w s)) (fill_same w v.students w.students s.students);
       projects = s.projects;
       students = s.students;
     }
-both_changed v w (Places pairs) s = record { phase = refl; office = s.office; lecturers = s.lecturers; projects = s.projects; students = zip_with (with_place pairs) (with_place pairs) each v.students w.students s.students }
+both_changed v w (Places pairs) s = record { round = s.round; phase = refl; office = s.office; lecturers = s.lecturers; projects = s.projects; students = zip_with (with_place pairs) (with_place pairs) each v.students w.students s.students }
   where
     each : (s t : rows.Student) → SameStudent s t → SameStudent (with_place pairs s) (with_place pairs t)
-    each s t same = record { row = same.row; choice = same.choice; placed = ap (λ r. place_in pairs r.key) same.row }
+    each s t same =
+        subst (λ o. SameStudent (with_place pairs s) (cond (is_none o) (record t { placed = place_in pairs t.row.key }) t)) same.earlier_place
+        (elim (is_left s) as (λ b. SameStudent (cond b (record s { placed = place_in pairs s.row.key }) s) (cond b (record t { placed = place_in pairs t.row.key }) t)) [
+          | true ↦ record { row = same.row; choice = same.choice; placed = ap (λ r. place_in pairs r.key) same.row; earlier_choice = same.earlier_choice; earlier_place = same.earlier_place }
+          | false ↦ same
+        ])

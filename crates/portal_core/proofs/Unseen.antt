@@ -1,25 +1,27 @@
 -- What others do is not seen.
 use Rattle.std.proofs.Common.{◌≡◌, Bool, true, false, cond, List, [], ◌∷◌, ◌++◌, refl, sym, ◌∙◌, ap, subst, inl, inr}
-use Rattle.std.specs.Prelude.{map, Option, Some, None}
+use Rattle.std.specs.Prelude.{map, Option, Some, None, is_none}
 use Rattle.serde_json.specs.Data.{Data}
 use Rattle.portal_core.specs.Words.{Key, is}
 use Rattle.portal_core.specs.World as rows
 use Rattle.portal_core.specs.Change.{Choices, Ranks, changed, with_choice, with_ranking}
-use Rattle.portal_core.specs.World.{World, is_choosing, is_ranking, is_published, is_from_ranking, lecturer_key, student_key, applicants_to, placed_at, projects_of}
+use Rattle.portal_core.specs.World.{World, is_choosing, is_ranking, is_published, is_from_ranking, has_result, shown_place, is_at, lecturer_key, student_key, applicants_to, placed_at, projects_of}
 use Rattle.portal_core.specs.declared.phase.Phase.{Phase}
 use Rattle.portal_core.specs.declared.phase.Phase.TheVariants.{Setup, Choosing, Ranking, Published}
+use Rattle.portal_core.specs.declared.rows.Person.{Person}
 use Rattle.portal_core.specs.Sight.{LecturerSees}
 use Rattle.portal_core.specs.declared.view.View.TheVariants.{Lecturer, Student}
 use Rattle.portal_core.specs.View.{Caller, NoCaller, OfficeCaller, LecturerCaller, StudentCaller, caller_among, lecturer_with, student_with, caller, sight_of, view, catalogue, student_sees, lecturer_sees, persons}
 use Rattle.portal_core.specs.Ask.{Ask}
-use Rattle.portal_core.specs.Answer.{Answer, Act, Nothing, Apply, Publish, Render, only, unless, applies, decision}
+use Rattle.portal_core.specs.Answer.{Answer, Act, Nothing, Apply, Publish, Render, only, unless, applies, already_placed, decision}
 use Rattle.portal_core.specs.Faults.{ListFault, choice_fault, ranking_fault}
 use Rattle.portal_core.specs.Bodies.{projects_body, students_body}
 use Rattle.portal_core.specs.Good.{Good}
 use Rattle.portal_core.specs.Run.{Leaves, Step, Serves, Answers, Run, Request, Wish, Calls, Refused, end_of}
 use Rattle.portal_core.specs.Heard.{IsMember, IsIdle, IsIdleAct, IsIdleWish, replies_to}
 use Rattle.portal_core.proofs.Keys.{is_same, is_own, found_passes, one_row}
-use Rattle.portal_core.proofs.Acts.{caller_chosen, caller_ranked, re_chosen, re_ranked, catalogue_ranked, only_quiet}
+use Rattle.portal_core.proofs.Acts.{caller_chosen, caller_ranked, re_chosen, re_ranked, choice_row, catalogue_chosen, catalogue_ranked, only_quiet}
+use Rattle.portal_core.proofs.AllLaws.{kept_filtered}
 
 -- whom a code names was found by that code
 
@@ -68,23 +70,34 @@ apart_students w c d s t good es et other =
 
 -- while the lists are open a lecturer sees nothing of them
 
-abbrev gated : World → rows.Lecturer → Bool → Bool → LecturerSees
-gated w l closed out =
-    record (lecturer_sees w l) {
-      applicants = map (λ p. (p.key, cond closed (persons (applicants_to w p.key)) [])) (projects_of w l.row.key);
-      placed = map (λ p. (p.key, cond out (persons (placed_at w p.key)) [])) (projects_of w l.row.key);
-    }
-
 pub choosing_open : (phase : Phase) → is_choosing phase ≡ true → (is_from_ranking phase ≡ false) × (is_published phase ≡ false)
 choosing_open Setup e = cc
 choosing_open Choosing e = (refl, refl)
 choosing_open Ranking e = cc
 choosing_open Published e = cc
 
+abbrev person_of : rows.Student → Person
+person_of s = record { key = s.row.key; name = s.row.name }
+
+-- a new list keeps the person and the place that is shown
+same_person : (k : Key) (list : List Key) (s : rows.Student) → person_of (with_choice k list s) ≡ person_of s
+same_person k list s = λ i. record { key = (choice_row k list s i).key; name = (choice_row k list s i).name }
+
+same_place : (k : Key) (list : List Key) (phase : Phase) (s : rows.Student) → shown_place phase (with_choice k list s) ≡ shown_place phase s
+same_place k list phase s = elim (is s.row.key k) as (λ b. shown_place phase (cond b (record s { choice = list }) s) ≡ shown_place phase s) [ true ↦ refl | false ↦ refl ]
+
+placed_chosen : (w : World) (k : Key) (list : List Key) (p : Key) → persons (placed_at (changed w (Choices k list)) p) ≡ persons (placed_at w p)
+placed_chosen w k list p = kept_filtered person_of (with_choice k list) (λ s. is_at p (shown_place w.phase s)) (same_person k list) (λ s. ap (is_at p) (same_place k list w.phase s)) w.students
+
+abbrev gated : World → rows.Lecturer → Bool → LecturerSees
+gated w l closed = record (lecturer_sees w l) { applicants = map (λ p. (p.key, cond closed (persons (applicants_to w p.key)) [])) (projects_of w l.row.key) }
+
 lecturer_blind : (w : World) (k : Key) (list : List Key) (l : rows.Lecturer) → is_choosing w.phase ≡ true → lecturer_sees (changed w (Choices k list)) l ≡ lecturer_sees w l
 lecturer_blind w k list l e =
-    let shut : (is_from_ranking w.phase ≡ false) × (is_published w.phase ≡ false) = choosing_open w.phase e in
-    (λ i. gated (changed w (Choices k list)) l (shut.0 i) (shut.1 i)) ∙ sym (λ i. gated w l (shut.0 i) (shut.1 i))
+    let shut : is_from_ranking w.phase ≡ false = (choosing_open w.phase e).0 in
+    (λ i. gated (changed w (Choices k list)) l (shut i))
+    ∙ (λ i. record (gated w l false) { catalogue = catalogue_chosen w k list i; placed = map (λ p. (p.key, placed_chosen w k list p.key i)) (projects_of w l.row.key) })
+    ∙ sym (λ i. gated w l (shut i))
 
 pub choice_other : (k : Key) (list : List Key) (s : rows.Student) → is s.row.key k ≡ false → with_choice k list s ≡ s
 choice_other k list s e = ap (λ b. cond b (record s { choice = list }) s) e
@@ -110,7 +123,9 @@ chosen_unseen w c d s list good es other office open' x e =
     seen NoCaller e = refl
     seen OfficeCaller e = absurd (office_not w c office e)
     seen (LecturerCaller l) e = ap Lecturer (lecturer_blind w s.row.key list l open')
-    seen (StudentCaller t) e = ap (λ u. Student (student_sees (changed w (Choices s.row.key list)) u)) (choice_other s.row.key list t (apart_students w c d s t good es e other))
+    seen (StudentCaller t) e =
+        ap (λ u. Student (student_sees (changed w (Choices s.row.key list)) u)) (choice_other s.row.key list t (apart_students w c d s t good es e other))
+        ∙ λ i. Student (record (student_sees w t) { catalogue = catalogue_chosen w s.row.key list i })
 
 -- a lecturer's new ranking, seen by another
 ranked_unseen : (w : World) (c d : Key) (l : rows.Lecturer) (list : List Key) → Good w → caller w d ≡ LecturerCaller l → is d c ≡ false → is w.office c ≡ false
@@ -128,10 +143,11 @@ ranked_unseen w c d l list good el other office x e =
 
 -- the call of a student or a lecturer
 module _ (w v : World) (c d : Key) (good : Good w) (other : is d c ≡ false) (office : is w.office c ≡ false) where
-  chosen_case : (s : rows.Student) → caller w d ≡ StudentCaller s → (body : Data) (list : List Key) (b : Bool) → is_choosing w.phase ≡ b → (fault : Option ListFault) → Leaves w (only b (unless fault (applies body (Choices s.row.key list)))).act v → view v c ≡ view w c
-  chosen_case s e body list false at fault left = ap (λ u. view u c) left
-  chosen_case s e body list true at (Some fault) left = ap (λ u. view u c) left
-  chosen_case s e body list true at None left = ap (λ u. view u c) left ∙ chosen_unseen w c d s list good e other office at (caller w c) refl
+  chosen_case : (s : rows.Student) → caller w d ≡ StudentCaller s → (body : Data) (list : List Key) (b : Bool) → is_choosing w.phase ≡ b → (free : Bool) (fault : Option ListFault) → Leaves w (only b (cond free (unless fault (applies body (Choices s.row.key list))) already_placed)).act v → view v c ≡ view w c
+  chosen_case s e body list false at free fault left = ap (λ u. view u c) left
+  chosen_case s e body list true at false fault left = ap (λ u. view u c) left
+  chosen_case s e body list true at true (Some fault) left = ap (λ u. view u c) left
+  chosen_case s e body list true at true None left = ap (λ u. view u c) left ∙ chosen_unseen w c d s list good e other office at (caller w c) refl
 
   ranked_case : (l : rows.Lecturer) → caller w d ≡ LecturerCaller l → (body : Data) (list : List Key) (b : Bool) (fault : Option ListFault) → Leaves w (only b (unless fault (applies body (Ranks l.row.key list)))).act v → view v c ≡ view w c
   ranked_case l e body list false fault left = ap (λ u. view u c) left
@@ -147,10 +163,10 @@ module _ (w v : World) (c d : Key) (good : Good w) (other : is d c ≡ false) (o
   member_case (LecturerCaller l) e m (Ask.SetRanking list) left = ranked_case l e (students_body (Some list)) list (is_ranking w.phase) (ranking_fault (lecturer_sees w l).applicants 1 [] list) left
   member_case (LecturerCaller l) e m Ask.Applicants left = idle_case _ (only_quiet (is_from_ranking w.phase) _ refl) left
   member_case (LecturerCaller l) e m Ask.ShowRanking left = idle_case _ (only_quiet (is_from_ranking w.phase) _ refl) left
-  member_case (LecturerCaller l) e m Ask.Result left = idle_case _ (only_quiet (is_published w.phase) _ refl) left
+  member_case (LecturerCaller l) e m Ask.Result left = idle_case _ (only_quiet (has_result w.round w.phase) _ refl) left
   member_case (LecturerCaller l) e m ask left = ap (λ u. view u c) left
-  member_case (StudentCaller s) e m (Ask.SetChoices list) left = chosen_case s e (projects_body list) list (is_choosing w.phase) refl (choice_fault (catalogue w) 1 [] list) left
-  member_case (StudentCaller s) e m Ask.Result left = idle_case _ (only_quiet (is_published w.phase) _ refl) left
+  member_case (StudentCaller s) e m (Ask.SetChoices list) left = chosen_case s e (projects_body list) list (is_choosing w.phase) refl (is_none (shown_place w.phase s)) (choice_fault (catalogue w) 1 [] list) left
+  member_case (StudentCaller s) e m Ask.Result left = idle_case _ (only_quiet (has_result w.round w.phase) _ refl) left
   member_case (StudentCaller s) e m ask left = ap (λ u. view u c) left
 
 pub others : (w v : World) (c d : Key) (ask : Ask) (reply : Answer) → Good w → Step w d ask reply v → IsMember (view w d) → is d c ≡ false → is w.office c ≡ false → view v c ≡ view w c

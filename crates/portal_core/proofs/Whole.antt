@@ -1,10 +1,12 @@
 -- In a sound world the catalogue shows each project.
 use Rattle.std.proofs.Common.{◌≡◌, Bool, true, false, cond, List, [], ◌∷◌, refl, sym, ◌∙◌, ap}
-use Rattle.std.specs.Prelude.{map, ◌||◌, Some}
+use Rattle.std.specs.Prelude.{map, filter, nat_lt, ◌&&◌, ◌||◌, Some}
 use Rattle.std.specs.List.{list_any, find, AllByRecursion}
-use Rattle.portal_core.specs.Words.{is, has}
+use Rattle.portal_core.specs.Words.{Key, is, has}
 use Rattle.portal_core.specs.World as rows
-use Rattle.portal_core.specs.World.{World, lecturer_key, project_key}
+use Rattle.portal_core.specs.World.{World, in_play, lecturers_in, projects_in, lecturers_left, lowered_project, lecturer_key, project_key}
+use Rattle.portal_core.specs.declared.phase.Round.{Round}
+use Rattle.portal_core.specs.declared.phase.Round.TheVariants.{First, Second}
 use Rattle.portal_core.specs.declared.rows.Listing.{Listing}
 use Rattle.portal_core.specs.declared.rows.ProjectRow.{ProjectRow}
 use Rattle.portal_core.specs.View.{listings, catalogue}
@@ -27,5 +29,25 @@ whole ls (p ∷ ps) known =
     (any_alike (λ (l : rows.Lecturer). is l.row.key p.lecturer) (λ l. is p.lecturer l.row.key) (λ l. is_sym l.row.key p.lecturer) ls ∙ sym (any_map (is p.lecturer) lecturer_key ls) ∙ known.0) in
     rw found.1 (ap (λ ks. p.key ∷ ks) (whole ls ps known.1))
 
-pub catalogue_whole : (w : World) → Sound w → map (λ (l : Listing). l.key) (catalogue w) ≡ map project_key w.projects
-catalogue_whole w g = whole w.lecturers w.projects g.lecturers_known
+pub known_left : (q : ProjectRow → Bool) (ks : List Key) (ps : List ProjectRow) → AllByRecursion (λ p. has ks p.lecturer ≡ true) (filter (λ p. q p && has ks p.lecturer) ps)
+known_left q ks [] = tt
+known_left q ks (p ∷ ps) =
+    (elim (has ks p.lecturer) as (λ b. has ks p.lecturer ≡ b → AllByRecursion (λ p. has ks p.lecturer ≡ true) (cond (q p && b) (p ∷ filter (λ p. q p && has ks p.lecturer) ps) (filter (λ p. q p && has ks p.lecturer) ps))) [
+      | true ↦ λ e. elim (q p) as (λ c. AllByRecursion (λ p. has ks p.lecturer ≡ true) (cond (c && true) (p ∷ filter (λ p. q p && has ks p.lecturer) ps) (filter (λ p. q p && has ks p.lecturer) ps))) [
+        | true ↦ (e, known_left q ks ps)
+        | false ↦ known_left q ks ps
+      ]
+      | false ↦ λ e. elim (q p) as (λ c. AllByRecursion (λ p. has ks p.lecturer ≡ true) (cond (c && false) (p ∷ filter (λ p. q p && has ks p.lecturer) ps) (filter (λ p. q p && has ks p.lecturer) ps))) [
+        | true ↦ known_left q ks ps
+        | false ↦ known_left q ks ps
+      ]
+    ]) refl
+
+-- each project of a round is of a lecturer of the round
+known_in : (r : Round) (ls : List rows.Lecturer) (ps : List ProjectRow) (ss : List rows.Student) → AllByRecursion (λ p. has (map lecturer_key ls) p.lecturer ≡ true) ps
+    → AllByRecursion (λ p. has (map lecturer_key (lecturers_in r ls ps ss)) p.lecturer ≡ true) (projects_in r ls ps ss)
+known_in First ls ps ss known = known
+known_in Second ls ps ss known = known_left (λ p. nat_lt 0 p.capacity) (map lecturer_key (lecturers_left ls ps ss)) (map (lowered_project ss) ps)
+
+pub catalogue_whole : (w : World) → Sound w → map (λ (l : Listing). l.key) (catalogue w) ≡ map project_key (in_play w).projects
+catalogue_whole w g = whole (in_play w).lecturers (in_play w).projects (known_in w.round w.lecturers w.projects w.students g.lecturers_known)

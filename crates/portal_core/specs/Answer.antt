@@ -1,11 +1,13 @@
 -- What is answered to a caller who sees this, and what is to be done. No world is in it.
-use Rattle.std.specs.Prelude.{◌≡◌, ℕ, Bool, false, not, if◌then◌else◌, codes, List, [], ◌∷◌, length, Option, Some, None}
+use Rattle.std.specs.Prelude.{◌≡◌, ℕ, Bool, false, not, if◌then◌else◌, codes, List, [], ◌∷◌, length, Option, Some, None, is_none}
 use Rattle.serde_json.specs.Data.{Data, string}
 use Rattle.serde_json.specs.Written.{has_float}
 use Rattle.portal_core.specs.declared.phase.Phase.{Phase}
 use Rattle.portal_core.specs.declared.phase.Phase.TheVariants.{Setup, Choosing, Ranking, Published}
+use Rattle.portal_core.specs.declared.phase.Round.{Round}
+use Rattle.portal_core.specs.declared.phase.Round.TheVariants.{First, Second}
 use Rattle.portal_core.specs.Words.{Key, is_empty}
-use Rattle.portal_core.specs.World.{is_choosing, is_ranking, is_published, is_from_ranking}
+use Rattle.portal_core.specs.World.{is_choosing, is_ranking, is_from_ranking, has_result}
 use Rattle.portal_core.specs.Change.{Change, Choices, Ranks, Lecturers, Projects, Students, To, Fill}
 use Rattle.portal_core.specs.Sight.{StudentSees, LecturerSees, OfficeSees}
 use Rattle.portal_core.specs.declared.view.View.{View as Sight}
@@ -83,6 +85,10 @@ abbrev pub unless : Option ListFault → Decision → Decision
 unless None d = d
 unless (Some fault) d = refuses (bad_list fault)
 
+-- who has a project of the first round makes no list in the second
+abbrev pub already_placed : Decision
+already_placed = refuses (by_word 409 (codes "already_placed"))
+
 -- a student
 
 abbrev pub to_student : StudentSees → Ask → Decision
@@ -90,8 +96,9 @@ to_student v Ask.Me = shows (student_me v)
 to_student v Ask.Catalogue = shows (catalogue_body v.catalogue)
 to_student v Ask.ShowChoices = shows (projects_body v.choices)
 to_student v (Ask.SetChoices list) =
-    only (is_choosing v.phase) (unless (choice_fault v.catalogue 1 [] list) (applies (projects_body list) (Choices v.me.key list)))
-to_student v Ask.Result = only (is_published v.phase) (shows (project_body v.result))
+    only (is_choosing v.phase) (
+    if is_none v.result then unless (choice_fault v.catalogue 1 [] list) (applies (projects_body list) (Choices v.me.key list)) else already_placed)
+to_student v Ask.Result = only (has_result v.round v.phase) (shows (project_body v.result))
 to_student v _ = not_yours
 
 -- a lecturer
@@ -103,14 +110,15 @@ to_lecturer v Ask.Applicants = only (is_from_ranking v.phase) (shows (applicants
 to_lecturer v Ask.ShowRanking = only (is_from_ranking v.phase) (shows (students_body v.ranking))
 to_lecturer v (Ask.SetRanking list) =
     only (is_ranking v.phase) (unless (ranking_fault v.applicants 1 [] list) (applies (students_body (Some list)) (Ranks v.me.key list)))
-to_lecturer v Ask.Result = only (is_published v.phase) (shows (placed_body v.placed))
+to_lecturer v Ask.Result = only (has_result v.round v.phase) (shows (placed_body v.placed))
 to_lecturer v _ = not_yours
 
 -- the office
 
--- rolls are open before ranking
-abbrev pub is_open_to_rolls : Phase → Bool
-is_open_to_rolls phase = not (is_from_ranking phase)
+-- rolls are open before the first round's ranking
+abbrev pub is_open_to_rolls : Round → Phase → Bool
+is_open_to_rolls First phase = not (is_from_ranking phase)
+is_open_to_rolls Second phase = false
 
 abbrev pub row_fault : ℕ → List ℕ → Option ℕ → Answer
 row_fault status word None = by_word status word
@@ -131,19 +139,31 @@ still_to_rank keys = answered 409 (dictionary ((codes "error", string (codes "st
 -- the reply is the same whatever the result will be
 abbrev pub publishes : OfficeSees → Decision
 publishes v =
-    if is_empty v.still_to_rank then record { reply = answered 200 (phase_body Published); act = Publish }
+    if is_empty v.still_to_rank then record { reply = answered 200 (phase_body v.round Published); act = Publish }
     else refuses (still_to_rank v.still_to_rank)
 
--- to the next phase, or to the current one, which changes nothing
-abbrev pub moves : OfficeSees → Phase → Phase → Decision
-moves v Setup Setup = shows (phase_body Setup)
-moves v Setup Choosing = applies (phase_body Choosing) (To Choosing)
-moves v Choosing Choosing = shows (phase_body Choosing)
-moves v Choosing Ranking = applies (phase_body Ranking) (To Ranking)
-moves v Ranking Ranking = shows (phase_body Ranking)
-moves v Ranking Published = publishes v
-moves v Published Published = shows (phase_body Published)
-moves v _ _ = wrong_phase
+-- to the round's next phase, or to the current one, which changes nothing
+abbrev pub moves_on : OfficeSees → Phase → Phase → Decision
+moves_on v Setup Setup = shows (phase_body v.round Setup)
+moves_on v Setup Choosing = applies (phase_body v.round Choosing) (To Choosing)
+moves_on v Choosing Choosing = shows (phase_body v.round Choosing)
+moves_on v Choosing Ranking = applies (phase_body v.round Ranking) (To Ranking)
+moves_on v Ranking Ranking = shows (phase_body v.round Ranking)
+moves_on v Ranking Published = publishes v
+moves_on v Published Published = shows (phase_body v.round Published)
+moves_on v _ _ = wrong_phase
+
+-- a round that is named has to be the current one
+abbrev pub moves_in : OfficeSees → Round → Round → Phase → Decision
+moves_in v First First phase = moves_on v v.phase phase
+moves_in v Second Second phase = moves_on v v.phase phase
+moves_in v First Second phase = wrong_phase
+moves_in v Second First phase = wrong_phase
+
+-- where no round is named, the current one is meant
+abbrev pub moves : OfficeSees → Phase → Option Round → Decision
+moves v phase None = moves_on v v.phase phase
+moves v phase (Some round) = moves_in v v.round round phase
 
 -- each lecturer still to rank gets a ranking; where nobody is there is nothing to do
 abbrev pub fills : OfficeSees → Decision
@@ -156,14 +176,14 @@ fills v =
 abbrev pub to_office : OfficeSees → Ask → Decision
 to_office v Ask.Me = shows (office_me v)
 to_office v Ask.Catalogue = shows (catalogue_body v.catalogue)
-to_office v (Ask.AddLecturers rows) = only (is_open_to_rolls v.phase) (added Lecturers (take_rows (lecturer_roll v) 1 v.lecturers rows))
-to_office v (Ask.AddProjects rows) = only (is_open_to_rolls v.phase) (added Projects (take_rows (project_roll v) 1 v.projects rows))
-to_office v (Ask.AddStudents rows) = only (is_open_to_rolls v.phase) (added Students (take_rows (student_roll v) 1 v.students rows))
-to_office v (Ask.Move phase) = moves v v.phase phase
+to_office v (Ask.AddLecturers rows) = only (is_open_to_rolls v.round v.phase) (added Lecturers (take_rows (lecturer_roll v) 1 v.lecturers rows))
+to_office v (Ask.AddProjects rows) = only (is_open_to_rolls v.round v.phase) (added Projects (take_rows (project_roll v) 1 v.projects rows))
+to_office v (Ask.AddStudents rows) = only (is_open_to_rolls v.round v.phase) (added Students (take_rows (student_roll v) 1 v.students rows))
+to_office v (Ask.Move phase round) = moves v phase round
 to_office v Ask.Status = shows (status_body v)
-to_office v Ask.Allocation = only (is_published v.phase) (shows (allocation_body v.pairs))
-to_office v Ask.AllocationCsv = only (is_published v.phase) (renders (Csv (csv_text v)) sheet.Csv)
-to_office v Ask.Report = only (is_published v.phase) (renders (Plain (report_text v)) sheet.Report)
+to_office v Ask.Allocation = only (has_result v.round v.phase) (shows (allocation_body v.pairs))
+to_office v Ask.AllocationCsv = only (has_result v.round v.phase) (renders (Csv (csv_text v)) sheet.Csv)
+to_office v Ask.Report = only (has_result v.round v.phase) (renders (Plain (report_text v)) sheet.Report)
 to_office v Ask.FillRankings = only (is_ranking v.phase) (fills v)
 to_office v _ = not_yours
 

@@ -1,6 +1,7 @@
 -- What a caller asks.
-use Rattle.std.specs.Prelude.{ℕ, List}
+use Rattle.std.specs.Prelude.{ℕ, List, Option}
 use Rattle.portal_core.specs.declared.phase.Phase.{Phase}
+use Rattle.portal_core.specs.declared.phase.Round.{Round}
 use Rattle.portal_core.specs.declared.rows.LecturerRow.{LecturerRow}
 use Rattle.portal_core.specs.declared.rows.ProjectRow.{ProjectRow}
 use Rattle.portal_core.specs.declared.rows.StudentRow.{StudentRow}
@@ -17,7 +18,7 @@ pub data Ask : Type 0 where
   AddLecturers : List LecturerRow → Ask
   AddProjects : List ProjectRow → Ask
   AddStudents : List StudentRow → Ask
-  Move : Phase → Ask
+  Move : Phase → Option Round → Ask
   Status : Ask
   Allocation : Ask
   AllocationCsv : Ask

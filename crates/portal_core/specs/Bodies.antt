@@ -3,10 +3,12 @@ use Rattle.std.specs.Prelude.{ℕ, Bool, not, if◌then◌else◌, codes, List, 
 use Rattle.std.specs.List.{list_any}
 use Rattle.serde_json.specs.Data.{Data, string}
 use Rattle.portal_core.specs.declared.phase.Phase.{Phase}
+use Rattle.portal_core.specs.declared.phase.Round.{Round}
+use Rattle.portal_core.specs.declared.phase.Round.TheVariants.{First, Second}
 use Rattle.portal_core.specs.declared.rows.Person.{Person}
 use Rattle.portal_core.specs.declared.rows.Listing.{Listing}
 use Rattle.portal_core.specs.Words.{Key, is}
-use Rattle.portal_core.specs.World.{is_published, phase_word}
+use Rattle.portal_core.specs.World.{has_result, phase_word}
 use Rattle.portal_core.specs.Sight.{StudentSees, LecturerSees, OfficeSees}
 use Rattle.portal_core.specs.Json.{dictionary, several, texts, count, text_or_null, texts_or_null}
 
@@ -38,23 +40,28 @@ placed_body ps =
 abbrev pub project_body : Option Key → Data
 project_body o = dictionary ((codes "project", text_or_null o) ∷ [])
 
-abbrev pub phase_body : Phase → Data
-phase_body phase = dictionary ((codes "phase", string (phase_word phase)) ∷ [])
+-- the round is told in the second round alone
+abbrev pub round_member : Round → List (List ℕ × Data)
+round_member First = []
+round_member Second = (codes "round", count 2) ∷ []
+
+abbrev pub phase_body : Round → Phase → Data
+phase_body round phase = dictionary ((codes "phase", string (phase_word phase)) ∷ round_member round)
 
 -- who the caller is
 
 abbrev pub student_me : StudentSees → Data
 student_me v =
     dictionary ((codes "key", string v.me.key) ∷ (codes "name", string v.me.name)
-    ∷ (codes "phase", string (phase_word v.phase)) ∷ (codes "role", string (codes "student")) ∷ [])
+    ∷ (codes "phase", string (phase_word v.phase)) ∷ (codes "role", string (codes "student")) ∷ round_member v.round)
 
 abbrev pub lecturer_me : LecturerSees → Data
 lecturer_me v =
     dictionary ((codes "capacity", count v.capacity) ∷ (codes "key", string v.me.key) ∷ (codes "name", string v.me.name)
-    ∷ (codes "phase", string (phase_word v.phase)) ∷ (codes "role", string (codes "lecturer")) ∷ [])
+    ∷ (codes "phase", string (phase_word v.phase)) ∷ (codes "role", string (codes "lecturer")) ∷ round_member v.round)
 
 abbrev pub office_me : OfficeSees → Data
-office_me v = dictionary ((codes "phase", string (phase_word v.phase)) ∷ (codes "role", string (codes "office")) ∷ [])
+office_me v = dictionary ((codes "phase", string (phase_word v.phase)) ∷ (codes "role", string (codes "office")) ∷ round_member v.round)
 
 -- the office
 
@@ -71,10 +78,10 @@ unassigned v = map (λ s. s.key) (filter (λ s. not (is_assigned v.pairs s.key))
 abbrev pub status_body : OfficeSees → Data
 status_body v =
     dictionary (
-    (if is_published v.phase then (codes "assigned", count (length v.pairs)) ∷ [] else [])
-    ++ (codes "lecturers", count (length v.lecturers)) ∷ (codes "phase", string (phase_word v.phase)) ∷ (codes "projects", count (length v.projects))
-    ∷ (codes "still_to_rank", texts v.still_to_rank) ∷ (codes "students", count (length v.students)) ∷ []
-    ++ (if is_published v.phase then (codes "unassigned", texts (unassigned v)) ∷ [] else [])
+    (if has_result v.round v.phase then (codes "assigned", count (length v.pairs)) ∷ [] else [])
+    ++ (codes "lecturers", count (length v.lecturers)) ∷ (codes "phase", string (phase_word v.phase)) ∷ (codes "projects", count (length v.projects)) ∷ []
+    ++ round_member v.round ++ (codes "still_to_rank", texts v.still_to_rank) ∷ (codes "students", count (length v.students)) ∷ []
+    ++ (if has_result v.round v.phase then (codes "unassigned", texts (unassigned v)) ∷ [] else [])
     ++ (codes "without_list", texts v.without_list) ∷ [])
 
 abbrev pub filled_body : List Key → Data

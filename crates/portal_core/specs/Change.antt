@@ -3,11 +3,13 @@ use Rattle.std.specs.Prelude.{if◌then◌else◌, List, [], map, Option, Some, 
 use Rattle.std.specs.List.{find}
 use Rattle.portal_core.specs.declared.phase.Phase.{Phase}
 use Rattle.portal_core.specs.declared.phase.Phase.TheVariants.{Published}
+use Rattle.portal_core.specs.declared.phase.Round.{Round}
+use Rattle.portal_core.specs.declared.phase.Round.TheVariants.{First, Second}
 use Rattle.portal_core.specs.declared.rows.LecturerRow.{LecturerRow}
 use Rattle.portal_core.specs.declared.rows.ProjectRow.{ProjectRow}
 use Rattle.portal_core.specs.declared.rows.StudentRow.{StudentRow}
 use Rattle.portal_core.specs.Words.{Key, is, put_all}
-use Rattle.portal_core.specs.World.{World, Lecturer, Student, lecturer_key, project_key, student_key, applicants_of, is_still_to_rank}
+use Rattle.portal_core.specs.World.{World, Lecturer, Student, is_left, lecturer_key, project_key, student_key, applicants_of, is_still_to_rank}
 
 -- a student's list; a lecturer's ranking; new rows of a roll; the phase; the result, as pairs of a student and a project;
 -- the missing rankings
@@ -29,29 +31,44 @@ with_ranking k list l = if is l.row.key k then record l { ranking = Some list } 
 
 -- a new row has no ranking, no list and no place
 abbrev pub new_lecturer : LecturerRow → Lecturer
-new_lecturer r = record { row = r; ranking = None }
+new_lecturer r = record { row = r; ranking = None; earlier_ranking = None }
 
 abbrev pub new_student : StudentRow → Student
-new_student r = record { row = r; choice = []; placed = None }
+new_student r = record { row = r; choice = []; placed = None; earlier_choice = []; earlier_place = None }
 
 -- the project that the pairs give to the student
 abbrev pub place_in : List (Key × Key) → Key → Option Key
 place_in pairs s = option_map (λ (x : Key × Key). x.1) (find (λ x. is x.0 s) pairs)
 
 abbrev pub with_place : List (Key × Key) → Student → Student
-with_place pairs s = record s { placed = place_in pairs s.row.key }
+with_place pairs s = if is_left s then record s { placed = place_in pairs s.row.key } else s
 
 -- a lecturer who is still to rank gets the applicants in the order of their keys
 abbrev pub with_fill : World → Lecturer → Lecturer
 with_fill w l = if is_still_to_rank w l then record l { ranking = Some (map student_key (applicants_of w l.row.key)) } else l
 
 -- the world with one change
+-- new rows of the rolls
+abbrev pub with_lecturers : World → List LecturerRow → World
+with_lecturers w rows = record w { lecturers = put_all lecturer_key (map new_lecturer rows) w.lecturers }
+
+abbrev pub with_projects : World → List ProjectRow → World
+with_projects w rows = record w { projects = put_all project_key rows w.projects }
+
+abbrev pub with_students : World → List StudentRow → World
+with_students w rows = record w { students = put_all student_key (map new_student rows) w.students }
+
+-- the second round takes no new rows, and stays as it is
+abbrev pub in_first : Round → World → World → World
+in_first First new old = new
+in_first Second new old = old
+
 abbrev pub changed : World → Change → World
 changed w (Choices k list) = record w { students = map (with_choice k list) w.students }
 changed w (Ranks k list) = record w { lecturers = map (with_ranking k list) w.lecturers }
-changed w (Lecturers rows) = record w { lecturers = put_all lecturer_key (map new_lecturer rows) w.lecturers }
-changed w (Projects rows) = record w { projects = put_all project_key rows w.projects }
-changed w (Students rows) = record w { students = put_all student_key (map new_student rows) w.students }
+changed w (Lecturers rows) = in_first w.round (with_lecturers w rows) w
+changed w (Projects rows) = in_first w.round (with_projects w rows) w
+changed w (Students rows) = in_first w.round (with_students w rows) w
 changed w (To phase) = record w { phase = phase }
 changed w (Places pairs) = record w { phase = Published; students = map (with_place pairs) w.students }
 changed w Fill = record w { lecturers = map (with_fill w) w.lecturers }

@@ -16,7 +16,7 @@ pub data Item : Type 0 where
 
 -- a call by which its own caller may see anything new
 abbrev pub is_move_or_add : Wish → Bool
-is_move_or_add (Calls (Ask.Move phase)) = true
+is_move_or_add (Calls (Ask.Move phase round)) = true
 is_move_or_add (Calls (Ask.AddLecturers rows)) = true
 is_move_or_add (Calls (Ask.AddProjects rows)) = true
 is_move_or_add (Calls (Ask.AddStudents rows)) = true

@@ -29,12 +29,14 @@ OrderAlike xs ys = (a b : Key) → has ys a ≡ true → has ys b ≡ true → S
 abbrev pub RankAlike : Lecturer → Lecturer → Type 0
 RankAlike l k = (k.row ≡ l.row) × OrderAlike (unwrap_or l.ranking []) (unwrap_or k.ranking [])
 
--- one student, with the same list unless it is the one with this key
+-- one student, to whom the first round gave the same, with the same list unless it is the one with this key
 abbrev pub ListAlike : Key → Student → Student → Type 0
-ListAlike key x y = (y.row ≡ x.row) × ((x.row.key ≡ key → ⊥) → y.choice ≡ x.choice)
+ListAlike key x y = (y.row ≡ x.row) × ((x.row.key ≡ key → ⊥) → y.choice ≡ x.choice) × (y.earlier_place ≡ x.earlier_place)
 
--- worlds of one round: the same rolls, where the list of the student with this key may differ
+-- worlds of one round, with the same rolls and, in the second, one first result, where the list of the student with this
+-- key may differ
 pub record DifferInOneList (w v : World) (key : Key) : Type 0 where
+  pub round : v.round ≡ w.round
   pub lecturers : AllZip RankAlike w.lecturers v.lecturers
   pub projects : v.projects ≡ w.projects
   pub students : AllZip (ListAlike key) w.students v.students

@@ -1,13 +1,15 @@
 -- A small world in each phase: two lecturers, three projects and three students.
-use Rattle.std.specs.Prelude.{◌≡◌, ℕ, if◌then◌else◌, List, [], ◌∷◌, ◌++◌, codes, Option, Some, None}
+use Rattle.std.specs.Prelude.{◌≡◌, ℕ, if◌then◌else◌, List, [], ◌∷◌, ◌++◌, map, codes, Option, Some, None}
 use Rattle.std.specs.List.{flat_map}
 use Rattle.serde_json.specs.Data.{Data, null, string}
 use Rattle.portal_core.specs.declared.phase.Phase.{Phase}
 use Rattle.portal_core.specs.declared.phase.Phase.TheVariants.{Setup, Choosing, Ranking, Published}
+use Rattle.portal_core.specs.declared.phase.Round.TheVariants.{First, Second}
+use Rattle.portal_core.specs.declared.rows.ProjectRow.{ProjectRow}
 use Rattle.portal_core.specs.declared.rows.StudentRow.{StudentRow}
-use Rattle.portal_core.specs.Words.{Key}
-use Rattle.portal_core.specs.World.{World, is_setup, is_published}
-use Rattle.portal_core.specs.Change.{Choices, Ranks, Fill, changed}
+use Rattle.portal_core.specs.Words.{Key, is}
+use Rattle.portal_core.specs.World.{World, Lecturer, Student, is_setup, is_published}
+use Rattle.portal_core.specs.Change.{Choices, Ranks, To, Places, Fill, changed}
 use Rattle.portal_core.specs.View.{view}
 use Rattle.portal_core.specs.Ask.{Ask}
 use Rattle.portal_core.specs.Json.{dictionary, several, texts, count}
@@ -26,16 +28,19 @@ placed_in phase place = if is_published phase then place else None
 abbrev pub worked : Phase → World
 worked phase =
     record {
+      round = First;
       phase = phase;
       office = codes "office-code-0";
       lecturers =
           record {
             row = record { key = codes "L1"; name = codes "Lee"; code = codes "lee-code-01"; capacity = 2 };
             ranking = ranking_in phase (codes "S2" ∷ codes "S1" ∷ []);
+            earlier_ranking = None;
           }
           ∷ record {
             row = record { key = codes "L2"; name = codes "Moe"; code = codes "moe-code-02"; capacity = 1 };
             ranking = ranking_in phase (codes "S2" ∷ []);
+            earlier_ranking = None;
           }
           ∷ [];
       projects =
@@ -48,13 +53,23 @@ worked phase =
             row = record { key = codes "S1"; name = codes "Ann"; code = codes "ann-code-1" };
             choice = choice_in phase (codes "P1" ∷ codes "P2" ∷ []);
             placed = placed_in phase (Some (codes "P2"));
+            earlier_choice = [];
+            earlier_place = None;
           }
           ∷ record {
             row = record { key = codes "S2"; name = codes "Roe, Bea"; code = codes "bea-code-2" };
             choice = choice_in phase (codes "P1" ∷ codes "P3" ∷ []);
             placed = placed_in phase (Some (codes "P1"));
+            earlier_choice = [];
+            earlier_place = None;
           }
-          ∷ record { row = record { key = codes "S3"; name = codes "Cyr"; code = codes "cyr-code-3" }; choice = []; placed = None }
+          ∷ record {
+            row = record { key = codes "S3"; name = codes "Cyr"; code = codes "cyr-code-3" };
+            choice = [];
+            placed = None;
+            earlier_choice = [];
+            earlier_place = None;
+          }
           ∷ [];
     }
 
@@ -137,9 +152,9 @@ pub record TellsMoves : Type 0 where
   pub same_rows : reply Setup office (Ask.AddStudents (ann_row ∷ bea_row ∷ [])) ≡ body ((codes "added", count 0) ∷ (codes "same", count 2) ∷ [])
   pub other_row : reply Setup office (Ask.AddStudents (record ann_row { name = codes "Anna" } ∷ bea_row ∷ []))
       ≡ refusal 409 (word (codes "roll_conflict") ∷ (codes "row", count 1) ∷ [])
-  pub current : reply Choosing office (Ask.Move Choosing) ≡ body ((codes "phase", string (codes "choosing")) ∷ [])
-  pub too_far : reply Choosing office (Ask.Move Published) ≡ refusal 409 (word (codes "wrong_phase") ∷ [])
-  pub one_to_rank : answer (view (changed (worked Ranking) (Ranks (codes "L1") (codes "S2" ∷ codes "S1" ∷ []))) office) (Ask.Move Published)
+  pub current : reply Choosing office (Ask.Move Choosing None) ≡ body ((codes "phase", string (codes "choosing")) ∷ [])
+  pub too_far : reply Choosing office (Ask.Move Published None) ≡ refusal 409 (word (codes "wrong_phase") ∷ [])
+  pub one_to_rank : answer (view (changed (worked Ranking) (Ranks (codes "L1") (codes "S2" ∷ codes "S1" ∷ []))) office) (Ask.Move Published None)
       ≡ refusal 409 (word (codes "still_to_rank") ∷ (codes "lecturers", texts (codes "L2" ∷ [])) ∷ [])
 
 -- the result, as each sees it
@@ -210,3 +225,129 @@ pub record TellsFill : Type 0 where
   pub by_key : answer (view (changed (worked Ranking) Fill) lee) Ask.ShowRanking ≡ ranked (codes "S1" ∷ codes "S2" ∷ [])
   pub too_early : reply Choosing office Ask.FillRankings ≡ refusal 409 (word (codes "wrong_phase") ∷ [])
   pub by_a_lecturer : reply Ranking lee Ask.FillRankings ≡ refusal 403 (word (codes "not_yours") ∷ [])
+
+-- a second round that begins where the first was published: what is there becomes the first round's
+abbrev pub ranked_before : Lecturer → Lecturer
+ranked_before l = record { row = l.row; ranking = None; earlier_ranking = l.ranking }
+
+abbrev pub placed_before : Student → Student
+placed_before s = record { row = s.row; choice = []; placed = None; earlier_choice = s.choice; earlier_place = s.placed }
+
+abbrev pub begun : World → World
+begun w = record w { round = Second; phase = Choosing; lecturers = map ranked_before w.lecturers; students = map placed_before w.students }
+
+-- the second round of the small world, step by step
+
+abbrev pub again : World
+again = begun (worked Published)
+
+abbrev pub again_ranking : World
+again_ranking = changed (changed again (Choices (codes "S3") (codes "P3" ∷ []))) (To Ranking)
+
+abbrev pub again_published : World
+again_published = changed (changed again_ranking Fill) (Places ((codes "S3", codes "P3") ∷ []))
+
+-- the same with one more place at P2, and one more at its lecturer
+abbrev pub with_room_at : ProjectRow → ProjectRow
+with_room_at p = if is p.key (codes "P2") then record p { capacity = 2 } else p
+
+abbrev pub with_room : Lecturer → Lecturer
+with_room l = if is l.row.key (codes "L1") then record l { row = record l.row { capacity = 3 } } else l
+
+abbrev pub again_with : (Lecturer → Lecturer) → World
+again_with change =
+    begun (record (worked Published) {
+      lecturers = map change (worked Published).lecturers;
+      projects = map with_room_at (worked Published).projects;
+    })
+
+abbrev pub second_round : List ℕ × Data
+second_round = (codes "round", count 2)
+
+abbrev pub wrong_phase : Answer
+wrong_phase = refusal 409 (word (codes "wrong_phase") ∷ [])
+
+-- it is for those without a project and for the room that is left; a round that is named is the current one
+pub record TellsOpening : Type 0 where
+  pub unnamed : reply Published office (Ask.Move Choosing None) ≡ wrong_phase
+  pub of_the_first : reply Published office (Ask.Move Choosing (Some First)) ≡ wrong_phase
+  pub of_the_second : reply Choosing office (Ask.Move Ranking (Some Second)) ≡ wrong_phase
+  pub current : answer (view again office) (Ask.Move Choosing None) ≡ body ((codes "phase", string (codes "choosing")) ∷ second_round ∷ [])
+  pub named : answer (view again office) (Ask.Move Ranking (Some Second)) ≡ body ((codes "phase", string (codes "ranking")) ∷ second_round ∷ [])
+  pub back : answer (view again office) (Ask.Move Published (Some First)) ≡ wrong_phase
+  pub office_me : answer (view again office) Ask.Me
+      ≡ body ((codes "phase", string (codes "choosing")) ∷ (codes "role", string (codes "office")) ∷ second_round ∷ [])
+  pub lecturer_me : answer (view again lee) Ask.Me
+      ≡ body ((codes "capacity", count 2) ∷ (codes "key", string (codes "L1")) ∷ (codes "name", string (codes "Lee"))
+      ∷ (codes "phase", string (codes "choosing")) ∷ (codes "role", string (codes "lecturer")) ∷ second_round ∷ [])
+  pub student_me : answer (view again cyr) Ask.Me
+      ≡ body ((codes "key", string (codes "S3")) ∷ (codes "name", string (codes "Cyr"))
+      ∷ (codes "phase", string (codes "choosing")) ∷ (codes "role", string (codes "student")) ∷ second_round ∷ [])
+  pub catalogue : answer (view again office) Ask.Catalogue ≡ body ((
+    codes "projects",
+    several (
+        dictionary ((codes "capacity", count 1) ∷ (codes "id", string (codes "P3")) ∷ (codes "lecturer", string (codes "L2"))
+        ∷ (codes "lecturer_name", string (codes "Moe")) ∷ (codes "title", string (codes "Bells")) ∷ []) ∷ []),
+  ) ∷ [])
+  -- of two places at P2 the first round gave one, and of three of its lecturer two
+  pub room : answer (view (again_with with_room) office) Ask.Catalogue ≡ body ((
+    codes "projects",
+    several (
+        dictionary ((codes "capacity", count 1) ∷ (codes "id", string (codes "P2")) ∷ (codes "lecturer", string (codes "L1"))
+        ∷ (codes "lecturer_name", string (codes "Lee")) ∷ (codes "title", string (codes "Kites")) ∷ [])
+        ∷ dictionary ((codes "capacity", count 1) ∷ (codes "id", string (codes "P3")) ∷ (codes "lecturer", string (codes "L2"))
+        ∷ (codes "lecturer_name", string (codes "Moe")) ∷ (codes "title", string (codes "Bells")) ∷ []) ∷ []),
+  ) ∷ [])
+  -- a project with room whose lecturer has none is not there
+  pub full_lecturer : answer (view (again_with (λ l. l)) office) Ask.Catalogue ≡ answer (view again office) Ask.Catalogue
+  pub rolls : answer (view again office) (Ask.AddStudents (ann_row ∷ [])) ≡ wrong_phase
+  pub status : answer (view again office) Ask.Status ≡ body (
+      (codes "assigned", count 2) ∷ (codes "lecturers", count 2) ∷ (codes "phase", string (codes "choosing"))
+      ∷ (codes "projects", count 3) ∷ second_round ∷ (codes "still_to_rank", texts [])
+      ∷ (codes "students", count 3) ∷ (codes "unassigned", texts (codes "S3" ∷ [])) ∷ (codes "without_list", texts (codes "S3" ∷ [])) ∷ [])
+
+-- lists are of those whom the first round left, and the first result is shown on
+pub record TellsSecond : Type 0 where
+  pub placed : answer (view again ann) (Ask.SetChoices []) ≡ refusal 409 (word (codes "already_placed") ∷ [])
+  pub placed_too_late : answer (view again_ranking ann) (Ask.SetChoices []) ≡ wrong_phase
+  pub kept : answer (view again ann) Ask.Result ≡ body ((codes "project", string (codes "P2")) ∷ [])
+  pub own_list : answer (view again ann) Ask.ShowChoices ≡ body ((codes "projects", texts []) ∷ [])
+  pub full : answer (view again cyr) (Ask.SetChoices (codes "P1" ∷ []))
+      ≡ refusal 422 ((codes "at", count 1) ∷ word (codes "bad_list") ∷ (codes "fault", string (codes "unknown_project")) ∷ [])
+  pub taken : answer (view again cyr) (Ask.SetChoices (codes "P3" ∷ [])) ≡ body ((codes "projects", texts (codes "P3" ∷ [])) ∷ [])
+  pub applicants : answer (view again_ranking moe) Ask.Applicants ≡ body ((
+    codes "projects",
+    several (dictionary ((codes "applicants", several (someone (codes "S3") (codes "Cyr") ∷ [])) ∷ (codes "id", string (codes "P3")) ∷ []) ∷ []),
+  ) ∷ [])
+  -- each own project is named, in the catalogue or not, with whom the first round placed there
+  pub first_placed : answer (view again_ranking lee) Ask.Result ≡ reply Published lee Ask.Result
+  pub first_text : answer (view again_ranking office) Ask.Report ≡ reply Published office Ask.Report
+  pub not_yet : answer (view again_ranking cyr) Ask.Result ≡ body ((codes "project", null) ∷ [])
+  pub to_rank : answer (view again_ranking office) (Ask.Move Published None)
+      ≡ refusal 409 (word (codes "still_to_rank") ∷ (codes "lecturers", texts (codes "L2" ∷ [])) ∷ [])
+  pub fill : answer (view again_ranking office) Ask.FillRankings ≡ filled (codes "L2" ∷ [])
+  pub published : answer (view (changed again_ranking Fill) office) (Ask.Move Published None)
+      ≡ body ((codes "phase", string (codes "published")) ∷ second_round ∷ [])
+  pub result : answer (view again_published cyr) Ask.Result ≡ body ((codes "project", string (codes "P3")) ∷ [])
+  pub both_kept : answer (view again_published ann) Ask.Result ≡ body ((codes "project", string (codes "P2")) ∷ [])
+  pub status : answer (view again_published office) Ask.Status ≡ body (
+      (codes "assigned", count 3) ∷ (codes "lecturers", count 2) ∷ (codes "phase", string (codes "published"))
+      ∷ (codes "projects", count 3) ∷ second_round ∷ (codes "still_to_rank", texts [])
+      ∷ (codes "students", count 3) ∷ (codes "unassigned", texts []) ∷ (codes "without_list", texts []) ∷ [])
+  pub csv : answer (view again_published office) Ask.AllocationCsv ≡ sheet (Csv (lines (
+      codes "student,name,project,title,lecturer"
+      ∷ codes "S1,Ann,P2,Kites,L1"
+      ∷ codes "S2,\"Roe, Bea\",P1,Tides,L1"
+      ∷ codes "S3,Cyr,P3,Bells,L2"
+      ∷ [])))
+  pub text : answer (view again_published office) Ask.Report ≡ sheet (Plain (lines (
+      codes "S1                P2                L1"
+      ∷ codes "S2                P1                L1"
+      ∷ codes "S3                P3                L2"
+      ∷ []
+      ∷ codes "P1                 1 of    1"
+      ∷ codes "P2                 1 of    1"
+      ∷ codes "P3                 1 of    1"
+      ∷ []
+      ∷ codes "assigned 3 of 3"
+      ∷ [])))

@@ -1,6 +1,6 @@
 //! What a caller asks.
 
-use crate::phase::Phase;
+use crate::phase::{Phase, Round};
 use crate::rows::{LecturerRow, ProjectRow, StudentRow};
 
 /// A call of the portal.
@@ -19,8 +19,8 @@ pub enum Call {
     AddLecturers(Vec<LecturerRow>),
     AddProjects(Vec<ProjectRow>),
     AddStudents(Vec<StudentRow>),
-    /// Moves the round to this phase.
-    Move(Phase),
+    /// Moves to this phase of the round, or of the current round where none is named.
+    Move { phase: Phase, round: Option<Round> },
     Status,
     Allocation,
     /// The result as CSV.

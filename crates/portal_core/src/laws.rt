@@ -2,8 +2,9 @@
 
 ghost use Rattle.std.specs.Prelude.{◌≡◌, ◌⊎◌, ◌++◌, ◌∷◌, [], List, map, true, false, Some, None};
 ghost use Rattle.portal_core.specs.Words.{Key, is, has};
-ghost use Rattle.portal_core.specs.World.{World, Lecturer, student_key, applicants_of, is_from_ranking};
-ghost use Rattle.portal_core.specs.Good.{Good, codes_of, IsChoice, IsRanking};
+ghost use Rattle.portal_core.specs.World.{World, Lecturer, in_play, first, is_second, alone, student_key, applicants_of, is_from_ranking};
+ghost use Rattle.portal_core.specs.Good.{Good, KeepsCapacities, codes_of, IsChoice, IsRanking};
+ghost use Rattle.portal_core.specs.Instance.{instance};
 ghost use Rattle.portal_core.specs.Honest.{HonestIsBest};
 ghost use Rattle.portal_core.specs.Faults.{ListFault, choice_fault, ranking_fault, lacks_one};
 ghost use Rattle.portal_core.specs.Rolls.{RollFault, Faulty, Took, take_rows, lecturer_roll, project_roll, student_roll};
@@ -22,7 +23,7 @@ ghost use Rattle.portal_core.specs.Run.{Request, Step, Serves, Calls, Run, AllAn
 ghost use Rattle.portal_core.specs.Heard.{IsMember, IsIdle, is_move_or_add, Item, Heard, replies_to};
 ghost use Rattle.portal_core.specs.Places.{SameButPlaces, SameRequest, AlikeUntilPublished};
 ghost use Rattle.std.specs.List.{AllZip, AllByRecursion};
-ghost use Rattle.portal_core.specs.Worked.{worked, TellsWho, TellsApplicants, TellsLists, TellsMoves, TellsResult, TellsSheets, TellsFill};
+ghost use Rattle.portal_core.specs.Worked.{worked, again, again_ranking, again_published, TellsWho, TellsApplicants, TellsLists, TellsMoves, TellsResult, TellsSheets, TellsFill, TellsOpening, TellsSecond};
 ghost use Rattle.portal_core.specs.declared.phase.Phase as phases;
 
 /// Two runs in which a caller starts with the same view and hears the same give the caller the same
@@ -58,9 +59,12 @@ pub fn heard_once()
         → Heard c w asked after items → Heard c w asked after others → items ≡ others }
 {}
 
-/// A step from a good world leads to a good world.
+/// A step from a good world leads to a good world, in which the results of both rounds together keep
+/// the capacities of the rolls. Of the second round a step leaves the first as it was published.
 pub fn step_good()
-    ensures { (w v : World) (code : Key) (ask : Ask) (reply : Answer) → Good w → Step w code ask reply v → Good v }
+    ensures good { (w v : World) (code : Key) (ask : Ask) (reply : Answer) → Good w → Step w code ask reply v → Good v }
+    ensures capacities { (w v : World) (code : Key) (ask : Ask) (reply : Answer) → Good w → Step w code ask reply v → KeepsCapacities v }
+    ensures first { (w v : World) (code : Key) (ask : Ask) (reply : Answer) → is_second w.round ≡ true → Step w code ask reply v → (v.round ≡ w.round) × (first v ≡ first w) }
 {}
 
 /// Each world that a run reaches from a good world is good, so that every published result is stable.
@@ -117,9 +121,14 @@ pub fn least_is_told()
         → take_rows (student_roll v) 1 v.students rows ≡ Faulty fault → IsFirstRefused (student_roll v) v.students rows fault }
 {}
 
-/// In a good world the catalogue shows each project.
+/// In a good world the catalogue shows each project that takes part in the round.
 pub fn catalogue_whole()
-    ensures { (w : World) → Good w → map (λ (l : Listing). l.key) (catalogue w) ≡ map (λ (p : ProjectRow). p.key) w.projects }
+    ensures { (w : World) → Good w → map (λ (l : Listing). l.key) (catalogue w) ≡ map (λ (p : ProjectRow). p.key) (in_play w).projects }
+{}
+
+/// What a round is played in is, alone, a good world of one round, with the same instance.
+pub fn played_alone()
+    ensures { (w : World) → Good w → Good (alone (in_play w)) × (instance (alone (in_play w)) ≡ instance w) }
 {}
 
 /// Two runs that differ at most in the order within students' lists, at the start and in what the
@@ -147,9 +156,12 @@ pub fn honest_is_best()
     ensures { HonestIsBest }
 {}
 
-/// There is a good world in each phase: the small world is one.
+/// There is a good world in each phase of either round.
 pub fn worked_good()
-    ensures { (phase : phases.Phase) → Good (worked phase) }
+    ensures phases { (phase : phases.Phase) → Good (worked phase) }
+    ensures second { Good again }
+    ensures second_ranking { Good again_ranking }
+    ensures second_published { Good again_published }
 {}
 
 /// What is answered in the small world.
@@ -161,4 +173,6 @@ pub fn worked_replies()
     ensures result { TellsResult }
     ensures sheets { TellsSheets }
     ensures fill { TellsFill }
+    ensures opening { TellsOpening }
+    ensures second { TellsSecond }
 {}

@@ -25,7 +25,7 @@ pub use decision::{Act, Body, Change, Decision, Reply, Sheet};
 pub use keeper::{KeepFault, Keeper};
 pub use name::{Name, NameFault};
 pub use pairs::Pairs;
-pub use phase::Phase;
+pub use phase::{Phase, Round};
 pub use placing::Placings;
 pub use remembered::Remembered;
 pub use rows::{LecturerRow, Listing, Person, ProjectRow, StudentRow};

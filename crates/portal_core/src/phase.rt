@@ -1,6 +1,7 @@
 //! The phases of a round.
 
 ghost use Rattle.std.specs.Prelude.{◌≡◌, IfSome, IfNone};
+ghost use Rattle.portal_core.specs.World as world;
 ghost use Rattle.portal_core.specs.World.{phase_word};
 ghost use Rattle.portal_core.specs.declared.phase.Phase as phases;
 
@@ -15,6 +16,27 @@ pub enum Phase {
     Ranking,
     /// The result is shown.
     Published,
+}
+
+/// The rounds of a year, in order.
+#[derive(Clone, Copy, Debug, PartialEq, Eq)]
+pub enum Round {
+    /// Everybody takes part.
+    First,
+    /// Who has no project of the first round takes part, for the room that it left.
+    Second,
+}
+
+impl Round {
+    /// Whether a result is there: in published, and in the second round the first one's.
+    pub fn has_result(self, phase: Phase) -> bool
+        ensures { result ≡ world.has_result self phase }
+    {
+        match self {
+            Round::First => phase == Phase::Published,
+            Round::Second => true,
+        }
+    }
 }
 
 impl Phase {

@@ -44,10 +44,12 @@ impl Remembered {
         self.office = office_after(self.office.take(), change);
         match change {
             Change::Lecturers(_) | Change::Projects(_) => self.catalogue = None,
+            Change::Choices { .. } => {}
             Change::Ranking { .. } => {}
+            Change::Students(_) => {}
+            Change::Result(_) => {}
             Change::Fill => {}
-            Change::Choices { .. } | Change::Students(_) | Change::Phase(_) | Change::Result(_) =>
-                {}
+            Change::Phase(_) => {}
         }
     }
 

@@ -4,7 +4,7 @@ ghost use Rattle.std.specs.Prelude.{◌≡◌, IfOk};
 
 use crate::code::Code;
 use crate::copies::{copy_keys, copy_pairs};
-use crate::phase::Phase;
+use crate::phase::{Phase, Round};
 use crate::rows::{LecturerRow, Listing, Person, ProjectRow, StudentRow};
 use spa_rows::Key;
 use std::alloc::{AllocError, Global};
@@ -13,6 +13,7 @@ use std::rc::Rc;
 
 #[derive(Drop)]
 pub struct StudentView {
+    pub round: Round,
     pub phase: Phase,
     pub me: Person,
     pub catalogue: Rc<Vec<Listing>>,
@@ -25,11 +26,12 @@ impl Model for StudentView {
 
     ghost Value = { StudentSees };
 
-    ghost view = { λ v. record { phase = v.phase; me = v.me; catalogue = v.catalogue.value.items; choices = v.choices.items; result = v.result } };
+    ghost view = { λ v. record { round = v.round; phase = v.phase; me = v.me; catalogue = v.catalogue.value.items; choices = v.choices.items; result = v.result } };
 }
 
 #[derive(Drop)]
 pub struct LecturerView {
+    pub round: Round,
     pub phase: Phase,
     pub me: Person,
     pub capacity: u32,
@@ -46,6 +48,7 @@ impl Model for LecturerView {
     ghost Value = { LecturerSees };
 
     ghost view = { λ v. record {
+      round = v.round;
       phase = v.phase;
       me = v.me;
       capacity = v.capacity;
@@ -58,6 +61,7 @@ impl Model for LecturerView {
 
 #[derive(Drop)]
 pub struct OfficeView {
+    pub round: Round,
     pub phase: Phase,
     pub office_code: Code,
     pub lecturers: Rc<Vec<LecturerRow>>,
@@ -75,6 +79,7 @@ impl Model for OfficeView {
     ghost Value = { OfficeSees };
 
     ghost view = { λ v. record {
+      round = v.round;
       phase = v.phase;
       office_code = v.office_code;
       lecturers = v.lecturers.value.items;
@@ -97,6 +102,7 @@ impl OfficeView {
         ensures { IfOk result (λ view. view ≡ self.now) }
     {
         Ok(OfficeView {
+            round: self.round,
             phase: self.phase,
             office_code: self.office_code.copy(alloc)?,
             lecturers: self.lecturers.clone()?,

@@ -18,7 +18,7 @@ use crate::deciding::bodies::{catalogue_body, persons_value, texts};
 use crate::deciding::lists::{bad_list, checked_ranking};
 use crate::deciding::replies::{applies, not_yours, shows, wrong_phase};
 use crate::decision::{Change, Decision};
-use crate::phase::Phase;
+use crate::phase::{Phase, Round};
 use crate::rows::Person;
 use crate::view::LecturerView;
 use serde_json::{Value, json};
@@ -29,13 +29,23 @@ use std::alloc::{AllocError, Global};
 fn me_body(alloc: Global, view: &LecturerView) -> Result<Value, AllocError>
     ensures { IfOk result (λ body. json.view body ≡ shown.lecturer_me view.now) }
 {
-    json!(in alloc; {
-        "capacity": view.capacity,
-        "key": view.me.key.as_str(),
-        "name": view.me.name.as_str(),
-        "phase": view.phase.word(),
-        "role": "lecturer"
-    })
+    match view.round {
+        Round::First => json!(in alloc; {
+            "capacity": view.capacity,
+            "key": view.me.key.as_str(),
+            "name": view.me.name.as_str(),
+            "phase": view.phase.word(),
+            "role": "lecturer"
+        }),
+        Round::Second => json!(in alloc; {
+            "capacity": view.capacity,
+            "key": view.me.key.as_str(),
+            "name": view.me.name.as_str(),
+            "phase": view.phase.word(),
+            "role": "lecturer",
+            "round": 2u32
+        }),
+    }
 }
 
 /// A project and its applicants.
@@ -179,9 +189,10 @@ fn set_ranking(alloc: Global, view: &LecturerView, list: &[Vec<u8>]) -> Result<D
 fn show_result(alloc: Global, view: &LecturerView) -> Result<Decision, AllocError>
     ensures { IfOk result (λ decision. decided decision ≡ to_lecturer view.now Ask.Result) }
 {
-    match view.phase {
-        Phase::Published => Ok(shows(placed_body(alloc, &view.placed)?)),
-        _ => wrong_phase(alloc),
+    if view.round.has_result(view.phase) {
+        Ok(shows(placed_body(alloc, &view.placed)?))
+    } else {
+        wrong_phase(alloc)
     }
 }
 

@@ -4,14 +4,15 @@ ghost use Rattle.std.specs.Prelude.{◌≡◌, ◌∷◌, [], length, map, filte
 ghost use Rattle.serde_json.specs.View as json;
 ghost use Rattle.serde_json.specs.Data.{string};
 ghost use Rattle.portal_core.specs.Words.{Key, is_empty};
-ghost use Rattle.portal_core.specs.World.{phase_word, is_published, is_ranking};
+ghost use Rattle.portal_core.specs.World as world;
+ghost use Rattle.portal_core.specs.World.{phase_word, is_ranking};
 ghost use Rattle.portal_core.specs.Json as form;
 ghost use Rattle.portal_core.specs.Json.{dictionary, members, count};
 ghost use Rattle.portal_core.specs.Bodies as shown;
 ghost use Rattle.portal_core.specs.Rolls as rolls;
 ghost use Rattle.portal_core.specs.Rolls.{Took};
 ghost use Rattle.portal_core.specs.Answer as answer;
-ghost use Rattle.portal_core.specs.Answer.{Nothing, Apply, only, is_open_to_rolls, row_fault, publishes, moves, to_office, blank, emptied};
+ghost use Rattle.portal_core.specs.Answer.{Nothing, Apply, only, row_fault, publishes, moves_on, moves_in, moves, to_office, blank, emptied};
 ghost use Rattle.portal_core.specs.Change.{Fill};
 ghost use Rattle.portal_core.specs.Meaning.{asked, told, does, decided};
 
@@ -23,7 +24,7 @@ use crate::deciding::replies::{
 };
 use crate::deciding::rolls::{Added, Roll, RollFault, take_rows};
 use crate::decision::{Act, Change, Decision, Reply, Sheet};
-use crate::phase::Phase;
+use crate::phase::{Phase, Round};
 use crate::placing::Placings;
 use crate::rows::StudentRow;
 use crate::view::OfficeView;
@@ -35,7 +36,17 @@ use std::alloc::{AllocError, Global};
 fn me_body(alloc: Global, view: &OfficeView) -> Result<Value, AllocError>
     ensures { IfOk result (λ body. json.view body ≡ shown.office_me view.now) }
 {
-    json!(in alloc; {"phase": view.phase.word(), "role": "office"})
+    match view.round {
+        Round::First => json!(in alloc; {
+            "phase": view.phase.word(),
+            "role": "office"
+        }),
+        Round::Second => json!(in alloc; {
+            "phase": view.phase.word(),
+            "role": "office",
+            "round": 2u32
+        }),
+    }
 }
 
 /// Those of the students who have no project in the result.
@@ -109,14 +120,14 @@ fn status_members(alloc: Global, view: &OfficeView) -> Result<Map<String, Value>
     Ok(status)
 }
 
-/// The status.
-fn status_body(alloc: Global, view: &OfficeView) -> Result<Value, AllocError>
-    ensures { IfOk result (λ body. json.view body ≡ shown.status_body view.now) }
+/// The status once a result is there.
+fn status_with_result(alloc: Global, view: &OfficeView) -> Result<Map<String, Value>, AllocError>
+    ensures { IfOk result (λ status. json.members_view status.entries ≡ members (
+        (codes "assigned", count (length view.now.pairs)) ∷ (codes "lecturers", count (length view.now.lecturers)) ∷ (codes "phase", string (phase_word view.now.phase))
+        ∷ (codes "projects", count (length view.now.projects)) ∷ (codes "still_to_rank", form.texts view.now.still_to_rank) ∷ (codes "students", count (length view.now.students))
+        ∷ (codes "unassigned", form.texts (shown.unassigned view.now)) ∷ (codes "without_list", form.texts view.now.without_list) ∷ [])) }
 {
     let mut status = status_members(alloc, view)?;
-    if view.phase != Phase::Published {
-        return Ok(Value::Object(status));
-    }
     let unassigned = Value::Array(unassigned_values(alloc, view)?);
     put(
         &mut status,
@@ -125,7 +136,22 @@ fn status_body(alloc: Global, view: &OfficeView) -> Result<Value, AllocError>
         Value::from(view.pairs.len()),
     )?;
     put(&mut status, alloc, "unassigned", unassigned)?;
-    Ok(Value::Object(status))
+    Ok(status)
+}
+
+/// The status.
+fn status_body(alloc: Global, view: &OfficeView) -> Result<Value, AllocError>
+    ensures { IfOk result (λ body. json.view body ≡ shown.status_body view.now) }
+{
+    match (view.round, view.phase) {
+        (Round::Second, _) => {
+            let mut status = status_with_result(alloc, view)?;
+            put(&mut status, alloc, "round", Value::from(2u32))?;
+            Ok(Value::Object(status))
+        }
+        (Round::First, Phase::Published) => { Ok(Value::Object(status_with_result(alloc, view)?)) }
+        (Round::First, _) => Ok(Value::Object(status_members(alloc, view)?)),
+    }
 }
 
 /// A student and the project.
@@ -200,17 +226,27 @@ fn accepts<X: Drop, R: Roll<X>>(
     })
 }
 
-/// Adds rows to a roll, which is open before ranking.
+/// Whether rolls are open: before the first round's ranking.
+fn is_open_to_rolls(round: Round, phase: Phase) -> bool
+    ensures { result ≡ answer.is_open_to_rolls round phase }
+{
+    match (round, phase) {
+        (Round::First, Phase::Setup) | (Round::First, Phase::Choosing) => true,
+        _ => false,
+    }
+}
+
+/// Adds rows to a roll, where it is open.
 fn add_rows<X: Drop, R: Roll<X>>(
     alloc: Global,
-    phase: Phase,
+    is_open: bool,
     roll: &R,
     on_roll: &[X],
     rows: &[X],
 ) -> Result<Decision, AllocError>
-    ensures { IfOk result (λ decision. decided decision ≡ only (is_open_to_rolls phase) (answer.added (R.changes roll.now) (rolls.take_rows (R.rules roll.now) 1 on_roll.now rows.now))) }
+    ensures { IfOk result (λ decision. decided decision ≡ only is_open (answer.added (R.changes roll.now) (rolls.take_rows (R.rules roll.now) 1 on_roll.now rows.now))) }
 {
-    if phase == Phase::Ranking || phase == Phase::Published {
+    if !is_open {
         return wrong_phase(alloc);
     }
     match take_rows(alloc, roll, on_roll, rows)? {
@@ -241,45 +277,77 @@ fn publish(alloc: Global, view: &OfficeView) -> Result<Decision, AllocError>
     if !view.still_to_rank.is_empty() {
         return Ok(refuses(still_to_rank(alloc, &view.still_to_rank)?));
     }
-    let body = phase_body(alloc, Phase::Published)?;
+    let body = phase_body(alloc, view.round, Phase::Published)?;
     Ok(Decision {
         reply: json_reply(200, body),
         act: Act::Publish,
     })
 }
 
-/// Moves to the next phase, or to the current one, which changes nothing.
-fn move_to(alloc: Global, view: &OfficeView, phase: Phase) -> Result<Decision, AllocError>
-    ensures { IfOk result (λ decision. decided decision ≡ moves view.now view.now.phase phase) }
+/// Moves to the round's next phase, or to the current one, which changes nothing.
+fn move_on(alloc: Global, view: &OfficeView, phase: Phase) -> Result<Decision, AllocError>
+    ensures { IfOk result (λ decision. decided decision ≡ moves_on view.now view.now.phase phase) }
 {
     match (view.phase, phase) {
         (Phase::Setup, Phase::Setup)
         | (Phase::Choosing, Phase::Choosing)
         | (Phase::Ranking, Phase::Ranking)
-        | (Phase::Published, Phase::Published) => Ok(shows(phase_body(alloc, phase)?)),
+        | (Phase::Published, Phase::Published) => Ok(shows(phase_body(alloc, view.round, phase)?)),
         (Phase::Setup, Phase::Choosing) | (Phase::Choosing, Phase::Ranking) => {
-            Ok(applies(phase_body(alloc, phase)?, Change::Phase(phase)))
+            Ok(applies(phase_body(alloc, view.round, phase)?, Change::Phase(phase)))
         }
         (Phase::Ranking, Phase::Published) => publish(alloc, view),
         _ => wrong_phase(alloc),
     }
 }
 
-/// Shows the result, once it is published.
-fn allocation(alloc: Global, view: &OfficeView) -> Result<Decision, AllocError>
-    ensures { IfOk result (λ decision. decided decision ≡ only (is_published view.now.phase) (answer.shows (shown.allocation_body view.now.pairs))) }
+/// Moves to a phase of the round that is named, which has to be the current one.
+fn move_in(
+    alloc: Global,
+    view: &OfficeView,
+    round: Round,
+    phase: Phase,
+) -> Result<Decision, AllocError>
+    ensures { IfOk result (λ decision. decided decision ≡ moves_in view.now view.now.round round phase) }
 {
-    if view.phase != Phase::Published {
+    match (view.round, round) {
+        (Round::First, Round::First) | (Round::Second, Round::Second) => {
+            move_on(alloc, view, phase)
+        }
+        (Round::First, Round::Second) | (Round::Second, Round::First) => wrong_phase(alloc),
+    }
+}
+
+/// Moves; where no round is named, the current one is meant.
+fn move_to(
+    alloc: Global,
+    view: &OfficeView,
+    phase: Phase,
+    round: Option<Round>,
+) -> Result<Decision, AllocError>
+    ensures { IfOk result (λ decision. decided decision ≡ moves view.now phase round) }
+{
+    match round {
+        None => move_on(alloc, view, phase),
+        Some(round) => move_in(alloc, view, round, phase),
+    }
+}
+
+/// Shows the result, once one is there.
+fn allocation(alloc: Global, view: &OfficeView) -> Result<Decision, AllocError>
+    ensures { IfOk result (λ decision. decided decision ≡ only (world.has_result view.now.round view.now.phase) (answer.shows (shown.allocation_body view.now.pairs))) }
+{
+    if !view.round.has_result(view.phase) {
         return wrong_phase(alloc);
     }
     Ok(shows(allocation_body(alloc, &view.pairs)?))
 }
 
-/// The result as a sheet, once it is published; its text is still to be written.
+/// The result as a sheet, once a result is there; its text is still to be written.
 fn sheet(alloc: Global, view: &OfficeView, sheet: Sheet) -> Result<Decision, AllocError>
-    ensures { IfOk result (λ decision. decided decision ≡ only (is_published view.now.phase) (answer.renders (blank sheet) sheet)) }
+    ensures { IfOk result (λ decision. decided decision ≡ only (world.has_result view.now.round view.now.phase) (answer.renders (blank sheet) sheet)) }
 {
-    if view.phase != Phase::Published {
+    if !view.round.has_result(view.phase) {
         return wrong_phase(alloc);
     }
     Ok(renders(alloc, sheet))
@@ -325,20 +393,20 @@ pub(crate) fn decide_office(
 ) -> Result<Decision, AllocError>
     ensures { IfOk result (λ decision. decided decision ≡ emptied (to_office view.now (asked call.now))) }
 {
-    let phase = view.phase;
+    let is_open = is_open_to_rolls(view.round, view.phase);
     match call {
         Call::Me => Ok(shows(me_body(alloc, view)?)),
         Call::Catalogue => Ok(shows(catalogue_body(alloc, &view.catalogue)?)),
         Call::AddLecturers(rows) => {
-            add_rows(alloc, phase, &LecturerRoll(view), &view.lecturers, rows)
+            add_rows(alloc, is_open, &LecturerRoll(view), &view.lecturers, rows)
         }
         Call::AddProjects(rows) => {
-            add_rows(alloc, phase, &ProjectRoll(view), &view.projects, rows)
+            add_rows(alloc, is_open, &ProjectRoll(view), &view.projects, rows)
         }
         Call::AddStudents(rows) => {
-            add_rows(alloc, phase, &StudentRoll(view), &view.students, rows)
+            add_rows(alloc, is_open, &StudentRoll(view), &view.students, rows)
         }
-        Call::Move(phase) => move_to(alloc, view, *phase),
+        Call::Move { phase, round } => move_to(alloc, view, *phase, *round),
         Call::Status => Ok(shows(status_body(alloc, view)?)),
         Call::Allocation => allocation(alloc, view),
         Call::AllocationCsv => sheet(alloc, view, Sheet::Csv),

@@ -98,3 +98,10 @@ pub(crate) fn wrong_phase(alloc: Global) -> Result<Decision, AllocError>
 {
     Ok(refuses(refused(alloc, 409, "wrong_phase")?))
 }
+
+/// The caller has a project of the first round.
+pub(crate) fn already_placed(alloc: Global) -> Result<Decision, AllocError>
+    ensures { IfOk result (λ decision. decided decision ≡ answer.already_placed) }
+{
+    Ok(refuses(refused(alloc, 409, "already_placed")?))
+}

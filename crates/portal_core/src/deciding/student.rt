@@ -14,9 +14,9 @@ ghost use Rattle.portal_core.specs.Meaning.{asked, texts_of, decided};
 use crate::call::Call;
 use crate::deciding::bodies::{catalogue_body, key_value, texts};
 use crate::deciding::lists::{bad_list, checked_choices};
-use crate::deciding::replies::{applies, not_yours, shows, wrong_phase};
+use crate::deciding::replies::{already_placed, applies, not_yours, shows, wrong_phase};
 use crate::decision::{Change, Decision};
-use crate::phase::Phase;
+use crate::phase::{Phase, Round};
 use crate::view::StudentView;
 use serde_json::{Value, json};
 use spa_rows::Key;
@@ -26,12 +26,21 @@ use std::alloc::{AllocError, Global};
 fn me_body(alloc: Global, view: &StudentView) -> Result<Value, AllocError>
     ensures { IfOk result (λ body. json.view body ≡ shown.student_me view.now) }
 {
-    json!(in alloc; {
-        "key": view.me.key.as_str(),
-        "name": view.me.name.as_str(),
-        "phase": view.phase.word(),
-        "role": "student"
-    })
+    match view.round {
+        Round::First => json!(in alloc; {
+            "key": view.me.key.as_str(),
+            "name": view.me.name.as_str(),
+            "phase": view.phase.word(),
+            "role": "student"
+        }),
+        Round::Second => json!(in alloc; {
+            "key": view.me.key.as_str(),
+            "name": view.me.name.as_str(),
+            "phase": view.phase.word(),
+            "role": "student",
+            "round": 2u32
+        }),
+    }
 }
 
 /// A student's list.
@@ -91,7 +100,10 @@ fn set_choices(alloc: Global, view: &StudentView, list: &[Vec<u8>]) -> Result<De
     ensures { IfOk result (λ decision. decided decision ≡ to_student view.now (Ask.SetChoices (texts_of list.now))) }
 {
     match view.phase {
-        Phase::Choosing => take_choices(alloc, view, list),
+        Phase::Choosing => match view.result {
+            None => take_choices(alloc, view, list),
+            Some(_) => already_placed(alloc),
+        },
         _ => wrong_phase(alloc),
     }
 }
@@ -100,9 +112,10 @@ fn set_choices(alloc: Global, view: &StudentView, list: &[Vec<u8>]) -> Result<De
 fn show_result(alloc: Global, view: &StudentView) -> Result<Decision, AllocError>
     ensures { IfOk result (λ decision. decided decision ≡ to_student view.now Ask.Result) }
 {
-    match view.phase {
-        Phase::Published => Ok(shows(result_body(alloc, &view.result)?)),
-        _ => wrong_phase(alloc),
+    if view.round.has_result(view.phase) {
+        Ok(shows(result_body(alloc, &view.result)?))
+    } else {
+        wrong_phase(alloc)
     }
 }
 

@@ -12,4 +12,40 @@ returns c = record {
   result = record { to_ann = refl; to_cyr = refl; to_lee = refl; status = refl };
   sheets = record { csv = refl; text = refl; too_early = refl; text_too_early = refl; to_a_student = refl; text_to_a_student = refl };
   fill = record { one = refl; again = refl; filled_one = refl; kept_one = refl; both = refl; by_key = refl; too_early = refl; by_a_lecturer = refl };
+  opening = record {
+    unnamed = refl;
+    of_the_first = refl;
+    of_the_second = refl;
+    current = refl;
+    named = refl;
+    back = refl;
+    office_me = refl;
+    lecturer_me = refl;
+    student_me = refl;
+    catalogue = refl;
+    room = refl;
+    full_lecturer = refl;
+    rolls = refl;
+    status = refl;
+  };
+  second = record {
+    placed = refl;
+    placed_too_late = refl;
+    kept = refl;
+    own_list = refl;
+    full = refl;
+    taken = refl;
+    applicants = refl;
+    first_placed = refl;
+    first_text = refl;
+    not_yet = refl;
+    to_rank = refl;
+    fill = refl;
+    published = refl;
+    result = refl;
+    both_kept = refl;
+    status = refl;
+    csv = refl;
+    text = refl;
+  };
 }

@@ -7,6 +7,7 @@ pub returns : goal.returns
 returns c w told =
     let renewed : OfficeSees → OfficeSees = λ v. record v { still_to_rank = [] } in
     (λ i. record {
+      round = c.view.inside.round;
       phase = c.view.inside.phase;
       office_code = c.view.inside.office_code;
       lecturers = c.view.inside.lecturers.value.items;

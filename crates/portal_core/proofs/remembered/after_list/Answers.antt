@@ -17,6 +17,7 @@ returns c w told =
     let phase : c.view.inside.phase ≡ Choosing = search rules in
     let some : is_empty c.args.projects.now ≡ false = not_empty c.args.projects.now c.if-is_empty.ensures in
     (λ i. record {
+      round = c.view.inside.round;
       phase = c.view.inside.phase;
       office_code = c.view.inside.office_code;
       lecturers = c.view.inside.lecturers.value.items;

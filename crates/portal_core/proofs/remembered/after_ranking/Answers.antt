@@ -11,6 +11,7 @@ returns c w told =
     let renewed : OfficeSees → OfficeSees = λ v. record v { still_to_rank = filter (λ x. not (is x k)) v.still_to_rank } in
     let phase : c.view.inside.phase ≡ Ranking = search rules in
     (λ i. record {
+      round = c.view.inside.round;
       phase = c.view.inside.phase;
       office_code = c.view.inside.office_code;
       lecturers = c.view.inside.lecturers.value.items;
