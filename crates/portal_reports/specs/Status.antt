@@ -2,7 +2,9 @@
 use Rattle.std.specs.Prelude.{ℕ, Bool, ◌&&◌, nat_lt, nat_le, if◌then◌else◌, codes, decimal, List, [], ◌++◌, length}
 use Rattle.std.specs.List.{list_all}
 use Rattle.portal_core.specs.declared.phase.Phase.{Phase}
-use Rattle.portal_core.specs.World.{phase_word, is_published}
+use Rattle.portal_core.specs.declared.phase.Round.{Round}
+use Rattle.portal_core.specs.declared.phase.Round.TheVariants.{First, Second}
+use Rattle.portal_core.specs.World.{phase_word, has_result}
 use Rattle.portal_core.specs.Sight.{OfficeSees}
 use Rattle.portal_core.specs.Sheets.{padded_left, padded_right, line_feed}
 
@@ -16,13 +18,19 @@ number_line label number = padded_left 16 label ++ padded_right 6 (decimal numbe
 unfoldable pub phase_line : Phase → List ℕ
 phase_line phase = padded_left 16 (codes "phase") ++ phase_word phase ++ line_feed
 
--- how many have a project, once that is known
+-- the round, in the second alone
+abbrev pub round_lines : Round → List ℕ
+round_lines First = []
+round_lines Second = number_line (codes "round") 2
+
+-- how many have a project, once a result is there
 abbrev pub assigned_number : OfficeSees → List ℕ
-assigned_number v = if is_published v.phase then number_line (codes "assigned") (length v.pairs) else []
+assigned_number v = if has_result v.round v.phase then number_line (codes "assigned") (length v.pairs) else []
 
 abbrev pub status_text : OfficeSees → List ℕ
 status_text v =
     phase_line v.phase
+    ++ round_lines v.round
     ++ number_line (codes "lecturers") (length v.lecturers)
     ++ number_line (codes "projects") (length v.projects)
     ++ number_line (codes "students") (length v.students)

@@ -4,7 +4,7 @@ ghost use Rattle.std.specs.Prelude.{◌≡◌, ◌++◌, IfOk, OnOk, IsTrue, cod
 ghost use Rattle.portal_reports.specs.Status as spec;
 
 use crate::lines::{number_line, phase_line};
-use portal_core::{OfficeView, Phase};
+use portal_core::{OfficeView, Round};
 use std::alloc::{AllocError, Global};
 
 /// Adds a line with a number.
@@ -19,6 +19,16 @@ fn put_number(
 {
     let line = number_line(alloc, label, number)?;
     text.extend_from_slice(line.as_bytes())
+}
+
+/// Adds the round, in the second.
+fn put_round(text: &mut Vec<u8>, alloc: Global, round: Round) -> Result<(), AllocError>
+    ensures { OnOk result (text.new.items ≡ text.old.items ++ spec.round_lines round) }
+{
+    match round {
+        Round::First => Ok(()),
+        Round::Second => put_number(text, alloc, "round", 2usize),
+    }
 }
 
 /// Adds the sizes of the rolls.
@@ -41,23 +51,25 @@ fn put_missing(text: &mut Vec<u8>, alloc: Global, view: &OfficeView) -> Result<(
     Ok(())
 }
 
-/// Adds how many students have a project, in published.
+/// Adds how many students have a project, once a result is there.
 fn put_assigned(text: &mut Vec<u8>, alloc: Global, view: &OfficeView) -> Result<(), AllocError>
     ensures { OnOk result (text.new.items ≡ text.old.items ++ spec.assigned_number view.now) }
 {
-    match view.phase {
-        Phase::Published => put_number(text, alloc, "assigned", view.pairs.len()),
-        _ => Ok(()),
+    if view.round.has_result(view.phase) {
+        put_number(text, alloc, "assigned", view.pairs.len())
+    } else {
+        Ok(())
     }
 }
 
-/// The state of the round: the phase, the sizes of the rolls, how many lists and rankings are missing,
-/// and in published how many students have a project. An error is want of memory.
+/// The state of the round: the phase, in the second round its number, the sizes of the rolls, how many lists
+/// and rankings are missing, and, once a result is there, how many students have a project. An error is want of memory.
 pub fn status_text(alloc: Global, view: &OfficeView) -> Result<Vec<u8>, AllocError>
     ensures { IfOk result (λ text. text.items ≡ spec.status_text view.now) }
 {
     let line = phase_line(alloc, view.phase)?;
     let mut text = Vec::from_slice(alloc, line.as_bytes())?;
+    put_round(&mut text, alloc, view.round)?;
     put_rolls(&mut text, alloc, view)?;
     put_missing(&mut text, alloc, view)?;
     put_assigned(&mut text, alloc, view)?;
