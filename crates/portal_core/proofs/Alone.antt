@@ -171,7 +171,7 @@ module _ (w : World) (g : Sound w) (two : w.round ≡ Second) where
       (λ s h. ((λ e. wants_same l s h.0), (λ e. ap (λ c. list_any (λ p. has c p.key) (projects_of w l)) (h.1 e).0 ∙ none_wanted (projects_of w l)))) w.students
       (all_both (λ s. IsChoice (project_keys (left_of w)) s.choice) (λ s. is_left s ≡ false → (s.choice ≡ []) × (s.placed ≡ None)) w.students choices_are g.only_left)))
 
-  still_alone : (l : rows.Lecturer) → is_still_to_rank (alone (left_of w)) l ≡ is_still_to_rank w l
+  pub still_alone : (l : rows.Lecturer) → is_still_to_rank (alone (left_of w)) l ≡ is_still_to_rank w l
   still_alone l =
       ap (λ b. not b && is_none l.ranking)
       (sym (empty_map student_key (applicants_of (alone (left_of w)) l.row.key)) ∙ ap is_empty (applicants_alone l.row.key) ∙ empty_map student_key (applicants_of w l.row.key))

@@ -33,6 +33,7 @@ pub mod Only
 pub mod Published
 pub mod Capacities
 pub mod Alone
+pub mod Rooms
 pub mod Scan
 pub mod Pieces
 pub mod Tables

@@ -29,7 +29,8 @@ ghost use Rattle.portal_core.specs.declared.phase.Phase as phases;
 /// Two runs in which a caller starts with the same view and hears the same give the caller the same
 /// replies, and leave the caller the same view.
 pub fn same_replies()
-    ensures { (c : Key) (w v : World) (asked others : List Request) (told said : List Answer) (after later : List World) (items : List Item)
+    ensures { (c : Key) (w v : World) (asked others : List Request) (told said : List Answer)
+        (after later : List World) (items : List Item)
         → Run w asked told after → AllAnswered told → Heard c w asked after items
         → Run v others said later → AllAnswered said → Heard c v others later items
         → view w c ≡ view v c
@@ -45,7 +46,9 @@ pub fn others_unseen()
         → view v c ≡ view w c }
     ensures own_list { (w v : World) (c : Key) (ask : Ask) (reply : Answer)
         → Step w c ask reply v → is_move_or_add (Calls ask) ≡ false → view v c ≡ own (view w c) ask }
-    ensures struck { (c : Key) (w v : World) (before : List Request) (r : Request) (rest : List Request) (told : List Answer) (a : Answer) (said : List Answer) (after later : List World)
+    ensures struck { (c : Key) (w v : World) (before : List Request) (r : Request)
+        (rest : List Request) (told : List Answer) (a : Answer) (said : List Answer)
+        (after later : List World)
         → Run w before told after → Serves (end_of w after) r a v → Run v rest said later
         → is r.code c ≡ false → IsIdle (end_of w after) r
         → Run w (before ++ rest) (told ++ said) (after ++ later)
@@ -54,17 +57,23 @@ pub fn others_unseen()
 
 /// Each run has exactly one list of what a caller hears.
 pub fn heard_once()
-    ensures there { (c : Key) (w : World) (asked : List Request) (after : List World) → (items : List Item) × Heard c w asked after items }
-    ensures once { (c : Key) (w : World) (asked : List Request) (after : List World) (items others : List Item)
+    ensures there { (c : Key) (w : World) (asked : List Request) (after : List World)
+        → (items : List Item) × Heard c w asked after items }
+    ensures once { (c : Key) (w : World) (asked : List Request) (after : List World)
+        (items others : List Item)
         → Heard c w asked after items → Heard c w asked after others → items ≡ others }
 {}
 
 /// A step from a good world leads to a good world, in which the results of both rounds together keep
 /// the capacities of the rolls. Of the second round a step leaves the first as it was published.
 pub fn step_good()
-    ensures good { (w v : World) (code : Key) (ask : Ask) (reply : Answer) → Good w → Step w code ask reply v → Good v }
-    ensures capacities { (w v : World) (code : Key) (ask : Ask) (reply : Answer) → Good w → Step w code ask reply v → KeepsCapacities v }
-    ensures first { (w v : World) (code : Key) (ask : Ask) (reply : Answer) → is_second w.round ≡ true → Step w code ask reply v → (v.round ≡ w.round) × (first v ≡ first w) }
+    ensures good { (w v : World) (code : Key) (ask : Ask) (reply : Answer) → Good w
+        → Step w code ask reply v → Good v }
+    ensures capacities { (w v : World) (code : Key) (ask : Ask) (reply : Answer) → Good w
+        → Step w code ask reply v → KeepsCapacities v }
+    ensures first { (w v : World) (code : Key) (ask : Ask) (reply : Answer)
+        → is_second w.round ≡ true → Step w code ask reply v
+        → (v.round ≡ w.round) × (first v ≡ first w) }
 {}
 
 /// Each world that a run reaches from a good world is good, so that every published result is stable.
@@ -82,7 +91,8 @@ pub fn step_once()
 /// Two runs that nothing fails, from one world over one list of requests, give equal replies and leave
 /// equal worlds after each request.
 pub fn one_run()
-    ensures { (w : World) (asked : List Request) (told said : List Answer) (after later : List World)
+    ensures { (w : World) (asked : List Request) (told said : List Answer)
+        (after later : List World)
         → Run w asked told after → AllAnswered told → Run w asked said later → AllAnswered said
         → (told ≡ said) × (after ≡ later) }
 {}
@@ -123,19 +133,23 @@ pub fn least_is_told()
 
 /// In a good world the catalogue shows each project that takes part in the round.
 pub fn catalogue_whole()
-    ensures { (w : World) → Good w → map (λ (l : Listing). l.key) (catalogue w) ≡ map (λ (p : ProjectRow). p.key) (in_play w).projects }
+    ensures { (w : World) → Good w
+        → map (λ (l : Listing). l.key) (catalogue w)
+        ≡ map (λ (p : ProjectRow). p.key) (in_play w).projects }
 {}
 
 /// What a round is played in is, alone, a good world of one round, with the same instance.
 pub fn played_alone()
-    ensures { (w : World) → Good w → Good (alone (in_play w)) × (instance (alone (in_play w)) ≡ instance w) }
+    ensures { (w : World) → Good w
+        → Good (alone (in_play w)) × (instance (alone (in_play w)) ≡ instance w) }
 {}
 
 /// Two runs that differ at most in the order within students' lists, at the start and in what the
 /// students hand in, give equal replies up to and with the first accepted move to published, but for
 /// the replies to a student's own list.
 pub fn places_unseen()
-    ensures { (v w : World) (asked others : List Request) (told said : List Answer) (after later : List World)
+    ensures { (v w : World) (asked others : List Request) (told said : List Answer)
+        (after later : List World)
         → SameButPlaces v w → AllZip SameRequest asked others
         → Run v asked told after → AllAnswered told → Run w others said later → AllAnswered said
         → AlikeUntilPublished asked told said }
@@ -144,9 +158,12 @@ pub fn places_unseen()
 /// In a good world a code names its own row, by role, and any other code nobody.
 pub fn named_by_code()
     ensures office { (w : World) → Good w → view w w.office ≡ sees.Office (office_sees w) }
-    ensures lecturers { (w : World) → Good w → AllByRecursion (λ l. view w l.row.code ≡ sees.Lecturer (lecturer_sees w l)) w.lecturers }
-    ensures students { (w : World) → Good w → AllByRecursion (λ s. view w s.row.code ≡ sees.Student (student_sees w s)) w.students }
-    ensures others { (w : World) (c : Key) → Good w → has (codes_of w) c ≡ false → view w c ≡ sees.Nobody }
+    ensures lecturers { (w : World) → Good w
+        → AllByRecursion (λ l. view w l.row.code ≡ sees.Lecturer (lecturer_sees w l)) w.lecturers }
+    ensures students { (w : World) → Good w
+        → AllByRecursion (λ s. view w s.row.code ≡ sees.Student (student_sees w s)) w.students }
+    ensures others { (w : World) (c : Key) → Good w → has (codes_of w) c ≡ false
+        → view w c ≡ sees.Nobody }
 {}
 
 /// What a student is shown with the honest list is, by that list, at least as good as what is shown with

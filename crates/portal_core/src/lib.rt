@@ -14,6 +14,7 @@ mod pairs;
 mod phase;
 mod placing;
 mod remembered;
+mod room;
 mod rows;
 mod view;
 
@@ -28,5 +29,6 @@ pub use pairs::Pairs;
 pub use phase::{Phase, Round};
 pub use placing::Placings;
 pub use remembered::Remembered;
+pub use room::{lecturer_left, own_keys, project_left};
 pub use rows::{LecturerRow, Listing, Person, ProjectRow, StudentRow};
 pub use view::{LecturerView, OfficeView, StudentView, View};

@@ -39,7 +39,8 @@ impl Remembered {
     /// Keeps of what is remembered what still holds after the change: the catalogue unless it is one of a roll that is shown in
     /// it, and what the office sees where the change tells it.
     fn renew(&mut self, change: &Change)
-        ensures { (w : World) → Remembers self.old w → Remembers self.new (changed w (meant change.now)) }
+        ensures { (w : World) → Remembers self.old w
+            → Remembers self.new (changed w (meant change.now)) }
     {
         self.office = office_after(self.office.take(), change);
         match change {
@@ -56,7 +57,9 @@ impl Remembered {
     /// Remembers of the changed world, where the change was made, what was remembered and still holds; where it was refused,
     /// whatever the error, all that was remembered stays. It takes no memory.
     pub fn follow<E>(&mut self, change: &Change, made: &Result<(), E>)
-        ensures made { OnOk made.now ((w : World) → Remembers self.old w → Remembers self.new (changed w (meant change.now))) }
+        ensures made { OnOk made.now
+            ((w : World) → Remembers self.old w
+            → Remembers self.new (changed w (meant change.now))) }
         ensures not_made { OnErr made.now (self.new ≡ self.old) }
     {
         if made.is_ok() {
@@ -75,7 +78,9 @@ fn but_for(mut keys: Vec<Key>, key: &Key) -> Vec<Key>
 
 /// What the office sees after the student's list was put, where what it saw before tells that.
 fn after_list(view: OfficeView, student: &Key, projects: &[Key]) -> Option<OfficeView>
-    ensures { IfSome result (λ seen. (w : World) → view ≡ office_sees w → seen ≡ office_sees (changed w (Choices student.now projects.now))) }
+    ensures { IfSome result
+        (λ seen. (w : World) → view ≡ office_sees w
+        → seen ≡ office_sees (changed w (Choices student.now projects.now))) }
 {
     if view.phase != Phase::Choosing || projects.is_empty() {
         return None;
@@ -88,7 +93,9 @@ fn after_list(view: OfficeView, student: &Key, projects: &[Key]) -> Option<Offic
 
 /// What the office sees after the lecturer's ranking was put, where what it saw before tells that.
 fn after_ranking(view: OfficeView, lecturer: &Key, students: &[Key]) -> Option<OfficeView>
-    ensures { IfSome result (λ seen. (w : World) → view ≡ office_sees w → seen ≡ office_sees (changed w (Ranks lecturer.now students.now))) }
+    ensures { IfSome result
+        (λ seen. (w : World) → view ≡ office_sees w
+        → seen ≡ office_sees (changed w (Ranks lecturer.now students.now))) }
 {
     if view.phase != Phase::Ranking {
         return None;
@@ -109,7 +116,9 @@ fn after_fill(mut view: OfficeView) -> OfficeView
 
 /// What the office sees after the change, where what it saw before tells that.
 fn office_after(seen: Option<OfficeView>, change: &Change) -> Option<OfficeView>
-    ensures { IfSome result (λ after. (w : World) → IfSome seen (λ view. view ≡ office_sees w) → after ≡ office_sees (changed w (meant change.now))) }
+    ensures { IfSome result
+        (λ after. (w : World) → IfSome seen (λ view. view ≡ office_sees w)
+        → after ≡ office_sees (changed w (meant change.now))) }
 {
     match change {
         Change::Choices { student, projects } => after_list(seen?, student, projects),

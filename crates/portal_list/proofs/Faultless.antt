@@ -15,10 +15,12 @@ use Rattle.spa_model.proofs.Zips.{any_map, any_unmap}
 use Rattle.portal_core.specs.Words.{Key, is, has, is_empty, Rise}
 use Rattle.portal_core.specs.World.{World, Student, student_key, projects_of, applicants_of, is_still_to_rank}
 use Rattle.portal_core.specs.Instance.{lecturer_keys, project_keys}
+use Rattle.portal_core.specs.declared.phase.Round.TheVariants.{First}
 use Rattle.portal_core.specs.Good.{Sound, IsChoice, IsRanking, IsLecturer, IsProject, IsStudent}
 use Rattle.portal_core.specs.declared.rows.ProjectRow.{ProjectRow}
 use Rattle.portal_core.proofs.Keys.{is_same, is_own}
 use Rattle.portal_core.proofs.AllLaws as laws
+use Rattle.portal_core.proofs.Capacities.{first_plays}
 use Rattle.portal_list.specs.Lines.{lecturer_line, project_line, student_line, lines_of}
 use Rattle.portal_list.proofs.Rising.{map_map}
 use Rattle.portal_list.proofs.Members.{there, has_it, has_all, key_there, repeats_not, earlier_not, none_of}
@@ -97,9 +99,12 @@ module _ (w : World) where
   no_bad_capacity n low high (inl h) = omega arith
   no_bad_capacity n low high (inr h) = omega arith
 
-  module _ (sound : Sound w) (all_ranked : AllByRecursion (λ l. is_still_to_rank w l ≡ false) w.lecturers) where
+  module _ (sound : Sound w) (one : w.round ≡ First) (all_ranked : AllByRecursion (λ l. is_still_to_rank w l ≡ false) w.lecturers) where
     ranked : AllByRecursion (λ l. Ranks l.row.key l.ranking × (is_still_to_rank w l ≡ false)) w.lecturers
     ranked = laws.all_both (λ l. Ranks l.row.key l.ranking) (λ l. is_still_to_rank w l ≡ false) w.lecturers sound.rankings all_ranked
+
+    choices : AllByRecursion (λ s. IsChoice (project_keys w) s.choice) w.students
+    choices = subst (λ u. AllByRecursion (λ s. IsChoice (project_keys u) s.choice) w.students) (first_plays w one) sound.choices
 
     bad_key : (k : Key) → is_key k ≡ true → is_key k ≡ false → ⊥
     bad_key k h e = cc
@@ -120,11 +125,11 @@ module _ (w : World) where
     faultless BadCapacity low q (inl bad) = none_of (λ l. IsLecturer l.row) lecturer_line (λ x. x.row) (λ _ x. IsBadCapacity x.capacity) w.lecturers sound.lecturer_forms (λ j e l at form h. no_bad_capacity e.row.capacity form.low form.high h) q bad
     faultless BadCapacity low q (inr bad) = none_of IsProject project_line (λ x. x.row) (λ _ x. IsBadCapacity x.capacity) w.projects sound.project_forms (λ j e l at form h. no_bad_capacity e.capacity form.low form.high h) q bad
     faultless NoSuchLecturer low q bad = none_of (λ p. has (lecturer_keys w) p.lecturer ≡ true) project_line (λ x. x.row) (λ _ x. IsKeyOf rows.lecturers (λ y. y.key) x.lecturer → ⊥) w.projects sound.lecturers_known (λ j e l at known h. h (key_there lecturer_line (λ y. y.key) w.lecturers e.lecturer known)) q bad
-    faultless NoSuchProject low q bad = none_of (λ s. IsChoice (project_keys w) s.choice) student_line (λ x. x.row) (λ _ x. NamesNone rows.projects (λ y. y.key) x.list) w.students sound.choices (λ j e l at choice (m, text, less, is_text, no_one).
+    faultless NoSuchProject low q bad = none_of (λ s. IsChoice (project_keys w) s.choice) student_line (λ x. x.row) (λ _ x. NamesNone rows.projects (λ y. y.key) x.list) w.students choices (λ j e l at choice (m, text, less, is_text, no_one).
         no_one (key_there project_line (λ y. y.key) w.projects text (subst (λ k. has (project_keys w) k ≡ true) is_text (laws.all_at (λ k. has (project_keys w) k ≡ true) e.choice m text choice.known less)))) q bad
     faultless RepeatInList low q (inl bad) = none_of (λ l. Ranks l.row.key l.ranking × (is_still_to_rank w l ≡ false)) lecturer_line (λ x. x.row) (λ _ x. Repeats x.list) w.lecturers ranked (λ j e l at is_ranked h. no_repeat e.row.key e.ranking is_ranked.0 h) q bad
-    faultless RepeatInList low q (inr bad) = none_of (λ s. IsChoice (project_keys w) s.choice) student_line (λ x. x.row) (λ _ x. Repeats x.list) w.students sound.choices (λ j e l at choice h. repeats_not e.choice choice.once h) q bad
-    faultless ListTooLong low q bad = none_of (λ s. IsChoice (project_keys w) s.choice) student_line (λ x. x.row) (λ _ x. 20 < length x.list) w.students sound.choices (λ j e l at choice h. let few : length e.choice ≤ 20 = choice.few in omega arith) q bad
+    faultless RepeatInList low q (inr bad) = none_of (λ s. IsChoice (project_keys w) s.choice) student_line (λ x. x.row) (λ _ x. Repeats x.list) w.students choices (λ j e l at choice h. repeats_not e.choice choice.once h) q bad
+    faultless ListTooLong low q bad = none_of (λ s. IsChoice (project_keys w) s.choice) student_line (λ x. x.row) (λ _ x. 20 < length x.list) w.students choices (λ j e l at choice h. let few : length e.choice ≤ 20 = choice.few in omega arith) q bad
     faultless NotApplicant low q bad = none_of (λ l. Ranks l.row.key l.ranking × (is_still_to_rank w l ≡ false)) lecturer_line (λ x. x.row) (λ _ x. Any (λ text. IsApplicant rows x.key text → ⊥) x.list) w.lecturers ranked (λ j e l at is_ranked h. no_other e.row.key e.ranking is_ranked.0 h) q bad
     faultless ApplicantMissing low q bad = none_of (λ l. Ranks l.row.key l.ranking × (is_still_to_rank w l ≡ false)) lecturer_line (λ x. x.row) (λ _ x. MissesOne rows x) w.lecturers ranked (λ j e l at is_ranked h. no_missing e.row.key e.ranking is_ranked.0 is_ranked.1 h) q bad
     faultless Memory low q bad = bad

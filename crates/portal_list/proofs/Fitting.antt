@@ -5,10 +5,13 @@ use Rattle.std.specs.List.{filter_map, cons_option, AllByRecursion}
 use Rattle.portal_core.specs.declared.rows.LecturerRow.{LecturerRow}
 use Rattle.portal_core.specs.declared.rows.StudentRow.{StudentRow}
 use Rattle.portal_core.specs.Words.{Key, is, is_before, is_empty, Rise}
-use Rattle.portal_core.specs.World.{Lecturer, Student}
+use Rattle.portal_core.specs.declared.phase.Round.{Round}
+use Rattle.portal_core.specs.declared.phase.Round.TheVariants.{First, Second}
+use Rattle.portal_core.specs.World.{Lecturer, Student, is_second, pairs_with}
 use Rattle.portal_core.proofs.Keys.{is_same, is_own, not_before_itself}
-use Rattle.portal_list.specs.Rows.{choices_in, rankings_in}
-use Rattle.portal_list.specs.Fit.{next_for, rest_for, lecturers_fitting, students_fitting, with_list}
+use Rattle.portal_list.specs.Rows.{choices_in, earlier_choices_in, rankings_with}
+use Rattle.portal_list.specs.Parts.{HasNothingEarlier}
+use Rattle.portal_list.specs.Fit.{next_for, rest_for, earlier_for, earlier_rest, lecturers_fitting, students_fitting, with_lists}
 
 pub next_map : {V W : Type 0} (f : V → W) (k : Key) (ps : List (Key × V)) → option_map f (next_for k ps) ≡ next_for k (map {B = Key × W} (λ (p : Key × V). (p.0, f p.1)) ps)
 next_map f k [] = refl
@@ -63,84 +66,129 @@ put_back {V} k (p ∷ ps) = at (is p.0 k) refl
     at true e = λ i. (sym (is_same p.0 k e) i, p.1) ∷ ps
     at false e = refl
 
-nothing_left : {X Y : Type 0} (ps : List X) (y z : Y) → cond (is_empty ps) (Some y) None ≡ Some z → (ps ≡ []) × (y ≡ z)
-nothing_left [] y z e = let same : y ≡ z = cc in (refl, same)
-nothing_left (p ∷ ps) y z e = cc
-
--- lecturers
-
-pub lecturers_back : (ls : List Lecturer) → Rise (map (λ l. l.row.key) ls) → lecturers_fitting (map (λ l. l.row) ls) (rankings_in ls) ≡ Some ls
-lecturers_back [] rise = refl
-lecturers_back (l ∷ ls) rise =
-    let mine = own (λ (m : Lecturer). m.row.key) (λ (m : Lecturer). m.ranking) l ls rise.0 in
-    (λ i. option_map (λ ms. record { row = l.row; ranking = mine.0 i } ∷ ms) (lecturers_fitting (map (λ m. m.row) ls) (mine.1 i)))
-    ∙ ap (option_map (λ ms. l ∷ ms)) (lecturers_back ls rise.1)
-
-pub lecturers_rows : (rs : List LecturerRow) (ps : List (Key × List Key)) (ls : List Lecturer) → lecturers_fitting rs ps ≡ Some ls → (map (λ l. l.row) ls ≡ rs) × (rankings_in ls ≡ ps)
-lecturers_rows [] ps ls e =
-    let both : (ps ≡ []) × ([] ≡ ls) = nothing_left ps [] ls e in
-    (ap (map (λ l. l.row)) (sym both.1), ap rankings_in (sym both.1) ∙ sym both.0)
-lecturers_rows (r ∷ rs) ps ls e = at (lecturers_fitting rs (rest_for r.key ps)) (λ ms f. lecturers_rows rs (rest_for r.key ps) ms f) e
-  where
-    at : (o : Option (List Lecturer)) → ((ms : List Lecturer) → o ≡ Some ms → (map (λ l. l.row) ms ≡ rs) × (rankings_in ms ≡ rest_for r.key ps)) → option_map (λ ms. record { row = r; ranking = next_for r.key ps } ∷ ms) o ≡ Some ls → (map (λ l. l.row) ls ≡ r ∷ rs) × (rankings_in ls ≡ ps)
-    at None again f = cc
-    at (Some ms) again f =
-        let rest : (map (λ l. l.row) ms ≡ rs) × (rankings_in ms ≡ rest_for r.key ps) = again ms refl in
-        let is_ls : record { row = r; ranking = next_for r.key ps } ∷ ms ≡ ls = cc in (
-          ap (map (λ l. l.row)) (sym is_ls) ∙ ap (λ qs. r ∷ qs) rest.0,
-          ap rankings_in (sym is_ls) ∙ ap (cons_option (option_map (λ v. (r.key, v)) (next_for r.key ps))) rest.1 ∙ put_back r.key ps,
-        )
-
--- one more lecturer is put together
-pub lecturers_step : (es more : List Lecturer) (row : LecturerRow) (items others : List LecturerRow) (ps qs : List (Key × List Key)) (ranking : Option (List Key)) (all : Option (List Lecturer))
-    → option_map (λ ls. es ++ ls) (lecturers_fitting items ps) ≡ all → items ≡ row ∷ others → qs ≡ rest_for row.key ps → ranking ≡ next_for row.key ps → more ≡ es ++ record { row = row; ranking = ranking } ∷ []
-    → option_map (λ ls. more ++ ls) (lecturers_fitting others qs) ≡ all
-lecturers_step es more row items others ps qs ranking all so_far is_row is_rest is_next is_more =
-    (λ i. option_map (λ ls. is_more i ++ ls) (lecturers_fitting others (is_rest i)))
-    ∙ moved es (record { row = row; ranking = ranking }) (lecturers_fitting others (rest_for row.key ps))
-    ∙ (λ i. option_map (λ ls. es ++ ls) (option_map (λ ls. record { row = row; ranking = is_next i } ∷ ls) (lecturers_fitting others (rest_for row.key ps))))
-    ∙ (λ i. option_map (λ ls. es ++ ls) (lecturers_fitting (sym is_row i) ps))
-    ∙ so_far
-
--- students
-
--- each student has a list
-all_there : (ss : List Student) → choices_in ss ≡ filter_map (λ s. option_map (λ v. (s.row.key, v)) (Some s.choice)) ss
-all_there [] = refl
-all_there (s ∷ ss) = ap (λ cs. (s.row.key, s.choice) ∷ cs) (all_there ss)
-
-abbrev pub places_in : List Student → List (Key × Key)
-places_in ss = filter_map (λ s. option_map (λ p. (s.row.key, p)) s.placed) ss
-
-pub students_back : (ss : List Student) → Rise (map (λ s. s.row.key) ss) → students_fitting (map (λ s. s.row) ss) (choices_in ss) (places_in ss) ≡ Some ss
-students_back [] rise = refl
-students_back (s ∷ ss) rise =
-    let list : (next_for s.row.key (choices_in (s ∷ ss)) ≡ Some s.choice) × (rest_for s.row.key (choices_in (s ∷ ss)) ≡ choices_in ss) = rw (is_own s.row.key) (refl, refl) in
-    let place = own (λ (t : Student). t.row.key) (λ (t : Student). t.placed) s ss rise.0 in
-    (λ i. with_list s.row (list.0 i) (place.0 i) (students_fitting (map (λ t. t.row) ss) (list.1 i) (place.1 i)))
-    ∙ ap (option_map (λ ts. s ∷ ts)) (students_back ss rise.1)
-
 none_left : {X Y Z : Type 0} (cs : List X) (ps : List Y) (y z : Z) → cond (is_empty cs && is_empty ps) (Some y) None ≡ Some z → (cs ≡ []) × (ps ≡ []) × (y ≡ z)
 none_left [] [] y z e = let same : y ≡ z = cc in (refl, refl, same)
 none_left [] (p ∷ ps) y z e = cc
 none_left (c ∷ cs) ps y z e = cc
 
-pub students_rows : (rs : List StudentRow) (cs : List (Key × List Key)) (ps : List (Key × Key)) (ss : List Student) → students_fitting rs cs ps ≡ Some ss → (map (λ s. s.row) ss ≡ rs) × (choices_in ss ≡ cs) × (places_in ss ≡ ps)
-students_rows [] cs ps ss e =
-    let all : (cs ≡ []) × (ps ≡ []) × ([] ≡ ss) = none_left cs ps [] ss e in
-    (ap (map (λ s. s.row)) (sym all.2), ap choices_in (sym all.2) ∙ sym all.0, ap places_in (sym all.2) ∙ sym all.1)
-students_rows (r ∷ rs) cs ps ss e = at (next_for r.key cs) (students_fitting rs (rest_for r.key cs) (rest_for r.key ps)) refl (λ ts f. students_rows rs (rest_for r.key cs) (rest_for r.key ps) ts f) e
+-- lecturers
+
+pub lecturers_back : (ls : List Lecturer) → Rise (map (λ l. l.row.key) ls) → lecturers_fitting (map (λ l. l.row) ls) (rankings_with (λ l. l.ranking) ls) (rankings_with (λ l. l.earlier_ranking) ls) ≡ Some ls
+lecturers_back [] rise = refl
+lecturers_back (l ∷ ls) rise =
+    let mine = own (λ (m : Lecturer). m.row.key) (λ (m : Lecturer). m.ranking) l ls rise.0 in
+    let earlier = own (λ (m : Lecturer). m.row.key) (λ (m : Lecturer). m.earlier_ranking) l ls rise.0 in
+    (λ i. option_map (λ ms. record { row = l.row; ranking = mine.0 i; earlier_ranking = earlier.0 i } ∷ ms) (lecturers_fitting (map (λ m. m.row) ls) (mine.1 i) (earlier.1 i)))
+    ∙ ap (option_map (λ ms. l ∷ ms)) (lecturers_back ls rise.1)
+
+abbrev RowsAre : List Lecturer → List LecturerRow → List (Key × List Key) → List (Key × List Key) → Type 0
+RowsAre ls rs ps qs = (map (λ l. l.row) ls ≡ rs) × (rankings_with (λ l. l.ranking) ls ≡ ps) × (rankings_with (λ l. l.earlier_ranking) ls ≡ qs)
+
+abbrev lecturer_made : LecturerRow → List (Key × List Key) → List (Key × List Key) → Lecturer
+lecturer_made r ps qs = record { row = r; ranking = next_for r.key ps; earlier_ranking = next_for r.key qs }
+
+pub lecturers_rows : (rs : List LecturerRow) (ps qs : List (Key × List Key)) (ls : List Lecturer) → lecturers_fitting rs ps qs ≡ Some ls → RowsAre ls rs ps qs
+lecturers_rows [] ps qs ls e =
+    let all : (ps ≡ []) × (qs ≡ []) × ([] ≡ ls) = none_left ps qs [] ls e in (
+      ap (map (λ l. l.row)) (sym all.2),
+      ap (rankings_with (λ l. l.ranking)) (sym all.2) ∙ sym all.0,
+      ap (rankings_with (λ l. l.earlier_ranking)) (sym all.2) ∙ sym all.1,
+    )
+lecturers_rows (r ∷ rs) ps qs ls e = at (lecturers_fitting rs (rest_for r.key ps) (rest_for r.key qs)) (λ ms f. lecturers_rows rs (rest_for r.key ps) (rest_for r.key qs) ms f) e
   where
-    at : (list : Option (List Key)) (o : Option (List Student)) → next_for r.key cs ≡ list
-        → ((ts : List Student) → o ≡ Some ts → (map (λ s. s.row) ts ≡ rs) × (choices_in ts ≡ rest_for r.key cs) × (places_in ts ≡ rest_for r.key ps))
-        → with_list r list (next_for r.key ps) o ≡ Some ss
-        → (map (λ s. s.row) ss ≡ r ∷ rs) × (choices_in ss ≡ cs) × (places_in ss ≡ ps)
-    at None o l again f = cc
-    at (Some list) None l again f = cc
-    at (Some list) (Some ts) l again f =
-        let rest : (map (λ s. s.row) ts ≡ rs) × (choices_in ts ≡ rest_for r.key cs) × (places_in ts ≡ rest_for r.key ps) = again ts refl in
-        let is_ss : record { row = r; choice = list; placed = next_for r.key ps } ∷ ts ≡ ss = cc in (
-          ap (map (λ s. s.row)) (sym is_ss) ∙ ap (λ qs. r ∷ qs) rest.0,
-          ap choices_in (sym is_ss) ∙ ap (λ qs. (r.key, list) ∷ qs) rest.1 ∙ ap (λ o. cons_option (option_map (λ v. (r.key, v)) o) (rest_for r.key cs)) (sym l) ∙ put_back r.key cs,
-          ap places_in (sym is_ss) ∙ ap (cons_option (option_map (λ v. (r.key, v)) (next_for r.key ps))) rest.2 ∙ put_back r.key ps,
+    at : (o : Option (List Lecturer)) → ((ms : List Lecturer) → o ≡ Some ms → RowsAre ms rs (rest_for r.key ps) (rest_for r.key qs)) → option_map (λ ms. lecturer_made r ps qs ∷ ms) o ≡ Some ls → RowsAre ls (r ∷ rs) ps qs
+    at None again f = cc
+    at (Some ms) again f =
+        let rest : RowsAre ms rs (rest_for r.key ps) (rest_for r.key qs) = again ms refl in
+        let is_ls : lecturer_made r ps qs ∷ ms ≡ ls = cc in (
+          ap (map (λ l. l.row)) (sym is_ls) ∙ ap (λ xs. r ∷ xs) rest.0,
+          ap (rankings_with (λ l. l.ranking)) (sym is_ls) ∙ ap (cons_option (option_map (λ v. (r.key, v)) (next_for r.key ps))) rest.1 ∙ put_back r.key ps,
+          ap (rankings_with (λ l. l.earlier_ranking)) (sym is_ls) ∙ ap (cons_option (option_map (λ v. (r.key, v)) (next_for r.key qs))) rest.2 ∙ put_back r.key qs,
+        )
+
+-- one more lecturer is put together
+pub lecturers_step : (es more : List Lecturer) (row : LecturerRow) (items others : List LecturerRow) (ps ps' qs qs' : List (Key × List Key)) (ranking earlier : Option (List Key)) (all : Option (List Lecturer))
+    → option_map (λ ls. es ++ ls) (lecturers_fitting items ps qs) ≡ all → items ≡ row ∷ others → ps' ≡ rest_for row.key ps → qs' ≡ rest_for row.key qs
+    → ranking ≡ next_for row.key ps → earlier ≡ next_for row.key qs → more ≡ es ++ record { row = row; ranking = ranking; earlier_ranking = earlier } ∷ []
+    → option_map (λ ls. more ++ ls) (lecturers_fitting others ps' qs') ≡ all
+lecturers_step es more row items others ps ps' qs qs' ranking earlier all so_far is_row is_rest is_left is_next is_earlier is_more =
+    (λ i. option_map (λ ls. is_more i ++ ls) (lecturers_fitting others (is_rest i) (is_left i)))
+    ∙ moved es (record { row = row; ranking = ranking; earlier_ranking = earlier }) (lecturers_fitting others (rest_for row.key ps) (rest_for row.key qs))
+    ∙ (λ i. option_map (λ ls. es ++ ls) (option_map (λ ls. record { row = row; ranking = is_next i; earlier_ranking = is_earlier i } ∷ ls) (lecturers_fitting others (rest_for row.key ps) (rest_for row.key qs))))
+    ∙ (λ i. option_map (λ ls. es ++ ls) (lecturers_fitting (sym is_row i) ps qs))
+    ∙ so_far
+
+-- students
+
+-- each student has a list
+pub students_back : (round : Round) (ss : List Student) → Rise (map (λ s. s.row.key) ss) → (is_second round ≡ false → AllByRecursion HasNothingEarlier ss)
+    → students_fitting round (map (λ s. s.row) ss) (choices_in ss) (pairs_with (λ s. s.placed) ss) (earlier_choices_in round ss) (pairs_with (λ s. s.earlier_place) ss) ≡ Some ss
+students_back First [] rise none = refl
+students_back Second [] rise none = refl
+students_back round (s ∷ ss) rise none =
+    let list : (next_for s.row.key (choices_in (s ∷ ss)) ≡ Some s.choice) × (rest_for s.row.key (choices_in (s ∷ ss)) ≡ choices_in ss) = rw (is_own s.row.key) (refl, refl) in
+    let place = own (λ (t : Student). t.row.key) (λ (t : Student). t.placed) s ss rise.0 in
+    let earlier_place = own (λ (t : Student). t.row.key) (λ (t : Student). t.earlier_place) s ss rise.0 in
+    let earlier = mine round (λ e. (none e).0.0) in
+    (λ i. with_lists s.row (list.0 i) (place.0 i) (earlier.0 i) (earlier_place.0 i) (students_fitting round (map (λ t. t.row) ss) (list.1 i) (place.1 i) (earlier.1 i) (earlier_place.1 i)))
+    ∙ ap (option_map (λ ts. s ∷ ts)) (students_back round ss rise.1 (λ e. (none e).1))
+  where
+    mine : (r : Round) → (is_second r ≡ false → s.earlier_choice ≡ [])
+        → (earlier_for r s.row.key (earlier_choices_in r (s ∷ ss)) ≡ Some s.earlier_choice) × (earlier_rest r s.row.key (earlier_choices_in r (s ∷ ss)) ≡ earlier_choices_in r ss)
+    mine First empty = (sym (ap Some (empty refl)), refl)
+    mine Second empty = rw (is_own s.row.key) (refl, refl)
+
+no_earlier : (round : Round) → earlier_choices_in round [] ≡ []
+no_earlier First = refl
+no_earlier Second = refl
+
+-- one more student with the list that was taken
+earlier_back : (round : Round) (s : Student) (ts : List Student) (es : List (Key × List Key)) → earlier_for round s.row.key es ≡ Some s.earlier_choice → earlier_choices_in round ts ≡ earlier_rest round s.row.key es
+    → earlier_choices_in round (s ∷ ts) ≡ es
+earlier_back First s ts es taken left = left
+earlier_back Second s ts es taken left =
+    ap (λ xs. (s.row.key, s.earlier_choice) ∷ xs) left ∙ ap (λ o. cons_option (option_map (λ v. (s.row.key, v)) o) (rest_for s.row.key es)) (sym taken) ∙ put_back s.row.key es
+
+four_left : {W X Y Z V : Type 0} (cs : List W) (ps : List X) (es : List Y) (qs : List Z) (y z : V) → cond (is_empty cs && is_empty ps && is_empty es && is_empty qs) (Some y) None ≡ Some z
+    → (cs ≡ []) × (ps ≡ []) × (es ≡ []) × (qs ≡ []) × (y ≡ z)
+four_left [] [] [] [] y z e = let same : y ≡ z = cc in (refl, refl, refl, refl, same)
+four_left [] [] [] (q ∷ qs) y z e = cc
+four_left [] [] (x ∷ es) qs y z e = cc
+four_left [] (p ∷ ps) es qs y z e = cc
+four_left (c ∷ cs) ps es qs y z e = cc
+
+-- what the rows of students are
+abbrev ListsAre : Round → List Student → List StudentRow → List (Key × List Key) → List (Key × Key) → List (Key × List Key) → List (Key × Key) → Type 0
+ListsAre round ss rs cs ps es qs =
+    (map (λ s. s.row) ss ≡ rs) × (choices_in ss ≡ cs) × (pairs_with (λ s. s.placed) ss ≡ ps) × (earlier_choices_in round ss ≡ es) × (pairs_with (λ s. s.earlier_place) ss ≡ qs)
+
+pub students_rows : (round : Round) (rs : List StudentRow) (cs : List (Key × List Key)) (ps : List (Key × Key)) (es : List (Key × List Key)) (qs : List (Key × Key)) (ss : List Student)
+    → students_fitting round rs cs ps es qs ≡ Some ss → ListsAre round ss rs cs ps es qs
+students_rows round [] cs ps es qs ss e =
+    let all : (cs ≡ []) × (ps ≡ []) × (es ≡ []) × (qs ≡ []) × ([] ≡ ss) = four_left cs ps es qs [] ss e in
+    let nobody : ss ≡ [] = sym all.4 in (
+      ap (map (λ s. s.row)) nobody,
+      ap choices_in nobody ∙ sym all.0,
+      ap (pairs_with (λ s. s.placed)) nobody ∙ sym all.1,
+      ap (earlier_choices_in round) nobody ∙ no_earlier round ∙ sym all.2,
+      ap (pairs_with (λ s. s.earlier_place)) nobody ∙ sym all.3,
+    )
+students_rows round (r ∷ rs) cs ps es qs ss e =
+    at (next_for r.key cs) (earlier_for round r.key es) (students_fitting round rs (rest_for r.key cs) (rest_for r.key ps) (earlier_rest round r.key es) (rest_for r.key qs)) refl refl
+    (λ ts f. students_rows round rs (rest_for r.key cs) (rest_for r.key ps) (earlier_rest round r.key es) (rest_for r.key qs) ts f) e
+  where
+    at : (list earlier : Option (List Key)) (o : Option (List Student)) → next_for r.key cs ≡ list → earlier_for round r.key es ≡ earlier → ((ts : List Student) → o ≡ Some ts → ListsAre round ts rs (rest_for r.key cs) (rest_for r.key ps) (earlier_rest round r.key es) (rest_for r.key qs))
+        → with_lists r list (next_for r.key ps) earlier (next_for r.key qs) o ≡ Some ss → ListsAre round ss (r ∷ rs) cs ps es qs
+    at None earlier o l m again f = cc
+    at (Some list) None o l m again f = cc
+    at (Some list) (Some earlier) None l m again f = cc
+    at (Some list) (Some earlier) (Some ts) l m again f =
+        let rest : ListsAre round ts rs (rest_for r.key cs) (rest_for r.key ps) (earlier_rest round r.key es) (rest_for r.key qs) = again ts refl in
+        let made : Student = record { row = r; choice = list; placed = next_for r.key ps; earlier_choice = earlier; earlier_place = next_for r.key qs } in
+        let is_ss : made ∷ ts ≡ ss = cc in (
+          ap (map (λ s. s.row)) (sym is_ss) ∙ ap (λ xs. r ∷ xs) rest.0,
+          ap choices_in (sym is_ss) ∙ ap (λ xs. (r.key, list) ∷ xs) rest.1 ∙ ap (λ x. cons_option (option_map (λ v. (r.key, v)) x) (rest_for r.key cs)) (sym l) ∙ put_back r.key cs,
+          ap (pairs_with (λ s. s.placed)) (sym is_ss) ∙ ap (cons_option (option_map (λ v. (r.key, v)) (next_for r.key ps))) rest.2 ∙ put_back r.key ps,
+          ap (earlier_choices_in round) (sym is_ss) ∙ earlier_back round made ts es m rest.3,
+          ap (pairs_with (λ s. s.earlier_place)) (sym is_ss) ∙ ap (cons_option (option_map (λ v. (r.key, v)) (next_for r.key qs))) rest.4 ∙ put_back r.key qs,
         )

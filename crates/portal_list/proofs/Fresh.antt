@@ -4,8 +4,9 @@ use Rattle.portal_core.specs.Form.{is_code}
 use Rattle.portal_core.specs.Words.{Key}
 use Rattle.portal_core.specs.Good.{Good}
 use Rattle.portal_core.specs.declared.phase.Phase.TheVariants.{Setup}
+use Rattle.portal_core.specs.declared.phase.Round.TheVariants.{First}
 
-pub fresh_good : (office : Key) → is_code office ≡ true → Good (record { phase = Setup; office = office; lecturers = []; projects = []; students = [] })
+pub fresh_good : (office : Key) → is_code office ≡ true → Good (record { round = First; phase = Setup; office = office; lecturers = []; projects = []; students = [] })
 fresh_good office form = record {
   sound = record {
     lecturers_rise = tt;
@@ -26,6 +27,11 @@ fresh_good office form = record {
     rankings = tt;
     no_result_yet = λ h. tt;
     all_ranked = λ h. tt;
+    no_earlier_lists = λ h. tt;
+    no_earlier_rankings = λ h. tt;
+    no_second_setup = λ h. cc;
+    only_left = tt;
   };
   stable = λ h. cc;
+  before = λ h. cc;
 }

@@ -20,3 +20,5 @@ pub mod Followed
 pub mod Missing
 pub mod Noted
 pub mod Stable
+pub mod Plays
+pub mod Second

@@ -4,16 +4,16 @@ use Rattle.std.specs.Prelude.{Option, Some, None, is_none, option_map, not, ◌&
 use Rattle.std.specs.List.{AllByRecursion}
 use Rattle.std.proofs.lemmas.List.{length-map}
 use Rattle.portal_core.specs.Words.{Key, has, is_empty, Rise, AreDistinct}
-use Rattle.portal_core.specs.World.{World, Lecturer, Student, project_key, student_key, projects_of, applicants_of, is_still_to_rank, is_published}
+use Rattle.portal_core.specs.World.{World, Lecturer, Student, project_key, student_key, projects_of, applicants_of, is_still_to_rank, is_published, first, first_published, first_placed}
 use Rattle.portal_core.specs.declared.rows.ProjectRow.{ProjectRow}
 use Rattle.portal_core.specs.Good.{Sound, codes_of, IsLecturer, IsStudent}
 use Rattle.portal_core.specs.Instance.{lecturer_keys, student_keys}
 use Rattle.portal_core.proofs.Keys.{all_unmap}
 use Rattle.portal_core.proofs.AllLaws as laws
-use Rattle.portal_list.specs.Rows.{Rows, rows_of}
+use Rattle.portal_list.specs.Rows.{Rows, rows_of, IsFitted}
 use Rattle.portal_list.specs.Fit.{lecturers_fitting, students_fitting}
 use Rattle.portal_list.specs.Entries.{HasEntries, entries_of}
-use Rattle.portal_list.specs.Parts.{codes_in, lecturer_row_keys, student_row_keys, applicant_keys, IsRanked, RollsFit, ListsFit}
+use Rattle.portal_list.specs.Parts.{codes_in, lecturer_row_keys, student_row_keys, applicant_keys, IsRanked, RollsFit, RollsOf, ListsOf}
 use Rattle.portal_list.proofs.Rising.{map_map}
 use Rattle.portal_list.proofs.Fitting.{lecturers_back, lecturers_rows, students_back, students_rows}
 
@@ -44,13 +44,7 @@ all_under P [] f = tt
 all_under P (x ∷ xs) f = (λ a. (f a).0, all_under P xs (λ a. (f a).1))
 
 module _ (w : World) where
-  abbrev RollsOf : Type 0
-  RollsOf = RollsFit (rows_of w).office (rows_of w).lecturers (rows_of w).projects (rows_of w).students
-
-  abbrev ListsOf : Type 0
-  ListsOf = ListsFit w.phase w.lecturers w.projects w.students
-
-  pub rolls_of : Sound w → RollsOf
+  pub rolls_of : Sound w → RollsOf w
   rolls_of sound = record {
     rise = record {
       lecturers_rise = subst Rise (sym (lecturer_keys_are w)) sound.lecturers_rise;
@@ -78,9 +72,10 @@ module _ (w : World) where
       })) w.lecturers
       (laws.all_both _ (λ l. is_published w.phase ≡ true → is_still_to_rank w l ≡ false) w.lecturers sound.rankings (all_under (λ l. is_still_to_rank w l ≡ false) w.lecturers sound.all_ranked))
 
-  pub lists_of : Sound w → ListsOf
+  pub lists_of : Sound w → ListsOf w
   lists_of sound = record {
     phase_fits = record { no_choices_yet = sound.no_choices_yet; no_rankings_yet = sound.no_rankings_yet; no_result_yet = sound.no_result_yet };
+    round_fits = record { no_earlier_lists = sound.no_earlier_lists; no_earlier_rankings = sound.no_earlier_rankings; no_second_setup = sound.no_second_setup; only_left = sound.only_left };
     choices = sound.choices;
     rankings = ranked sound;
   }
@@ -88,7 +83,7 @@ module _ (w : World) where
   meant : (l : Lecturer) → IsRanked (is_published w.phase) (applicant_keys w.projects w.students l.row.key) l.ranking → IsRanked (is_published w.phase) (map student_key (applicants_of w l.row.key)) l.ranking
   meant l h = subst (λ keys. IsRanked (is_published w.phase) keys l.ranking) (applicants_are w l.row.key) h
 
-  pub sound_of : RollsOf → ListsOf → Sound w
+  pub sound_of : RollsOf w → ListsOf w → Sound w
   sound_of rolls lists = record {
     lecturers_rise = subst Rise (lecturer_keys_are w) rolls.rise.lecturers_rise;
     projects_rise = rolls.rise.projects_rise;
@@ -108,66 +103,81 @@ module _ (w : World) where
     rankings = laws.all_weaker _ _ (λ l h. (meant l h).whole) w.lecturers lists.rankings;
     no_result_yet = lists.phase_fits.no_result_yet;
     all_ranked = λ asked. laws.all_weaker _ _ (λ l h. not_still (applicants_of w l.row.key) l.ranking (λ none. (meant l h).there asked none)) w.lecturers lists.rankings;
+    no_earlier_lists = lists.round_fits.no_earlier_lists;
+    no_earlier_rankings = lists.round_fits.no_earlier_rankings;
+    no_second_setup = lists.round_fits.no_second_setup;
+    only_left = lists.round_fits.only_left;
   }
 
-  lecturers_come_back : Rise (lecturer_row_keys (rows_of w).lecturers) → lecturers_fitting (rows_of w).lecturers (rows_of w).rankings ≡ Some w.lecturers
-  lecturers_come_back rise = lecturers_back w.lecturers (subst Rise (lecturer_keys_are w) rise)
-
-  students_come_back : Rise (student_row_keys (rows_of w).students) → students_fitting (rows_of w).students (rows_of w).choices (rows_of w).pairs ≡ Some w.students
-  students_come_back rise = students_back w.students (subst Rise (student_keys_are w) rise)
+  -- the rolls of the first round are the same
+  pub rolls_first : Sound w → RollsOf (first w)
+  rolls_first sound =
+      subst (λ ls. RollsFit w.office ls w.projects (map (λ s. s.row) (first w).students)) (sym (map_map (λ l. l.row) first_published w.lecturers))
+      (subst (λ ss. RollsFit w.office (map (λ l. l.row) w.lecturers) w.projects ss) (sym (map_map (λ s. s.row) first_placed w.students)) (rolls_of sound))
 
 module _ (rows : Rows) where
-  pub fitted_rows : (ls : List Lecturer) (ss : List Student) → lecturers_fitting rows.lecturers rows.rankings ≡ Some ls → students_fitting rows.students rows.choices rows.pairs ≡ Some ss
-      → rows ≡ rows_of (record { phase = rows.phase; office = rows.office; lecturers = ls; projects = rows.projects; students = ss })
-  fitted_rows ls ss e f =
-      let l = lecturers_rows rows.lecturers rows.rankings ls e in
-      let s = students_rows rows.students rows.choices rows.pairs ss f in
-      sym (λ i. record { phase = rows.phase; office = rows.office; lecturers = l.0 i; projects = rows.projects; students = s.0 i; choices = s.1 i; rankings = l.1 i; pairs = s.2 i })
+  abbrev lecturers_from : Option (List Lecturer)
+  lecturers_from = lecturers_fitting rows.lecturers rows.rankings rows.earlier_rankings
 
-  pub lecturers_come : Rise (lecturer_row_keys rows.lecturers) → (w : World) → rows ≡ rows_of w → lecturers_fitting rows.lecturers rows.rankings ≡ Some w.lecturers
-  lecturers_come rise w e = ap (λ r. lecturers_fitting r.lecturers r.rankings) e ∙ lecturers_come_back w (subst (λ r. Rise (lecturer_row_keys r.lecturers)) e rise)
-
-  pub students_come : Rise (student_row_keys rows.students) → (w : World) → rows ≡ rows_of w → students_fitting rows.students rows.choices rows.pairs ≡ Some w.students
-  students_come rise w e = ap (λ r. students_fitting r.students r.choices r.pairs) e ∙ students_come_back w (subst (λ r. Rise (student_row_keys r.students)) e rise)
+  abbrev students_from : Option (List Student)
+  students_from = students_fitting rows.round rows.students rows.choices rows.pairs rows.earlier_choices rows.earlier_pairs
 
   -- the entries of a sound world come again
-  pub lecturers_of_sound : (w : World) → rows ≡ rows_of w → Sound w → lecturers_fitting rows.lecturers rows.rankings ≡ Some w.lecturers
-  lecturers_of_sound w e sound = ap (λ r. lecturers_fitting r.lecturers r.rankings) e ∙ lecturers_back w.lecturers sound.lecturers_rise
+  pub lecturers_of_sound : (w : World) → rows ≡ rows_of w → Sound w → lecturers_from ≡ Some w.lecturers
+  lecturers_of_sound w e sound = ap (λ r. lecturers_fitting r.lecturers r.rankings r.earlier_rankings) e ∙ lecturers_back w.lecturers sound.lecturers_rise
 
-  pub students_of_sound : (w : World) → rows ≡ rows_of w → Sound w → students_fitting rows.students rows.choices rows.pairs ≡ Some w.students
-  students_of_sound w e sound = ap (λ r. students_fitting r.students r.choices r.pairs) e ∙ students_back w.students sound.students_rise
+  pub students_of_sound : (w : World) → rows ≡ rows_of w → Sound w → students_from ≡ Some w.students
+  students_of_sound w e sound =
+      ap (λ r. students_fitting r.round r.students r.choices r.pairs r.earlier_choices r.earlier_pairs) e ∙ students_back w.round w.students sound.students_rise sound.no_earlier_lists
 
-  pub entries_of_sound : (w : World) → rows ≡ rows_of w → Sound w → (ls : List Lecturer) (ps : List ProjectRow) (ss : List Student)
-      → lecturers_fitting rows.lecturers rows.rankings ≡ Some ls → rows.projects ≡ ps → students_fitting rows.students rows.choices rows.pairs ≡ Some ss → HasEntries (entries_of ls ps ss) w
-  entries_of_sound w e sound ls ps ss lecturers projects students =
-      let l : Some w.lecturers ≡ Some ls = sym (lecturers_of_sound w e sound) ∙ lecturers in
-      let s : Some w.students ≡ Some ss = sym (students_of_sound w e sound) ∙ students in
-      let same_lecturers : w.lecturers ≡ ls = cc in
-      let same_students : w.students ≡ ss = cc in
-      record { lecturers_there = same_lecturers; projects_there = sym (ap (λ r. r.projects) e) ∙ projects; students_there = same_students }
+  module _ (ls : List Lecturer) (ss : List Student) (lecturers : lecturers_from ≡ Some ls) (students : students_from ≡ Some ss) where
+    module _ (w : World) (e : rows ≡ rows_of w) (sound : Sound w) where
+      same_lecturers : w.lecturers ≡ ls
+      same_lecturers = let l : Some w.lecturers ≡ Some ls = sym (lecturers_of_sound w e sound) ∙ lecturers in cc
 
-  -- these rows are of one world
-  pub one_world : Rise (lecturer_row_keys rows.lecturers) → Rise (student_row_keys rows.students) → (v w : World) → rows ≡ rows_of v → rows ≡ rows_of w → v ≡ w
-  one_world ls_rise ss_rise v w e f =
-      let l : Some v.lecturers ≡ Some w.lecturers = sym (lecturers_come ls_rise v e) ∙ lecturers_come ls_rise w f in
-      let s : Some v.students ≡ Some w.students = sym (students_come ss_rise v e) ∙ students_come ss_rise w f in
-      let ls : v.lecturers ≡ w.lecturers = cc in
-      let ss : v.students ≡ w.students = cc in
-      let same : rows_of v ≡ rows_of w = sym e ∙ f in
-      λ i. record { phase = (same i).phase; office = (same i).office; lecturers = ls i; projects = (same i).projects; students = ss i }
+      same_students : w.students ≡ ss
+      same_students = let s : Some w.students ≡ Some ss = sym (students_of_sound w e sound) ∙ students in cc
+
+      pub entries_of_sound : (ps : List ProjectRow) → rows.projects ≡ ps → HasEntries (entries_of rows.round ls ps ss) w
+      entries_of_sound ps projects = record {
+        round_there = sym (ap (λ r. r.round) e);
+        lecturers_there = same_lecturers;
+        projects_there = sym (ap (λ r. r.projects) e) ∙ projects;
+        students_there = same_students;
+      }
+
+    pub fitted_rows : IsFitted rows (record { round = rows.round; phase = rows.phase; office = rows.office; lecturers = ls; projects = rows.projects; students = ss })
+    fitted_rows =
+        let l = lecturers_rows rows.lecturers rows.rankings rows.earlier_rankings ls lecturers in
+        let s = students_rows rows.round rows.students rows.choices rows.pairs rows.earlier_choices rows.earlier_pairs ss students in
+        record {
+          rows_are = sym (λ i. record rows {
+            lecturers = l.0 i;
+            rankings = l.1 i;
+            earlier_rankings = l.2 i;
+            students = s.0 i;
+            choices = s.1 i;
+            pairs = s.2 i;
+            earlier_choices = s.3 i;
+            earlier_pairs = s.4 i;
+          });
+          once = λ v e sound i. record { round = (e i).round; phase = (e i).phase; office = (e i).office; lecturers = sym (same_lecturers v e sound) i; projects = (e i).projects; students = sym (same_students v e sound) i };
+        }
 
   -- no sound world has rows whose rolls, or whose lists, don't fit
   pub rolls_tell : (RollsFit rows.office rows.lecturers rows.projects rows.students → ⊥) → (w : World) → rows ≡ rows_of w → Sound w → ⊥
   rolls_tell unfit w e sound = unfit (subst (λ r. RollsFit r.office r.lecturers r.projects r.students) (sym e) (rolls_of w sound))
 
-  pub lists_tell : RollsFit rows.office rows.lecturers rows.projects rows.students → (v : World) → rows ≡ rows_of v → (ListsFit v.phase v.lecturers v.projects v.students → ⊥) → (w : World) → rows ≡ rows_of w → Sound w → ⊥
-  lists_tell rolls v e unfit w f sound = unfit (subst (λ u. ListsFit u.phase u.lecturers u.projects u.students) (sym (one_world rolls.rise.lecturers_rise rolls.rise.students_rise v w e f)) (lists_of w sound))
+  module _ (v : World) (fitted : IsFitted rows v) where
+    pub lists_tell : (ListsOf v → ⊥) → (w : World) → rows ≡ rows_of w → Sound w → ⊥
+    lists_tell unfit w e sound = unfit (subst ListsOf (sym (fitted.once w e sound)) (lists_of w sound))
 
-  pub students_rise : RollsFit rows.office rows.lecturers rows.projects rows.students → (v : World) → rows ≡ rows_of v → Rise (map student_key v.students)
-  students_rise rolls v e = subst Rise (student_keys_are v) (subst (λ r. Rise (student_row_keys r.students)) e rolls.rise.students_rise)
+    module _ (rolls : RollsFit rows.office rows.lecturers rows.projects rows.students) where
+      pub students_rise : Rise (map student_key v.students)
+      students_rise = subst Rise (student_keys_are v) (subst (λ r. Rise (student_row_keys r.students)) fitted.rows_are rolls.rise.students_rise)
 
-  pub both_sound : RollsFit rows.office rows.lecturers rows.projects rows.students → (v : World) → rows ≡ rows_of v → ListsFit v.phase v.lecturers v.projects v.students → Sound v
-  both_sound rolls v e lists = sound_of v (subst (λ r. RollsFit r.office r.lecturers r.projects r.students) e rolls) lists
+      pub both_sound : ListsOf v → Sound v
+      both_sound lists = sound_of v (subst (λ r. RollsFit r.office r.lecturers r.projects r.students) fitted.rows_are rolls) lists
 
 pub nothing_made : {X Y : Type 0} (f : X → Y) (o : Option X) (y : Y) → o ≡ None → option_map f o ≡ Some y → ⊥
 nothing_made f None y e h = cc

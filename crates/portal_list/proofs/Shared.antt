@@ -1,24 +1,35 @@
--- A new ranking leaves the catalogue as it was.
-use Rattle.std.proofs.Common.{◌≡◌, List, [], map, length, ap, ◌∙◌}
+-- Changes that leave the catalogue of a round as it was.
+use Rattle.std.proofs.Common.{◌≡◌, List, [], map, ap, ◌∙◌}
 use Rattle.std.specs.Prelude.{Result, Ok, Err, OnOk, OnErr}
-use Rattle.std.proofs.lemmas.List.{length-map}
 use Rattle.portal_core.specs.declared.phase.Phase.TheVariants.{Setup}
+use Rattle.portal_core.specs.declared.phase.Round.{Round}
 use Rattle.portal_core.specs.declared.rows.ProjectRow.{ProjectRow}
 use Rattle.portal_core.specs.Words.{Key}
-use Rattle.portal_core.specs.World.{Lecturer}
-use Rattle.portal_core.specs.Change.{with_ranking}
-use Rattle.portal_core.specs.View.{listings}
-use Rattle.portal_core.proofs.Acts.{catalogue_ranked}
+use Rattle.portal_core.specs.World.{World, Lecturer, Student}
+use Rattle.portal_core.specs.Change.{with_choice, with_ranking, with_place}
+use Rattle.portal_core.proofs.Acts.{catalogue_chosen, catalogue_ranked, catalogue_placed}
+use Rattle.portal_core.proofs.Fills.{catalogue_filled}
+use Rattle.portal_list.specs.Fill.{filled}
+use Rattle.portal_list.specs.Shown.{catalogue_in}
+use Rattle.portal_list.proofs.Filled.{all_filled}
 
-pub listings_ranked : (ls : List Lecturer) (ps : List ProjectRow) (k : Key) (list : List Key) → listings (map (with_ranking k list) ls) ps ≡ listings ls ps
-listings_ranked ls ps k list = catalogue_ranked (record { phase = Setup; office = []; lecturers = ls; projects = ps; students = [] }) k list
+module _ (r : Round) (ls : List Lecturer) (ps : List ProjectRow) (ss : List Student) where
+  abbrev world : World
+  world = record { round = r; phase = Setup; office = []; lecturers = ls; projects = ps; students = ss }
 
--- whether the ranking was made or not
-module _ {T E : Type 0} (old new : List Lecturer) (k : Key) (list : List Key) where
-  pub same_listings : (r : Result T E) (ps : List ProjectRow) → OnOk r (new ≡ map (with_ranking k list) old) → OnErr r (new ≡ old) → listings new ps ≡ listings old ps
-  same_listings (Ok _) ps made same = ap (λ ls. listings ls ps) made ∙ listings_ranked old ps k list
-  same_listings (Err _) ps made same = ap (λ ls. listings ls ps) same
+  pub shown_chosen : (k : Key) (list : List Key) → catalogue_in r ls ps (map (with_choice k list) ss) ≡ catalogue_in r ls ps ss
+  shown_chosen k list = catalogue_chosen world k list
 
-  pub same_length : (r : Result T E) → OnOk r (new ≡ map (with_ranking k list) old) → OnErr r (new ≡ old) → length new ≡ length old
-  same_length (Ok _) made same = ap length made ∙ length-map old (with_ranking k list)
-  same_length (Err _) made same = ap length same
+  pub shown_ranked : (k : Key) (list : List Key) → catalogue_in r (map (with_ranking k list) ls) ps ss ≡ catalogue_in r ls ps ss
+  shown_ranked k list = catalogue_ranked world k list
+
+  pub shown_placed : (pairs : List (Key × Key)) → catalogue_in r ls ps (map (with_place pairs) ss) ≡ catalogue_in r ls ps ss
+  shown_placed pairs = catalogue_placed world pairs
+
+  pub shown_filled : catalogue_in r (map (filled ps ss) ls) ps ss ≡ catalogue_in r ls ps ss
+  shown_filled = ap (λ new. catalogue_in r new ps ss) (all_filled world) ∙ catalogue_filled world
+
+-- whether the change was made or not
+pub either : {T E X Y : Type 0} (g : X → Y) (old new made : X) → g made ≡ g old → (r : Result T E) → OnOk r (new ≡ made) → OnErr r (new ≡ old) → g new ≡ g old
+either g old new made same (Ok _) is not_made = ap g is ∙ same
+either g old new made same (Err _) is not_made = ap g not_made

@@ -1,14 +1,16 @@
--- A published world is good where its result is a stable matching.
+-- The result of a published round is a stable matching, and a world is good, where the numbers of it are.
 use Rattle.std.proofs.Common.{◌≡◌, ◌↔◌, ℕ, true, Bool, IsTrue, Option, List, map, sym, subst₂, ◌∙◌}
-use Rattle.std.specs.Prelude.{option_map}
+use Rattle.std.specs.Prelude.{filter, option_map}
 use Rattle.spa_model.specs.Spa.{Spa, IsStable}
 use Rattle.spa_model.specs.Pairs.{number_in}
 use Rattle.portal_core.specs.World.{World, Student, is_published}
-use Rattle.portal_core.specs.Good.{Good, Sound}
 use Rattle.portal_core.specs.Instance.{instance, matching_of}
+use Rattle.portal_list.specs.Parts.{IsSettled}
+use Rattle.portal_list.specs.Played.{takes_part}
+use Rattle.portal_list.proofs.Plays.{part_is}
 
-pub good_if_stable : (w : World) (i : Spa) (students : List Student) (places : List (Option ℕ)) (r : Bool) → Sound w → is_published w.phase ≡ true → i ≡ instance w → students ≡ w.students
-    → places ≡ map (λ s. option_map (number_in i.project_keys) s.placed) students → (IsTrue r ↔ IsStable i places) → (IsTrue r ↔ Good w)
-good_if_stable w i students places r sound published same roll are told =
-    let there : places ≡ matching_of w = are ∙ (λ j. map (λ (s : Student). option_map (number_in (same j).project_keys) s.placed) (roll j)) in
-    (λ holds. record { sound = sound; stable = λ _. subst₂ IsStable same there (told.0 holds) }, λ good. told.1 (subst₂ IsStable (sym same) (sym there) (good.stable published)))
+pub settled_if : (w : World) (i : Spa) (places : List (Option ℕ)) (r : Bool) → is_published w.phase ≡ true → i ≡ instance w
+    → places ≡ map (λ s. option_map (number_in i.project_keys) s.placed) (filter (takes_part w.round) w.students) → (IsTrue r ↔ IsStable i places) → (IsTrue r ↔ IsSettled w)
+settled_if w i places r published same are told =
+    let there : places ≡ matching_of w = are ∙ (λ j. map (λ (s : Student). option_map (number_in (same j).project_keys) s.placed) (part_is w.round w.students j)) in
+    (λ holds _. subst₂ IsStable same there (told.0 holds), λ settled. told.1 (subst₂ IsStable (sym same) (sym there) (settled published)))

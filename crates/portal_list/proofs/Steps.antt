@@ -1,8 +1,9 @@
 -- Steps of loops over lists.
-use Rattle.std.proofs.Common.{◌≡◌, ℕ, ◌+◌, ◌<◌, Bool, true, false, cond, List, [], ◌∷◌, ◌++◌, map, take, length, get_or, refl, sym, ◌∙◌, ap, subst}
-use Rattle.std.specs.Prelude.{filter}
-use Rattle.std.specs.List.{AllByRecursion}
+use Rattle.std.proofs.Common.{◌≡◌, ℕ, ◌+◌, ◌<◌, Bool, true, false, cond, List, [], ◌∷◌, ◌++◌, map, take, length, get_or, append-nil, refl, sym, ◌∙◌, ap, subst}
+use Rattle.std.specs.Prelude.{filter, Option, Some, None}
+use Rattle.std.specs.List.{AllByRecursion, filter_map, cons_option}
 use Rattle.std.proofs.lemmas.List.{take_more}
+use Rattle.std.proofs.lemmas.List.Elements.{filter_map-append}
 use Rattle.portal_core.proofs.AllLaws.{all_append}
 
 -- one more element
@@ -27,3 +28,14 @@ filter_push {X} {Y} p f (y ∷ ys) x b e = at (p y) (filter_push p f ys x b e)
 
 pub filter_more : {X Y : Type 0} (p : X → Bool) (f : X → Y) (xs : List X) (i : ℕ) (x : X) (b : Bool) → i < length xs → get_or xs i x ≡ x → p x ≡ b → map f (filter p (take (i + 1) xs)) ≡ map f (filter p (take i xs)) ++ cond b (f x ∷ []) []
 filter_more p f xs i x b low at e = ap (λ ys. map f (filter p ys)) (grown xs i x low at) ∙ filter_push p f (take i xs) x b e
+
+-- one more element that gives something, or nothing
+module _ {X Y : Type 0} (h : X → Option Y) (xs : List X) (i : ℕ) (x : X) (low : i < length xs) (at : get_or xs i x ≡ x) where
+  picked : filter_map h (take (i + 1) xs) ≡ filter_map h (take i xs) ++ filter_map h (x ∷ [])
+  picked = ap (filter_map h) (grown xs i x low at) ∙ filter_map-append h (take i xs) (x ∷ [])
+
+  pub some_more : (y : Y) → h x ≡ Some y → filter_map h (take (i + 1) xs) ≡ filter_map h (take i xs) ++ y ∷ []
+  some_more y e = picked ∙ ap (λ o. filter_map h (take i xs) ++ cons_option o []) e
+
+  pub none_more : h x ≡ None → filter_map h (take (i + 1) xs) ≡ filter_map h (take i xs)
+  none_more e = picked ∙ ap (λ o. filter_map h (take i xs) ++ cons_option o []) e ∙ append-nil (filter_map h (take i xs))

@@ -6,3 +6,4 @@ pub mod Fit
 pub mod Parts
 pub mod Fill
 pub mod Wanted
+pub mod Played

@@ -2,13 +2,17 @@
 use Rattle.std.specs.Prelude.{◌≡◌, ◌≤◌, Bool, true, false, List, [], ◌∷◌, ◌++◌, map, filter, length, Option, None, IfSome}
 use Rattle.std.specs.List.{AllByRecursion, list_any}
 use Rattle.portal_core.specs.declared.phase.Phase.{Phase}
+use Rattle.portal_core.specs.declared.phase.Round.{Round}
 use Rattle.portal_core.specs.declared.rows.LecturerRow.{LecturerRow}
 use Rattle.portal_core.specs.declared.rows.ProjectRow.{ProjectRow}
 use Rattle.portal_core.specs.declared.rows.StudentRow.{StudentRow}
 use Rattle.portal_core.specs.Form.{is_code}
-use Rattle.portal_core.specs.Words.{Key, is, has, Rise, AreDistinct}
-use Rattle.portal_core.specs.World.{Lecturer, Student, project_key, student_key, is_setup, is_published, is_from_ranking}
+use Rattle.portal_core.specs.Words.{Key, has, Rise, AreDistinct}
+use Rattle.spa_model.specs.Spa.{IsStable}
+use Rattle.portal_core.specs.Instance.{instance, matching_of}
+use Rattle.portal_core.specs.World.{World, Lecturer, Student, project_key, student_key, is_setup, is_published, is_from_ranking, is_second, is_left, projects_in}
 use Rattle.portal_core.specs.Good.{IsLecturer, IsProject, IsStudent, IsChoice, IsRanking}
+use Rattle.portal_core.specs.Room.{own_keys}
 
 abbrev pub codes_in : Key → List LecturerRow → List StudentRow → List Key
 codes_in office lecturers students = office ∷ map (λ l. l.code) lecturers ++ map (λ s. s.code) students
@@ -45,13 +49,24 @@ pub record PhaseFits (phase : Phase) (lecturers : List Lecturer) (students : Lis
   pub no_rankings_yet : is_from_ranking phase ≡ false → AllByRecursion (λ l. l.ranking ≡ None) lecturers
   pub no_result_yet : is_published phase ≡ false → AllByRecursion (λ s. s.placed ≡ None) students
 
+-- nothing of an earlier round is there
+abbrev pub HasNothingEarlier : Student → Type 0
+HasNothingEarlier s = (s.earlier_choice ≡ []) × (s.earlier_place ≡ None)
+
+-- who has a project of the first round has no list and no place of the second
+abbrev pub IsOutIfPlaced : Student → Type 0
+IsOutIfPlaced s = is_left s ≡ false → (s.choice ≡ []) × (s.placed ≡ None)
+
+-- what there may be of an earlier round
+pub record RoundFits (round : Round) (phase : Phase) (lecturers : List Lecturer) (students : List Student) : Type 0 where
+  pub no_earlier_lists : is_second round ≡ false → AllByRecursion HasNothingEarlier students
+  pub no_earlier_rankings : is_second round ≡ false → AllByRecursion (λ l. l.earlier_ranking ≡ None) lecturers
+  pub no_second_setup : is_second round ≡ true → is_setup phase ≡ false
+  pub only_left : AllByRecursion IsOutIfPlaced students
+
 -- the students whose list holds one of the projects
 abbrev pub wanting : List Key → List Student → List Student
 wanting projects students = filter (λ s. list_any (λ p. has s.choice p) projects) students
-
--- the keys of a lecturer's projects
-abbrev pub own_keys : List ProjectRow → Key → List Key
-own_keys projects lecturer = map project_key (filter (λ p. is p.lecturer lecturer) projects)
 
 -- the keys of a lecturer's applicants
 abbrev pub applicant_keys : List ProjectRow → List Student → Key → List Key
@@ -62,7 +77,18 @@ pub record IsRanked (asked : Bool) (applicants : List Key) (ranking : Option (Li
   pub whole : IfSome ranking (IsRanking applicants)
   pub there : asked ≡ true → ranking ≡ None → applicants ≡ []
 
-pub record ListsFit (phase : Phase) (lecturers : List Lecturer) (projects : List ProjectRow) (students : List Student) : Type 0 where
+pub record ListsFit (round : Round) (phase : Phase) (lecturers : List Lecturer) (projects : List ProjectRow) (students : List Student) : Type 0 where
   pub phase_fits : PhaseFits phase lecturers students
-  pub choices : AllByRecursion (λ s. IsChoice (map project_key projects) s.choice) students
+  pub round_fits : RoundFits round phase lecturers students
+  pub choices : AllByRecursion (λ s. IsChoice (map project_key (projects_in round lecturers projects students)) s.choice) students
   pub rankings : AllByRecursion (λ l. IsRanked (is_published phase) (applicant_keys projects students l.row.key) l.ranking) lecturers
+
+-- of a world: its rolls fit, its lists fit, and its result, once published, is a stable matching
+abbrev pub RollsOf : World → Type 0
+RollsOf w = RollsFit w.office (map (λ l. l.row) w.lecturers) w.projects (map (λ s. s.row) w.students)
+
+abbrev pub ListsOf : World → Type 0
+ListsOf w = ListsFit w.round w.phase w.lecturers w.projects w.students
+
+abbrev pub IsSettled : World → Type 0
+IsSettled w = is_published w.phase ≡ true → IsStable (instance w) (matching_of w)

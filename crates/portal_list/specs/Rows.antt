@@ -1,14 +1,18 @@
 -- The rows of a world, as tables keep them.
-use Rattle.std.specs.Prelude.{List, map, option_map}
+use Rattle.std.specs.Prelude.{◌≡◌, List, [], map, Option, option_map}
 use Rattle.std.specs.List.{filter_map}
 use Rattle.portal_core.specs.declared.phase.Phase.{Phase}
+use Rattle.portal_core.specs.declared.phase.Round.{Round}
+use Rattle.portal_core.specs.declared.phase.Round.TheVariants.{First, Second}
 use Rattle.portal_core.specs.declared.rows.LecturerRow.{LecturerRow}
 use Rattle.portal_core.specs.declared.rows.ProjectRow.{ProjectRow}
 use Rattle.portal_core.specs.declared.rows.StudentRow.{StudentRow}
 use Rattle.portal_core.specs.Words.{Key}
-use Rattle.portal_core.specs.World.{World, Lecturer, Student, pairs_of}
+use Rattle.portal_core.specs.World.{World, Lecturer, Student, pairs_with}
+use Rattle.portal_core.specs.Good.{Sound}
 
 pub record Rows : Type 0 where
+  pub round : Round
   pub phase : Phase
   pub office : Key
   pub lecturers : List LecturerRow
@@ -20,22 +24,39 @@ pub record Rows : Type 0 where
   pub rankings : List (Key × List Key)
   -- the result, by student
   pub pairs : List (Key × Key)
+  -- in the second round, the lists, the rankings and the result of the first
+  pub earlier_choices : List (Key × List Key)
+  pub earlier_rankings : List (Key × List Key)
+  pub earlier_pairs : List (Key × Key)
 
 abbrev pub choices_in : List Student → List (Key × List Key)
 choices_in students = map (λ s. (s.row.key, s.choice)) students
 
-abbrev pub rankings_in : List Lecturer → List (Key × List Key)
-rankings_in lecturers = filter_map (λ l. option_map (λ list. (l.row.key, list)) l.ranking) lecturers
+abbrev pub earlier_choices_in : Round → List Student → List (Key × List Key)
+earlier_choices_in First students = []
+earlier_choices_in Second students = map (λ s. (s.row.key, s.earlier_choice)) students
+
+abbrev pub rankings_with : (Lecturer → Option (List Key)) → List Lecturer → List (Key × List Key)
+rankings_with ranking lecturers = filter_map (λ l. option_map (λ list. (l.row.key, list)) (ranking l)) lecturers
 
 abbrev pub rows_of : World → Rows
 rows_of w =
     record {
+      round = w.round;
       phase = w.phase;
       office = w.office;
       lecturers = map (λ l. l.row) w.lecturers;
       projects = w.projects;
       students = map (λ s. s.row) w.students;
       choices = choices_in w.students;
-      rankings = rankings_in w.lecturers;
-      pairs = pairs_of w;
+      rankings = rankings_with (λ l. l.ranking) w.lecturers;
+      pairs = pairs_with (λ s. s.placed) w.students;
+      earlier_choices = earlier_choices_in w.round w.students;
+      earlier_rankings = rankings_with (λ l. l.earlier_ranking) w.lecturers;
+      earlier_pairs = pairs_with (λ s. s.earlier_place) w.students;
     }
+
+-- these are the rows of the world, and of no other that is sound
+pub record IsFitted (rows : Rows) (w : World) : Type 0 where
+  pub rows_are : rows ≡ rows_of w
+  pub once : (v : World) → rows ≡ rows_of v → Sound v → w ≡ v

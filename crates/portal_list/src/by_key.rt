@@ -9,7 +9,9 @@ use spa_rows::Key;
 
 /// Where the row with this key stands.
 pub(crate) fn place_of<T: Keyed>(rows: &[T], key: &Key) -> Option<usize>
-    ensures some { IfSome result (λ i. (i < length rows.now) × ((d : T) → is (T.key_of (slice_index_or rows.now i d)) key.now ≡ true)) }
+    ensures some { IfSome result
+        (λ i. (i < length rows.now)
+        × ((d : T) → is (T.key_of (slice_index_or rows.now i d)) key.now ≡ true)) }
     ensures none { IfNone result (list_any (λ row. is (T.key_of row) key.now) rows.now ≡ false) }
 {
     for (i, row) in rows.iter().enumerate() {
@@ -23,7 +25,8 @@ pub(crate) fn place_of<T: Keyed>(rows: &[T], key: &Key) -> Option<usize>
 /// Where a row with this key belongs.
 fn place_for<T: Keyed>(rows: &[T], key: &Key) -> usize
     ensures low { result ≤ length rows.now }
-    ensures place { (row : T) → T.key_of row ≡ key.now → insert rows.now result row ≡ put T.key_of row rows.now }
+    ensures place { (row : T) → T.key_of row ≡ key.now
+        → insert rows.now result row ≡ put T.key_of row rows.now }
 {
     for (i, row) in rows.iter().enumerate() {
         if *key < *row.key() {

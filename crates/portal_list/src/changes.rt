@@ -25,7 +25,8 @@ pub(crate) fn replace_choice(
     key: &Key,
     list: &[Key],
 ) -> Result<(), AllocError>
-    ensures made { OnOk result (Rise (map student_key students.old) → students.new ≡ map (with_choice key.now list.now) students.old) }
+    ensures made { OnOk result (Rise (map student_key students.old)
+        → students.new ≡ map (with_choice key.now list.now) students.old) }
     ensures same { OnErr result (students.new ≡ students.old) }
 {
     let list = copy_keys(alloc, list)?;
@@ -43,7 +44,8 @@ pub(crate) fn replace_ranking(
     key: &Key,
     list: &[Key],
 ) -> Result<(), AllocError>
-    ensures made { OnOk result (Rise (map lecturer_key lecturers.old) → lecturers.new ≡ map (with_ranking key.now list.now) lecturers.old) }
+    ensures made { OnOk result (Rise (map lecturer_key lecturers.old)
+        → lecturers.new ≡ map (with_ranking key.now list.now) lecturers.old) }
     ensures same { OnErr result (lecturers.new ≡ lecturers.old) }
 {
     let list = copy_keys(alloc, list)?;

@@ -1,9 +1,9 @@
 //! Copies of keys and rows.
 
-ghost use Rattle.std.specs.Prelude.{◌≡◌, IfOk};
+ghost use Rattle.std.specs.Prelude.{◌≡◌, IfOk, option_map};
 ghost use Rattle.portal_core.specs.Words.{has};
 
-use portal_core::{Name, Person, ProjectRow};
+use portal_core::{Name, Person, ProjectRow, copy_keys};
 use spa_rows::Key;
 use std::alloc::{AllocError, Global};
 
@@ -21,6 +21,30 @@ pub(crate) fn person_of(alloc: Global, key: &Key, name: &Name) -> Result<Person,
         key: key.copy(alloc)?,
         name: name.copy(alloc)?,
     })
+}
+
+/// The same project again, if there is one.
+pub(crate) fn place_copy(alloc: Global, project: Option<&Key>) -> Result<Option<Key>, AllocError>
+    ensures { IfOk result (λ o. o ≡ option_map (λ p. p.now) project.entry) }
+{
+    match project {
+        Some(key) => Ok(Some(key.copy(alloc)?)),
+        None => Ok(None),
+    }
+}
+
+/// The same ranking again.
+pub(crate) fn ranking_copy(
+    alloc: Global,
+    ranking: &Option<Vec<Key>>,
+) -> Result<Option<Vec<Key>>, AllocError>
+    ensures { IfOk result (λ r. option_map (λ v. v.items) r
+        ≡ option_map (λ v. v.items) ranking.now) }
+{
+    match ranking {
+        Some(keys) => Ok(Some(copy_keys(alloc, keys)?)),
+        None => Ok(None),
+    }
 }
 
 /// The same rows again.

@@ -8,16 +8,17 @@ ghost use Rattle.portal_core.specs.Meaning.{meant};
 ghost use Rattle.portal_list.specs.Entries.{HasEntries, is_followed};
 
 use crate::changes::{fill_rankings, replace_choice, replace_ranking};
-use portal_core::{Change, LecturerRow, ProjectRow, StudentRow};
+use portal_core::{Change, LecturerRow, ProjectRow, Round, StudentRow};
 use spa_rows::Key;
 use std::alloc::{AllocError, Global};
 use std::marker::Model;
 
-/// A lecturer's row, and the ranking if one is there.
+/// A lecturer's row, and the ranking of the round if one is there; in the second round also that of the first.
 #[derive(Drop)]
 pub(crate) struct LecturerEntry {
     pub row: LecturerRow,
     pub ranking: Option<Vec<Key>>,
+    pub earlier_ranking: Option<Vec<Key>>,
 }
 
 impl Model for LecturerEntry {
@@ -26,15 +27,18 @@ impl Model for LecturerEntry {
 
     ghost Value = { Lecturer };
 
-    ghost view = { λ e. record { row = e.row; ranking = option_map (λ r. r.items) e.ranking } };
+    ghost view = { λ e. record { row = e.row; ranking = option_map (λ r. r.items) e.ranking; earlier_ranking = option_map (λ r. r.items) e.earlier_ranking } };
 }
 
-/// A student's row, the list of projects, and the project that the result gives.
+/// A student's row, the list of projects, and the project that the result gives, of the round; in the second round also those
+/// of the first.
 #[derive(Drop)]
 pub(crate) struct StudentEntry {
     pub row: StudentRow,
     pub choice: Vec<Key>,
     pub placed: Option<Key>,
+    pub earlier_choice: Vec<Key>,
+    pub earlier_place: Option<Key>,
 }
 
 impl Model for StudentEntry {
@@ -42,12 +46,13 @@ impl Model for StudentEntry {
 
     ghost Value = { Student };
 
-    ghost view = { λ e. record { row = e.row; choice = e.choice.items; placed = e.placed } };
+    ghost view = { λ e. record { row = e.row; choice = e.choice.items; placed = e.placed; earlier_choice = e.earlier_choice.items; earlier_place = e.earlier_place } };
 }
 
 /// The entries of a world, in the order of its rolls.
 #[derive(Drop)]
 pub struct Entries {
+    pub(crate) round: Round,
     pub(crate) lecturers: Vec<LecturerEntry>,
     pub(crate) projects: Vec<ProjectRow>,
     pub(crate) students: Vec<StudentEntry>,
@@ -58,7 +63,7 @@ impl Model for Entries {
 
     ghost Value = { AllEntries };
 
-    ghost view = { λ e. record { lecturers = e.lecturers.items; projects = e.projects.items; students = e.students.items } };
+    ghost view = { λ e. record { round = e.round; lecturers = e.lecturers.items; projects = e.projects.items; students = e.students.items } };
 }
 
 impl Entries {
@@ -66,7 +71,8 @@ impl Entries {
     /// memory is short, all stays as it was.
     pub fn follow(&mut self, alloc: Global, change: &Change) -> Result<bool, AllocError>
         ensures followed { IfOk result (λ yes. yes ≡ is_followed (meant change.now)) }
-        ensures made { result ≡ Ok true → (w : World) → Sound w → HasEntries self.old w → HasEntries self.new (changed w (meant change.now)) }
+        ensures made { result ≡ Ok true → (w : World) → Sound w → HasEntries self.old w
+            → HasEntries self.new (changed w (meant change.now)) }
         ensures not_made { result ≡ Ok false → self.new ≡ self.old }
         ensures same { OnErr result (self.new ≡ self.old) }
     {

@@ -22,7 +22,8 @@ fn with_applicants(
     projects: &[ProjectRow],
     students: &[StudentEntry],
 ) -> Result<Vec<(Key, Vec<Key>)>, AllocError>
-    ensures { IfOk result (λ v. map {B = words.Key × List words.Key} (λ f. (f.0, f.1.items)) v.items ≡ map (λ k. (k, applicant_keys projects.now students.now k)) lecturers.now) }
+    ensures { IfOk result (λ v. map {B = words.Key × List words.Key} (λ f. (f.0, f.1.items)) v.items
+        ≡ map (λ k. (k, applicant_keys projects.now students.now k)) lecturers.now) }
 {
     let wanted = Wanted::of(alloc, students)?;
     let mut fills = Vec::with_capacity(alloc, lecturers.len())?;
@@ -37,7 +38,8 @@ impl Entries {
     /// The lecturers who are still to rank, in the order of the roll, each with the keys of the applicants in their order: the
     /// rankings that a fill would put.
     pub fn fills(&self, alloc: Global) -> Result<Vec<(Key, Vec<Key>)>, AllocError>
-        ensures { IfOk result (λ v. (w : World) → HasEntries self.now w → map {B = words.Key × List words.Key} (λ f. (f.0, f.1.items)) v.items ≡ fills w) }
+        ensures { IfOk result (λ v. (w : World) → HasEntries self.now w
+            → map {B = words.Key × List words.Key} (λ f. (f.0, f.1.items)) v.items ≡ fills w) }
     {
         let lecturers = waiting(alloc, &self.lecturers, &self.projects, &self.students)?;
         with_applicants(alloc, &lecturers, &self.projects, &self.students)

@@ -3,13 +3,13 @@
 ghost use Rattle.std.specs.Prelude.{◌≡◌, Err, IfOk, map, option_map};
 ghost use Rattle.portal_core.specs.World.{World};
 ghost use Rattle.portal_core.specs.Good.{Sound};
-ghost use Rattle.portal_list.specs.Fit.{next_for, rest_for, lecturers_fitting, students_fitting};
+ghost use Rattle.portal_list.specs.Fit.{next_for, rest_for, earlier_for, earlier_rest, lecturers_fitting, students_fitting};
 ghost use Rattle.portal_list.specs.Entries.{HasEntries};
 ghost use Rattle.portal_list.specs.Rows.{rows_of};
 
 use crate::entries::{Entries, LecturerEntry, StudentEntry};
 use crate::from_rows::{RowsFault, WorldRows};
-use portal_core::{LecturerRow, StudentRow};
+use portal_core::{LecturerRow, Round, StudentRow};
 use spa_rows::Key;
 use std::alloc::{AllocError, Global};
 use std::collections::VecDeque;
@@ -30,48 +30,96 @@ fn take_for<V: Drop>(rest: &mut VecDeque<(Key, V)>, key: &Key) -> Option<V>
     Some(value)
 }
 
-/// The lecturers with their rankings, each of which is for one of them, in their order.
+/// The list of the earlier round: in the second round what stands next, if it is for this key; in the first an empty one.
+fn earlier_for(
+    alloc: Global,
+    round: Round,
+    rest: &mut VecDeque<(Key, Vec<Key>)>,
+    key: &Key,
+) -> Option<Vec<Key>>
+    ensures taken { option_map (λ v. v.items) result
+        ≡ earlier_for round key.now (map (λ c. (c.0, c.1.items)) rest.old.items) }
+    ensures left { map (λ c. (c.0, c.1.items)) rest.new.items
+        ≡ earlier_rest round key.now (map (λ c. (c.0, c.1.items)) rest.old.items) }
+{
+    match round {
+        Round::First => Some(Vec::new(alloc)),
+        Round::Second => take_for(rest, key),
+    }
+}
+
+/// The lecturers with their rankings, also those of the earlier round, each of which is for one of them, in their order.
 pub(crate) fn lecturer_entries(
     alloc: Global,
     rows: Vec<LecturerRow>,
     rankings: Vec<(Key, Vec<Key>)>,
+    earlier_rankings: Vec<(Key, Vec<Key>)>,
 ) -> Result<Option<Vec<LecturerEntry>>, AllocError>
-    ensures { IfOk result (λ entries. option_map (λ v. v.items) entries ≡ lecturers_fitting rows.items (map (λ r. (r.0, r.1.items)) rankings.items)) }
+    ensures { IfOk result (λ entries. option_map (λ v. v.items) entries
+        ≡ lecturers_fitting rows.items (map (λ r. (r.0, r.1.items)) rankings.items)
+        (map (λ r. (r.0, r.1.items)) earlier_rankings.items)) }
 {
     let mut rest = VecDeque::from_vec(rankings);
+    let mut earlier = VecDeque::from_vec(earlier_rankings);
     let mut entries = Vec::new(alloc);
     for row in rows {
         let ranking = take_for(&mut rest, &row.key);
-        entries.push(LecturerEntry { row, ranking })?;
+        let earlier_ranking = take_for(&mut earlier, &row.key);
+        entries.push(LecturerEntry {
+            row,
+            ranking,
+            earlier_ranking,
+        })?;
     }
-    Ok(if rest.is_empty() { Some(entries) } else { None })
+    Ok(if rest.is_empty() && earlier.is_empty() {
+        Some(entries)
+    } else {
+        None
+    })
 }
 
-/// The students with their lists and places, where each has a list, and each list and place is for
-/// one of them, in their order.
+/// The students with their lists and places, also those of the earlier round, where each has a list, in the second round two, and
+/// each list and place is for one of them, in their order.
 pub(crate) fn student_entries(
     alloc: Global,
+    round: Round,
     rows: Vec<StudentRow>,
     choices: Vec<(Key, Vec<Key>)>,
     pairs: Vec<(Key, Key)>,
+    earlier_choices: Vec<(Key, Vec<Key>)>,
+    earlier_pairs: Vec<(Key, Key)>,
 ) -> Result<Option<Vec<StudentEntry>>, AllocError>
-    ensures { IfOk result (λ entries. option_map (λ v. v.items) entries ≡ students_fitting rows.items (map (λ c. (c.0, c.1.items)) choices.items) pairs.items) }
+    ensures { IfOk result (λ entries. option_map (λ v. v.items) entries
+        ≡ students_fitting round rows.items (map (λ c. (c.0, c.1.items)) choices.items) pairs.items
+        (map (λ c. (c.0, c.1.items)) earlier_choices.items) earlier_pairs.items) }
 {
     let mut choices = VecDeque::from_vec(choices);
     let mut pairs = VecDeque::from_vec(pairs);
+    let mut earlier_choices = VecDeque::from_vec(earlier_choices);
+    let mut earlier_pairs = VecDeque::from_vec(earlier_pairs);
     let mut entries = Vec::new(alloc);
     for row in rows {
         let Some(choice) = take_for(&mut choices, &row.key) else {
             return Ok(None);
         };
+        let Some(earlier_choice) = earlier_for(alloc, round, &mut earlier_choices, &row.key) else {
+            return Ok(None);
+        };
         let placed = take_for(&mut pairs, &row.key);
+        let earlier_place = take_for(&mut earlier_pairs, &row.key);
         entries.push(StudentEntry {
             row,
             choice,
             placed,
+            earlier_choice,
+            earlier_place,
         })?;
     }
-    Ok(if choices.is_empty() && pairs.is_empty() {
+    Ok(if choices.is_empty()
+        && pairs.is_empty()
+        && earlier_choices.is_empty()
+        && earlier_pairs.is_empty()
+    {
         Some(entries)
     } else {
         None
@@ -82,10 +130,13 @@ impl Entries {
     /// The entries of the rows of a sound world. No list is judged: of other rows entries may come that mean nothing, or
     /// `NotGood`.
     pub fn from_rows(alloc: Global, rows: WorldRows) -> Result<Entries, RowsFault>
-        ensures entries { IfOk result (λ e. (w : World) → rows ≡ rows_of w → Sound w → HasEntries e w) }
-        ensures refused { result ≡ Err RowsFault.NotGood → (w : World) → rows ≡ rows_of w → Sound w → ⊥ }
+        ensures entries { IfOk result (λ e. (w : World) → rows ≡ rows_of w → Sound w
+            → HasEntries e w) }
+        ensures refused { result ≡ Err RowsFault.NotGood → (w : World) → rows ≡ rows_of w → Sound w
+            → ⊥ }
     {
         let WorldRows {
+            round,
             phase: _,
             office: _,
             lecturers,
@@ -94,14 +145,27 @@ impl Entries {
             choices,
             rankings,
             pairs,
+            earlier_choices,
+            earlier_rankings,
+            earlier_pairs,
         } = rows;
-        let Some(lecturers) = lecturer_entries(alloc, lecturers, rankings)? else {
+        let Some(lecturers) = lecturer_entries(alloc, lecturers, rankings, earlier_rankings)? else {
             return Err(RowsFault::NotGood);
         };
-        let Some(students) = student_entries(alloc, students, choices, pairs)? else {
+        let Some(students) = student_entries(
+            alloc,
+            round,
+            students,
+            choices,
+            pairs,
+            earlier_choices,
+            earlier_pairs,
+        )?
+        else {
             return Err(RowsFault::NotGood);
         };
         Ok(Entries {
+            round,
             lecturers,
             projects,
             students,

@@ -5,8 +5,8 @@ ghost use Rattle.portal_core.specs.Words.{Rise};
 ghost use Rattle.portal_core.specs.World.{World, project_key, student_key};
 ghost use Rattle.portal_core.specs.Good.{Sound};
 ghost use Rattle.portal_list.specs.Entries.{HasEntries};
-ghost use Rattle.portal_list.specs.Parts.{lecturer_row_keys, student_row_keys, RollsFit, ListsFit};
-ghost use Rattle.portal_list.specs.Rows.{rows_of};
+ghost use Rattle.portal_list.specs.Parts.{RollsFit, ListsFit};
+ghost use Rattle.portal_list.specs.Rows.{rows_of, IsFitted};
 ghost use Rattle.portal_list.specs.declared.from_rows.RowsFault.TheVariants.{Memory};
 
 use crate::entries::Entries;
@@ -14,7 +14,7 @@ use crate::fit::{lecturer_entries, student_entries};
 use crate::keeper::ListKeeper;
 use crate::lists::lists_fit;
 use crate::rolls::rolls_fit;
-use portal_core::{Code, LecturerRow, Phase, ProjectRow, StudentRow};
+use portal_core::{Code, LecturerRow, Phase, ProjectRow, Round, StudentRow};
 use spa_rows::Key;
 use std::alloc::{AllocError, Global};
 use std::marker::Model;
@@ -22,6 +22,7 @@ use std::marker::Model;
 /// The rows of a world, as tables keep them.
 #[derive(Drop)]
 pub struct WorldRows {
+    pub round: Round,
     pub phase: Phase,
     pub office: Code,
     pub lecturers: Vec<LecturerRow>,
@@ -33,6 +34,12 @@ pub struct WorldRows {
     pub rankings: Vec<(Key, Vec<Key>)>,
     /// The result: pairs of a student and a project, by student.
     pub pairs: Vec<(Key, Key)>,
+    /// In the second round, each student's list of the first, by student; else empty.
+    pub earlier_choices: Vec<(Key, Vec<Key>)>,
+    /// In the second round, the rankings of the first that are there, by lecturer; else empty.
+    pub earlier_rankings: Vec<(Key, Vec<Key>)>,
+    /// In the second round, the result of the first, by student; else empty.
+    pub earlier_pairs: Vec<(Key, Key)>,
 }
 
 impl Model for WorldRows {
@@ -41,7 +48,7 @@ impl Model for WorldRows {
 
     ghost Value = { Rows };
 
-    ghost view = { λ x. record { phase = x.phase; office = x.office; lecturers = x.lecturers.items; projects = x.projects.items; students = x.students.items; choices = map (λ c. (c.0, c.1.items)) x.choices.items; rankings = map (λ r. (r.0, r.1.items)) x.rankings.items; pairs = x.pairs.items } };
+    ghost view = { λ x. record { round = x.round; phase = x.phase; office = x.office; lecturers = x.lecturers.items; projects = x.projects.items; students = x.students.items; choices = map (λ c. (c.0, c.1.items)) x.choices.items; rankings = map (λ r. (r.0, r.1.items)) x.rankings.items; pairs = x.pairs.items; earlier_choices = map (λ c. (c.0, c.1.items)) x.earlier_choices.items; earlier_rankings = map (λ r. (r.0, r.1.items)) x.earlier_rankings.items; earlier_pairs = x.earlier_pairs.items } };
 }
 
 /// Why rows give no keeper.
@@ -63,7 +70,8 @@ impl From<AllocError> for RowsFault {
 
 /// Whether the rows of the rolls are those of a world.
 fn rolls_of_rows_fit(alloc: Global, rows: &WorldRows) -> Result<bool, AllocError>
-    ensures { IfOk result (λ yes. IsTrue yes ↔ RollsFit rows.now.office rows.now.lecturers rows.now.projects rows.now.students) }
+    ensures { IfOk result (λ yes. IsTrue yes
+        ↔ RollsFit rows.now.office rows.now.lecturers rows.now.projects rows.now.students) }
 {
     rolls_fit(
         alloc,
@@ -75,13 +83,15 @@ fn rolls_of_rows_fit(alloc: Global, rows: &WorldRows) -> Result<bool, AllocError
 }
 
 /// Whether lists, rankings and the result are those of a sound world.
-fn lists_of_keeper_fit(alloc: Global, keeper: &ListKeeper) -> Result<bool, AllocError>
+pub(crate) fn lists_of_keeper_fit(alloc: Global, keeper: &ListKeeper) -> Result<bool, AllocError>
     requires projects { Rise (map project_key keeper.now.projects) }
     requires students { Rise (map student_key keeper.now.students) }
-    ensures { IfOk result (λ yes. IsTrue yes ↔ ListsFit keeper.now.phase keeper.now.lecturers keeper.now.projects keeper.now.students) }
+    ensures { IfOk result (λ yes. IsTrue yes
+        ↔ ListsFit keeper.now.round keeper.now.phase keeper.now.lecturers keeper.now.projects keeper.now.students) }
 {
     lists_fit(
         alloc,
+        keeper.round,
         keeper.phase,
         &keeper.lecturers,
         &keeper.projects,
@@ -91,11 +101,11 @@ fn lists_of_keeper_fit(alloc: Global, keeper: &ListKeeper) -> Result<bool, Alloc
 
 /// The keeper of these rows, if they are those of a world.
 fn fitted(alloc: Global, rows: WorldRows) -> Result<Option<ListKeeper>, AllocError>
-    requires lecturers { Rise (lecturer_row_keys rows.lecturers) }
-    requires students { Rise (student_row_keys rows.students) }
-    ensures { IfOk result (λ found. MatchOption found ((w : World) → rows ≡ rows_of w → ⊥) (λ keeper. rows ≡ rows_of keeper)) }
+    ensures { IfOk result (λ found. MatchOption found ((w : World) → rows ≡ rows_of w → Sound w → ⊥)
+        (λ keeper. IsFitted rows keeper)) }
 {
     let WorldRows {
+        round,
         phase,
         office,
         lecturers,
@@ -104,14 +114,27 @@ fn fitted(alloc: Global, rows: WorldRows) -> Result<Option<ListKeeper>, AllocErr
         choices,
         rankings,
         pairs,
+        earlier_choices,
+        earlier_rankings,
+        earlier_pairs,
     } = rows;
-    let Some(lecturers) = lecturer_entries(alloc, lecturers, rankings)? else {
+    let Some(lecturers) = lecturer_entries(alloc, lecturers, rankings, earlier_rankings)? else {
         return Ok(None);
     };
-    let Some(students) = student_entries(alloc, students, choices, pairs)? else {
+    let Some(students) = student_entries(
+        alloc,
+        round,
+        students,
+        choices,
+        pairs,
+        earlier_choices,
+        earlier_pairs,
+    )?
+    else {
         return Ok(None);
     };
     Ok(Some(ListKeeper {
+        round,
         phase,
         office,
         lecturers,
@@ -126,7 +149,8 @@ impl ListKeeper {
     pub fn from_rows(alloc: Global, rows: WorldRows) -> Result<ListKeeper, RowsFault>
         ensures ok { IfOk result (λ keeper. rows ≡ rows_of keeper) }
         ensures sound { IfOk result (λ keeper. Sound keeper) }
-        ensures err { result ≡ Err RowsFault.NotGood → (w : World) → rows ≡ rows_of w → Sound w → ⊥ }
+        ensures err { result ≡ Err RowsFault.NotGood → (w : World) → rows ≡ rows_of w → Sound w
+            → ⊥ }
     {
         if !rolls_of_rows_fit(alloc, &rows)? {
             return Err(RowsFault::NotGood);
@@ -145,6 +169,7 @@ impl ListKeeper {
         ensures { HasEntries result self }
     {
         let ListKeeper {
+            round,
             phase: _,
             office: _,
             lecturers,
@@ -153,6 +178,7 @@ impl ListKeeper {
             catalogue: _,
         } = self;
         Entries {
+            round,
             lecturers,
             projects,
             students,

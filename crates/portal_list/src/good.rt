@@ -1,14 +1,21 @@
 //! Whether the world of a keeper is good.
 
-ghost use Rattle.std.specs.Prelude.{◌≡◌, ◌↔◌, IfOk, IsTrue, map, option_map};
+ghost use Rattle.std.specs.Prelude.{◌≡◌, ◌↔◌, IfOk, IsTrue, true, map, filter, option_map};
 ghost use Rattle.spa_model.specs.Pairs.{number_in};
 ghost use Rattle.spa_model.specs.Spa.{IsStable};
-ghost use Rattle.portal_core.specs.Good.{Good, Sound};
+ghost use Rattle.portal_core.specs.Good.{Good, Sound, IsRound};
+ghost use Rattle.portal_core.specs.World.{first, first_published, first_placed, is_second};
+ghost use Rattle.portal_list.specs.Parts.{IsSettled, RollsOf};
+ghost use Rattle.portal_list.specs.Played.{takes_part};
 
-use crate::entries::StudentEntry;
+use crate::copies::{place_copy, project_rows_of, ranking_copy};
+use crate::entries::{LecturerEntry, StudentEntry};
+use crate::from_rows::lists_of_keeper_fit;
 use crate::instance::instance_of;
 use crate::keeper::ListKeeper;
 use crate::lists::is_published;
+use crate::played::takes_part;
+use portal_core::{Phase, Round, copy_keys};
 use spa_check::is_stable;
 use spa_model::{Instance, Matching};
 use std::alloc::{AllocError, Global};
@@ -23,17 +30,22 @@ fn place_in(instance: &Instance, student: &StudentEntry) -> Option<usize>
     }
 }
 
-/// The result, by the numbers of projects.
+/// The result of who takes part in the round, by the numbers of projects.
 fn places_in(
     alloc: Global,
     instance: &Instance,
+    round: Round,
     students: &[StudentEntry],
 ) -> Result<Vec<Option<usize>>, AllocError>
-    ensures { IfOk result (λ places. places.items ≡ map (λ s. option_map (number_in instance.now.project_keys) s.placed) students.now) }
+    ensures { IfOk result (λ places. places.items
+        ≡ map (λ s. option_map (number_in instance.now.project_keys) s.placed)
+        (filter (takes_part round) students.now)) }
 {
     let mut places = Vec::new(alloc);
     for student in students {
-        places.push(place_in(instance, student))?;
+        if takes_part(round, student) {
+            places.push(place_in(instance, student))?;
+        }
     }
     Ok(places)
 }
@@ -49,17 +61,122 @@ fn are_stable(instance: &Instance, places: Vec<Option<usize>>) -> bool
     is_stable(instance, &matching)
 }
 
+/// The lecturer as when the first round was published.
+fn first_lecturer(alloc: Global, lecturer: &LecturerEntry) -> Result<LecturerEntry, AllocError>
+    ensures { IfOk result (λ l. l ≡ first_published lecturer.now) }
+{
+    Ok(LecturerEntry {
+        row: lecturer.row.copy(alloc)?,
+        ranking: ranking_copy(alloc, &lecturer.earlier_ranking)?,
+        earlier_ranking: None,
+    })
+}
+
+fn first_lecturers(
+    alloc: Global,
+    lecturers: &[LecturerEntry],
+) -> Result<Vec<LecturerEntry>, AllocError>
+    ensures { IfOk result (λ v. v.items ≡ map first_published lecturers.now) }
+{
+    let mut found = Vec::new(alloc);
+    for lecturer in lecturers {
+        found.push(first_lecturer(alloc, lecturer)?)?;
+    }
+    Ok(found)
+}
+
+/// The student as when the first round was published.
+fn first_student(alloc: Global, student: &StudentEntry) -> Result<StudentEntry, AllocError>
+    ensures { IfOk result (λ s. s ≡ first_placed student.now) }
+{
+    Ok(StudentEntry {
+        row: student.row.copy(alloc)?,
+        choice: copy_keys(alloc, &student.earlier_choice)?,
+        placed: place_copy(alloc, student.earlier_place.as_ref())?,
+        earlier_choice: Vec::new(alloc),
+        earlier_place: None,
+    })
+}
+
+fn first_students(alloc: Global, students: &[StudentEntry]) -> Result<Vec<StudentEntry>, AllocError>
+    ensures { IfOk result (λ v. v.items ≡ map first_placed students.now) }
+{
+    let mut found = Vec::new(alloc);
+    for student in students {
+        found.push(first_student(alloc, student)?)?;
+    }
+    Ok(found)
+}
+
 impl ListKeeper {
-    /// Whether the world is good: what is published is a stable matching.
-    pub fn is_good(&self, alloc: Global) -> Result<bool, AllocError>
+    /// Whether the result of the round, once it is published, is a stable matching.
+    fn is_settled(&self, alloc: Global) -> Result<bool, AllocError>
         requires { Sound self.now }
-        ensures { IfOk result (λ good. IsTrue good ↔ Good self.now) }
+        ensures { IfOk result (λ yes. IsTrue yes ↔ IsSettled self.now) }
     {
         if !is_published(self.phase) {
             return Ok(true);
         }
-        let instance = instance_of(alloc, &self.lecturers, &self.projects, &self.students)?;
-        let places = places_in(alloc, &instance, &self.students)?;
+        let instance = instance_of(
+            alloc,
+            self.round,
+            &self.lecturers,
+            &self.projects,
+            &self.students,
+        )?;
+        let places = places_in(alloc, &instance, self.round, &self.students)?;
         Ok(are_stable(&instance, places))
+    }
+
+    /// The world in which the first round was published.
+    fn first(&self, alloc: Global) -> Result<ListKeeper, AllocError>
+        ensures { IfOk result (λ keeper. keeper ≡ first self.now) }
+    {
+        Ok(ListKeeper {
+            round: Round::First,
+            phase: Phase::Published,
+            office: self.office.copy(alloc)?,
+            lecturers: first_lecturers(alloc, &self.lecturers)?,
+            projects: project_rows_of(alloc, &self.projects)?,
+            students: first_students(alloc, &self.students)?,
+            catalogue: None,
+        })
+    }
+
+    /// Whether the world, whose rolls fit, is sound, and its result a stable matching.
+    fn is_round(&self, alloc: Global) -> Result<bool, AllocError>
+        requires { RollsOf self.now }
+        ensures { IfOk result (λ yes. IsTrue yes ↔ IsRound self.now) }
+    {
+        if !lists_of_keeper_fit(alloc, self)? {
+            return Ok(false);
+        }
+        self.is_settled(alloc)
+    }
+
+    /// Whether the first round is as it was published, where the second is played.
+    fn is_before_good(&self, alloc: Global) -> Result<bool, AllocError>
+        requires { Sound self.now }
+        ensures { IfOk result (λ yes. IsTrue yes
+            ↔ (is_second self.now.round ≡ true → IsRound (first self.now))) }
+    {
+        match self.round {
+            Round::First => Ok(true),
+            Round::Second => {
+                let first = self.first(alloc)?;
+                first.is_round(alloc)
+            }
+        }
+    }
+
+    /// Whether the world is good: what each round published is a stable matching, and what the first made is sound.
+    pub fn is_good(&self, alloc: Global) -> Result<bool, AllocError>
+        requires { Sound self.now }
+        ensures { IfOk result (λ good. IsTrue good ↔ Good self.now) }
+    {
+        if !self.is_settled(alloc)? {
+            return Ok(false);
+        }
+        self.is_before_good(alloc)
     }
 }

@@ -3,6 +3,7 @@
 ghost use Rattle.std.specs.Prelude.{◌≡◌, false, Err, IfOk, map};
 ghost use Rattle.std.specs.List.{AllByRecursion};
 ghost use Rattle.portal_core.specs.World.{World, is_still_to_rank};
+ghost use Rattle.portal_core.specs.declared.phase.Round.TheVariants.{First};
 ghost use Rattle.portal_core.specs.Good.{Sound};
 ghost use Rattle.portal_core.specs.Instance as meant_by;
 ghost use Rattle.portal_list.specs.Entries.{HasEntries, entries_of};
@@ -10,7 +11,8 @@ ghost use Rattle.portal_list.specs.Lines.{lecturer_line, project_line, student_l
 
 use crate::entries::{Entries, LecturerEntry, StudentEntry};
 use crate::from_rows::RowsFault;
-use portal_core::ProjectRow;
+use crate::played::played;
+use portal_core::{ProjectRow, Round};
 use spa_model::{Instance, InstanceFault, InstanceRows, LecturerLine, ProjectLine, StudentLine};
 use spa_rows::Key;
 use std::alloc::{AllocError, Global};
@@ -115,15 +117,19 @@ fn rows_of(
     })
 }
 
-/// The instance of the entries, which are not judged; `NotGood` where they have none.
+/// The instance of the entries of one round, which are not judged; `NotGood` where they have none.
 fn instance_among(
     alloc: Global,
     lecturers: &[LecturerEntry],
     projects: &[ProjectRow],
     students: &[StudentEntry],
 ) -> Result<Instance, RowsFault>
-    ensures instance { IfOk result (λ instance. (w : World) → HasEntries (entries_of lecturers.now projects.now students.now) w → Sound w → instance ≡ meant_by.instance w) }
-    ensures refused { result ≡ Err RowsFault.NotGood → (w : World) → HasEntries (entries_of lecturers.now projects.now students.now) w → Sound w → AllByRecursion (λ l. is_still_to_rank w l ≡ false) w.lecturers → ⊥ }
+    ensures instance { IfOk result (λ instance. (w : World)
+        → HasEntries (entries_of First lecturers.now projects.now students.now) w → Sound w
+        → instance ≡ meant_by.instance w) }
+    ensures refused { result ≡ Err RowsFault.NotGood → (w : World)
+        → HasEntries (entries_of First lecturers.now projects.now students.now) w → Sound w
+        → AllByRecursion (λ l. is_still_to_rank w l ≡ false) w.lecturers → ⊥ }
 {
     let rows = rows_of(alloc, lecturers, projects, students)?;
     match Instance::build(alloc, rows) {
@@ -138,17 +144,46 @@ fn instance_among(
     }
 }
 
-/// The instance of the entries of a sound world in which nobody is still to rank.
+/// The instance of the round of these entries, which are not judged; `NotGood` where they have none.
+fn instance_in(
+    alloc: Global,
+    round: Round,
+    lecturers: &[LecturerEntry],
+    projects: &[ProjectRow],
+    students: &[StudentEntry],
+) -> Result<Instance, RowsFault>
+    ensures instance { IfOk result (λ instance. (w : World)
+        → HasEntries (entries_of round lecturers.now projects.now students.now) w → Sound w
+        → instance ≡ meant_by.instance w) }
+    ensures refused { result ≡ Err RowsFault.NotGood → (w : World)
+        → HasEntries (entries_of round lecturers.now projects.now students.now) w → Sound w
+        → AllByRecursion (λ l. is_still_to_rank w l ≡ false) w.lecturers → ⊥ }
+{
+    match round {
+        Round::First => instance_among(alloc, lecturers, projects, students),
+        Round::Second => {
+            let left = played(alloc, lecturers, projects, students)?;
+            instance_among(alloc, &left.lecturers, &left.projects, &left.students)
+        }
+    }
+}
+
+/// The instance of the round of the entries of a sound world in which nobody is still to rank.
 pub(crate) fn instance_of(
     alloc: Global,
+    round: Round,
     lecturers: &[LecturerEntry],
     projects: &[ProjectRow],
     students: &[StudentEntry],
 ) -> Result<Instance, AllocError>
-    requires ready { (w : World) × HasEntries (entries_of lecturers.now projects.now students.now) w × Sound w × AllByRecursion (λ l. is_still_to_rank w l ≡ false) w.lecturers }
-    ensures instance { IfOk result (λ instance. (w : World) → HasEntries (entries_of lecturers.now projects.now students.now) w → Sound w → instance ≡ meant_by.instance w) }
+    requires ready { (w : World) × HasEntries
+        (entries_of round lecturers.now projects.now students.now) w × Sound w
+        × AllByRecursion (λ l. is_still_to_rank w l ≡ false) w.lecturers }
+    ensures instance { IfOk result (λ instance. (w : World)
+        → HasEntries (entries_of round lecturers.now projects.now students.now) w → Sound w
+        → instance ≡ meant_by.instance w) }
 {
-    match instance_among(alloc, lecturers, projects, students) {
+    match instance_in(alloc, round, lecturers, projects, students) {
         Ok(instance) => Ok(instance),
         Err(RowsFault::Memory) => Err(AllocError),
         Err(RowsFault::NotGood) => unreachable!(),
@@ -156,12 +191,20 @@ pub(crate) fn instance_of(
 }
 
 impl Entries {
-    /// The instance of the entries of a sound world in which nobody is still to rank. They are not judged: of others an
-    /// instance may come that means nothing, or `NotGood`.
+    /// The instance of the round of the entries of a sound world in which nobody is still to rank. They are not judged: of others
+    /// an instance may come that means nothing, or `NotGood`.
     pub fn instance(&self, alloc: Global) -> Result<Instance, RowsFault>
-        ensures instance { IfOk result (λ instance. (w : World) → HasEntries self.now w → Sound w → instance ≡ meant_by.instance w) }
-        ensures refused { result ≡ Err RowsFault.NotGood → (w : World) → HasEntries self.now w → Sound w → AllByRecursion (λ l. is_still_to_rank w l ≡ false) w.lecturers → ⊥ }
+        ensures instance { IfOk result (λ instance. (w : World) → HasEntries self.now w → Sound w
+            → instance ≡ meant_by.instance w) }
+        ensures refused { result ≡ Err RowsFault.NotGood → (w : World) → HasEntries self.now w
+            → Sound w → AllByRecursion (λ l. is_still_to_rank w l ≡ false) w.lecturers → ⊥ }
     {
-        instance_among(alloc, &self.lecturers, &self.projects, &self.students)
+        instance_in(
+            alloc,
+            self.round,
+            &self.lecturers,
+            &self.projects,
+            &self.students,
+        )
     }
 }

@@ -6,7 +6,7 @@ ghost use Rattle.portal_core.specs.Good.{Good, CanPublish};
 ghost use Rattle.portal_core.specs.Words.{Rise};
 ghost use Rattle.portal_core.specs.Instance as meant_by;
 ghost use Rattle.portal_core.specs.Instance.{lecturer_keys, student_keys};
-ghost use Rattle.portal_core.specs.Change.{changed};
+ghost use Rattle.portal_core.specs.Change.{changed, Lecturers, Projects, Students};
 ghost use Rattle.portal_core.specs.Meaning.{meant};
 
 use crate::changes::{
@@ -18,7 +18,10 @@ use crate::instance::instance_of;
 use crate::views::{
     catalogue_of, lecturer_view, lecturer_with, office_view, student_view, student_with,
 };
-use portal_core::{Change, Code, KeepFault, Keeper, Listing, Phase, ProjectRow, View};
+use portal_core::{
+    Change, Code, KeepFault, Keeper, LecturerRow, Listing, Phase, ProjectRow, Round, StudentRow,
+    View,
+};
 use spa_model::Instance;
 use std::alloc::{AllocError, Global};
 use std::marker::Model;
@@ -27,35 +30,44 @@ use std::rc::Rc;
 /// A world in vectors, whose rows stand by rising key.
 #[derive(Drop)]
 pub struct ListKeeper {
+    pub(crate) round: Round,
     pub(crate) phase: Phase,
     pub(crate) office: Code,
     pub(crate) lecturers: Vec<LecturerEntry>,
     pub(crate) projects: Vec<ProjectRow>,
     pub(crate) students: Vec<StudentEntry>,
-    /// The catalogue of the rolls, once it was asked for.
+    /// The catalogue of the round, once it was asked for.
     pub(crate) catalogue: Option<Rc<Vec<Listing>>>,
 }
 
 impl Model for ListKeeper {
     ghost use Rattle.std.specs.Prelude.{◌≡◌, IfSome};
     ghost use Rattle.portal_core.specs.World.{World};
-    ghost use Rattle.portal_core.specs.View.{listings};
+    ghost use Rattle.portal_list.specs.Shown.{catalogue_in};
 
     ghost Value = { World };
 
-    ghost view = { λ k. record { phase = k.phase; office = k.office; lecturers = k.lecturers.items; projects = k.projects.items; students = k.students.items } };
+    ghost view = { λ k. record { round = k.round; phase = k.phase; office = k.office; lecturers = k.lecturers.items; projects = k.projects.items; students = k.students.items } };
 
-    ghost invariant = { λ k. IfSome k.catalogue (λ shared. shared.value.items ≡ listings k.lecturers.items k.projects.items) };
+    ghost invariant = { λ k. IfSome k.catalogue (λ shared. shared.value.items ≡ catalogue_in k.round k.lecturers.items k.projects.items k.students.items) };
 }
 
 impl ListKeeper {
-    /// The empty world in setup, whose office has this code.
+    /// The empty world in setup of the first round, whose office has this code.
     pub fn new(alloc: Global, office: Code) -> ListKeeper
-        ensures empty { result ≡ record { phase = Phase.Setup; office = office; lecturers = []; projects = []; students = [] } }
+        ensures empty { result ≡ record {
+          round = Round.First;
+          phase = Phase.Setup;
+          office = office;
+          lecturers = [];
+          projects = [];
+          students = [];
+        } }
         ensures good { Good result }
     {
         let _form = office.as_bytes();
         ListKeeper {
+            round: Round::First,
             phase: Phase::Setup,
             office,
             lecturers: Vec::new(alloc),
@@ -65,13 +77,22 @@ impl ListKeeper {
         }
     }
 
-    /// The catalogue of the rolls, shared where it is kept.
+    /// The catalogue of the round, shared where it is kept.
     pub(crate) fn catalogue(&self, alloc: Global) -> Result<Rc<Vec<Listing>>, AllocError>
         ensures { IfOk result (λ shared. shared.value.items ≡ seen.catalogue self.now) }
     {
         match &self.catalogue {
             Some(shared) => shared.clone(),
-            None => Ok(Rc::new(alloc, catalogue_of(alloc, &self.lecturers, &self.projects)?)?),
+            None => {
+                let listings = catalogue_of(
+                    alloc,
+                    self.round,
+                    &self.lecturers,
+                    &self.projects,
+                    &self.students,
+                )?;
+                Ok(Rc::new(alloc, listings)?)
+            }
         }
     }
 
@@ -85,13 +106,13 @@ impl ListKeeper {
         Ok(())
     }
 
-    /// What the caller with this code sees.
-    pub(crate) fn shown_to(&self, alloc: Global, code: &[u8]) -> Result<View, AllocError>
-        ensures { IfOk result (λ view. view ≡ seen.view self.now code.now) }
+    /// What the lecturer or the student with this code sees.
+    fn shown_to_member(&self, alloc: Global, code: &[u8]) -> Result<View, AllocError>
+        ensures { IfOk result (λ view. view
+            ≡ seen.sight_of self.now
+            (seen.caller_among (seen.lecturer_with self.now code.now)
+            (seen.student_with self.now code.now))) }
     {
-        if self.office.as_bytes() == code {
-            return Ok(View::Office(office_view(alloc, self)?));
-        }
         if let Some(lecturer) = lecturer_with(&self.lecturers, code) {
             return Ok(View::Lecturer(lecturer_view(alloc, self, lecturer)?));
         }
@@ -101,6 +122,16 @@ impl ListKeeper {
         }
     }
 
+    /// What the caller with this code sees.
+    pub(crate) fn shown_to(&self, alloc: Global, code: &[u8]) -> Result<View, AllocError>
+        ensures { IfOk result (λ view. view ≡ seen.view self.now code.now) }
+    {
+        if self.office.as_bytes() == code {
+            return Ok(View::Office(office_view(alloc, self)?));
+        }
+        self.shown_to_member(alloc, code)
+    }
+
     /// What the caller with this code sees; the catalogue is kept.
     fn show(&mut self, alloc: Global, code: &[u8]) -> Result<View, AllocError>
         ensures shown { IfOk result (λ view. view ≡ seen.view self.old code.now) }
@@ -108,6 +139,47 @@ impl ListKeeper {
     {
         self.keep_catalogue(alloc)?;
         self.shown_to(alloc, code)
+    }
+
+    /// Adds lecturers, in the first round.
+    fn enrol_lecturers(&mut self, alloc: Global, rows: &[LecturerRow]) -> Result<(), AllocError>
+        ensures made { OnOk result (self.new ≡ changed self.old (Lecturers rows.now)) }
+        ensures same { OnErr result (self.new ≡ self.old) }
+    {
+        match self.round {
+            Round::First => {
+                add_lecturers(alloc, &mut self.lecturers, rows)?;
+                self.catalogue = None;
+                Ok(())
+            }
+            Round::Second => Ok(()),
+        }
+    }
+
+    /// Adds projects, in the first round.
+    fn enrol_projects(&mut self, alloc: Global, rows: &[ProjectRow]) -> Result<(), AllocError>
+        ensures made { OnOk result (self.new ≡ changed self.old (Projects rows.now)) }
+        ensures same { OnErr result (self.new ≡ self.old) }
+    {
+        match self.round {
+            Round::First => {
+                add_projects(alloc, &mut self.projects, rows)?;
+                self.catalogue = None;
+                Ok(())
+            }
+            Round::Second => Ok(()),
+        }
+    }
+
+    /// Adds students, in the first round.
+    fn enrol_students(&mut self, alloc: Global, rows: &[StudentRow]) -> Result<(), AllocError>
+        ensures made { OnOk result (self.new ≡ changed self.old (Students rows.now)) }
+        ensures same { OnErr result (self.new ≡ self.old) }
+    {
+        match self.round {
+            Round::First => add_students(alloc, &mut self.students, rows),
+            Round::Second => Ok(()),
+        }
     }
 
     /// Makes one change, or leaves all as it was where memory is short.
@@ -124,17 +196,9 @@ impl ListKeeper {
             Change::Ranking { lecturer, students } => {
                 replace_ranking(alloc, &mut self.lecturers, lecturer, students)
             }
-            Change::Lecturers(rows) => {
-                add_lecturers(alloc, &mut self.lecturers, rows)?;
-                self.catalogue = None;
-                Ok(())
-            }
-            Change::Projects(rows) => {
-                add_projects(alloc, &mut self.projects, rows)?;
-                self.catalogue = None;
-                Ok(())
-            }
-            Change::Students(rows) => add_students(alloc, &mut self.students, rows),
+            Change::Lecturers(rows) => self.enrol_lecturers(alloc, rows),
+            Change::Projects(rows) => self.enrol_projects(alloc, rows),
+            Change::Students(rows) => self.enrol_students(alloc, rows),
             Change::Phase(phase) => {
                 self.phase = *phase;
                 Ok(())
@@ -178,9 +242,14 @@ impl Keeper for ListKeeper {
         ensures same { self.new ≡ self.old }
         ensures memory { IfErr result (λ fault. fault ≡ KeepFault.Memory) }
     {
-        instance_of(alloc, &self.lecturers, &self.projects, &self.students).map_err(
-            |_| KeepFault::Memory,
+        instance_of(
+            alloc,
+            self.round,
+            &self.lecturers,
+            &self.projects,
+            &self.students,
         )
+        .map_err(|_| KeepFault::Memory)
     }
 
     fn apply(&mut self, alloc: Global, change: &Change) -> Result<(), KeepFault>

@@ -14,6 +14,7 @@ mod instance;
 mod keeper;
 mod keyed;
 mod lists;
+mod played;
 mod rolls;
 mod views;
 mod wanted;

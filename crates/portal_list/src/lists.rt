@@ -3,15 +3,16 @@
 ghost use Rattle.std.specs.Prelude.{◌≡◌, ◌↔◌, IfOk, IsTrue, true, map, option_map, [], None};
 ghost use Rattle.std.specs.List.{AllByRecursion};
 ghost use Rattle.portal_core.specs.Words.{has, Rise};
-ghost use Rattle.portal_core.specs.World.{project_key, student_key, is_published};
+ghost use Rattle.portal_core.specs.World.{project_key, student_key, is_published, projects_in};
 ghost use Rattle.portal_core.specs.Good.{IsChoice, IsRanking};
-ghost use Rattle.portal_list.specs.Parts.{PhaseFits, own_keys, applicant_keys, IsRanked, ListsFit};
+ghost use Rattle.portal_list.specs.Parts.{PhaseFits, HasNothingEarlier, IsOutIfPlaced, RoundFits, applicant_keys, IsRanked, ListsFit};
 
 use crate::distinct::keys_are_distinct;
 use crate::entries::{LecturerEntry, StudentEntry};
 use crate::keyed::is_known;
+use crate::played::played;
 use crate::wanted::Wanted;
-use portal_core::{Phase, ProjectRow};
+use portal_core::{Phase, ProjectRow, Round, own_keys};
 use spa_rows::Key;
 use std::alloc::{AllocError, Global};
 
@@ -68,10 +69,76 @@ fn phase_fits(phase: Phase, lecturers: &[LecturerEntry], students: &[StudentEntr
     }
 }
 
+/// Whether nothing of an earlier round is there.
+fn has_nothing_earlier(student: &StudentEntry) -> bool
+    ensures { IsTrue result ↔ HasNothingEarlier student.now }
+{
+    student.earlier_choice.is_empty() && student.earlier_place.is_none()
+}
+
+fn have_nothing_earlier(students: &[StudentEntry]) -> bool
+    ensures { IsTrue result ↔ AllByRecursion HasNothingEarlier students.now }
+{
+    for student in students {
+        if !has_nothing_earlier(student) {
+            return false;
+        }
+    }
+    true
+}
+
+fn have_no_earlier_rankings(lecturers: &[LecturerEntry]) -> bool
+    ensures { IsTrue result ↔ AllByRecursion (λ l. l.earlier_ranking ≡ None) lecturers.now }
+{
+    for lecturer in lecturers {
+        if lecturer.earlier_ranking.is_some() {
+            return false;
+        }
+    }
+    true
+}
+
+/// Whether who has a project of the first round has made no list of the second, and has no place of it.
+fn is_out_if_placed(student: &StudentEntry) -> bool
+    ensures { IsTrue result ↔ IsOutIfPlaced student.now }
+{
+    student.earlier_place.is_none() || (student.choice.is_empty() && student.placed.is_none())
+}
+
+fn are_out_if_placed(students: &[StudentEntry]) -> bool
+    ensures { IsTrue result ↔ AllByRecursion IsOutIfPlaced students.now }
+{
+    for student in students {
+        if !is_out_if_placed(student) {
+            return false;
+        }
+    }
+    true
+}
+
+/// Whether what there is of an earlier round fits the round.
+fn round_fits(
+    round: Round,
+    phase: Phase,
+    lecturers: &[LecturerEntry],
+    students: &[StudentEntry],
+) -> bool
+    ensures { IsTrue result ↔ RoundFits round phase lecturers.now students.now }
+{
+    let out = are_out_if_placed(students);
+    match round {
+        Round::First => out
+            && have_nothing_earlier(students)
+            && have_no_earlier_rankings(lecturers),
+        Round::Second => out && phase != Phase::Setup,
+    }
+}
+
 /// Whether each is the key of a project.
 fn are_projects(projects: &[ProjectRow], keys: &[Key]) -> bool
     requires { Rise (map project_key projects.now) }
-    ensures { IsTrue result ↔ AllByRecursion (λ k. has (map project_key projects.now) k ≡ true) keys.now }
+    ensures { IsTrue result
+        ↔ AllByRecursion (λ k. has (map project_key projects.now) k ≡ true) keys.now }
 {
     keys.iter().all(|key| is_known(projects, key))
 }
@@ -96,7 +163,8 @@ fn choices_fit(
     students: &[StudentEntry],
 ) -> Result<bool, AllocError>
     requires { Rise (map project_key projects.now) }
-    ensures { IfOk result (λ yes. IsTrue yes ↔ AllByRecursion (λ s. IsChoice (map project_key projects.now) s.choice) students.now) }
+    ensures { IfOk result (λ yes. IsTrue yes
+        ↔ AllByRecursion (λ s. IsChoice (map project_key projects.now) s.choice) students.now) }
 {
     for student in students {
         if !is_choice(alloc, projects, &student.choice)? {
@@ -106,21 +174,28 @@ fn choices_fit(
     Ok(true)
 }
 
-/// The keys of the lecturer's projects.
-fn own_projects<'a>(
+/// Whether each list is one of projects that take part in the round.
+fn choices_in_play_fit(
     alloc: Global,
-    projects: &'a [ProjectRow],
-    lecturer: &Key,
-) -> Result<Vec<&'a Key>, AllocError>
-    ensures { IfOk result (λ own. map (λ k. k.now) own.items ≡ own_keys projects.now lecturer.now) }
+    round: Round,
+    lecturers: &[LecturerEntry],
+    projects: &[ProjectRow],
+    students: &[StudentEntry],
+) -> Result<bool, AllocError>
+    requires { Rise (map project_key projects.now) }
+    ensures { IfOk result (λ yes. IsTrue yes
+        ↔ AllByRecursion
+        (λ s. IsChoice
+        (map project_key
+        (projects_in round lecturers.now projects.now students.now)) s.choice) students.now) }
 {
-    let mut own = Vec::new(alloc);
-    for project in projects {
-        if project.lecturer == *lecturer {
-            own.push(&project.key)?;
+    match round {
+        Round::First => choices_fit(alloc, projects, students),
+        Round::Second => {
+            let left = played(alloc, lecturers, projects, students)?;
+            choices_fit(alloc, &left.projects, students)
         }
     }
-    Ok(own)
 }
 
 /// The keys of the lecturer's applicants.
@@ -130,16 +205,18 @@ pub(crate) fn applicants<'a>(
     wanted: &Wanted<'a>,
     lecturer: &Key,
 ) -> Result<Vec<&'a Key>, AllocError>
-    ensures { IfOk result (λ keys. map (λ k. k.now) keys.items ≡ applicant_keys projects.now wanted.now lecturer.now) }
+    ensures { IfOk result (λ keys. map (λ k. k.now) keys.items
+        ≡ applicant_keys projects.now wanted.now lecturer.now) }
 {
-    let own = own_projects(alloc, projects, lecturer)?;
+    let own = own_keys(alloc, projects, lecturer)?;
     wanted.wanting(alloc, &own)
 }
 
 /// Whether each is an applicant.
 fn are_applicants(applicants: &[&Key], keys: &[Key]) -> bool
     requires { Rise (map (λ k. k.now) applicants.now) }
-    ensures { IsTrue result ↔ AllByRecursion (λ k. has (map (λ a. a.now) applicants.now) k ≡ true) keys.now }
+    ensures { IsTrue result
+        ↔ AllByRecursion (λ k. has (map (λ a. a.now) applicants.now) k ≡ true) keys.now }
 {
     keys.iter().all(|key| is_known(applicants, key))
 }
@@ -147,7 +224,8 @@ fn are_applicants(applicants: &[&Key], keys: &[Key]) -> bool
 /// Whether the ranking has each applicant once, and no one else.
 fn is_ranking(alloc: Global, applicants: &[&Key], ranking: &[Key]) -> Result<bool, AllocError>
     requires { Rise (map (λ k. k.now) applicants.now) }
-    ensures { IfOk result (λ yes. IsTrue yes ↔ IsRanking (map (λ k. k.now) applicants.now) ranking.now) }
+    ensures { IfOk result (λ yes. IsTrue yes
+        ↔ IsRanking (map (λ k. k.now) applicants.now) ranking.now) }
 {
     if ranking.len() != applicants.len() {
         return Ok(false);
@@ -167,7 +245,9 @@ fn is_ranked(
     ranking: &Option<Vec<Key>>,
 ) -> Result<bool, AllocError>
     requires { Rise (map (λ k. k.now) applicants.now) }
-    ensures { IfOk result (λ yes. IsTrue yes ↔ IsRanked asked (map (λ k. k.now) applicants.now) (option_map (λ r. r.items) ranking.now)) }
+    ensures { IfOk result (λ yes. IsTrue yes
+        ↔ IsRanked asked (map (λ k. k.now) applicants.now)
+        (option_map (λ r. r.items) ranking.now)) }
 {
     match ranking {
         Some(ranking) => is_ranking(alloc, applicants, ranking),
@@ -184,7 +264,9 @@ fn ranking_fits(
     lecturer: &LecturerEntry,
 ) -> Result<bool, AllocError>
     requires { Rise (map student_key wanted.now) }
-    ensures { IfOk result (λ yes. IsTrue yes ↔ IsRanked asked (applicant_keys projects.now wanted.now lecturer.now.row.key) lecturer.now.ranking) }
+    ensures { IfOk result (λ yes. IsTrue yes
+        ↔ IsRanked asked
+        (applicant_keys projects.now wanted.now lecturer.now.row.key) lecturer.now.ranking) }
 {
     if !asked && lecturer.ranking.is_none() {
         return Ok(true);
@@ -201,7 +283,10 @@ fn rankings_fit(
     students: &[StudentEntry],
 ) -> Result<bool, AllocError>
     requires { Rise (map student_key students.now) }
-    ensures { IfOk result (λ yes. IsTrue yes ↔ AllByRecursion (λ l. IsRanked asked (applicant_keys projects.now students.now l.row.key) l.ranking) lecturers.now) }
+    ensures { IfOk result (λ yes. IsTrue yes
+        ↔ AllByRecursion
+        (λ l. IsRanked asked
+        (applicant_keys projects.now students.now l.row.key) l.ranking) lecturers.now) }
 {
     let wanted = Wanted::of(alloc, students)?;
     for lecturer in lecturers {
@@ -215,6 +300,7 @@ fn rankings_fit(
 /// Whether lists, rankings and the result are those of a sound world.
 pub(crate) fn lists_fit(
     alloc: Global,
+    round: Round,
     phase: Phase,
     lecturers: &[LecturerEntry],
     projects: &[ProjectRow],
@@ -222,12 +308,16 @@ pub(crate) fn lists_fit(
 ) -> Result<bool, AllocError>
     requires projects { Rise (map project_key projects.now) }
     requires students { Rise (map student_key students.now) }
-    ensures { IfOk result (λ yes. IsTrue yes ↔ ListsFit phase lecturers.now projects.now students.now) }
+    ensures { IfOk result (λ yes. IsTrue yes
+        ↔ ListsFit round phase lecturers.now projects.now students.now) }
 {
     if !phase_fits(phase, lecturers, students) {
         return Ok(false);
     }
-    if !choices_fit(alloc, projects, students)? {
+    if !round_fits(round, phase, lecturers, students) {
+        return Ok(false);
+    }
+    if !choices_in_play_fit(alloc, round, lecturers, projects, students)? {
         return Ok(false);
     }
     rankings_fit(alloc, is_published(phase), lecturers, projects, students)

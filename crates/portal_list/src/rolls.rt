@@ -73,7 +73,9 @@ fn have_student_form(rows: &[StudentRow])
 /// Whether each project is of a lecturer who is there.
 fn lecturers_are_known(lecturers: &[LecturerRow], projects: &[ProjectRow]) -> bool
     requires { Rise (lecturer_row_keys lecturers.now) }
-    ensures { IsTrue result ↔ AllByRecursion (λ p. has (lecturer_row_keys lecturers.now) p.lecturer ≡ true) projects.now }
+    ensures { IsTrue result
+        ↔ AllByRecursion
+        (λ p. has (lecturer_row_keys lecturers.now) p.lecturer ≡ true) projects.now }
 {
     projects
         .iter()
@@ -81,7 +83,8 @@ fn lecturers_are_known(lecturers: &[LecturerRow], projects: &[ProjectRow]) -> bo
 }
 
 fn lecturer_codes<'a>(alloc: Global, rows: &'a [LecturerRow]) -> Result<Vec<&'a [u8]>, AllocError>
-    ensures { IfOk result (λ codes. map (λ code. code.now) codes.items ≡ map (λ r. r.code) rows.now) }
+    ensures { IfOk result (λ codes. map (λ code. code.now) codes.items
+        ≡ map (λ r. r.code) rows.now) }
 {
     let mut codes = Vec::new(alloc);
     for row in rows {
@@ -91,7 +94,8 @@ fn lecturer_codes<'a>(alloc: Global, rows: &'a [LecturerRow]) -> Result<Vec<&'a 
 }
 
 fn student_codes<'a>(alloc: Global, rows: &'a [StudentRow]) -> Result<Vec<&'a [u8]>, AllocError>
-    ensures { IfOk result (λ codes. map (λ code. code.now) codes.items ≡ map (λ r. r.code) rows.now) }
+    ensures { IfOk result (λ codes. map (λ code. code.now) codes.items
+        ≡ map (λ r. r.code) rows.now) }
 {
     let mut codes = Vec::new(alloc);
     for row in rows {
@@ -107,7 +111,8 @@ fn codes_differ(
     lecturers: &[LecturerRow],
     students: &[StudentRow],
 ) -> Result<bool, AllocError>
-    ensures { IfOk result (λ yes. IsTrue yes ↔ AreDistinct (codes_in office.now lecturers.now students.now)) }
+    ensures { IfOk result (λ yes. IsTrue yes
+        ↔ AreDistinct (codes_in office.now lecturers.now students.now)) }
 {
     let lecturer_codes = lecturer_codes(alloc, lecturers)?;
     let student_codes = student_codes(alloc, students)?;
@@ -140,7 +145,8 @@ pub(crate) fn rolls_fit(
     projects: &[ProjectRow],
     students: &[StudentRow],
 ) -> Result<bool, AllocError>
-    ensures { IfOk result (λ yes. IsTrue yes ↔ RollsFit office.now lecturers.now projects.now students.now) }
+    ensures { IfOk result (λ yes. IsTrue yes
+        ↔ RollsFit office.now lecturers.now projects.now students.now) }
 {
     let _code = office.as_bytes();
     have_student_form(students);

@@ -1,24 +1,25 @@
 //! What each caller sees.
 
-ghost use Rattle.std.specs.Prelude.{◌≡◌, IfOk, option_map, Some, None, if◌then◌else◌};
+ghost use Rattle.std.specs.Prelude.{◌≡◌, IfOk, option_map};
 ghost use Rattle.std.specs.List.{find};
 ghost use Rattle.portal_core.specs.Words.{is};
-ghost use Rattle.portal_core.specs.World.{is_from_ranking, is_published};
+ghost use Rattle.portal_core.specs.World.{is_from_ranking};
 ghost use Rattle.portal_core.specs.View.{student_sees, lecturer_sees, office_sees};
 
 mod by_project;
 mod catalogue;
 mod office;
+mod places;
 
-use crate::copies::person_of;
+use crate::copies::{person_of, place_copy, ranking_copy};
 use crate::entries::{LecturerEntry, StudentEntry};
 use crate::keeper::ListKeeper;
 use by_project::{applicants_by_project, placed_by_project};
 pub(crate) use catalogue::catalogue_of;
 pub(crate) use office::waiting;
-use office::{lecturer_rows, pairs_of, project_rows, still_to_rank, student_rows, without_list};
+use office::{lecturer_rows, project_rows, still_to_rank, student_rows, without_list};
+use places::{pairs_of, place_shown};
 use portal_core::{LecturerView, OfficeView, Phase, StudentView, copy_keys};
-use spa_rows::Key;
 use std::alloc::{AllocError, Global};
 
 /// The lecturer with this code.
@@ -61,26 +62,6 @@ fn are_closed(phase: Phase) -> bool
     }
 }
 
-/// Whether the result is shown.
-fn is_shown(phase: Phase) -> bool
-    ensures { result ≡ is_published phase }
-{
-    match phase {
-        Phase::Published => true,
-        Phase::Setup | Phase::Choosing | Phase::Ranking => false,
-    }
-}
-
-/// A student's project, once the result is shown.
-fn shown_place(alloc: Global, phase: Phase, placed: &Option<Key>) -> Result<Option<Key>, AllocError>
-    ensures { IfOk result (λ p. p ≡ (if is_published phase then placed.now else None)) }
-{
-    match (phase, placed) {
-        (Phase::Published, Some(project)) => Ok(Some(project.copy(alloc)?)),
-        _ => Ok(None),
-    }
-}
-
 pub(crate) fn student_view(
     alloc: Global,
     keeper: &ListKeeper,
@@ -89,22 +70,13 @@ pub(crate) fn student_view(
     ensures { IfOk result (λ v. v ≡ student_sees keeper.now student.now) }
 {
     Ok(StudentView {
+        round: keeper.round,
         phase: keeper.phase,
         me: person_of(alloc, &student.row.key, &student.row.name)?,
         catalogue: keeper.catalogue(alloc)?,
         choices: copy_keys(alloc, &student.choice)?,
-        result: shown_place(alloc, keeper.phase, &student.placed)?,
+        result: place_copy(alloc, place_shown(keeper.phase, student))?,
     })
-}
-
-/// The same ranking again.
-fn ranking_of(alloc: Global, ranking: &Option<Vec<Key>>) -> Result<Option<Vec<Key>>, AllocError>
-    ensures { IfOk result (λ r. option_map (λ v. v.items) r ≡ option_map (λ v. v.items) ranking.now) }
-{
-    match ranking {
-        Some(keys) => Ok(Some(copy_keys(alloc, keys)?)),
-        None => Ok(None),
-    }
 }
 
 pub(crate) fn lecturer_view(
@@ -116,8 +88,8 @@ pub(crate) fn lecturer_view(
 {
     let row = &lecturer.row;
     let closed = are_closed(keeper.phase);
-    let published = is_shown(keeper.phase);
     Ok(LecturerView {
+        round: keeper.round,
         phase: keeper.phase,
         me: person_of(alloc, &row.key, &row.name)?,
         capacity: row.capacity,
@@ -129,10 +101,10 @@ pub(crate) fn lecturer_view(
             &row.key,
             &keeper.projects,
         )?,
-        ranking: ranking_of(alloc, &lecturer.ranking)?,
+        ranking: ranking_copy(alloc, &lecturer.ranking)?,
         placed: placed_by_project(
             alloc,
-            published,
+            keeper.phase,
             &keeper.students,
             &row.key,
             &keeper.projects,
@@ -144,15 +116,15 @@ pub(crate) fn office_view(alloc: Global, keeper: &ListKeeper) -> Result<OfficeVi
     ensures { IfOk result (λ v. v ≡ office_sees keeper.now) }
 {
     let closed = are_closed(keeper.phase);
-    let published = is_shown(keeper.phase);
     Ok(OfficeView {
+        round: keeper.round,
         phase: keeper.phase,
         office_code: keeper.office.copy(alloc)?,
         lecturers: lecturer_rows(alloc, &keeper.lecturers)?,
         projects: project_rows(alloc, &keeper.projects)?,
         students: student_rows(alloc, &keeper.students)?,
         catalogue: keeper.catalogue(alloc)?,
-        without_list: without_list(alloc, &keeper.students)?,
+        without_list: without_list(alloc, keeper.round, &keeper.students)?,
         still_to_rank: still_to_rank(
             alloc,
             closed,
@@ -160,6 +132,6 @@ pub(crate) fn office_view(alloc: Global, keeper: &ListKeeper) -> Result<OfficeVi
             &keeper.projects,
             &keeper.students,
         )?,
-        pairs: pairs_of(alloc, published, &keeper.students)?,
+        pairs: pairs_of(alloc, keeper.phase, &keeper.students)?,
     })
 }

@@ -41,7 +41,9 @@ fn note<'a>(
     project: &'a Key,
     place: usize,
 ) -> Result<(), AllocError>
-    ensures { OnOk result ((q : Bor Text) (i : ℕ) → is_noted places.new q i ≡ (is_noted places.old q i || (is q.now project.now && (place == i)))) }
+    ensures { OnOk result ((q : Bor Text) (i : ℕ)
+        → is_noted places.new q i
+        ≡ (is_noted places.old q i || (is q.now project.now && (place == i)))) }
 {
     let noted = places.entry(project.as_bytes())?.or_insert(Vec::new(alloc));
     noted.push(place)?;
@@ -55,7 +57,9 @@ fn note_all<'a>(
     choice: &'a [Key],
     place: usize,
 ) -> Result<(), AllocError>
-    ensures { OnOk result ((q : Bor Text) (i : ℕ) → is_noted places.new q i ≡ (is_noted places.old q i || (has choice.now q.now && (place == i)))) }
+    ensures { OnOk result ((q : Bor Text) (i : ℕ)
+        → is_noted places.new q i
+        ≡ (is_noted places.old q i || (has choice.now q.now && (place == i)))) }
 {
     for project in choice {
         note(alloc, places, project, place)?;
@@ -66,7 +70,8 @@ fn note_all<'a>(
 /// Marks these places.
 fn mark(marks: &mut [bool], places: &[usize])
     ensures len { length marks.new ≡ length marks.old }
-    ensures marks { (i : ℕ) → i < length marks.old → get_or marks.new i false ≡ (get_or marks.old i false || is_among places.now i) }
+    ensures marks { (i : ℕ) → i < length marks.old
+        → get_or marks.new i false ≡ (get_or marks.old i false || is_among places.now i) }
 {
     for place in places {
         if *place < marks.len() {
@@ -90,7 +95,10 @@ impl<'a> Wanted<'a> {
     /// For each student of the roll, whether the list holds one of the projects.
     fn marks(&self, alloc: Global, projects: &[&Key]) -> Result<Vec<bool>, AllocError>
         ensures len { IfOk result (λ v. length v.items ≡ length self.now) }
-        ensures marks { IfOk result (λ v. (i : ℕ) → i < length self.now → get_or v.items i false ≡ passes_at (λ s. list_any (λ p. has s.choice p) (map (λ k. k.now) projects.now)) self.now i) }
+        ensures marks { IfOk result (λ v. (i : ℕ) → i < length self.now
+            → get_or v.items i false
+            ≡ passes_at (λ s. list_any (λ p. has s.choice p)
+            (map (λ k. k.now) projects.now)) self.now i) }
     {
         let mut marks = vec![in alloc; false; self.students.len()]?;
         for project in projects {
@@ -107,7 +115,8 @@ impl<'a> Wanted<'a> {
         alloc: Global,
         projects: &[&Key],
     ) -> Result<Vec<&'a Key>, AllocError>
-        ensures { IfOk result (λ keys. map (λ k. k.now) keys.items ≡ map student_key (wanting (map (λ k. k.now) projects.now) self.now)) }
+        ensures { IfOk result (λ keys. map (λ k. k.now) keys.items
+            ≡ map student_key (wanting (map (λ k. k.now) projects.now) self.now)) }
     {
         let marks = self.marks(alloc, projects)?;
         let mut keys = Vec::new(alloc);

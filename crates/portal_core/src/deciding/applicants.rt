@@ -43,7 +43,8 @@ fn add_persons<'a>(
     keys: &mut HashMap<&'a [u8], &'a Key>,
     persons: &'a [Person],
 ) -> Result<(), AllocError>
-    ensures { OnOk result ((known : words.Key → Bool) → HasKeys known keys.old → HasKeys (λ k. known k || list_any (λ s. is s.key k) persons.now) keys.new) }
+    ensures { OnOk result ((known : words.Key → Bool) → HasKeys known keys.old
+        → HasKeys (λ k. known k || list_any (λ s. is s.key k) persons.now) keys.new) }
 {
     for person in persons {
         keys.insert(person.key.as_bytes(), &person.key)?;
@@ -53,7 +54,8 @@ fn add_persons<'a>(
 
 /// Whether some person is not among these.
 fn leaves_out(keys: &HashSet<&[u8]>, persons: &[Person]) -> bool
-    ensures { result ≡ list_any (λ s. not (contains_by (λ k. is s.key k.now) keys.now)) persons.now }
+    ensures { result ≡ list_any
+        (λ s. not (contains_by (λ k. is s.key k.now) keys.now)) persons.now }
 {
     persons
         .iter()
@@ -77,7 +79,8 @@ impl<'a> Applicants<'a> {
 
     /// The key of the applicant with this text, to whichever project.
     pub(crate) fn find(&self, text: &[u8]) -> Option<&'a Key>
-        ensures some { IfSome result (λ key. (key.now ≡ text.now) × (is_applicant self.now text.now ≡ true)) }
+        ensures some { IfSome result
+            (λ key. (key.now ≡ text.now) × (is_applicant self.now text.now ≡ true)) }
         ensures none { IfNone result (is_applicant self.now text.now ≡ false) }
     {
         self.keys.get(&text).copied()

@@ -63,7 +63,8 @@ fn applicants_value(
 
 /// The applicants to each project.
 fn applicants_body(alloc: Global, projects: &[(Key, Vec<Person>)]) -> Result<Value, AllocError>
-    ensures { IfOk result (λ body. json.view body ≡ shown.applicants_body (by_project projects.now)) }
+    ensures { IfOk result (λ body. json.view body
+        ≡ shown.applicants_body (by_project projects.now)) }
 {
     let mut values = Vec::new(alloc);
     for (project, applicants) in projects {
@@ -96,7 +97,8 @@ fn placed_body(alloc: Global, projects: &[(Key, Vec<Person>)]) -> Result<Value, 
 
 /// The students of a ranking, or null where none is there.
 fn ranking_value(alloc: Global, ranking: &Option<Vec<Key>>) -> Result<Value, AllocError>
-    ensures { IfOk result (λ value. json.view value ≡ texts_or_null (option_map (λ r. r.items) ranking.now)) }
+    ensures { IfOk result (λ value. json.view value
+        ≡ texts_or_null (option_map (λ r. r.items) ranking.now)) }
 {
     match ranking {
         None => Ok(Value::Null),
@@ -106,7 +108,8 @@ fn ranking_value(alloc: Global, ranking: &Option<Vec<Key>>) -> Result<Value, All
 
 /// A ranking.
 fn ranking_body(alloc: Global, students: Value) -> Result<Value, AllocError>
-    ensures { IfOk result (λ body. json.view body ≡ dictionary ((codes "students", json.view students) ∷ [])) }
+    ensures { IfOk result (λ body. json.view body
+        ≡ dictionary ((codes "students", json.view students) ∷ [])) }
 {
     json!(in alloc; {"students": students})
 }
@@ -177,7 +180,8 @@ fn take_ranking(
 
 /// A lecturer hands in a ranking.
 fn set_ranking(alloc: Global, view: &LecturerView, list: &[Vec<u8>]) -> Result<Decision, AllocError>
-    ensures { IfOk result (λ decision. decided decision ≡ to_lecturer view.now (Ask.SetRanking (texts_of list.now))) }
+    ensures { IfOk result (λ decision. decided decision
+        ≡ to_lecturer view.now (Ask.SetRanking (texts_of list.now))) }
 {
     match view.phase {
         Phase::Ranking => take_ranking(alloc, view, list),

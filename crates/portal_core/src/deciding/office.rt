@@ -55,7 +55,9 @@ fn unplaced_values(
     placings: &Placings,
     students: &[StudentRow],
 ) -> Result<Vec<Value>, AllocError>
-    ensures { IfOk result (λ values. map json.view values.items ≡ map string (map (λ s. s.key) (filter (λ s. not (shown.is_assigned placings.now.pairs s.key)) students.now))) }
+    ensures { IfOk result (λ values. map json.view values.items
+        ≡ map string (map (λ s. s.key)
+        (filter (λ s. not (shown.is_assigned placings.now.pairs s.key)) students.now))) }
 {
     let mut values = Vec::new(alloc);
     for student in students {
@@ -68,7 +70,8 @@ fn unplaced_values(
 
 /// The students who have no project in the result.
 fn unassigned_values(alloc: Global, view: &OfficeView) -> Result<Vec<Value>, AllocError>
-    ensures { IfOk result (λ values. map json.view values.items ≡ map string (shown.unassigned view.now)) }
+    ensures { IfOk result (λ values. map json.view values.items
+        ≡ map string (shown.unassigned view.now)) }
 {
     let placings = Placings::of(alloc, view)?;
     unplaced_values(alloc, &placings, &view.students)
@@ -156,7 +159,9 @@ fn status_body(alloc: Global, view: &OfficeView) -> Result<Value, AllocError>
 
 /// A student and the project.
 fn pair_value(alloc: Global, pair: &(Key, Key)) -> Result<Value, AllocError>
-    ensures { IfOk result (λ value. json.view value ≡ dictionary ((codes "project", string pair.now.1) ∷ (codes "student", string pair.now.0) ∷ [])) }
+    ensures { IfOk result (λ value. json.view value
+        ≡ dictionary ((codes "project", string pair.now.1) ∷ (codes "student", string pair.now.0)
+        ∷ [])) }
 {
     let (student, project) = pair;
     json!(in alloc; {"project": project.as_str(), "student": student.as_str()})
@@ -164,7 +169,9 @@ fn pair_value(alloc: Global, pair: &(Key, Key)) -> Result<Value, AllocError>
 
 /// Each student and the project.
 fn pair_values(alloc: Global, pairs: &[(Key, Key)]) -> Result<Vec<Value>, AllocError>
-    ensures { IfOk result (λ values. map json.view values.items ≡ map (λ (x : Key × Key). dictionary ((codes "project", string x.1) ∷ (codes "student", string x.0) ∷ [])) pairs.now) }
+    ensures { IfOk result (λ values. map json.view values.items
+        ≡ map (λ (x : Key × Key). dictionary
+        ((codes "project", string x.1) ∷ (codes "student", string x.0) ∷ [])) pairs.now) }
 {
     let mut values = Vec::new(alloc);
     for pair in pairs {
@@ -183,7 +190,8 @@ fn allocation_body(alloc: Global, pairs: &[(Key, Key)]) -> Result<Value, AllocEr
 
 /// How a faulty row of a roll is refused.
 fn row_refusal(alloc: Global, fault: &RollFault) -> Result<Reply, AllocError>
-    ensures { IfOk result (λ reply. told reply ≡ row_fault fault.now.status fault.now.word fault.now.row) }
+    ensures { IfOk result (λ reply. told reply
+        ≡ row_fault fault.now.status fault.now.word fault.now.row) }
 {
     match fault.row {
         None => refused(alloc, fault.status, fault.word),
@@ -203,7 +211,8 @@ fn roll_body(alloc: Global, new: usize, same: u64) -> Result<Value, AllocError>
 
 /// The new rows are added, where there are any.
 fn adds<X: Drop, R: Roll<X>>(roll: &R, new: Vec<X>) -> Act
-    ensures { does result ≡ (if is_empty new.items then Nothing else Apply (R.changes roll.now new.items)) }
+    ensures { does result ≡
+        (if is_empty new.items then Nothing else Apply (R.changes roll.now new.items)) }
 {
     if new.is_empty() {
         return Act::Nothing;
@@ -217,7 +226,8 @@ fn accepts<X: Drop, R: Roll<X>>(
     roll: &R,
     added: Added<X>,
 ) -> Result<Decision, AllocError>
-    ensures { IfOk result (λ decision. decided decision ≡ answer.added (R.changes roll.now) (Took added.new.items added.same)) }
+    ensures { IfOk result (λ decision. decided decision
+        ≡ answer.added (R.changes roll.now) (Took added.new.items added.same)) }
 {
     let body = roll_body(alloc, added.new.len(), added.same)?;
     Ok(Decision {
@@ -244,7 +254,10 @@ fn add_rows<X: Drop, R: Roll<X>>(
     on_roll: &[X],
     rows: &[X],
 ) -> Result<Decision, AllocError>
-    ensures { IfOk result (λ decision. decided decision ≡ only is_open (answer.added (R.changes roll.now) (rolls.take_rows (R.rules roll.now) 1 on_roll.now rows.now))) }
+    ensures { IfOk result (λ decision. decided decision
+        ≡ only is_open
+        (answer.added (R.changes roll.now)
+        (rolls.take_rows (R.rules roll.now) 1 on_roll.now rows.now))) }
 {
     if !is_open {
         return wrong_phase(alloc);
@@ -257,7 +270,9 @@ fn add_rows<X: Drop, R: Roll<X>>(
 
 /// The lecturers who are still to rank.
 fn still_to_rank_body(alloc: Global, keys: &[Key]) -> Result<Value, AllocError>
-    ensures { IfOk result (λ body. json.view body ≡ dictionary ((codes "error", string (codes "still_to_rank")) ∷ (codes "lecturers", form.texts keys.now) ∷ [])) }
+    ensures { IfOk result (λ body. json.view body
+        ≡ dictionary ((codes "error", string (codes "still_to_rank"))
+        ∷ (codes "lecturers", form.texts keys.now) ∷ [])) }
 {
     let lecturers = texts(alloc, keys)?;
     json!(in alloc; {"error": "still_to_rank", "lecturers": lecturers})
@@ -308,7 +323,8 @@ fn move_in(
     round: Round,
     phase: Phase,
 ) -> Result<Decision, AllocError>
-    ensures { IfOk result (λ decision. decided decision ≡ moves_in view.now view.now.round round phase) }
+    ensures { IfOk result (λ decision. decided decision
+        ≡ moves_in view.now view.now.round round phase) }
 {
     match (view.round, round) {
         (Round::First, Round::First) | (Round::Second, Round::Second) => {
@@ -335,7 +351,9 @@ fn move_to(
 
 /// Shows the result, once one is there.
 fn allocation(alloc: Global, view: &OfficeView) -> Result<Decision, AllocError>
-    ensures { IfOk result (λ decision. decided decision ≡ only (world.has_result view.now.round view.now.phase) (answer.shows (shown.allocation_body view.now.pairs))) }
+    ensures { IfOk result (λ decision. decided decision
+        ≡ only (world.has_result view.now.round view.now.phase)
+        (answer.shows (shown.allocation_body view.now.pairs))) }
 {
     if !view.round.has_result(view.phase) {
         return wrong_phase(alloc);
@@ -345,7 +363,9 @@ fn allocation(alloc: Global, view: &OfficeView) -> Result<Decision, AllocError>
 
 /// The result as a sheet, once a result is there; its text is still to be written.
 fn sheet(alloc: Global, view: &OfficeView, sheet: Sheet) -> Result<Decision, AllocError>
-    ensures { IfOk result (λ decision. decided decision ≡ only (world.has_result view.now.round view.now.phase) (answer.renders (blank sheet) sheet)) }
+    ensures { IfOk result (λ decision. decided decision
+        ≡ only (world.has_result view.now.round view.now.phase)
+        (answer.renders (blank sheet) sheet)) }
 {
     if !view.round.has_result(view.phase) {
         return wrong_phase(alloc);
@@ -373,7 +393,8 @@ fn fill_act(view: &OfficeView) -> Act
 
 /// Fills the missing rankings, while the lecturers rank.
 fn fill_rankings(alloc: Global, view: &OfficeView) -> Result<Decision, AllocError>
-    ensures { IfOk result (λ decision. decided decision ≡ only (is_ranking view.now.phase) (answer.fills view.now)) }
+    ensures { IfOk result (λ decision. decided decision
+        ≡ only (is_ranking view.now.phase) (answer.fills view.now)) }
 {
     if view.phase != Phase::Ranking {
         return wrong_phase(alloc);
@@ -391,7 +412,8 @@ pub(crate) fn decide_office(
     view: &OfficeView,
     call: &Call,
 ) -> Result<Decision, AllocError>
-    ensures { IfOk result (λ decision. decided decision ≡ emptied (to_office view.now (asked call.now))) }
+    ensures { IfOk result (λ decision. decided decision
+        ≡ emptied (to_office view.now (asked call.now))) }
 {
     let is_open = is_open_to_rolls(view.round, view.phase);
     match call {

@@ -97,7 +97,8 @@ fn take_choices(alloc: Global, view: &StudentView, list: &[Vec<u8>]) -> Result<D
 
 /// A student hands in a list.
 fn set_choices(alloc: Global, view: &StudentView, list: &[Vec<u8>]) -> Result<Decision, AllocError>
-    ensures { IfOk result (λ decision. decided decision ≡ to_student view.now (Ask.SetChoices (texts_of list.now))) }
+    ensures { IfOk result (λ decision. decided decision
+        ≡ to_student view.now (Ask.SetChoices (texts_of list.now))) }
 {
     match view.phase {
         Phase::Choosing => match view.result {

@@ -110,7 +110,8 @@ pub(crate) fn fill_rankings(
     projects: &[ProjectRow],
     students: &[StudentEntry],
 ) -> Result<(), AllocError>
-    ensures made { OnOk result (lecturers.new ≡ map (filled projects.now students.now) lecturers.old) }
+    ensures made { OnOk result (lecturers.new
+        ≡ map (filled projects.now students.now) lecturers.old) }
     ensures same { OnErr result (lecturers.new ≡ lecturers.old) }
 {
     let mut rankings = missing_rankings(alloc, lecturers, projects, students)?;

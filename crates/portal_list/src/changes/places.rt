@@ -1,22 +1,14 @@
 //! The result.
 
-ghost use Rattle.std.specs.Prelude.{◌≡◌, IfOk, OnOk, OnErr, map, option_map};
+ghost use Rattle.std.specs.Prelude.{◌≡◌, IfOk, OnOk, OnErr, map};
 ghost use Rattle.portal_core.specs.Change.{place_in, with_place};
+ghost use Rattle.portal_list.specs.Played.{placed_now};
 
+use crate::copies::place_copy;
 use crate::entries::StudentEntry;
 use portal_core::Pairs;
 use spa_rows::Key;
 use std::alloc::{AllocError, Global};
-
-/// The same project again, if there is one.
-fn place_copy(alloc: Global, project: Option<&Key>) -> Result<Option<Key>, AllocError>
-    ensures { IfOk result (λ o. o ≡ option_map (λ p. p.now) project.entry) }
-{
-    match project {
-        Some(key) => Ok(Some(key.copy(alloc)?)),
-        None => Ok(None),
-    }
-}
 
 /// The project of each student.
 fn places_of(
@@ -35,7 +27,16 @@ fn places_of(
     Ok(places)
 }
 
-/// Gives each student the project of the pairs, or none.
+/// The student gets the project, or none. Who has a project of the first round keeps it alone.
+fn place(student: &mut StudentEntry, project: Option<Key>)
+    ensures { student.new ≡ placed_now student.old project }
+{
+    if student.earlier_place.is_none() {
+        student.placed = project;
+    }
+}
+
+/// Gives each student who takes part the project of the pairs, or none.
 pub(crate) fn place_all(
     alloc: Global,
     students: &mut [StudentEntry],
@@ -46,7 +47,7 @@ pub(crate) fn place_all(
 {
     let mut places = places_of(alloc, students, pairs)?;
     for (i, student) in students.iter_mut().enumerate() {
-        student.placed = places[i].take();
+        place(student, places[i].take());
     }
     Ok(())
 }

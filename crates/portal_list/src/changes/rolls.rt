@@ -20,6 +20,7 @@ fn new_lecturers(alloc: Global, rows: &[LecturerRow]) -> Result<Vec<LecturerEntr
         fresh.push(LecturerEntry {
             row: row.copy(alloc)?,
             ranking: None,
+            earlier_ranking: None,
         })?;
     }
     Ok(fresh)
@@ -35,6 +36,8 @@ fn new_students(alloc: Global, rows: &[StudentRow]) -> Result<Vec<StudentEntry>,
             row: row.copy(alloc)?,
             choice: Vec::new(alloc),
             placed: None,
+            earlier_choice: Vec::new(alloc),
+            earlier_place: None,
         })?;
     }
     Ok(fresh)
@@ -46,7 +49,8 @@ pub(crate) fn add_lecturers(
     lecturers: &mut Vec<LecturerEntry>,
     rows: &[LecturerRow],
 ) -> Result<(), AllocError>
-    ensures made { OnOk result (lecturers.new.items ≡ put_all lecturer_key (map new_lecturer rows.now) lecturers.old.items) }
+    ensures made { OnOk result (lecturers.new.items
+        ≡ put_all lecturer_key (map new_lecturer rows.now) lecturers.old.items) }
     ensures same { OnErr result (lecturers.new.items ≡ lecturers.old.items) }
 {
     let fresh = new_lecturers(alloc, rows)?;
@@ -61,7 +65,8 @@ pub(crate) fn add_projects(
     projects: &mut Vec<ProjectRow>,
     rows: &[ProjectRow],
 ) -> Result<(), AllocError>
-    ensures made { OnOk result (projects.new.items ≡ put_all project_key rows.now projects.old.items) }
+    ensures made { OnOk result (projects.new.items
+        ≡ put_all project_key rows.now projects.old.items) }
     ensures same { OnErr result (projects.new.items ≡ projects.old.items) }
 {
     let fresh = project_rows_of(alloc, rows)?;
@@ -76,7 +81,8 @@ pub(crate) fn add_students(
     students: &mut Vec<StudentEntry>,
     rows: &[StudentRow],
 ) -> Result<(), AllocError>
-    ensures made { OnOk result (students.new.items ≡ put_all student_key (map new_student rows.now) students.old.items) }
+    ensures made { OnOk result (students.new.items
+        ≡ put_all student_key (map new_student rows.now) students.old.items) }
     ensures same { OnErr result (students.new.items ≡ students.old.items) }
 {
     let fresh = new_students(alloc, rows)?;

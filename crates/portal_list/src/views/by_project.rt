@@ -1,14 +1,15 @@
 //! Applicants and placed students, project by project.
 
-ghost use Rattle.std.specs.Prelude.{◌≡◌, IfOk, map, filter, [], if◌then◌else◌};
+ghost use Rattle.std.specs.Prelude.{◌≡◌, IfOk, map, option_map, filter, [], if◌then◌else◌};
 ghost use Rattle.portal_core.specs.Words.{has};
-ghost use Rattle.portal_core.specs.World.{is_at};
+ghost use Rattle.portal_core.specs.World.{is_at, shown_place};
 ghost use Rattle.portal_core.specs.View.{persons};
 ghost use Rattle.portal_list.specs.Shown.{applicants_shown, placed_shown};
 
+use super::places::place_shown;
 use crate::copies::{holds, person_of};
 use crate::entries::StudentEntry;
-use portal_core::{Person, ProjectRow};
+use portal_core::{Person, Phase, ProjectRow};
 use spa_rows::Key;
 use std::alloc::{AllocError, Global};
 
@@ -18,7 +19,8 @@ fn applicants_to(
     students: &[StudentEntry],
     project: &Key,
 ) -> Result<Vec<Person>, AllocError>
-    ensures { IfOk result (λ v. v.items ≡ persons (filter (λ s. has s.choice project.now) students.now)) }
+    ensures { IfOk result (λ v. v.items
+        ≡ persons (filter (λ s. has s.choice project.now) students.now)) }
 {
     let mut applicants = Vec::new(alloc);
     for student in students {
@@ -29,27 +31,29 @@ fn applicants_to(
     Ok(applicants)
 }
 
-/// Whether the result gives this project.
-fn is_placed_at(placed: &Option<Key>, project: &Key) -> bool
-    ensures { result ≡ is_at project.now placed.now }
+/// Whether this project is given.
+fn is_given(place: Option<&Key>, project: &Key) -> bool
+    ensures { result ≡ is_at project.now (option_map (λ k. k.now) place.entry) }
 {
-    match placed {
-        Some(key) => key == project,
+    match place {
+        Some(key) => *key == *project,
         None => false,
     }
 }
 
-/// The students whom the result places at the project.
+/// The students whom the results that are shown place at the project.
 fn placed_at(
     alloc: Global,
+    phase: Phase,
     students: &[StudentEntry],
     project: &Key,
 ) -> Result<Vec<Person>, AllocError>
-    ensures { IfOk result (λ v. v.items ≡ persons (filter (λ s. is_at project.now s.placed) students.now)) }
+    ensures { IfOk result (λ v. v.items
+        ≡ persons (filter (λ s. is_at project.now (shown_place phase s)) students.now)) }
 {
     let mut found = Vec::new(alloc);
     for student in students {
-        if is_placed_at(&student.placed, project) {
+        if is_given(place_shown(phase, student), project) {
             found.push(person_of(alloc, &student.row.key, &student.row.name)?)?;
         }
     }
@@ -63,26 +67,11 @@ fn shown_applicants(
     students: &[StudentEntry],
     project: &Key,
 ) -> Result<Vec<Person>, AllocError>
-    ensures { IfOk result (λ v. v.items ≡ (if closed then persons (filter (λ s. has s.choice project.now) students.now) else [])) }
+    ensures { IfOk result (λ v. v.items
+        ≡ (if closed then persons (filter (λ s. has s.choice project.now) students.now) else [])) }
 {
     if closed {
         applicants_to(alloc, students, project)
-    } else {
-        Ok(Vec::new(alloc))
-    }
-}
-
-/// The students placed at a project, once the result is shown.
-fn shown_placed(
-    alloc: Global,
-    published: bool,
-    students: &[StudentEntry],
-    project: &Key,
-) -> Result<Vec<Person>, AllocError>
-    ensures { IfOk result (λ v. v.items ≡ (if published then persons (filter (λ s. is_at project.now s.placed) students.now) else [])) }
-{
-    if published {
-        placed_at(alloc, students, project)
     } else {
         Ok(Vec::new(alloc))
     }
@@ -96,7 +85,8 @@ pub(super) fn applicants_by_project(
     lecturer: &Key,
     projects: &[ProjectRow],
 ) -> Result<Vec<(Key, Vec<Person>)>, AllocError>
-    ensures { IfOk result (λ v. map (λ p. (p.0, p.1.items)) v.items ≡ applicants_shown closed students.now lecturer.now projects.now) }
+    ensures { IfOk result (λ v. map (λ p. (p.0, p.1.items)) v.items
+        ≡ applicants_shown closed students.now lecturer.now projects.now) }
 {
     let mut found = Vec::new(alloc);
     for project in projects {
@@ -111,17 +101,18 @@ pub(super) fn applicants_by_project(
 /// The students placed at each project of the lecturer.
 pub(super) fn placed_by_project(
     alloc: Global,
-    published: bool,
+    phase: Phase,
     students: &[StudentEntry],
     lecturer: &Key,
     projects: &[ProjectRow],
 ) -> Result<Vec<(Key, Vec<Person>)>, AllocError>
-    ensures { IfOk result (λ v. map (λ p. (p.0, p.1.items)) v.items ≡ placed_shown published students.now lecturer.now projects.now) }
+    ensures { IfOk result (λ v. map (λ p. (p.0, p.1.items)) v.items
+        ≡ placed_shown phase students.now lecturer.now projects.now) }
 {
     let mut found = Vec::new(alloc);
     for project in projects {
         if project.lecturer == *lecturer {
-            let persons = shown_placed(alloc, published, students, &project.key)?;
+            let persons = placed_at(alloc, phase, students, &project.key)?;
             found.push((project.key.copy(alloc)?, persons))?;
         }
     }

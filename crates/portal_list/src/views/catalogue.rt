@@ -2,9 +2,11 @@
 
 ghost use Rattle.std.specs.Prelude.{◌≡◌, IfOk, option_map};
 ghost use Rattle.portal_core.specs.View.{name_in, listing_with, listings};
+ghost use Rattle.portal_list.specs.Shown.{catalogue_in};
 
-use crate::entries::LecturerEntry;
-use portal_core::{Listing, Name, ProjectRow};
+use crate::entries::{LecturerEntry, StudentEntry};
+use crate::played::played;
+use portal_core::{Listing, Name, ProjectRow, Round};
 use spa_rows::Key;
 use std::alloc::{AllocError, Global};
 
@@ -25,7 +27,8 @@ fn listing_among(
     lecturers: &[LecturerEntry],
     project: &ProjectRow,
 ) -> Result<Option<Listing>, AllocError>
-    ensures { IfOk result (λ o. o ≡ option_map (listing_with project.now) (name_in lecturers.now project.now.lecturer)) }
+    ensures { IfOk result (λ o. o
+        ≡ option_map (listing_with project.now) (name_in lecturers.now project.now.lecturer)) }
 {
     match name_among(lecturers, &project.lecturer) {
         Some(name) => Ok(Some(Listing::of(alloc, project, name)?)),
@@ -34,7 +37,7 @@ fn listing_among(
 }
 
 /// Each project with its lecturer's name.
-pub(crate) fn catalogue_of(
+fn listings_of(
     alloc: Global,
     lecturers: &[LecturerEntry],
     projects: &[ProjectRow],
@@ -48,4 +51,24 @@ pub(crate) fn catalogue_of(
         }
     }
     Ok(found)
+}
+
+/// The catalogue of the round.
+pub(crate) fn catalogue_of(
+    alloc: Global,
+    round: Round,
+    lecturers: &[LecturerEntry],
+    projects: &[ProjectRow],
+    students: &[StudentEntry],
+) -> Result<Vec<Listing>, AllocError>
+    ensures { IfOk result (λ v. v.items
+        ≡ catalogue_in round lecturers.now projects.now students.now) }
+{
+    match round {
+        Round::First => listings_of(alloc, lecturers, projects),
+        Round::Second => {
+            let left = played(alloc, lecturers, projects, students)?;
+            listings_of(alloc, &left.lecturers, &left.projects)
+        }
+    }
 }

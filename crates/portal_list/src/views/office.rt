@@ -1,13 +1,15 @@
 //! What only the office sees.
 
-ghost use Rattle.std.specs.Prelude.{◌≡◌, IfOk, option_map, map, filter, [], if◌then◌else◌};
+ghost use Rattle.std.specs.Prelude.{◌≡◌, IfOk, map, filter, ◌&&◌, [], if◌then◌else◌};
 ghost use Rattle.std.specs.List.{list_any};
 ghost use Rattle.portal_core.specs.Words.{has, is_empty};
-ghost use Rattle.portal_list.specs.Shown.{is_wanted, is_waiting, pairs_in};
+ghost use Rattle.portal_list.specs.Played.{takes_part};
+ghost use Rattle.portal_list.specs.Shown.{is_wanted, is_waiting};
 
 use crate::copies::{holds, project_rows_of};
 use crate::entries::{LecturerEntry, StudentEntry};
-use portal_core::{LecturerRow, ProjectRow, StudentRow};
+use crate::played::takes_part;
+use portal_core::{LecturerRow, ProjectRow, Round, StudentRow};
 use spa_rows::Key;
 use std::alloc::{AllocError, Global};
 use std::rc::Rc;
@@ -51,13 +53,19 @@ pub(super) fn student_rows(
     Ok(Rc::new(alloc, rows)?)
 }
 
-/// The students whose list is empty.
-pub(super) fn without_list(alloc: Global, students: &[StudentEntry]) -> Result<Vec<Key>, AllocError>
-    ensures { IfOk result (λ v. v.items ≡ map (λ s. s.row.key) (filter (λ s. is_empty s.choice) students.now)) }
+/// The students who take part and whose list is empty.
+pub(super) fn without_list(
+    alloc: Global,
+    round: Round,
+    students: &[StudentEntry],
+) -> Result<Vec<Key>, AllocError>
+    ensures { IfOk result (λ v. v.items
+        ≡ map (λ s. s.row.key)
+        (filter (λ s. takes_part round s && is_empty s.choice) students.now)) }
 {
     let mut found = Vec::new(alloc);
     for student in students {
-        if student.choice.is_empty() {
+        if takes_part(round, student) && student.choice.is_empty() {
             found.push(student.row.key.copy(alloc)?)?;
         }
     }
@@ -87,7 +95,8 @@ pub(crate) fn waiting(
     projects: &[ProjectRow],
     students: &[StudentEntry],
 ) -> Result<Vec<Key>, AllocError>
-    ensures { IfOk result (λ v. v.items ≡ map (λ l. l.row.key) (filter (is_waiting students.now projects.now) lecturers.now)) }
+    ensures { IfOk result (λ v. v.items
+        ≡ map (λ l. l.row.key) (filter (is_waiting students.now projects.now) lecturers.now)) }
 {
     let mut found = Vec::new(alloc);
     for lecturer in lecturers {
@@ -106,48 +115,12 @@ pub(super) fn still_to_rank(
     projects: &[ProjectRow],
     students: &[StudentEntry],
 ) -> Result<Vec<Key>, AllocError>
-    ensures { IfOk result (λ v. v.items ≡ (if closed then map (λ l. l.row.key) (filter (is_waiting students.now projects.now) lecturers.now) else [])) }
+    ensures { IfOk result (λ v. v.items
+        ≡ (if closed then map (λ l. l.row.key)
+        (filter (is_waiting students.now projects.now) lecturers.now) else [])) }
 {
     if closed {
         waiting(alloc, lecturers, projects, students)
-    } else {
-        Ok(Vec::new(alloc))
-    }
-}
-
-/// A student's pair of the result, if there is one.
-fn pair_of(alloc: Global, student: &StudentEntry) -> Result<Option<(Key, Key)>, AllocError>
-    ensures { IfOk result (λ o. o ≡ option_map (λ p. (student.now.row.key, p)) student.now.placed) }
-{
-    match &student.placed {
-        Some(project) => Ok(Some((student.row.key.copy(alloc)?, project.copy(alloc)?))),
-        None => Ok(None),
-    }
-}
-
-/// The pairs of the result.
-fn placed_pairs(alloc: Global, students: &[StudentEntry]) -> Result<Vec<(Key, Key)>, AllocError>
-    ensures { IfOk result (λ v. v.items ≡ pairs_in students.now) }
-{
-    let mut pairs = Vec::new(alloc);
-    for student in students {
-        if let Some(pair) = pair_of(alloc, student)? {
-            pairs.push(pair)?;
-        }
-    }
-    Ok(pairs)
-}
-
-/// The pairs of the result, once it is shown.
-pub(super) fn pairs_of(
-    alloc: Global,
-    published: bool,
-    students: &[StudentEntry],
-) -> Result<Vec<(Key, Key)>, AllocError>
-    ensures { IfOk result (λ v. v.items ≡ (if published then pairs_in students.now else [])) }
-{
-    if published {
-        placed_pairs(alloc, students)
     } else {
         Ok(Vec::new(alloc))
     }

@@ -6,12 +6,13 @@ use Rattle.portal_list.proofs.views.lecturer_view.Goals as goal
 pub returns : goal.returns
 returns c =
     (λ i. record {
+      round = c.keeper.inside.round;
       phase = c.keeper.inside.phase;
       me = c.in_ok-person_of.ensures i;
       capacity = c.lecturer.inside.row.capacity;
       catalogue = (c.in_ok-catalogue.ensures ∙ ap catalogue (sym c.keeper.view_is)) i;
       applicants = (c.in_ok-applicants_by_project.ensures ∙ λ j. applicants_shown (c.are_closed-closed.ensures j) (c.deref.ensures.value j) c.lecturer.inside.row.key (c.deref-2.ensures.value j)) i;
-      ranking = c.in_ok-ranking_of.ensures i;
-      placed = (c.in_ok-placed_by_project.ensures ∙ λ j. placed_shown (c.is_shown-published.ensures j) (c.deref-3.ensures.value j) c.lecturer.inside.row.key (c.deref-4.ensures.value j)) i;
+      ranking = c.in_ok-ranking_copy.ensures i;
+      placed = (c.in_ok-placed_by_project.ensures ∙ λ j. placed_shown c.keeper.inside.phase (c.deref-3.ensures.value j) c.lecturer.inside.row.key (c.deref-4.ensures.value j)) i;
     })
     ∙ λ i. lecturer_sees (c.keeper.view_is i) (c.lecturer.view_is i)

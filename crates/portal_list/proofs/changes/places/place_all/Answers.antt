@@ -1,10 +1,10 @@
 use Rattle.std.proofs.Common.{◌≡◌, ◌+◌, ◌<◌, List, length, get_or, drop, map, sym, ap, ◌∙◌, arith}
-use Rattle.std.specs.Prelude.{Option, slice_set}
+use Rattle.std.specs.Prelude.{slice_set}
 use Rattle.std.proofs.lemmas.List.{drop-set-lt}
 use Rattle.std.proofs.lemmas.List.Edits.{map_over_more}
-use Rattle.portal_core.specs.Words.{Key}
 use Rattle.portal_core.specs.World.{Student}
 use Rattle.portal_core.specs.Change.{place_in, with_place}
+use Rattle.portal_list.specs.Played.{placed_now}
 use Rattle.portal_list.proofs.Placed.{place_read, row_read}
 use Rattle.portal_list.proofs.changes.places.place_all.Goals as goal
 
@@ -20,8 +20,8 @@ loop-i-preserved c =
     record {
       students =
           ap (slice_set c.loop-i.students c.loop-i.i)
-          (ap (λ (s : Student). record s { placed = c.take.result }) (c.student.view_is ∙ sym c.index-students-i.is)
-          ∙ ap (λ (o : Option Key). record x { placed = o }) (c.take.ensures.value ∙ c.index_mut.ensures.value ∙ read.0 ∙ ap (λ (s : Student). place_in c.args.pairs.now s.row.key) (sym same)))
+          (c.place.ensures ∙ ap (λ s. placed_now s c.take.result) (sym c.index-students-i.is)
+          ∙ ap (placed_now x) (c.take.ensures.value ∙ c.index_mut.ensures.value ∙ read.0 ∙ ap (λ (s : Student). place_in c.args.pairs.now s.row.key) (sym same)))
           ∙ map_over_more (with_place c.args.pairs.now) c.args.students.now c.loop-i.students c.loop-i.i x within c.loop-i.invariant.students c.index-students-i.is;
       places = drop-set-lt (c.loop-i.i + 1) c.loop-i.places.items c.loop-i.i c.take.new.self (omega arith) ∙ read.1;
     }

@@ -1,19 +1,13 @@
-use Rattle.std.proofs.Common.{◌≡◌, true, rules, sym, ap, ◌∙◌}
-use Rattle.portal_core.specs.World.{World, is_published}
-use Rattle.portal_core.specs.Instance.{instance}
-use Rattle.portal_list.proofs.Stable.{good_if_stable}
+use Rattle.std.proofs.lemmas.Bool.{false≢true, iff_false}
+use Rattle.std.proofs.lemmas.Result.{IfOk-weaker}
 use Rattle.portal_list.proofs.keeper.ListKeeper.is_good.Goals as goal
+
+pub returns-then-not-branch : goal.returns-then-not-branch
+returns-then-not-branch c = (λ e. absurd (false≢true e), λ good. absurd (iff_false c.in_ok-is_settled.ensures c.if-not-branch.true good.stable))
 
 pub returns : goal.returns
 returns c =
-    let w = c.args.self.now in
-    let i = c.in_ok-instance.instance in
-    let students : c.deref-3.result.now ≡ w.students = c.deref-3.ensures.value ∙ ap (λ (v : World). v.students) c.self.view_is in
-    let again : c.deref-4.result.now ≡ w.students = c.deref-4.ensures.value ∙ ap (λ (v : World). v.students) c.self.view_is in
-    let same : i ≡ instance w = c.in_ok-instance.ensures.instance w (record {
-      lecturers_there = sym (c.deref.ensures.value ∙ ap (λ (v : World). v.lecturers) c.self.view_is);
-      projects_there = sym (c.deref-2.ensures.value ∙ ap (λ (v : World). v.projects) c.self.view_is);
-      students_there = sym students;
-    }) c.requires in
-    let published : is_published w.phase ≡ true = ap (λ (v : World). is_published v.phase) (sym c.self.view_is) ∙ sym c.is_published.ensures ∙ search rules in
-    good_if_stable w i c.deref-4.result.now c.in_ok-places.places.items c.are_stable.result c.requires published same again c.in_ok-places.ensures c.are_stable.ensures
+    IfOk-weaker c.is_before_good.result _ _ (λ yes same. (
+      λ e. record { sound = c.requires; stable = c.in_ok-is_settled.ensures.0 c.if-not-branch.false; before = same.0 e },
+      λ good. same.1 good.before,
+    )) c.is_before_good.ensures

@@ -1,7 +1,8 @@
 use Rattle.std.proofs.Common.{◌≡◌, take, map}
-use Rattle.std.specs.Prelude.{filter}
+use Rattle.std.specs.Prelude.{filter, ◌&&◌}
+use Rattle.portal_list.specs.Played.{takes_part}
 use Rattle.portal_core.specs.Words.{is_empty}
 use Rattle.portal_list.proofs.views.office.without_list.Given as goal
 
 abbrev pub invariant-loop-student : goal.invariant-loop-student
-invariant-loop-student l = l.found.items ≡ map (λ s. s.row.key) (filter (λ s. is_empty s.choice) (take l.student-index l.students))
+invariant-loop-student l = l.found.items ≡ map (λ s. s.row.key) (filter (λ s. takes_part l.round s && is_empty s.choice) (take l.student-index l.students))

@@ -1,6 +1,6 @@
 use Rattle.std.proofs.Common.{◌≡◌, map, take}
-use Rattle.portal_list.specs.Parts.{own_keys}
-use Rattle.portal_list.proofs.lists.own_projects.Given as goal
+use Rattle.portal_core.specs.Room.{own_keys}
+use Rattle.portal_core.proofs.room.own_keys.Given as goal
 
 abbrev pub invariant-loop-project : goal.invariant-loop-project
 invariant-loop-project l = map (λ k. k.now) l.own.items ≡ own_keys (take l.project-index l.projects) l.lecturer

@@ -1,0 +1,77 @@
+-- What the pairs of the first round's result leave is what the world's students leave.
+use Rattle.std.proofs.Common.{◌≡◌, ℕ, suc, ◌-◌, Bool, true, false, cond, List, [], ◌∷◌, map, length, refl, sym, ◌∙◌, ap}
+use Rattle.std.specs.Prelude.{filter, count_by, nat_lt, ◌&&◌, ◌||◌, Option, Some, None, option_map}
+use Rattle.std.specs.List.{list_any, filter_map, cons_option}
+use Rattle.std.proofs.lemmas.List.Sums.{length-filter}
+use Rattle.portal_core.specs.Words.{Key, is, has}
+use Rattle.portal_core.specs.World.{Student, is_at, project_key, pairs_with, given_to, given_with, lowered_project}
+use Rattle.portal_core.specs.Room.{pairs_to, pairs_among, own_keys, project_left, lecturer_left}
+use Rattle.portal_core.specs.declared.rows.LecturerRow.{LecturerRow}
+use Rattle.portal_core.specs.declared.rows.ProjectRow.{ProjectRow}
+use Rattle.portal_core.proofs.AllLaws.{any_map, filtered_any}
+
+-- the project passes, if there is one
+abbrev passes : (Key → Bool) → Option Key → Bool
+passes q None = false
+passes q (Some k) = q k
+
+module _ (q : Key → Bool) (place : Student → Option Key) where
+  as_many : (ss : List Student) → length (filter (λ (x : Key × Key). q x.1) (pairs_with place ss)) ≡ length (filter (λ s. passes q (place s)) ss)
+  as_many [] = refl
+  as_many (s ∷ ss) = at (place s) (as_many ss)
+    where
+      here : (k : Key) (b : Bool) (among : List (Key × Key)) (others : List Student) → length among ≡ length others → length (cond b ((s.row.key, k) ∷ among) among) ≡ length (cond b (s ∷ others) others)
+      here k true among others rest = ap suc rest
+      here k false among others rest = rest
+
+      at : (o : Option Key) → length (filter (λ (x : Key × Key). q x.1) (pairs_with place ss)) ≡ length (filter (λ t. passes q (place t)) ss)
+          → length (filter (λ (x : Key × Key). q x.1) (cons_option (option_map (λ k. (s.row.key, k)) o) (pairs_with place ss)))
+          ≡ length (cond (passes q o) (s ∷ filter (λ t. passes q (place t)) ss) (filter (λ t. passes q (place t)) ss))
+      at None rest = rest
+      at (Some k) rest = here k (q k) (filter (λ (x : Key × Key). q x.1) (pairs_with place ss)) (filter (λ t. passes q (place t)) ss) rest
+
+  counted : (ss : List Student) → count_by (λ (x : Key × Key). q x.1) (pairs_with place ss) ≡ count_by (λ s. passes q (place s)) ss
+  counted ss = sym (length-filter (λ (x : Key × Key). q x.1) (pairs_with place ss)) ∙ as_many ss ∙ length-filter (λ s. passes q (place s)) ss
+
+at_it : (p : Key) (o : Option Key) → passes (λ k. is k p) o ≡ is_at p o
+at_it p None = refl
+at_it p (Some k) = refl
+
+nobody : (l : Key) (ps : List ProjectRow) → false ≡ list_any (λ p. is p.lecturer l && false) ps
+nobody l [] = refl
+nobody l (p ∷ ps) = elim (is p.lecturer l) as (λ b. false ≡ ((b && false) || list_any (λ p. is p.lecturer l && false) ps)) [ true ↦ nobody l ps | false ↦ nobody l ps ]
+
+at_one : (ps : List ProjectRow) (l : Key) (o : Option Key) → passes (has (own_keys ps l)) o ≡ list_any (λ p. is p.lecturer l && is_at p.key o) ps
+at_one ps l None = nobody l ps
+at_one ps l (Some k) = any_map (is k) project_key (filter (λ p. is p.lecturer l) ps) ∙ filtered_any (λ p. is k p.key) (λ p. is p.lecturer l) ps
+
+module _ (ss : List Student) where
+  abbrev pairs : List (Key × Key)
+  pairs = pairs_with (λ s. s.earlier_place) ss
+
+  to_is : (p : Key) → pairs_to pairs p ≡ given_to ss p
+  to_is p = counted (λ k. is k p) (λ s. s.earlier_place) ss ∙ (λ i. count_by (λ s. at_it p s.earlier_place i) ss)
+
+  among_is : (ps : List ProjectRow) (l : Key) → pairs_among pairs (own_keys ps l) ≡ given_with ps ss l
+  among_is ps l = counted (has (own_keys ps l)) (λ s. s.earlier_place) ss ∙ (λ i. count_by (λ s. at_one ps l s.earlier_place i) ss)
+
+  room_case : {X : Type 0} (f : ℕ → X) (n : ℕ) → option_map f (cond (nat_lt 0 n) (Some n) None) ≡ cond (nat_lt 0 n) (Some (f n)) None
+  room_case {X} f n = elim (nat_lt 0 n) as (λ b. option_map f (cond b (Some n) None) ≡ cond b (Some (f n)) None) [ true ↦ refl | false ↦ refl ]
+
+  pub project_left_is : (p : ProjectRow) → project_left pairs p ≡ cond (nat_lt 0 (lowered_project ss p).capacity) (Some (lowered_project ss p)) None
+  project_left_is p = room_case (λ n. record p { capacity = n }) (p.capacity - pairs_to pairs p.key) ∙ (λ i. cond (nat_lt 0 (p.capacity - to_is p.key i)) (Some (record p { capacity = p.capacity - to_is p.key i })) None)
+
+  pub lecturer_left_is : (ps : List ProjectRow) (l : LecturerRow) → lecturer_left ps pairs l
+      ≡ cond (nat_lt 0 (l.capacity - given_with ps ss l.key)) (Some (record l { capacity = l.capacity - given_with ps ss l.key })) None
+  lecturer_left_is ps l =
+      room_case (λ n. record l { capacity = n }) (l.capacity - pairs_among pairs (own_keys ps l.key))
+      ∙ (λ i. cond (nat_lt 0 (l.capacity - among_is ps l.key i)) (Some (record l { capacity = l.capacity - among_is ps l.key i })) None)
+
+-- what is left of each, where there is something left
+pub each_left : {X Y : Type 0} (h : X → Option Y) (q : Y → Bool) (f : X → Y) → ((x : X) → h x ≡ cond (q (f x)) (Some (f x)) None) → (xs : List X) → filter_map h xs ≡ filter q (map f xs)
+each_left h q f each [] = refl
+each_left {X} {Y} h q f each (x ∷ xs) = (λ i. cons_option (each x i) (each_left h q f each xs i)) ∙ at (q (f x))
+  where
+    at : (b : Bool) → cons_option (cond b (Some (f x)) None) (filter q (map f xs)) ≡ cond b (f x ∷ filter q (map f xs)) (filter q (map f xs))
+    at true = refl
+    at false = refl

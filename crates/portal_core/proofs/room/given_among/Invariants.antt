@@ -1,0 +1,6 @@
+use Rattle.std.proofs.Common.{◌≡◌, take, map}
+use Rattle.portal_core.specs.Room.{pairs_among}
+use Rattle.portal_core.proofs.room.given_among.Given as goal
+
+abbrev pub invariant-loop-pair : goal.invariant-loop-pair
+invariant-loop-pair l = l.count ≡ pairs_among (take l.pair-index l.pairs) (map (λ k. k.now) l.projects)

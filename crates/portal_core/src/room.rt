@@ -1,0 +1,113 @@
+//! What the first round left of the capacities.
+
+ghost use Rattle.std.specs.Prelude.{◌≡◌, IfOk, map};
+ghost use Rattle.std.specs.List.{list_any};
+ghost use Rattle.portal_core.specs.Words.{is};
+ghost use Rattle.portal_core.specs.Room as meant;
+ghost use Rattle.portal_core.specs.Room.{own_keys, pairs_to, pairs_among, room_of};
+
+use crate::rows::{LecturerRow, ProjectRow};
+use spa_rows::Key;
+use std::alloc::{AllocError, Global};
+
+/// How many pairs give the project.
+fn given_to(pairs: &[(Key, Key)], project: &Key) -> usize
+    ensures { result ≡ pairs_to pairs.now project.now }
+{
+    let mut count = 0usize;
+    for pair in pairs {
+        if pair.1 == *project {
+            count += 1;
+        }
+    }
+    count
+}
+
+/// The keys of the lecturer's projects, in their order. The error is want of memory.
+pub fn own_keys<'a>(
+    alloc: Global,
+    projects: &'a [ProjectRow],
+    lecturer: &Key,
+) -> Result<Vec<&'a Key>, AllocError>
+    ensures { IfOk result (λ own. map (λ k. k.now) own.items ≡ own_keys projects.now lecturer.now) }
+{
+    let mut own = Vec::new(alloc);
+    for project in projects {
+        if project.lecturer == *lecturer {
+            own.push(&project.key)?;
+        }
+    }
+    Ok(own)
+}
+
+/// Whether the key is one of these.
+fn is_among(keys: &[&Key], key: &Key) -> bool
+    ensures { result ≡ list_any (λ k. is key.now k.now) keys.now }
+{
+    keys.iter().any(|k| *key == **k)
+}
+
+/// How many pairs give one of the projects.
+fn given_among(pairs: &[(Key, Key)], projects: &[&Key]) -> usize
+    ensures { result ≡ pairs_among pairs.now (map (λ k. k.now) projects.now) }
+{
+    let mut count = 0usize;
+    for pair in pairs {
+        if is_among(projects, &pair.1) {
+            count += 1;
+        }
+    }
+    count
+}
+
+/// What is left of the capacity, if anything is.
+fn room_of(capacity: u32, given: usize) -> Option<u32>
+    ensures { result ≡ room_of capacity given }
+{
+    let capacity = capacity as usize;
+    if given < capacity {
+        Some((capacity - given) as u32)
+    } else {
+        None
+    }
+}
+
+/// The project with the room that the first round left, if it left any. The pairs are that round's result. The error is want of
+/// memory.
+pub fn project_left(
+    alloc: Global,
+    pairs: &[(Key, Key)],
+    project: &ProjectRow,
+) -> Result<Option<ProjectRow>, AllocError>
+    ensures { IfOk result (λ row. row ≡ meant.project_left pairs.now project.now) }
+{
+    match room_of(project.capacity, given_to(pairs, &project.key)) {
+        Some(capacity) => {
+            let mut row = project.copy(alloc)?;
+            row.capacity = capacity;
+            Ok(Some(row))
+        }
+        None => Ok(None),
+    }
+}
+
+/// The lecturer with the room that the first round left over all projects, if it left any. The pairs are that round's result. The
+/// error is want of memory.
+pub fn lecturer_left(
+    alloc: Global,
+    projects: &[ProjectRow],
+    pairs: &[(Key, Key)],
+    lecturer: &LecturerRow,
+) -> Result<Option<LecturerRow>, AllocError>
+    ensures { IfOk result (λ row. row ≡ meant.lecturer_left projects.now pairs.now lecturer.now) }
+{
+    let own = own_keys(alloc, projects, &lecturer.key)?;
+    match room_of(lecturer.capacity, given_among(pairs, &own)) {
+        Some(capacity) => {
+            let mut row = lecturer.copy(alloc)?;
+            row.capacity = capacity;
+            Ok(Some(row))
+        }
+        None => Ok(None),
+    }
+}

@@ -1,0 +1,96 @@
+-- Who takes part in the second round, from the rows and the pairs of the first round's result.
+use Rattle.std.proofs.Common.{◌≡◌, Bool, true, false, cond, List, [], ◌∷◌, map, refl, sym, ◌∙◌, ap, subst}
+use Rattle.std.specs.Prelude.{filter, nat_lt, ◌&&◌, Option, Some, None, option_map}
+use Rattle.std.specs.List.{filter_map, find}
+use Rattle.portal_core.specs.declared.phase.Round.{Round}
+use Rattle.portal_core.specs.declared.phase.Round.TheVariants.{First, Second}
+use Rattle.portal_core.specs.declared.rows.LecturerRow.{LecturerRow}
+use Rattle.portal_core.specs.declared.rows.ProjectRow.{ProjectRow}
+use Rattle.portal_core.specs.Words.{Key, is, has, Rise}
+use Rattle.portal_core.specs.World.{Lecturer, Student, lecturer_key, project_key, pairs_with, lowered_lecturer, lowered_project, lecturers_left, projects_left, students_in, alone_lecturer}
+use Rattle.portal_core.specs.View.{name_in, listing_with, listings}
+use Rattle.portal_core.proofs.AllLaws.{map_same, any_map}
+use Rattle.portal_core.proofs.Fills.{rise_kept}
+use Rattle.portal_core.proofs.InPlay.{filter_kept}
+use Rattle.portal_core.proofs.Keys.{find_map}
+use Rattle.portal_core.proofs.Rooms.{project_left_is, lecturer_left_is, each_left}
+use Rattle.portal_list.specs.Played.{lecturer_played, project_played, takes_part}
+use Rattle.portal_list.proofs.Rising.{map_map}
+
+mapped_case : {X Y : Type 0} (f : X → Y) (x : X) (b : Bool) → option_map f (cond b (Some x) None) ≡ cond b (Some (f x)) None
+mapped_case f x true = refl
+mapped_case f x false = refl
+
+both_case : {X : Type 0} (x : X) (a b : Bool) → cond {A = Option X} b (cond a (Some x) None) None ≡ cond (a && b) (Some x) None
+both_case x true true = refl
+both_case x true false = refl
+both_case x false true = refl
+both_case x false false = refl
+
+module _ (ls : List Lecturer) (ps : List ProjectRow) (ss : List Student) where
+  abbrev pairs : List (Key × Key)
+  pairs = pairs_with (λ s. s.earlier_place) ss
+
+  abbrev has_room : Lecturer → Bool
+  has_room l = nat_lt 0 l.row.capacity
+
+  lecturer_is : (l : Lecturer) → lecturer_played ps pairs l ≡ cond (has_room (lowered_lecturer ps ss l)) (Some (alone_lecturer (lowered_lecturer ps ss l))) None
+  lecturer_is l =
+      let made : LecturerRow → Lecturer = λ row. record { row = row; ranking = l.ranking; earlier_ranking = None } in
+      ap (option_map made) (lecturer_left_is ss ps l.row) ∙ mapped_case made (lowered_lecturer ps ss l).row (has_room (lowered_lecturer ps ss l))
+
+  pub lecturers_are : filter_map (lecturer_played ps pairs) ls ≡ map alone_lecturer (lecturers_left ls ps ss)
+  lecturers_are =
+      each_left (lecturer_played ps pairs) has_room (λ l. alone_lecturer (lowered_lecturer ps ss l)) lecturer_is ls
+      ∙ ap (filter has_room) (sym (map_map alone_lecturer (lowered_lecturer ps ss) ls))
+      ∙ filter_kept alone_lecturer has_room (λ l. refl) (map (lowered_lecturer ps ss) ls)
+
+  project_is : (left : List Lecturer) (p : ProjectRow) → project_played left pairs p
+      ≡ cond (nat_lt 0 (lowered_project ss p).capacity && has (map lecturer_key left) p.lecturer) (Some (lowered_project ss p)) None
+  project_is left p =
+      (λ i. cond {A = Option ProjectRow} (sym (any_map (is p.lecturer) lecturer_key left) i) (project_left_is ss p i) None)
+      ∙ both_case (lowered_project ss p) (nat_lt 0 (lowered_project ss p).capacity) (has (map lecturer_key left) p.lecturer)
+
+  pub projects_are : (left : List Lecturer) → left ≡ map alone_lecturer (lecturers_left ls ps ss) → filter_map (project_played left pairs) ps ≡ projects_left ls ps ss
+  projects_are left same =
+      let keys : map lecturer_key left ≡ map lecturer_key (lecturers_left ls ps ss) = ap (map lecturer_key) same ∙ map_same lecturer_key alone_lecturer (λ l. refl) (lecturers_left ls ps ss) in
+      each_left (project_played left pairs) (λ p. nat_lt 0 p.capacity && has (map lecturer_key left) p.lecturer) (lowered_project ss) (project_is left) ps
+      ∙ (λ i. filter (λ p. nat_lt 0 p.capacity && has (keys i) p.lecturer) (map (lowered_project ss) ps))
+
+  pub left_rise : Rise (map project_key ps) → Rise (map project_key (projects_left ls ps ss))
+  left_rise rise =
+      rise_kept project_key (λ p. nat_lt 0 p.capacity && has (map lecturer_key (lecturers_left ls ps ss)) p.lecturer) (map (lowered_project ss) ps)
+      (subst Rise (sym (map_same project_key (lowered_project ss) (λ p. refl) ps)) rise)
+
+-- the catalogue reads nothing of an earlier round
+name_alone : (ls : List Lecturer) (k : Key) → name_in (map alone_lecturer ls) k ≡ name_in ls k
+name_alone ls k =
+    ap (option_map (λ (l : Lecturer). l.row.name)) (find_map alone_lecturer (λ l. is l.row.key k) (λ l. is l.row.key k) (λ l. refl) ls)
+    ∙ again (find (λ l. is l.row.key k) ls)
+  where
+    again : (o : Option Lecturer) → option_map (λ (l : Lecturer). l.row.name) (option_map alone_lecturer o) ≡ option_map (λ l. l.row.name) o
+    again None = refl
+    again (Some l) = refl
+
+pub listings_alone : (ls : List Lecturer) (ps : List ProjectRow) → listings (map alone_lecturer ls) ps ≡ listings ls ps
+listings_alone ls ps = λ i. filter_map (λ p. option_map (listing_with p) (name_alone ls p.lecturer i)) ps
+
+-- the students who take part
+filter_true : {X : Type 0} (xs : List X) → filter (λ (x : X). true) xs ≡ xs
+filter_true [] = refl
+filter_true (x ∷ xs) = ap (λ ys. x ∷ ys) (filter_true xs)
+
+pub part_is : (r : Round) (ss : List Student) → filter (takes_part r) ss ≡ students_in r ss
+part_is First ss = filter_true ss
+part_is Second ss = refl
+
+filter_both : {X : Type 0} (a b : X → Bool) (xs : List X) → filter (λ x. a x && b x) xs ≡ filter b (filter a xs)
+filter_both a b [] = refl
+filter_both {X} a b (x ∷ xs) = at (a x) (filter_both a b xs)
+  where
+    at : (c : Bool) → filter (λ x. a x && b x) xs ≡ filter b (filter a xs) → cond (c && b x) (x ∷ filter (λ x. a x && b x) xs) (filter (λ x. a x && b x) xs) ≡ filter b (cond c (x ∷ filter a xs) (filter a xs))
+    at true rest = ap (λ ys. cond (b x) (x ∷ ys) ys) rest
+    at false rest = rest
+
+pub part_and : (b : Student → Bool) (r : Round) (ss : List Student) → filter (λ s. takes_part r s && b s) ss ≡ filter b (students_in r ss)
+part_and b r ss = filter_both (takes_part r) b ss ∙ ap (filter b) (part_is r ss)

@@ -1,0 +1,7 @@
+use Rattle.std.proofs.Common.{◌≡◌, take}
+use Rattle.std.specs.List.{filter_map}
+use Rattle.portal_list.specs.Played.{lecturer_played}
+use Rattle.portal_list.proofs.played.lecturers_played.Given as goal
+
+abbrev pub invariant-loop-lecturer : goal.invariant-loop-lecturer
+invariant-loop-lecturer l = l.found.items ≡ filter_map (lecturer_played l.projects l.pairs) (take l.lecturer-index l.lecturers)

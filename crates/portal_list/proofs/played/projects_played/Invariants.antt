@@ -1,0 +1,7 @@
+use Rattle.std.proofs.Common.{◌≡◌, take}
+use Rattle.std.specs.List.{filter_map}
+use Rattle.portal_list.specs.Played.{project_played}
+use Rattle.portal_list.proofs.played.projects_played.Given as goal
+
+abbrev pub invariant-loop-project : goal.invariant-loop-project
+invariant-loop-project l = l.found.items ≡ filter_map (project_played l.lecturers l.pairs) (take l.project-index l.projects)

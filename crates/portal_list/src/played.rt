@@ -1,0 +1,178 @@
+//! Who takes part in a round.
+
+ghost use Rattle.std.specs.Prelude.{◌≡◌, IfOk, map, filter, option_map};
+ghost use Rattle.std.specs.List.{list_any, filter_map};
+ghost use Rattle.portal_core.specs.Words.{is};
+ghost use Rattle.portal_core.specs.World.{is_left, pairs_with, alone_student};
+ghost use Rattle.portal_list.specs.Played as meant;
+ghost use Rattle.portal_list.specs.Played.{lecturer_played, project_played, all_played};
+
+use crate::copies::{place_copy, ranking_copy};
+use crate::entries::{Entries, LecturerEntry, StudentEntry};
+use portal_core::{ProjectRow, Round, copy_keys, lecturer_left, project_left};
+use spa_rows::Key;
+use std::alloc::{AllocError, Global};
+
+/// Whether the student takes part in the round.
+pub(crate) fn takes_part(round: Round, student: &StudentEntry) -> bool
+    ensures { result ≡ meant.takes_part round student.now }
+{
+    match round {
+        Round::First => true,
+        Round::Second => student.earlier_place.is_none(),
+    }
+}
+
+/// The student's pair of the first round's result, if there is one.
+fn earlier_pair(alloc: Global, student: &StudentEntry) -> Result<Option<(Key, Key)>, AllocError>
+    ensures { IfOk result (λ o. o
+        ≡ option_map (λ p. (student.now.row.key, p)) student.now.earlier_place) }
+{
+    match &student.earlier_place {
+        Some(project) => Ok(Some((student.row.key.copy(alloc)?, project.copy(alloc)?))),
+        None => Ok(None),
+    }
+}
+
+/// The pairs of the first round's result.
+fn earlier_pairs(alloc: Global, students: &[StudentEntry]) -> Result<Vec<(Key, Key)>, AllocError>
+    ensures { IfOk result (λ v. v.items ≡ pairs_with (λ s. s.earlier_place) students.now) }
+{
+    let mut pairs = Vec::new(alloc);
+    for student in students {
+        if let Some(pair) = earlier_pair(alloc, student)? {
+            pairs.push(pair)?;
+        }
+    }
+    Ok(pairs)
+}
+
+/// The lecturer with the room that is left, if there is any.
+fn lecturer_played(
+    alloc: Global,
+    projects: &[ProjectRow],
+    pairs: &[(Key, Key)],
+    lecturer: &LecturerEntry,
+) -> Result<Option<LecturerEntry>, AllocError>
+    ensures { IfOk result (λ o. o ≡ lecturer_played projects.now pairs.now lecturer.now) }
+{
+    match lecturer_left(alloc, projects, pairs, &lecturer.row)? {
+        Some(row) => Ok(Some(LecturerEntry {
+            row,
+            ranking: ranking_copy(alloc, &lecturer.ranking)?,
+            earlier_ranking: None,
+        })),
+        None => Ok(None),
+    }
+}
+
+/// The lecturers with room, each with the room that is left.
+fn lecturers_played(
+    alloc: Global,
+    lecturers: &[LecturerEntry],
+    projects: &[ProjectRow],
+    pairs: &[(Key, Key)],
+) -> Result<Vec<LecturerEntry>, AllocError>
+    ensures { IfOk result (λ v. v.items
+        ≡ filter_map (lecturer_played projects.now pairs.now) lecturers.now) }
+{
+    let mut found = Vec::new(alloc);
+    for lecturer in lecturers {
+        if let Some(left) = lecturer_played(alloc, projects, pairs, lecturer)? {
+            found.push(left)?;
+        }
+    }
+    Ok(found)
+}
+
+/// Whether a lecturer has the key.
+fn is_there(lecturers: &[LecturerEntry], key: &Key) -> bool
+    ensures { result ≡ list_any (λ l. is key.now l.row.key) lecturers.now }
+{
+    lecturers.iter().any(|l| *key == l.row.key)
+}
+
+/// The project with the room that is left, if there is any and its lecturer is one of these.
+fn project_played(
+    alloc: Global,
+    lecturers: &[LecturerEntry],
+    pairs: &[(Key, Key)],
+    project: &ProjectRow,
+) -> Result<Option<ProjectRow>, AllocError>
+    ensures { IfOk result (λ o. o ≡ project_played lecturers.now pairs.now project.now) }
+{
+    if is_there(lecturers, &project.lecturer) {
+        project_left(alloc, pairs, project)
+    } else {
+        Ok(None)
+    }
+}
+
+/// The projects with room whose lecturers are these, each with the room that is left.
+fn projects_played(
+    alloc: Global,
+    lecturers: &[LecturerEntry],
+    projects: &[ProjectRow],
+    pairs: &[(Key, Key)],
+) -> Result<Vec<ProjectRow>, AllocError>
+    ensures { IfOk result (λ v. v.items
+        ≡ filter_map (project_played lecturers.now pairs.now) projects.now) }
+{
+    let mut found = Vec::new(alloc);
+    for project in projects {
+        if let Some(left) = project_played(alloc, lecturers, pairs, project)? {
+            found.push(left)?;
+        }
+    }
+    Ok(found)
+}
+
+/// The student, with nothing of the first round.
+fn alone(alloc: Global, student: &StudentEntry) -> Result<StudentEntry, AllocError>
+    ensures { IfOk result (λ s. s ≡ alone_student student.now) }
+{
+    Ok(StudentEntry {
+        row: student.row.copy(alloc)?,
+        choice: copy_keys(alloc, &student.choice)?,
+        placed: place_copy(alloc, student.placed.as_ref())?,
+        earlier_choice: Vec::new(alloc),
+        earlier_place: None,
+    })
+}
+
+/// The students without a project of the first round.
+fn students_played(
+    alloc: Global,
+    students: &[StudentEntry],
+) -> Result<Vec<StudentEntry>, AllocError>
+    ensures { IfOk result (λ v. v.items ≡ map alone_student (filter is_left students.now)) }
+{
+    let mut found = Vec::new(alloc);
+    for student in students {
+        if student.earlier_place.is_none() {
+            found.push(alone(alloc, student)?)?;
+        }
+    }
+    Ok(found)
+}
+
+/// Who takes part in the second round, with the room that the first left.
+pub(crate) fn played(
+    alloc: Global,
+    lecturers: &[LecturerEntry],
+    projects: &[ProjectRow],
+    students: &[StudentEntry],
+) -> Result<Entries, AllocError>
+    ensures { IfOk result (λ e. e ≡ all_played lecturers.now projects.now students.now) }
+{
+    let pairs = earlier_pairs(alloc, students)?;
+    let lecturers = lecturers_played(alloc, lecturers, projects, &pairs)?;
+    let projects = projects_played(alloc, &lecturers, projects, &pairs)?;
+    let students = students_played(alloc, students)?;
+    Ok(Entries {
+        round: Round::First,
+        lecturers,
+        projects,
+        students,
+    })
+}
