@@ -1,27 +1,25 @@
 -- Who names a project, of the keys that a query of the lists shows.
-use Rattle.std.proofs.Common.{◌≡◌, Bool, true, false, cond, ◌&&◌, ◌||◌, List, [], ◌∷◌, map, filter, refl, sym, ap, ap₂, ◌∙◌}
+use Rattle.std.proofs.Common.{◌≡◌, Bool, true, ◌&&◌, ◌||◌, List, [], ◌∷◌, map, filter, refl, sym, ap, ap₂, ◌∙◌}
 use Rattle.std.specs.List.{AllByRecursion, list_any}
 use Rattle.std.proofs.Math.Bool.{and_comm}
 use Rattle.std.proofs.lemmas.List.Sorted.{list_any-IsPermutation}
 use Rattle.sqlite.specs.Order.{Row, column, bytes}
 use Rattle.sqlite.specs.Effect.{Database}
+use Rattle.sqlite_trees.proofs.ListLemmas.{map-map, all-filter}
 use Rattle.portal_core.specs.Words.{Key, is, has}
 use Rattle.portal_core.proofs.AllLaws.{all_weaker, all_map, any_map, filtered_any, is_sym}
+use Rattle.portal_tables.specs.declared.list_table.Lists.TheVariants as which
 use Rattle.portal_tables.specs.Tables.{student_tree, choice_tree}
 use Rattle.portal_tables.specs.Changes.{ListsBy, columns, has_text}
 use Rattle.portal_tables.specs.Lists.{of_key, named_by, place_key, by_place, chosen}
-use Rattle.portal_tables.specs.Rolls.{row_key, students_shown}
+use Rattle.portal_tables.specs.Rolls.{row_key, by_key, roll_columns, students_shown}
 use Rattle.portal_tables.specs.Shown.{first}
 use Rattle.portal_tables.specs.Lines.{HasTables}
 use Rattle.portal_tables.proofs.Listed.{permuted}
-use Rattle.portal_tables.proofs.Owners.{roll_columns, all_known}
-use Rattle.portal_tables.proofs.Parents.{OnRoll, choice_parents}
-use Rattle.portal_tables.proofs.Shapes.{IsChoiceRow, has_text_of, choice_rows_formed}
+use Rattle.portal_tables.proofs.Owners.{shown_there}
+use Rattle.portal_tables.proofs.Parents.{place_parents}
+use Rattle.portal_tables.proofs.Shapes.{IsPlace, has_text_of, place_rows_formed}
 use Rattle.portal_tables.proofs.Sorted.{permutes, all_permuted}
-
-pub all_filtered : {X : Type 0} (P : X → Type 0) (p : X → Bool) (xs : List X) → AllByRecursion P xs → AllByRecursion P (filter p xs)
-all_filtered P p [] all = tt
-all_filtered P p (x ∷ xs) all = elim (p x) as (λ b. AllByRecursion P (cond b (x ∷ filter p xs) (filter p xs))) [ true ↦ (all.0, all_filtered P p xs all.1) | false ↦ all_filtered P p xs all.1 ]
 
 pub any_alike : {X : Type 0} (p q : X → Bool) (xs : List X) → AllByRecursion (λ x. p x ≡ q x) xs → list_any p xs ≡ list_any q xs
 any_alike p q [] all = refl
@@ -41,13 +39,13 @@ module _ (db : Database) (tables : HasTables db) (p : Key) (shown : List Row) (l
   abbrev table : List Row
   table = db.trees choice_tree
 
-  alike : (k : Key) (r : Row) → IsChoiceRow r → (has_text 3 p r && is k (row_key r)) ≡ (has_text 1 k r && is p (named_by r))
+  alike : (k : Key) (r : Row) → IsPlace r → (has_text 3 p r && is k (row_key r)) ≡ (has_text 1 k r && is p (named_by r))
   alike k r x =
-      let of : has_text 3 p r ≡ is x.project p = has_text_of 3 p r x.project (ap (λ s. column s 3) x.is) in
-      let by : has_text 1 k r ≡ is x.student k = has_text_of 1 k r x.student (ap (λ s. column s 1) x.is) in
-      let key : is k (row_key r) ≡ is x.student k = ap (λ s. is k (bytes (column s 1))) x.is ∙ is_sym k x.student in
-      let name : is p (named_by r) ≡ is x.project p = ap (λ s. is p (bytes (column s 3))) x.is ∙ is_sym p x.project in
-      ap₂ (λ a b. a && b) of key ∙ and_comm (is x.project p) (is x.student k) ∙ sym (ap₂ (λ a b. a && b) by name)
+      let of : has_text 3 p r ≡ is x.item p = has_text_of 3 p r x.item (ap (λ s. column s 3) x.is) in
+      let by : has_text 1 k r ≡ is x.owner k = has_text_of 1 k r x.owner (ap (λ s. column s 1) x.is) in
+      let key : is k (row_key r) ≡ is x.owner k = ap (λ s. is k (bytes (column s 1))) x.is ∙ is_sym k x.owner in
+      let name : is p (named_by r) ≡ is x.item p = ap (λ s. is p (bytes (column s 3))) x.is ∙ is_sym p x.item in
+      ap₂ (λ a b. a && b) of key ∙ and_comm (is x.item p) (is x.owner k) ∙ sym (ap₂ (λ a b. a && b) by name)
 
   pub chooser : (k : Key) → has (map first shown) k ≡ has (chosen table k) p
   chooser k =
@@ -55,14 +53,14 @@ module _ (db : Database) (tables : HasTables db) (p : Key) (shown : List Row) (l
       any_map (is p) named_by (by_place (of_key k table))
       ∙ sym (list_any-IsPermutation (λ r. is p (named_by r)) (of_key k table) (by_place (of_key k table)) (permutes place_key (of_key k table)))
       ∙ filtered_any (λ r. is p (named_by r)) (has_text 1 k) table in
-      named_where (has_text 3 p) table shown lists k ∙ any_alike _ _ table (all_weaker IsChoiceRow _ (alike k) table (choice_rows_formed db tables.own tables.sound tables.apart.1.1.1.1.0)) ∙ sym right
+      named_where (has_text 3 p) table shown lists k ∙ any_alike _ _ table (all_weaker IsPlace _ (alike k) table (place_rows_formed db tables.own tables.sound which.Choices tables.apart.1.1.1.1.0)) ∙ sym right
 
   -- who names the project is on the roll
   pub choosers_known : AllByRecursion (λ k. has (map first (students_shown db.trees)) k ≡ true) (map first shown)
   choosers_known =
       let Known : Key → Type 0 = λ k. has (map first (students_shown db.trees)) k ≡ true in
       let rows : AllByRecursion (λ r. Known (row_key r)) table =
-      all_known roll_columns (λ r. refl) (db.trees student_tree) table (all_weaker _ (λ r. OnRoll (db.trees student_tree) (row_key r)) (λ r known. known.0) table (choice_parents db tables.own tables.sound tables.apart.1.1.1.1.0)) in
+      all_weaker _ (λ r. Known (row_key r)) (λ r known. shown_there (2 ∷ 3 ∷ 4 ∷ []) (db.trees student_tree) (row_key r) known.0) table (place_parents db tables.own tables.sound which.Choices tables.apart.1.1.1.1.0) in
       let mapped : AllByRecursion (λ c. Known (first c)) (map (columns (1 ∷ [])) (filter (has_text 3 p) table)) =
-      all_map (λ c. Known (first c)) (columns (1 ∷ [])) (filter (has_text 3 p) table) (all_filtered (λ r. Known (row_key r)) (has_text 3 p) table rows) in
+      all_map (λ c. Known (first c)) (columns (1 ∷ [])) (filter (has_text 3 p) table) (all-filter (λ r. Known (row_key r)) (has_text 3 p) table rows) in
       all_map Known first shown (all_permuted (λ c. Known (first c)) _ shown (permuted _ _ _ table shown lists) mapped)

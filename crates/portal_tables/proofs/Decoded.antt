@@ -10,16 +10,12 @@ use Rattle.sqlite.specs.Given.{HasGiven, Advances, IsPlain}
 use Rattle.sqlite.specs.Held.{Held, state}
 use Rattle.sqlite.specs.Listing.{understood, reads_listing, IsSourceOf}
 use Rattle.sqlite.specs.Order.{Row}
-use Rattle.sqlite.specs.State.{State, HasCleanDisk, Begins, Shown, ShowsRows, IsUnchanged, Survives}
-use Rattle.sqlite.proofs.StateLemmas.{survives_weaker}
-use Rattle.portal_tables.specs.Own.{IsOwn}
-use Rattle.portal_tables.specs.Reading.{Reads}
-use Rattle.portal_tables.specs.Steps.{Leaves}
+use Rattle.sqlite.specs.State.{State, Begins, Shown, ShowsRows, IsUnchanged}
 use Rattle.sqlite_trees.specs.declared.store.Store.{Ghosts}
 use Rattle.std.specs.Prelude.{Ok, Err, Result, IfOk, OnOk, OnErr, option_copied}
 use Rattle.std.specs.Borrow.{Bor}
 use Rattle.portal_tables.specs.Decoding.{ShowsAs, FindsAny}
-use Rattle.portal_tables.proofs.InTurn.{unchanged_then, unchanged_self, reads_of}
+use Rattle.portal_tables.proofs.InTurn.{unchanged_then, unchanged_self}
 
 -- what a connection shows that is as it was before is what it showed then
 pub shown_before : (sql : List ℕ) (params : Row) (a b c : State) (rows : List Row) → IsPlain (understood a.now.schema sql) → IsUnchanged a b → Shown sql params b c rows → Shown sql params a c rows
@@ -72,12 +68,6 @@ as_shown IsShown rows h = subst IsShown (sym (h.decoded ∙ map-id h.rows)) h.sh
 
 pub shows_weaker : {T : Type 0} (decode : Row → T) (A B : List Row → Type 0) (items : List T) → ((rows : List Row) → A rows → B rows) → ShowsAs decode A items → ShowsAs decode B items
 shows_weaker decode A B items more h = record { rows = h.rows; shown = more h.rows h.shown; decoded = h.decoded }
-
--- a query whose text is plain in an own database
-pub reads_plain : {V E : Type 0} (r : Result V E) (a b : State) (Plain : Type 0) → (IsOwn a.now.schema → Plain) → (Plain → HasCleanDisk b → OnOk r (IsUnchanged a b)) → (Plain → HasCleanDisk b → OnErr r (Leaves a b)) → Survives a b (λ _. Plain → ⊥)
-    → Reads r a b
-reads_plain r a b Plain plain same err crash =
-    reads_of r a b (λ own. same (plain own)) (λ own. err (plain own)) (survives_weaker a b _ _ (λ clean db no own. no (plain own)) crash)
 
 -- whether a row is shown, by the first that is read
 pub found_any : (IsShown : List Row → Type 0) (sql : List ℕ) (params : Row) (old new : State) → IsPlain (understood old.now.schema sql) → ((rows : List Row) → Shown sql params old new rows → IsShown rows)

@@ -1,5 +1,5 @@
 -- The tables as they are made, with the row of the office.
-use Rattle.std.proofs.Common.{ℕ, pos, List, [], ◌∷◌, refl, ap, ◌∙◌}
+use Rattle.std.proofs.Common.{◌≡◌, ◌≢◌, ℕ, pos, List, [], ◌∷◌, refl, ap, ◌∙◌}
 use Rattle.std.specs.List.{AllByRecursion}
 use Rattle.sqlite.specs.Effect.{Database}
 use Rattle.sqlite.specs.State.{State}
@@ -11,20 +11,17 @@ use Rattle.portal_tables.specs.Steps.{Made}
 use Rattle.portal_tables.proofs.Keeping.{apart_one, apart_none}
 use Rattle.portal_tables.proofs.Owned.{own_made}
 use Rattle.portal_tables.proofs.Runs.{made_then}
+use Rattle.portal_tables.proofs.Sorted.{all_two}
 
 pub fresh_made : (a b c : State) (office : List ℕ) → Made Makes a b → Made (Adds portal_tree (portal_cells (pos 1) (pos 0) office ∷ [])) b c → Made (Creates office) a c
 fresh_made a b c office p q = made_then Makes (Adds portal_tree (portal_cells (pos 1) (pos 0) office ∷ [])) (Creates office) a b c p q (λ make add has.
     let there = make has in
     let none = there.empty in
     let put = add (own_made b.now.schema there.schema_is) in
-    let others = put.others in
     record {
       schema_is = put.schema_is ∙ there.schema_is;
       row = put.rows ∙ ap (λ rows. with_rows rows (portal_cells (pos 1) (pos 0) office ∷ [])) none.0;
-      others = (
-        λ o. others.0 o ∙ none.0,
-        (λ o. others.1.0 o ∙ none.1.0, (λ o. others.1.1.0 o ∙ none.1.1.0, (λ o. others.1.1.1.0 o ∙ none.1.1.1.0, (λ o. others.1.1.1.1.0 o ∙ none.1.1.1.1.0, (λ o. others.1.1.1.1.1.0 o ∙ none.1.1.1.1.1.0, tt))))),
-      );
+      others = all_two (λ t. t ≢ portal_tree → c.now.trees t ≡ b.now.trees t) (λ t. b.now.trees t ≡ []) (λ t. t ≢ portal_tree → c.now.trees t ≡ []) (λ t same none other. same other ∙ none) own_trees put.others there.empty;
       sound = put.sound (λ _. there.sound);
     })
 

@@ -1,13 +1,13 @@
 -- Several readings in turn.
 use Rattle.std.specs.Result.{IsErr}
-use Rattle.std.proofs.Common.{List, IfOk, ◌≡◌, inl, inr, IsTrue, Ok, Err, Result, OnOk, OnErr, refl, sym, subst, ◌∙◌, arith}
+use Rattle.std.proofs.Common.{List, IfOk, ◌≡◌, inl, inr, IsTrue, Ok, Err, Result, OnOk, refl, sym, subst, ◌∙◌, arith}
 use Rattle.sqlite.specs.Effect.{Database}
 use Rattle.sqlite.specs.State.{State, HasCleanDisk, IsUnchanged, Survives}
 use Rattle.sqlite.proofs.StateLemmas.{survives_then, survives_weaker}
 use Rattle.portal_tables.specs.Own.{IsOwn}
 use Rattle.portal_tables.specs.Steps.{Leaves}
 use Rattle.std.proofs.lemmas.Result.{on_ok_weaker, on_err_weaker}
-use Rattle.portal_tables.specs.Reading.{Reads}
+use Rattle.portal_tables.specs.Reading.{Asks, Reads}
 
 pub unchanged_then : (a b c : State) → IsUnchanged a b → IsUnchanged b c → IsUnchanged a c
 unchanged_then a b c p q = (
@@ -43,6 +43,8 @@ pub reads_self : {V E : Type 0} (v : V) (s : State) → Reads {V = V} {E = E} (O
 reads_self v s = record {
   same = λ own clean on. unchanged_self s on;
   err = λ own clean on. tt;
+  now = λ own clean. refl;
+  mode = λ idle. idle;
   crash = record { clean = omega arith; shield = λ h. h; counts = omega arith; limit = refl; closes = λ clean on. inl on; crash = λ clean db h. inl h };
 }
 
@@ -54,24 +56,29 @@ reads_then u r a b c p q =
     record {
       same = λ own clean on. let m = middle own clean on in on_ok_weaker r (unchanged_then a b c m) (q.same (still_own a b m own) clean m.0.is_open);
       err = λ own clean on. let m = middle own clean on in on_err_weaker r (then_leaves a b c m) (q.err (still_own a b m own) clean m.0.is_open);
+      now = λ own clean.
+          let m : b.now ≡ a.now = p.now own (before clean) in
+          on_ok_weaker r (λ e. e ∙ m) (q.now (subst (λ (d : Database). IsOwn d.schema) (sym m) own) clean);
+      mode = λ idle. q.mode (p.mode idle);
       crash = survives_then a b c _ _ _ (λ clean db no. no) (λ clean db no own on. let m = middle own clean on in no (still_own a b m own) m.0.is_open) p.crash q.crash;
     }
 
 -- the same reading, whatever is answered then
 pub reads_more : {U V D E : Type 0} (u : U) (r : Result V E) (a b : State) → Reads {V = U} {E = D} (Ok u) a b → Reads r a b
-reads_more u (Ok v) a b h = record { same = h.same; err = λ own clean on. tt; crash = h.crash }
-reads_more u (Err e) a b h = record { same = λ own clean on. tt; err = λ own clean on. inl (h.same own clean on); crash = h.crash }
+reads_more u (Ok v) a b h = record { same = h.same; err = λ own clean on. tt; now = h.now; mode = h.mode; crash = h.crash }
+reads_more u (Err e) a b h = record { same = λ own clean on. tt; err = λ own clean on. inl (h.same own clean on); now = λ own clean. tt; mode = h.mode; crash = h.crash }
 
 pub reads_fail : {U V D E : Type 0} (d : D) (e : E) (a b : State) → Reads {V = U} {E = D} (Err d) a b → Reads {V = V} {E = E} (Err e) a b
-reads_fail d e a b h = record { same = λ own clean on. tt; err = h.err; crash = h.crash }
+reads_fail d e a b h = record { same = λ own clean on. tt; err = h.err; now = λ own clean. tt; mode = h.mode; crash = h.crash }
 
 -- one query
-pub reads_of : {V E : Type 0} (r : Result V E) (a b : State) → (IsOwn a.now.schema → HasCleanDisk b → OnOk r (IsUnchanged a b)) → (IsOwn a.now.schema → HasCleanDisk b → OnErr r (Leaves a b))
-    → Survives a b (λ _. IsOwn a.now.schema → ⊥) → Reads r a b
-reads_of r a b same err crash = record {
-  same = λ own clean on. same own clean;
-  err = λ own clean on. err own clean;
-  crash = survives_weaker a b _ _ (λ clean db no own on. no own) crash;
+pub reads_of : {V E : Type 0} (r : Result V E) (a b : State) → Asks r a b → Reads r a b
+reads_of r a b h = record {
+  same = λ own clean on. h.same own clean;
+  err = λ own clean on. h.err own clean;
+  now = λ own clean. on_ok_weaker r (λ u. u.0.now_is) (h.same own clean);
+  mode = h.mode;
+  crash = survives_weaker a b _ _ (λ clean db no own on. no own) h.crash;
 }
 
 -- what is answered, by what was found while it was read

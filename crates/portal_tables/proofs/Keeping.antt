@@ -1,23 +1,29 @@
 -- What each change leaves of what a store knows between two calls: the tables are its own, and rows have numbers of their own.
-use Rattle.std.proofs.Common.{◌≡◌, ◌≢◌, ℕ, ℤ, ◌+◌, ◌<◌, List, [], ◌∷◌, ◌++◌, map, take, get_or, length, Bool, true, false, not, refl, sym, ap, ap₂, subst, subst₂, ◌∙◌}
-use Rattle.std.specs.List.{AllByRecursion}
+use Rattle.std.proofs.Common.{◌≡◌, ◌≢◌, ℕ, ℤ, List, [], ◌∷◌, ◌++◌, map, length, Result, Ok, Bool, true, false, not, refl, sym, ap, ap₂, subst, subst₂, ◌∙◌}
+use Rattle.std.specs.List.{AllByRecursion, flat_map}
 use Rattle.std.specs.Ordering.{is_eq, match_ordering}
 use Rattle.std.specs.declared.cmp.Ordering.{Ordering}
 use Rattle.std.specs.declared.cmp.Ordering.TheVariants.{Less, Equal, Greater}
 use Rattle.std.proofs.lemmas.Bool.{and_parts, or_parts}
 use Rattle.std.specs.List.Sorted.{IsPermutation}
 use Rattle.std.proofs.lemmas.List.Sorted.{IsPermutation-refl, IsPermutation-trans, IsPermutation-sym, IsPermutation-middle, IsPermutation-append_right}
-use Rattle.std.proofs.lemmas.List.{map-append, take_more}
+use Rattle.std.proofs.lemmas.List.{map-append}
 use Rattle.sqlite.specs.declared.types.Value.TheVariants.{Int}
 use Rattle.sqlite.specs.Order.{Row, value_cmp}
 use Rattle.sqlite.specs.Edit.{next_rowid, is_taken, id_in, are_fresh, put_all}
 use Rattle.sqlite.specs.Tree.{put_row, rowid}
 use Rattle.sqlite.specs.Effect.{Database}
+use Rattle.sqlite.specs.Store.{Ghosts}
+use Rattle.sqlite.specs.Held.{state}
+use Rattle.sqlite.specs.declared.error.Error.{Error}
+use Rattle.sqlite.specs.declared.transaction.Transaction.{Transaction}
 use Rattle.sqlite_trees.proofs.TreeLemmas.{all-put_row}
 use Rattle.portal_tables.specs.Changes.{Puts, Drops, Sets, IsApart, Keeps, with_rows, AreNew}
 use Rattle.portal_tables.specs.Tables.{own_trees}
 use Rattle.portal_tables.specs.Own.{IsOwn}
-use Rattle.portal_tables.specs.Rows.{Adds}
+use Rattle.portal_tables.specs.Rows.{Adds, AddsBy}
+use Rattle.portal_tables.specs.Steps.{Ran, GoesOn, Does}
+use Rattle.portal_tables.proofs.Runs.{does_then, goes_then}
 use Rattle.portal_tables.proofs.Lists.{apart_filter, eq_flips, put_splits, not_true}
 
 pub apart_put : (new : Row) (rows : List Row) (n : _) → rowid new ≡ Int n → IsApart rows → is_taken rows new ≡ false → IsApart (put_row new rows)
@@ -103,18 +109,13 @@ adds_then tree cells more a b c adds later own =
       sound = λ h. q.sound (λ no_more. p.sound (λ none. h (ap₂ (λ x y. x ++ y) none no_more)));
     }
 
--- a loop's turn: the row at i comes
-pub adds_next : {X : Type 0} (tree : ℕ) (cells_of : X → Row) (rows : List X) (i : ℕ) (x : X) (a b c : Database) → i < length rows → x ≡ get_or rows i x
-    → Adds tree (map cells_of (take i rows)) a b → Adds tree (cells_of x ∷ []) b c → Adds tree (map cells_of (take (i + 1) rows)) a c
-adds_next tree cells_of rows i x a b c within is was adds =
-    let more : map cells_of (take i rows) ++ cells_of x ∷ [] ≡ map cells_of (take (i + 1) rows) =
-    sym (ap (map cells_of) (take_more rows i x within) ∙ map-append cells_of (take i rows) (get_or rows i x ∷ []) ∙ ap (λ z. map cells_of (take i rows) ++ z ∷ []) (ap cells_of (sym is))) in
-    subst (λ l. Adds tree l a c) more (adds_then tree (map cells_of (take i rows)) (cells_of x ∷ []) a b c was adds)
-
--- the same of a run of rows
-pub adds_run : {X : Type 0} (tree : ℕ) (cells_of : X → Row) (rows run : List X) (a b c : Database) → Adds tree (map cells_of rows) a b → Adds tree (map cells_of run) b c
-    → Adds tree (map cells_of (rows ++ run)) a c
-adds_run tree cells_of rows run a b c was adds = subst (λ l. Adds tree l a c) (sym (map-append cells_of rows run)) (adds_then tree (map cells_of rows) (map cells_of run) a b c was adds)
+-- rows come, and then a run of them by one text
+pub rows_run : {S R A B : Type 0} (g : Ghosts S) (tree : ℕ) (values cells : R → Row) (text : List ℕ) (count : ℕ) → AddsBy g text count tree values cells → (rows run : List R) → length run ≡ count
+    → (a : A) (r : Result B Error) (old mid new : Transaction S) → Does g (GoesOn (Adds tree (map cells rows))) (Ok a) old mid → Does g (Ran text (flat_map values run)) r mid new
+    → Does g (GoesOn (Adds tree (map cells (rows ++ run)))) r old new
+rows_run g tree values cells text count adds rows run are a r old mid new before after =
+    does_then g _ _ _ a r old mid new before after (λ was ran. goes_then (Adds tree (map cells rows)) (Adds tree (map cells run)) (Adds tree (map cells (rows ++ run))) _ _ _ was (adds run are mid.conn.now new.conn.now ran)
+    (λ p q. subst (λ l. Adds tree l (state g old.conn.now).now (state g new.conn.now).now) (sym (map-append cells rows run)) (adds_then tree (map cells rows) (map cells run) _ (state g mid.conn.now).now _ p q)))
 
 pub drops_apart : (tree : ℕ) (p : Row → Bool) (old new : Database) → Drops tree p old new → IsApart (old.trees tree) → IsApart (new.trees tree)
 drops_apart tree p old new h apart = subst IsApart (sym h.rows) (apart_filter _ _ apart)

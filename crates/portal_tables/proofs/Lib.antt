@@ -10,7 +10,6 @@ pub mod Queries
 pub mod Rises
 pub mod Statements
 pub mod Eights
-pub mod Ending
 pub mod Shows
 pub mod Keeping
 pub mod Owned
@@ -22,11 +21,7 @@ pub mod OfficeRow
 pub mod RollRows
 pub mod Sorted
 pub mod Texts
-pub mod AllRead
 pub mod Asking
-pub mod CutLists
-pub mod Cuts
-pub mod Gathered
 pub mod Owners
 pub mod Parents
 pub mod Shapes

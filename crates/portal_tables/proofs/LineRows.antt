@@ -10,7 +10,7 @@ use Rattle.portal_core.specs.Words.{Key, is, has, is_before, Rise}
 use Rattle.portal_core.proofs.AllLaws.{all_map, all_weaker}
 use Rattle.portal_core.proofs.Fills.{before_other, rise_kept}
 use Rattle.portal_core.proofs.Keys.{is_same, is_own, all_unmap}
-use Rattle.portal_tables.specs.Rolls.{row_key, by_key, students_shown}
+use Rattle.portal_tables.specs.Rolls.{row_key, by_key, roll_columns, students_shown}
 use Rattle.portal_tables.specs.Tables.{student_tree, choice_tree}
 use Rattle.portal_tables.specs.Changes.{ListsBy, columns, has_text}
 use Rattle.portal_tables.specs.Lists.{chosen}
@@ -19,10 +19,10 @@ use Rattle.portal_tables.specs.Shown.{first}
 use Rattle.portal_tables.specs.Lines.{HasTables, shown_line, told_line, line_at, applicant_lines}
 use Rattle.portal_tables.specs.declared.lines.Line.{Line}
 use Rattle.portal_tables.proofs.Choosers.{chooser, choosers_known}
-use Rattle.portal_tables.proofs.Listed.{for_each}
+use Rattle.portal_tables.proofs.Owners.{keys_shown}
+use Rattle.sqlite_trees.proofs.ListLemmas.{all_of}
 use Rattle.portal_tables.proofs.OneFound.{found}
 use Rattle.portal_tables.proofs.OneKey.{student_keys_rise}
-use Rattle.portal_tables.proofs.Owners.{roll_columns, keys_rise}
 use Rattle.portal_tables.proofs.Shapes.{IsStudentRow, student_test, student_rows_formed}
 use Rattle.portal_tables.proofs.Sorted.{at, has_of, one_order, map_alike_on, map_twice}
 
@@ -104,8 +104,8 @@ lines_are db tables p shown lists lines up told =
     let roll : List Row = students_shown db.trees in
     let q : Row → Bool = λ c. has (chosen (db.trees choice_tree) (first c)) p in
     let mine : List Row = filter q roll in
-    let rise : Rise (map first roll) = keys_rise roll_columns (λ r. refl) (db.trees student_tree) (db.trees choice_tree) (student_keys_rise db tables) in
-    let agree : AllByRecursion (Agree (map first shown) q) roll = for_each _ roll (λ c. chooser db tables p shown lists (first c)) in
+    let rise : Rise (map first roll) = subst Rise (sym (keys_shown (2 ∷ 3 ∷ 4 ∷ []) (db.trees student_tree))) (student_keys_rise db tables) in
+    let agree : AllByRecursion (Agree (map first shown) q) roll = all_of _ (λ c. chooser db tables p shown lists (first c)) roll in
     let keys : map first shown ≡ map first mine =
     one_order (λ (k : Key). k) (map first shown) (map first mine) (subst Rise (sym (map-id (map first shown))) up) (subst Rise (sym (map-id (map first mine))) (rise_kept first q roll rise))
     (λ k h. kept (map first shown) q roll k agree (at (λ k. has (map first roll) k ≡ true) (map first shown) k (choosers_known db tables p shown lists) h) (has_of (map first shown) k h))

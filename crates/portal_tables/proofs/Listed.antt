@@ -1,8 +1,9 @@
 -- What a query of one table shows, and the one order of its rows.
-use Rattle.std.proofs.Common.{◌≡◌, inl, inr, ℕ, pos, negsuc, ◌+◌, ◌<◌, ◌≤◌, Bool, true, false, Option, List, [], ◌∷◌, map, filter, refl, sym, ap, subst, subst₂, ◌∙◌, arith}
-use Rattle.std.specs.List.{AllByRecursion, filter_map, cons_option}
+use Rattle.std.proofs.Common.{◌≡◌, inl, inr, ℕ, pos, negsuc, ◌+◌, ◌<◌, ◌≤◌, Bool, true, false, List, [], ◌∷◌, length, map, filter, refl, sym, ap, subst, subst₂, ◌∙◌, arith}
+use Rattle.std.specs.List.{AllByRecursion}
 use Rattle.std.specs.List.Sorted.{IsPermutation, IsSorted}
-use Rattle.std.proofs.lemmas.List.Sorted.{IsPermutation-map, IsPermutation-sym}
+use Rattle.std.proofs.lemmas.List.{nil_from_length, length-map}
+use Rattle.std.proofs.lemmas.List.Sorted.{IsPermutation-map, IsPermutation-sym, length_permutation}
 use Rattle.std.specs.declared.cmp.Ordering.{Ordering}
 use Rattle.std.specs.declared.cmp.Ordering.TheVariants.{Less, Equal, Greater}
 use Rattle.std.specs.Ordering.{is_lt, is_gt, nat_cmp, int_cmp, ordering_then, ordering_reverse}
@@ -16,7 +17,7 @@ use Rattle.sqlite.specs.declared.types.Value.TheVariants.{Null, Int, Real, Blob,
 use Rattle.sqlite.specs.Order.{Row, column, bytes, value_cmp}
 use Rattle.sqlite_trees.specs.Objects.{number_in}
 use Rattle.sqlite_trees.specs.Tree.{IsAscending}
-use Rattle.sqlite_trees.proofs.ListLemmas.{map-map}
+use Rattle.sqlite_trees.proofs.ListLemmas.{map-map, all_of}
 use Rattle.sqlite_value.proofs.OrderLemmas.{value_cmp_total, value_cmp-Int, value_cmp-Text, then-Equal}
 use Rattle.sqlite_exec.proofs.PartitionLemmas.{ascending_from_sorted}
 use Rattle.sqlite_exec.proofs.RowsLemmas.{IsSorted-map}
@@ -35,10 +36,6 @@ pub all_map_on : {X Y : Type 0} (P : X → Type 0) (f g : X → Y) (xs : List X)
 all_map_on P f g [] all h = refl
 all_map_on P f g (x ∷ xs) all h = λ i. h x all.0 i ∷ all_map_on P f g xs all.1 h i
 
-pub for_each : {X : Type 0} (P : X → Type 0) (xs : List X) → ((x : X) → P x) → AllByRecursion P xs
-for_each P [] h = tt
-for_each P (x ∷ xs) h = (h x, for_each P xs h)
-
 -- the rows are those that pass, as they are shown
 pub permuted : (keys : List ℕ) (p : Row → Bool) (show : Row → Row) (table shown : List Row) → ListsBy keys p show table shown → IsPermutation (map show (filter p table)) shown
 permuted keys p show table shown h =
@@ -53,7 +50,7 @@ ascends : (at : ℕ) (rest : List ℕ) (p : Row → Bool) (table shown : List Ro
 ascends at rest p table shown h =
     let pair : Row → Row × Row = λ r. (columns (at ∷ []) r, columns (at ∷ rest) r) in
     let alike : AllByRecursion (λ (k : Row × Row). column k.0 0 ≡ column k.1 0) h.keyed =
-    all_permuted _ (map pair (filter p table)) h.keyed h.same (all_map (λ (k : Row × Row). column k.0 0 ≡ column k.1 0) pair (filter p table) (for_each _ (filter p table) (λ r. refl))) in
+    all_permuted _ (map pair (filter p table)) h.keyed h.same (all_map (λ (k : Row × Row). column k.0 0 ≡ column k.1 0) pair (filter p table) (all_of _ (λ r. refl) (filter p table))) in
     let by_value : IsSorted (λ (a b : Row × Row). value_cmp (column a.0 0) (column b.0 0)) h.keyed =
     subst (λ (cmp : Row × Row → Row × Row → Ordering). IsSorted cmp h.keyed) (λ i a b. then-Equal (value_cmp (column a.0 0) (column b.0 0)) i) h.sorted in
     let up : IsAscending AtMost (map (λ (k : Row × Row). column k.0 0) h.keyed) = ascending_from_sorted value_cmp value_cmp_total _ (IsSorted-map value_cmp (λ (k : Row × Row). column k.0 0) h.keyed by_value) in
@@ -150,15 +147,18 @@ is_count (Real x) low = absurd (omega (arith, low))
 is_count (Words t) low = absurd (omega (arith, low))
 is_count (Blob b) low = absurd (omega (arith, low))
 
-abbrev pub list_columns : Row → Row
+abbrev list_columns : Row → Row
 list_columns = columns (2 ∷ 3 ∷ [])
 
-abbrev pub shown_key : Row → Key
+abbrev shown_key : Row → Key
 shown_key c = one (shown_place c)
 
-module _ (key : Key) (table shown : List Row) (same : IsPermutation (map list_columns (of_key key table)) shown) where
+module _ (key : Key) (table shown : List Row) (h : ListsBy (2 ∷ []) (has_text 1 key) list_columns table shown) where
   abbrev mine : List Row
   mine = of_key key table
+
+  same : IsPermutation (map list_columns mine) shown
+  same = permuted _ _ _ table shown h
 
   list_place : put_all shown_key (map list_columns mine) [] ≡ map list_columns (by_place mine)
   list_place = put_all_map place_key shown_key list_columns (λ r. refl) mine []
@@ -169,57 +169,26 @@ module _ (key : Key) (table shown : List Row) (same : IsPermutation (map list_co
   places_are : map shown_place (map list_columns (by_place mine)) ≡ map place_of (by_place mine)
   places_are = map-map shown_place list_columns (by_place mine)
 
-  pub whole_of : CountUp 1 (map shown_place shown) → IsWhole (of_key key table)
-  whole_of up = subst (CountUp 1) (ap (map shown_place) (list_shown up) ∙ places_are) up
+  pub list_whole : CountUp 1 (map shown_place shown) → IsWhole mine
+  list_whole up = subst (CountUp 1) (ap (map shown_place) (list_shown up) ∙ places_are) up
 
-  pub names_of : CountUp 1 (map shown_place shown) → map shown_name shown ≡ chosen table key
-  names_of up = ap (map shown_name) (list_shown up) ∙ map-map shown_name list_columns (by_place mine)
+  pub list_names : CountUp 1 (map shown_place shown) → map shown_name shown ≡ chosen table key
+  list_names up = ap (map shown_name) (list_shown up) ∙ map-map shown_name list_columns (by_place mine)
 
-  -- where the places of the rows never fall
-  pub counts_of : (AllByRecursion (λ c. IsCount (column c 0)) shown → NeverFall (map shown_key shown)) → IsWhole (of_key key table) → CountUp 1 (map shown_place shown)
-  counts_of never whole =
+  pub list_counts : IsWhole mine → CountUp 1 (map shown_place shown)
+  list_counts whole =
       let high : AllByRecursion (λ r. 1 ≤ place_of r) (by_place mine) = all_unmap (λ m. 1 ≤ m) place_of (by_place mine) (counts_high 1 _ (omega arith) whole) in
       let low : AllByRecursion (λ r. IsCount (column r 2)) mine = all_weaker _ _ (λ r. is_count (column r 2)) mine (all_permuted _ (by_place mine) mine (IsPermutation-sym _ _ (permutes place_key mine)) high) in
       let good : AllByRecursion (λ c. IsCount (column c 0)) shown = all_permuted (λ c. IsCount (column c 0)) (map list_columns mine) shown same (all_map (λ c. IsCount (column c 0)) list_columns mine low) in
+      let never : NeverFall (map shown_key shown) = subst NeverFall (map-map (λ v. one (number_in v)) (λ c. column c 0) shown)
+      (falls AtMost (λ v. one (number_in v)) IsCount counts_agree _ (ascends 2 (3 ∷ []) (has_text 1 key) table shown h) (all_map IsCount (λ c. column c 0) shown good)) in
       let rises : Rise (map shown_key (put_all shown_key (map list_columns mine) [])) =
       subst Rise (map-map one place_of (by_place mine) ∙ sym (ap (map shown_key) list_place ∙ map-map shown_key list_columns (by_place mine))) (counts_rise 1 _ whole) in
-      let found = sorted_order shown_key (map list_columns mine) shown same (never good) rises in
+      let found = sorted_order shown_key (map list_columns mine) shown same never rises in
       subst (CountUp 1) (sym (ap (map shown_place) (found ∙ list_place) ∙ places_are)) whole
-
--- by a query of it
-module _ (key : Key) (table shown : List Row) (h : ListsBy (2 ∷ []) (has_text 1 key) (columns (2 ∷ 3 ∷ [])) table shown) where
-  list_rows : IsPermutation (map list_columns (of_key key table)) shown
-  list_rows = permuted _ _ _ table shown h
-
-  pub list_whole : CountUp 1 (map shown_place shown) → IsWhole (of_key key table)
-  list_whole = whole_of key table shown list_rows
-
-  pub list_names : CountUp 1 (map shown_place shown) → map shown_name shown ≡ chosen table key
-  list_names = names_of key table shown list_rows
-
-  pub list_counts : IsWhole (of_key key table) → CountUp 1 (map shown_place shown)
-  list_counts =
-      counts_of key table shown list_rows (λ good. subst NeverFall (map-map (λ v. one (number_in v)) (λ c. column c 0) shown)
-      (falls AtMost (λ v. one (number_in v)) IsCount counts_agree _ (ascends 2 (3 ∷ []) (has_text 1 key) table shown h) (all_map IsCount (λ c. column c 0) shown good)))
-
-pub some_mapped : {X Y Z : Type 0} (f : Y → Option Z) (g : X → Y) (xs : List X) → filter_map f (map g xs) ≡ filter_map (λ x. f (g x)) xs
-some_mapped f g [] = refl
-some_mapped f g (x ∷ xs) = ap (cons_option (f (g x))) (some_mapped f g xs)
-
-pub some_alike : {X Z : Type 0} (f g : X → Option Z) (xs : List X) → ((x : X) → f x ≡ g x) → filter_map f xs ≡ filter_map g xs
-some_alike f g [] h = refl
-some_alike f g (x ∷ xs) h = λ i. cons_option (h x i) (some_alike f g xs h i)
-
-none_there : {X : Type 0} (xs : List X) → AllByRecursion (λ x. ⊥) xs → xs ≡ []
-none_there [] all = refl
-none_there (x ∷ xs) all = absurd all.0
-
-unmapped : {X Y : Type 0} (f : X → Y) (xs : List X) → map f xs ≡ [] → AllByRecursion (λ x. ⊥) xs
-unmapped f [] e = tt
-unmapped f (x ∷ xs) e = absurd (cc)
 
 -- a list that is empty has no row
 pub none_chosen : (key : Key) (table : List Row) → chosen table key ≡ [] → of_key key table ≡ []
 none_chosen key table e =
     let mine = of_key key table in
-    none_there mine (all_permuted (λ x. ⊥) (by_place mine) mine (IsPermutation-sym _ _ (permutes place_key mine)) (unmapped named_by (by_place mine) e))
+    nil_from_length mine (sym (length_permutation mine (by_place mine) (permutes place_key mine)) ∙ sym (length-map (by_place mine) named_by) ∙ ap length e)

@@ -11,6 +11,8 @@ use Rattle.sqlite.specs.Order.{Row, value_cmp}
 use Rattle.sqlite.specs.Tree.{put_row, rowid, has_rowid, without_rowid}
 use Rattle.sqlite.specs.Edit.{id_in, is_taken, without_all}
 use Rattle.sqlite_rules.specs.Lists.{Has}
+use Rattle.sqlite_rules.proofs.ListLemmas.{all_has}
+use Rattle.sqlite_trees.proofs.ListLemmas.{all-filter}
 use Rattle.sqlite_value.proofs.OrderLemmas.{value_cmp_total}
 use Rattle.portal_tables.specs.Changes.{IsApart}
 
@@ -93,11 +95,6 @@ found_not p (x ∷ rows) r none apart =
     nothing true h = h
     nothing false h = h
 
-all_at : {X : Type 0} (P : X → Type 0) (xs : List X) (x : X) → AllByRecursion P xs → Has xs x → P x
-all_at P [] x all none = absurd none
-all_at P (y ∷ xs) x all (inl same) = subst P (sym same) all.0
-all_at P (y ∷ xs) x all (inr has) = all_at P xs x all.1 has
-
 pub found_once : (p : Row → Bool) (rows : List Row) (r : Row) → IsApart rows → Has rows r → found p rows r ≡ p r
 found_once p [] r apart none = absurd none
 found_once p (x ∷ rows) r apart (inl same) =
@@ -108,7 +105,7 @@ found_once p (x ∷ rows) r apart (inl same) =
     own true h = refl
     own false h = h
 found_once p (x ∷ rows) r apart (inr has) =
-    found_head (p x) p x rows r false (numbered_as x r apart.0 ∙ eq_flips (rowid r) (rowid x) ∙ all_at (λ s. is_eq (value_cmp (rowid x) (rowid s)) ≡ false) rows r apart.1 has)
+    found_head (p x) p x rows r false (numbered_as x r apart.0 ∙ eq_flips (rowid r) (rowid x) ∙ all_has (λ s. is_eq (value_cmp (rowid x) (rowid s)) ≡ false) rows r apart.1 has)
     ∙ other (p x) (found_once p rows r apart.2 has)
   where
     other : (b : Bool) → found p rows r ≡ p r → ((b && false) || found p rows r) ≡ p r
@@ -119,11 +116,7 @@ found_once p (x ∷ rows) r apart (inr has) =
 pub apart_filter : (p : Row → Bool) (rows : List Row) → IsApart rows → IsApart (filter p rows)
 apart_filter p [] h = tt
 apart_filter p (x ∷ rows) h =
-    elim (p x) as (λ b. IsApart (cond b (x ∷ filter p rows) (filter p rows))) [ true ↦ (h.0, all_filter _ rows h.1, apart_filter p rows h.2) | false ↦ apart_filter p rows h.2 ]
-  where
-    all_filter : (P : Row → Type 0) (xs : List Row) → AllByRecursion P xs → AllByRecursion P (filter p xs)
-    all_filter P [] h = tt
-    all_filter P (y ∷ xs) h = elim (p y) as (λ b. AllByRecursion P (cond b (y ∷ filter p xs) (filter p xs))) [ true ↦ (h.0, all_filter P xs h.1) | false ↦ all_filter P xs h.1 ]
+    elim (p x) as (λ b. IsApart (cond b (x ∷ filter p rows) (filter p rows))) [ true ↦ (h.0, all-filter _ p rows h.1, apart_filter p rows h.2) | false ↦ apart_filter p rows h.2 ]
 
 -- where its number is free, a row is put somewhere between the others
 pub put_splits : (new : Row) (rows : List Row) → is_taken rows new ≡ false → (front : List Row) × (back : List Row) × (rows ≡ front ++ back) × (put_row new rows ≡ front ++ new ∷ back)

@@ -1,4 +1,4 @@
-use Rattle.std.proofs.Common.{◌≡◌, ℕ, List, [], ◌∷◌, ◌++◌, false, None, Ok, refl, sym, ap, subst, ◌∙◌}
+use Rattle.std.proofs.Common.{◌≡◌, ℕ, List, [], ◌∷◌, ◌++◌, false, None, Result, Ok, refl, sym, ap, subst, ◌∙◌}
 use Rattle.std.specs.List.{AllByRecursion}
 use Rattle.sqlite.specs.Table.{Table}
 use Rattle.sqlite.specs.Schema.{Schema}
@@ -7,15 +7,19 @@ use Rattle.sqlite.specs.Change.{created, next_tree}
 use Rattle.sqlite.specs.Compile.{table_defined_by}
 use Rattle.sqlite.specs.Command.TheVariants.{CreateTable}
 use Rattle.sqlite.specs.Does.{Tally, lacks_sequence}
+use Rattle.sqlite.specs.Store.{Ghosts}
+use Rattle.sqlite.specs.Held.{state}
+use Rattle.sqlite.specs.declared.error.Error.{Error}
+use Rattle.sqlite.specs.declared.transaction.Transaction.{Transaction}
 use Rattle.sqlite.specs.Effect.{Database}
 use Rattle.sqlite.specs.Listing.{understood}
 use Rattle.sqlite.specs.State.{State, Writes}
 use Rattle.sqlite.proofs.Callers.{IsPlain, command_of, statement_of, runs_as}
 use Rattle.sqlite_tied.specs.Compute.{everything}
-use Rattle.portal_tables.specs.Tables.{no_schema, portal_schema, portal, portal_text, lecturer, lecturer_text, project, project_text, student, student_text, choice, choice_text, ranking, ranking_text}
-use Rattle.portal_tables.specs.Making.{Grows, Has, Makes, are_empty, half_schema, full_schema}
-use Rattle.portal_tables.specs.Steps.{Ran, Made}
-use Rattle.portal_tables.proofs.Runs.{made_then}
+use Rattle.portal_tables.specs.Tables.{no_schema, portal_schema, portal, portal_text, lecturer, lecturer_text, project, project_text, student, student_text, choice, ranking, choice_names, ranking_names, list_table_text}
+use Rattle.portal_tables.specs.Making.{Grows, Has, Makes, are_empty, full_schema}
+use Rattle.portal_tables.specs.Steps.{Ran, Made, Does}
+use Rattle.portal_tables.proofs.Runs.{made_then, does_more, does_then}
 use Rattle.portal_tables.proofs.Writes.{went, same_value}
 
 -- what has to be computed of a text that makes a table
@@ -56,8 +60,15 @@ grows schema sql table defines old new ran = record {
       };
 }
 
-pub grows_then : (a b c : Schema) (old mid new : State) → Made (Grows a b) old mid → Made (Grows b c) mid new → Made (Grows a c) old new
-grows_then a b c old mid new p q = made_then (Grows a b) (Grows b c) (Grows a c) old mid new p q (λ f g has none. let mid = f has none in g mid.schema_is mid.empty)
+-- a text makes a table, and then more are made
+pub grown : {S A : Type 0} (g : Ghosts S) (schema : Schema) (sql : List ℕ) (table : Table) → Defines schema sql table → (r : Result A Error) (old new : Transaction S) → Does g (Ran sql []) r old new
+    → Does g (Made (Grows schema (created schema table))) r old new
+grown g schema sql table defines r old new does = does_more g _ _ r old new does (grows schema sql table defines _ _)
+
+pub grown_then : {S A B : Type 0} (g : Ghosts S) (a b c : Schema) (x : A) (r : Result B Error) (old mid new : Transaction S) → Does g (Made (Grows a b)) (Ok x) old mid → Does g (Made (Grows b c)) r mid new
+    → Does g (Made (Grows a c)) r old new
+grown_then g a b c x r old mid new p q =
+    does_then g _ _ _ x r old mid new p q (λ p q. made_then (Grows a b) (Grows b c) (Grows a c) _ _ _ p q (λ f g has none. let mid = f has none in g mid.schema_is mid.empty))
 
 abbrev one : Schema
 one = created no_schema (portal 0)
@@ -65,8 +76,11 @@ one = created no_schema (portal 0)
 abbrev two : Schema
 two = created one (lecturer 0)
 
+abbrev three : Schema
+three = created two (project 0)
+
 abbrev four : Schema
-four = created half_schema (student 0)
+four = created three (student 0)
 
 abbrev five : Schema
 five = created four (choice 0)
@@ -83,29 +97,21 @@ pub project_made : Defines two project_text (project 0)
 unfolding understood everything
 project_made = record { defined = refl; command = refl; statement = refl; plain = (refl, refl); uncounted = refl }
 
-pub student_made : Defines half_schema student_text (student 0)
+pub student_made : Defines three student_text (student 0)
 unfolding understood everything
 student_made = record { defined = refl; command = refl; statement = refl; plain = (refl, refl); uncounted = refl }
 
-pub choice_made : Defines four choice_text (choice 0)
+pub choice_made : Defines four (list_table_text choice_names) (choice 0)
 unfolding understood everything
 choice_made = record { defined = refl; command = refl; statement = refl; plain = (refl, refl); uncounted = refl }
 
-pub ranking_made : Defines five ranking_text (ranking 0)
+pub ranking_made : Defines five (list_table_text ranking_names) (ranking 0)
 unfolding understood everything
 ranking_made = record { defined = refl; command = refl; statement = refl; plain = (refl, refl); uncounted = refl }
-
-pub first_three : (a b c d : State) → Ran portal_text [] a b → Ran lecturer_text [] b c → Ran project_text [] c d → Made (Grows no_schema half_schema) a d
-first_three a b c d x y z = grows_then _ _ _ a b d (grows _ _ _ portal_made a b x) (grows_then _ _ _ b c d (grows _ _ _ lecturer_made b c y) (grows _ _ _ project_made c d z))
-
-pub last_three : (a b c d : State) → Ran student_text [] a b → Ran choice_text [] b c → Ran ranking_text [] c d → Made (Grows half_schema full_schema) a d
-last_three a b c d x y z = grows_then _ _ _ a b d (grows _ _ _ student_made a b x) (grows_then _ _ _ b c d (grows _ _ _ choice_made b c y) (grows _ _ _ ranking_made c d z))
 
 full_is : full_schema ≡ portal_schema
 unfolding understood everything
 full_is = refl
 
-pub all_made : (a b c : State) → Made (Grows no_schema half_schema) a b → Made (Grows half_schema full_schema) b c → Made Makes a c
-all_made a b c p q =
-    let both = grows_then no_schema half_schema full_schema a b c p q in
-    record { shown = both.shown; changed = λ has. subst (λ s. Has s c.now) full_is (both.changed has tt) }
+pub all_made : {S A : Type 0} (g : Ghosts S) (r : Result A Error) (old new : Transaction S) → Does g (Made (Grows no_schema full_schema)) r old new → Does g (Made Makes) r old new
+all_made g r old new does = does_more g _ _ r old new does (λ made. record { shown = made.shown; changed = λ has. subst (λ s. Has s (state g new.conn.now).now) full_is (made.changed has tt) })

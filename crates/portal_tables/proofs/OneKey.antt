@@ -23,18 +23,18 @@ use Rattle.portal_tables.specs.Changes.{IsApart}
 use Rattle.portal_tables.proofs.Weak.{portal_with, with_checks, own_is}
 use Rattle.portal_tables.specs.Lines.{HasTables}
 use Rattle.portal_tables.specs.Rolls.{row_key, by_key}
-use Rattle.portal_tables.proofs.Parents.{told}
+use Rattle.portal_tables.proofs.Lists.{not_true}
 use Rattle.portal_tables.proofs.Shapes.{IsStudentRow, student_rows_formed, text_equals}
 use Rattle.portal_tables.proofs.Sorted.{rise_put_all}
+use Rattle.portal_tables.proofs.Tests.{equals_text}
 
 told_not : (o : Ordering) → is_true (from_truth (Some (is_ne o))) ≡ not (is_eq o)
 told_not Less = refl
 told_not Equal = refl
 told_not Greater = refl
 
-same_text : (s t : Key) → equal Binary (Words s) (Words t) ≡ is s t
-unfolding binary value_cmp
-same_text s t = told (value_cmp (Words s) (Words t)) ∙ text_equals s t
+same_text : (s t : Key) → (equal Binary (Words s) (Words t) && true) ≡ is s t
+same_text s t = equals_text (Words s) t ∙ text_equals s t
 
 other_number : (m n : ℤ) → differ (Int m) (Int n) ≡ not (is_eq (value_cmp (Int m) (Int n)))
 unfolding binary value_cmp
@@ -44,7 +44,7 @@ other_number m n = told_not (value_cmp (Int m) (Int n))
 abbrev is_twin : Row → Row → Bool
 is_twin other r = (equal Binary (column other 1) (column r 1) && true) && differ (rowid other) (rowid r)
 
-unlike : (a b : Bool) → ((a && true) && not b) ≡ false → b ≡ false → a ≡ false
+unlike : (a b : Bool) → (a && not b) ≡ false → b ≡ false → a ≡ false
 unlike true true h e = e
 unlike true false h e = h
 unlike false b h e = refl
@@ -52,7 +52,7 @@ unlike false b h e = refl
 apart_keys : (r s : Row) → IsStudentRow r → IsStudentRow s → is_twin r s ≡ false → is_eq (value_cmp (rowid r) (rowid s)) ≡ false → is (row_key r) (row_key s) ≡ false
 apart_keys r s x y =
     subst₂ (λ (a b : Row). is_twin a b ≡ false → is_eq (value_cmp (rowid a) (rowid b)) ≡ false → is (row_key a) (row_key b) ≡ false) (sym x.is) (sym y.is) (λ h e.
-    unlike (is x.key y.key) (is_eq (value_cmp (Int x.number) (Int y.number))) (sym (ap₂ (λ a b. (a && true) && b) (same_text x.key y.key) (other_number x.number y.number)) ∙ h) e)
+    unlike (is x.key y.key) (is_eq (value_cmp (Int x.number) (Int y.number))) (sym (ap₂ (λ a b. a && b) (same_text x.key y.key) (other_number x.number y.number)) ∙ h) e)
 
 others : (r : Row) (rows : List Row) → IsStudentRow r → AllByRecursion IsStudentRow rows → AllByRecursion (λ s. is_twin r s ≡ false) rows → AllByRecursion (λ s. is_eq (value_cmp (rowid r) (rowid s)) ≡ false) rows
     → AllByRecursion (λ k. is (row_key r) k ≡ false) (map row_key rows)
@@ -67,13 +67,9 @@ distinct (r ∷ rows) apart all none = (
   distinct rows apart.2 all.1 (all_weaker _ _ (λ s h. (or_parts (is_twin r s) (list_any (λ q. is_twin q s) rows) h).1) rows none.1),
 )
 
-not_so : (b : Bool) → not b ≡ true → b ≡ false
-not_so true h = sym h
-not_so false h = refl
-
 no_twin : (checks terms : _) (db : Trees) (r : Row) → passes Unique (portal_with checks terms) db (with_checks checks terms (student 6)) r ≡ true → list_any (λ other. is_twin other r) (db 6) ≡ false
 unfolding everything
-no_twin checks terms db r h = not_so (list_any (λ other. is_twin other r) (db 6)) (and_parts (not (list_any (λ other. is_twin other r) (db 6))) _ h).0
+no_twin checks terms db r h = not_true (list_any (λ other. is_twin other r) (db 6)) (and_parts (not (list_any (λ other. is_twin other r) (db 6))) _ h).0
 
 pub student_keys_rise : (db : Database) → HasTables db → Rise (map row_key (by_key (db.trees student_tree)))
 student_keys_rise db tables =

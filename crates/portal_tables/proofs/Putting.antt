@@ -23,7 +23,7 @@ use Rattle.portal_core.specs.Words.{Key, is, is_before, Rise}
 use Rattle.portal_core.proofs.AllLaws.{is_sym}
 use Rattle.portal_tables.specs.Own.{IsOwn}
 use Rattle.portal_tables.specs.Changes.{has_text, with_rows, AreNew}
-use Rattle.portal_tables.specs.Rows.{Adds, Clears, choice_cells}
+use Rattle.portal_tables.specs.Rows.{Adds, Clears, place_cells}
 use Rattle.portal_tables.proofs.Keeping.{puts_apart, drops_apart, keeps_then}
 use Rattle.portal_tables.proofs.Lists.{filter_same, filter-filter, put_splits, eq_self}
 use Rattle.portal_tables.specs.Lists.{of_key, place_key, by_place, list_of, CountUp, IsWhole}
@@ -102,10 +102,10 @@ record Listed (owner : Key) (list : List Key) (first now : List Row) : Type 0 wh
 
 -- one row more
 listed_more : (owner k : Key) (done : List Key) (n : ℕ) (first mid : List Row) → n ≡ length done + 1 → Listed owner done first mid
-    → is_taken mid (Int (next_rowid mid) ∷ choice_cells owner (pos n) k) ≡ false
-    → Listed owner (done ++ k ∷ []) first (put_row (Int (next_rowid mid) ∷ choice_cells owner (pos n) k) mid)
+    → is_taken mid (Int (next_rowid mid) ∷ place_cells owner (pos n) k) ≡ false
+    → Listed owner (done ++ k ∷ []) first (put_row (Int (next_rowid mid) ∷ place_cells owner (pos n) k) mid)
 listed_more owner k done n first mid at was free =
-    let new : Row = Int (next_rowid mid) ∷ choice_cells owner (pos n) k in
+    let new : Row = Int (next_rowid mid) ∷ place_cells owner (pos n) k in
     let split = put_splits new mid free in
     let front = split.0 in
     let back = split.1 in
@@ -123,12 +123,12 @@ listed_more owner k done n first mid at was free =
 
 -- and all the rows of a list
 listed_all : (owner : Key) (done ks : List Key) (n : ℕ) (first mid : List Row) → n ≡ length done + 1 → Listed owner done first mid
-    → AreNew mid (map (λ p. choice_cells owner (pos p.0) p.1) (numbered n ks))
-    → Listed owner (done ++ ks) first (with_rows mid (map (λ p. choice_cells owner (pos p.0) p.1) (numbered n ks)))
+    → AreNew mid (map (λ p. place_cells owner (pos p.0) p.1) (numbered n ks))
+    → Listed owner (done ++ ks) first (with_rows mid (map (λ p. place_cells owner (pos p.0) p.1) (numbered n ks)))
 listed_all owner done [] n first mid at was new = subst (λ l. Listed owner l first mid) (sym (append-nil done)) was
 listed_all owner done (k ∷ ks) n first mid at was new =
-    let row : Row = Int (next_rowid mid) ∷ choice_cells owner (pos n) k in
-    let rest = map (λ (p : ℕ × Key). choice_cells owner (pos p.0) p.1) (numbered (n + 1) ks) in
+    let row : Row = Int (next_rowid mid) ∷ place_cells owner (pos n) k in
+    let rest = map (λ (p : ℕ × Key). place_cells owner (pos p.0) p.1) (numbered (n + 1) ks) in
     subst (λ l. Listed owner l first (with_rows (put_row row mid) rest)) (append_assoc done (k ∷ []) ks)
     (listed_all owner (done ++ k ∷ []) ks (n + 1) first (put_row row mid) (ap (λ m. m + 1) (at ∙ sym (length_push done k)))
     (listed_more owner k done n first mid at was new.0) new.1)
@@ -150,19 +150,19 @@ put_whole tree owner list first mid now puts adds own apart =
     }
 
 -- a list that is written row by row
-pub cells_more : (owner : Key) (done : List Key) (k : Key) → list_cells owner (done ++ k ∷ []) ≡ list_cells owner done ++ choice_cells owner (pos (length done + 1)) k ∷ []
+pub cells_more : (owner : Key) (done : List Key) (k : Key) → list_cells owner (done ++ k ∷ []) ≡ list_cells owner done ++ place_cells owner (pos (length done + 1)) k ∷ []
 cells_more owner done k =
-    ap (map (λ (p : ℕ × Key). choice_cells owner (pos p.0) p.1)) (numbered_more 1 done k)
-    ∙ map-append (λ (p : ℕ × Key). choice_cells owner (pos p.0) p.1) (numbered 1 done) ((length done + 1, k) ∷ [])
+    ap (map (λ (p : ℕ × Key). place_cells owner (pos p.0) p.1)) (numbered_more 1 done k)
+    ∙ map-append (λ (p : ℕ × Key). place_cells owner (pos p.0) p.1) (numbered 1 done) ((length done + 1, k) ∷ [])
 
 -- the loop's turn: the row of the place at i is written
 pub cells_next : {X : Type 0} (cells_of : X → Row) (rows : List X) (x : X) (owner k : Key) (keys : List Key) (i place : ℕ) → place ≡ i → i < length keys → k ≡ get_or keys i k
-    → cells_of x ≡ choice_cells owner (pos (place + 1)) k
+    → cells_of x ≡ place_cells owner (pos (place + 1)) k
     → map cells_of rows ≡ list_cells owner (take i keys) → map cells_of (rows ++ x ∷ []) ≡ list_cells owner (take (i + 1) keys)
 cells_next cells_of rows x owner k keys i place at within is cell was =
     let at_end : place + 1 ≡ length (take i keys) + 1 = omega (arith, at, length-take-le i keys (omega (arith, within))) in
     let more : take i keys ++ k ∷ [] ≡ take (i + 1) keys = sym (take_more keys i k within ∙ ap (λ y. take i keys ++ y ∷ []) (sym is)) in
-    map-append cells_of rows (x ∷ []) ∙ ap₂ (λ l c. l ++ c ∷ []) was (cell ∙ ap (λ n. choice_cells owner (pos n) k) at_end)
+    map-append cells_of rows (x ∷ []) ∙ ap₂ (λ l c. l ++ c ∷ []) was (cell ∙ ap (λ n. place_cells owner (pos n) k) at_end)
     ∙ sym (cells_more owner (take i keys) k) ∙ ap (list_cells owner) more
 
 abbrev pair_key : ℕ × Key → Key

@@ -11,13 +11,12 @@ use Rattle.sqlite.specs.Tree.{Trees}
 use Rattle.sqlite.specs.Query.{Query, IsAnswer, output, Output}
 use Rattle.sqlite.specs.Program.{IsProgramAnswer}
 use Rattle.sqlite_exec.proofs.RunLemmas.{answer_alone}
-use Rattle.sqlite.specs.State.{State, Shown, ShowsRows, IsUnchanged, FailsToQuery, FailsToShow, IsNotRun, Survives, CommitsShowing}
+use Rattle.sqlite.specs.State.{State, Shown, ShowsRows, IsUnchanged, FailsToQuery, FailsToShow, IsNotRun}
 use Rattle.sqlite.specs.declared.error.Error.{Error}
 use Rattle.portal_tables.specs.Steps.{Leaves}
 use Rattle.sqlite.specs.Clock.{timed}
 use Rattle.sqlite.specs.Listing.{understood}
-use Rattle.sqlite.proofs.StateLemmas.{survives_weaker}
-use Rattle.sqlite.proofs.Callers.{IsPlain, never_commits}
+use Rattle.sqlite.proofs.Callers.{IsPlain}
 use Rattle.portal_tables.specs.Changes.{ListsBy, columns}
 use Rattle.portal_tables.proofs.Query.{one_table, passes, shown_as}
 use Rattle.sqlite_sql.specs.Query.{key_cmp}
@@ -55,9 +54,6 @@ unfolding Shown
 shown_same sql params old new rows plain h =
     let none = (subst IsPlain h.1.is plain).0 in
     (subst (ShowsRows old new sql h.0 (timed params h.0.formats h.1.now) rows) none h.2).3
-
-pub commits_nothing : (sql : List ℕ) (params : Row) (old new : State) → IsPlain (understood old.now.schema sql) → Survives old new (CommitsShowing sql params old) → Survives old new (λ _. ⊥)
-commits_nothing sql params old new plain = survives_weaker old new _ _ (λ _ db. never_commits sql params old db plain)
 
 pub failed_leaves : (sql : List ℕ) (params : Row) (old new : State) (e : Error) → IsPlain (understood old.now.schema sql) → FailsToQuery sql params old new e → Leaves old new
 unfolding FailsToQuery IsNotRun

@@ -1,15 +1,19 @@
 -- Steps of a transaction in turn, whatever the change.
-use Rattle.std.proofs.Common.{inl, inr, Bool, true, false, IsTrue, ◌≡◌, refl, subst, ◌∙◌, arith}
+use Rattle.std.proofs.Common.{inl, inr, Bool, true, false, IsTrue, ◌≡◌, Result, Ok, refl, sym, ap, subst, ◌∙◌, arith}
+use Rattle.std.proofs.lemmas.Result.{on_ok_weaker}
+use Rattle.sqlite.specs.declared.error.Error.{Error}
+use Rattle.sqlite.specs.declared.transaction.Transaction.{Transaction}
 use Rattle.std.proofs.lemmas.Bool.{cases_Bool}
 use Rattle.sqlite.specs.Effect.{Database}
-use Rattle.sqlite.specs.State.{State, HasCleanDisk, Survives, KeepsCommit}
+use Rattle.sqlite.specs.State.{State, HasCleanDisk, Survives, KeepsCommit, Shows, IsRolledBack}
+use Rattle.sqlite.specs.Steps.{FailsToCommit}
 use Rattle.sqlite.specs.Store.{Ghosts}
 use Rattle.sqlite.specs.Held.{Held, state}
 use Rattle.sqlite.specs.View.{doubt}
 use Rattle.sqlite_trees.proofs.Doubt.{no_doubt}
 use Rattle.sqlite.proofs.StateLemmas.{survives_then}
 use Rattle.sqlite.proofs.Callers.{survives_begin}
-use Rattle.portal_tables.specs.Steps.{Made, GoesOn, IsAfter}
+use Rattle.portal_tables.specs.Steps.{Made, GoesOn, Does, Commits, IsAfter, Stays}
 
 -- a step after another
 pub made_then : (A B C : Database → Database → Type 0) (old mid new : State) → Made A old mid → Made B mid new → (A old.now mid.now → B mid.now new.now → C old.now new.now) → Made C old new
@@ -48,15 +52,57 @@ survives_same s = record { clean = omega arith; shield = λ h. h; counts = omega
 pub kept_then : (a b c : State) → KeepsCommit a b → KeepsCommit b c → KeepsCommit a c
 kept_then a b c p q = record { was_open = λ on. p.was_open (q.was_open on); committed = λ on. q.committed on ∙ p.committed (q.was_open on) }
 
--- A crash of a transaction that was committed, or failed to be, leaves what was there before or the whole change.
-pub crash_after : {S : Type 0} (g : Ghosts S) (C : Database → Database → Type 0) (old begun mid last : Held S) → begun ≡ record old { in_transaction = true }
-    → Survives (state g begun) (state g mid) (λ _. ⊥) → (HasCleanDisk (state g mid) → Made C (state g begun) (state g mid)) → Survives (state g mid) (state g last) (λ db. db ≡ (state g mid).now.trees)
-    → Survives (state g old) (state g last) (IsAfter C (state g old))
-crash_after g C old begun mid last is inside made ends =
-    let first : Survives (state g old) (state g mid) (λ _. ⊥) = survives_begin g old (state g mid) (λ _. ⊥) (subst (λ h. Survives (state g h) (state g mid) (λ _. ⊥)) is inside) in
-    survives_then (state g old) (state g mid) (state g last) _ _ (IsAfter C (state g old)) (λ _ db none. absurd none)
-    (λ clean db same.
-    let m = subst (λ h. Made C (state g h) (state g mid)) is (made (omega (arith, clean, ends.clean))) in ((state g mid).now, m.changed, same)) first ends
+-- Calls in one transaction: none yet.
+pub does_none : {S A : Type 0} (g : Ghosts S) (P : State → State → Type 0) (a : A) (tx : Transaction S) → P (state g tx.conn.now) (state g tx.conn.now) → Does g P (Ok a) tx tx
+does_none g P a tx same = record { same_reference = refl; done = λ clean. same; kept = λ clean. kept_same (state g tx.conn.now); survives = survives_same (state g tx.conn.now) }
+
+-- a call after another that answered Ok
+pub does_then : {S A B : Type 0} (g : Ghosts S) (P Q R : State → State → Type 0) (a : A) (r : Result B Error) (old mid new : Transaction S) → Does g P (Ok a) old mid → Does g Q r mid new
+    → (P (state g old.conn.now) (state g mid.conn.now) → Q (state g mid.conn.now) (state g new.conn.now) → R (state g old.conn.now) (state g new.conn.now)) → Does g R r old new
+does_then g P Q R a r old mid new before after joined = record {
+  same_reference = after.same_reference ∙ before.same_reference;
+  done = λ clean. on_ok_weaker r (joined (before.done (omega (arith, clean, after.survives.clean)))) (after.done clean);
+  kept = λ clean. kept_then _ _ _ (before.kept (omega (arith, clean, after.survives.clean))) (after.kept clean);
+  survives = survives_then _ _ _ _ _ (λ _. ⊥) (λ _ db none. none) (λ _ db none. none) before.survives after.survives;
+}
+
+-- what was done is so much more
+pub does_more : {S A : Type 0} (g : Ghosts S) (P Q : State → State → Type 0) (r : Result A Error) (old new : Transaction S) → Does g P r old new
+    → (P (state g old.conn.now) (state g new.conn.now) → Q (state g old.conn.now) (state g new.conn.now)) → Does g Q r old new
+does_more g P Q r old new does more = record { same_reference = does.same_reference; done = λ clean. on_ok_weaker r more (does.done clean); kept = does.kept; survives = does.survives }
+
+-- A transaction whose steps may be none: what its commit and a crash leave.
+module _ {S : Type 0} (g : Ghosts S) (C : Database → Database → Type 0) (old begun mid last : Held S) (is : begun ≡ record old { in_transaction = true }) where
+  pub ended_well : KeepsCommit (state g begun) (state g mid) → GoesOn C (state g begun) (state g mid) → Shows (state g mid) (state g last) (state g mid).now (state g mid).now false → Commits C (state g old) (state g last)
+  ended_well kept made done = record {
+    was_open = (subst (λ h. KeepsCommit (state g h) (state g mid)) is kept).was_open done.was_open;
+    is_open = done.is_open;
+    settled = done.committed_is ∙ sym done.now_is;
+    changed = subst (C (state g old).now) (sym done.now_is) (subst (λ h. C (state g h).now (state g mid).now) is made.changed);
+  }
+
+  pub ended_crash : Survives (state g begun) (state g mid) (λ _. ⊥) → (HasCleanDisk (state g mid) → GoesOn C (state g begun) (state g mid)) → Survives (state g mid) (state g last) (λ db. db ≡ (state g mid).now.trees)
+      → Survives (state g old) (state g last) (IsAfter C (state g old))
+  ended_crash inside made ends =
+      let first : Survives (state g old) (state g mid) (λ _. ⊥) = survives_begin g old (state g mid) (λ _. ⊥) (subst (λ h. Survives (state g h) (state g mid) (λ _. ⊥)) is inside) in
+      survives_then (state g old) (state g mid) (state g last) _ _ (IsAfter C (state g old)) (λ _ db none. absurd none)
+      (λ clean db same.
+      let m = subst (λ h. C (state g h).now (state g mid).now) is (made (omega (arith, clean, ends.clean))).changed in ((state g mid).now, m, same)) first ends
+
+  -- where the commit fails, nothing is changed
+  pub ended_badly : (e : Error) → (IsTrue (state g old).is_open → (state g old).now ≡ (state g old).committed) → KeepsCommit (state g begun) (state g mid) → GoesOn C (state g begun) (state g mid)
+      → FailsToCommit (state g mid) (state g last) e → IsTrue (state g last).is_open → Stays (state g old) (state g last)
+  ended_badly e settled kept made (inl fails) on =
+      let undone : IsRolledBack (state g mid) (state g last) = fails.3 in
+      let keeps = subst (λ h. KeepsCommit (state g h) (state g mid)) is kept in
+      let middle = undone.was_open on in
+      let first : IsTrue (state g old).is_open = keeps.was_open middle in
+      let same = undone.undone on in
+      (first, same.0 ∙ keeps.committed middle ∙ sym (settled first), same.1 ∙ keeps.committed middle)
+  ended_badly e settled kept made (inr closed) on =
+      let inside : (state g mid).in_transaction ≡ true = made.mode (ap (λ h. (state g h).in_transaction) is) in
+      let none : false ≡ true = sym closed.1 ∙ inside in
+      absurd (cc)
 
 -- A store that is open is clean.
 pub clean_if_open : (clean is_open : Bool) → (clean ≡ false → is_open ≡ false) → IsTrue is_open → doubt clean ≡ 0

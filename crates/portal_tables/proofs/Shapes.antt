@@ -8,21 +8,25 @@ use Rattle.std.specs.Cmp.Lexicographic.{texts_ties}
 use Rattle.sqlite.specs.declared.types.Value.{Value}
 use Rattle.sqlite.specs.declared.types.Value.TheVariants.{Null, Int, Real, Blob, Text as Words}
 use Rattle.sqlite.specs.Order.{Row, column, value_cmp}
-use Rattle.sqlite.specs.Tree.{rowid}
+use Rattle.sqlite.specs.Tree.{Trees, rowid}
+use Rattle.sqlite.specs.Term.{Term}
 use Rattle.sqlite.specs.Edit.{id_in}
 use Rattle.sqlite.specs.Effect.{Database, IsDatabase}
 use Rattle.sqlite_schema.specs.declared.schema.Column.{Column}
 use Rattle.sqlite_schema.specs.declared.schema.Constraint.{Constraint}
 use Rattle.sqlite_schema.specs.declared.schema.Constraint.TheVariants.{Datatype, NotNull}
-use Rattle.sqlite_schema.specs.Rules.{Keeps, are_typed, are_present, is_of}
+use Rattle.sqlite_schema.specs.Rules.{Keeps, passes, are_typed, are_present, is_of}
 use Rattle.sqlite_sql.specs.Ops.{is_null}
 use Rattle.sqlite.specs.Kind.TheVariants.{Integer, Text}
 use Rattle.portal_core.specs.Words.{Key, is}
-use Rattle.portal_tables.specs.Tables.{column_of, lecturer_tree, student_tree, choice_tree, ranking_tree, lecturer, student, choice, ranking}
+use Rattle.portal_tables.specs.Tables.{column_of, list_table, lecturer_tree, student_tree, lecturer, student}
+use Rattle.portal_tables.specs.ListTables.{names, tree_of}
+use Rattle.portal_tables.specs.declared.list_table.Lists.{Lists}
+use Rattle.portal_tables.specs.declared.list_table.Lists.TheVariants.{Choices, Rankings}
 use Rattle.portal_tables.specs.Own.{IsOwn}
 use Rattle.portal_tables.specs.Changes.{IsApart, has_text}
-use Rattle.portal_tables.specs.Rows.{lecturer_cells, choice_cells, ranking_cells}
-use Rattle.portal_tables.proofs.Weak.{portal_with, IsWith, own_is}
+use Rattle.portal_tables.specs.Rows.{lecturer_cells, place_cells}
+use Rattle.portal_tables.proofs.Weak.{portal_with, with_checks, IsWith, own_is}
 use Rattle.portal_tables.specs.Rolls.{row_key}
 
 -- a test of a text
@@ -33,7 +37,7 @@ text_equals s t = sym (texts_ties s t)
 pub has_text_of : (at : ℕ) (t : Key) (r : Row) (s : Key) → column r at ≡ Words s → has_text at t r ≡ is s t
 has_text_of at t r s e = ap (λ v. is_eq (value_cmp v (Words t))) e ∙ text_equals s t
 
-text_cell : (v : Value) → is_of Text v ≡ true → not (is_null v) ≡ true → (t : List ℕ) × (v ≡ Words t)
+pub text_cell : (v : Value) → is_of Text v ≡ true → not (is_null v) ≡ true → (t : List ℕ) × (v ≡ Words t)
 text_cell Null a b = absurd (cc)
 text_cell (Int n) a b = absurd (cc)
 text_cell (Real x) a b = absurd (cc)
@@ -82,19 +86,13 @@ pub record IsStudentRow (r : Row) : Type 0 where
 pub student_test : (k : Key) (r : Row) → IsStudentRow r → has_text 1 k r ≡ is (row_key r) k
 student_test k r f = has_text_of 1 k r f.key (ap (λ x. column x 1) f.is) ∙ ap (λ x. is (row_key x) k) (sym f.is)
 
-pub record IsChoiceRow (r : Row) : Type 0 where
+-- a place of a list, in either table
+pub record IsPlace (r : Row) : Type 0 where
   pub number : ℤ
-  pub student : List ℕ
+  pub owner : List ℕ
   pub place : ℤ
-  pub project : List ℕ
-  pub is : r ≡ Int number ∷ choice_cells student place project
-
-pub record IsRankingRow (r : Row) : Type 0 where
-  pub number : ℤ
-  pub lecturer : List ℕ
-  pub place : ℤ
-  pub student : List ℕ
-  pub is : r ≡ Int number ∷ ranking_cells lecturer place student
+  pub item : List ℕ
+  pub is : r ≡ Int number ∷ place_cells owner place item
 
 -- A row whose first cell is a text, or a number: what is so at each such cell, and whatever columns follow it, is so of the cells.
 text_first : (P : Row → Type 0) (name : List ℕ) (at : ℕ) (cs : List Column) (cells : Row) → are_typed None at (column_of name Text true ∷ cs) cells ≡ true → not (is_null (column cells 0)) ≡ true
@@ -151,24 +149,16 @@ student_form n cells typed present =
     let end = last_cell (codes "assigned") 3 rest2 typed2 in
     record { number = n; key = key; name = name; code = code; last = rest2; is = refl; few = end.0; assigned = end.1 })) a3) p2.0 p3.0
 
--- a text, a number and a text
-record Listed (r : Row) : Type 0 where
-  pub number : ℤ
-  pub owner : List ℕ
-  pub place : ℤ
-  pub named : List ℕ
-  pub is : r ≡ Int number ∷ Words owner ∷ Int place ∷ Words named ∷ []
-
-listed_form : (n : ℤ) (k l m : List ℕ) (cells : Row) → are_typed None 0 (column_of k Text true ∷ column_of l Integer true ∷ column_of m Text true ∷ []) cells ≡ true
-    → are_present None 0 (column_of k Text true ∷ column_of l Integer true ∷ column_of m Text true ∷ []) (Int n ∷ cells) ≡ true → Listed (Int n ∷ cells)
-listed_form n k l m cells typed present =
+place_form : (n : ℤ) (k l m : List ℕ) (cells : Row) → are_typed None 0 (column_of k Text true ∷ column_of l Integer true ∷ column_of m Text true ∷ []) cells ≡ true
+    → are_present None 0 (column_of k Text true ∷ column_of l Integer true ∷ column_of m Text true ∷ []) (Int n ∷ cells) ≡ true → IsPlace (Int n ∷ cells)
+place_form n k l m cells typed present =
     let p1 = and_parts _ _ present in
     let p2 = and_parts _ _ p1.1 in
     let p3 = and_parts _ _ p2.1 in
-    text_first (λ x. Present 2 (Int n ∷ x) → Present 3 (Int n ∷ x) → Listed (Int n ∷ x)) k 0 (column_of l Integer true ∷ column_of m Text true ∷ []) cells typed p1.0 (λ owner rest0 typed0 a2 a3.
-    number_first (λ x. Present 3 (Int n ∷ Words owner ∷ x) → Listed (Int n ∷ Words owner ∷ x)) l 1 (column_of m Text true ∷ []) rest0 typed0 a2 (λ place rest1 typed1 b3.
-    text_first (λ x. Listed (Int n ∷ Words owner ∷ Int place ∷ x)) m 2 [] rest1 typed1 b3 (λ named rest2 typed2.
-    record { number = n; owner = owner; place = place; named = named; is = ap (λ x. Int n ∷ Words owner ∷ Int place ∷ Words named ∷ x) (none_more 3 rest2 typed2) })) a3) p2.0 p3.0
+    text_first (λ x. Present 2 (Int n ∷ x) → Present 3 (Int n ∷ x) → IsPlace (Int n ∷ x)) k 0 (column_of l Integer true ∷ column_of m Text true ∷ []) cells typed p1.0 (λ owner rest0 typed0 a2 a3.
+    number_first (λ x. Present 3 (Int n ∷ Words owner ∷ x) → IsPlace (Int n ∷ Words owner ∷ x)) l 1 (column_of m Text true ∷ []) rest0 typed0 a2 (λ place rest1 typed1 b3.
+    text_first (λ x. IsPlace (Int n ∷ Words owner ∷ Int place ∷ x)) m 2 [] rest1 typed1 b3 (λ item rest2 typed2.
+    record { number = n; owner = owner; place = place; item = item; is = ap (λ x. Int n ∷ Words owner ∷ Int place ∷ Words item ∷ x) (none_more 3 rest2 typed2) })) a3) p2.0 p3.0
 
 -- a row with a number begins with it
 with_number : (P : Row → Type 0) (typed present : Row → Bool) → ((n : ℤ) (cells : Row) → typed cells ≡ true → present (Int n ∷ cells) ≡ true → P (Int n ∷ cells))
@@ -182,6 +172,12 @@ formed : (P : Row → Type 0) (typed present : Row → Bool) → ((n : ℤ) (cel
 formed P typed present form [] apart t p = tt
 formed P typed present form (r ∷ rows) apart t p =
     (with_number P typed present form r apart.0 (and_parts _ _ t.0).0 p.0, formed P typed present form rows apart.2 t.1 p.1)
+
+-- a rule of all tables is one of a table of lists
+pub at_list : (l : Lists) (checks more : ℕ → List Term) (rule : Constraint) (db : Trees) → Keeps rule (portal_with checks more) db
+    → AllByRecursion (λ row. passes rule (portal_with checks more) db (with_checks checks more (list_table (names l) (tree_of l))) row ≡ true) (db (tree_of l))
+at_list Choices checks more rule db all = all.1.1.1.1.0
+at_list Rankings checks more rule db all = all.1.1.1.1.1.0
 
 module _ (db : Database) (own : IsOwn db.schema) (sound : IsDatabase db) where
   kept : (rule : Constraint) (w : IsWith db.schema) → Keeps rule (portal_with w.checks w.terms) db.trees
@@ -197,16 +193,8 @@ module _ (db : Database) (own : IsOwn db.schema) (sound : IsDatabase db) where
       let w = own_is db.schema own in
       formed IsStudentRow (are_typed None 0 (student 6).columns) (are_present None 0 (student 6).columns) student_form (db.trees student_tree) apart (kept Datatype w).1.1.1.0 (kept NotNull w).1.1.1.0
 
-  pub choice_rows_formed : IsApart (db.trees choice_tree) → AllByRecursion IsChoiceRow (db.trees choice_tree)
-  choice_rows_formed apart =
+  pub place_rows_formed : (l : Lists) → IsApart (db.trees (tree_of l)) → AllByRecursion IsPlace (db.trees (tree_of l))
+  place_rows_formed l apart =
       let w = own_is db.schema own in
-      formed IsChoiceRow (are_typed None 0 (choice 9).columns) (are_present None 0 (choice 9).columns)
-      (λ n cells t p. let f = listed_form n (codes "student") (codes "place") (codes "project") cells t p in record { number = f.number; student = f.owner; place = f.place; project = f.named; is = f.is })
-      (db.trees choice_tree) apart (kept Datatype w).1.1.1.1.0 (kept NotNull w).1.1.1.1.0
-
-  pub ranking_rows_formed : IsApart (db.trees ranking_tree) → AllByRecursion IsRankingRow (db.trees ranking_tree)
-  ranking_rows_formed apart =
-      let w = own_is db.schema own in
-      formed IsRankingRow (are_typed None 0 (ranking 12).columns) (are_present None 0 (ranking 12).columns)
-      (λ n cells t p. let f = listed_form n (codes "lecturer") (codes "place") (codes "student") cells t p in record { number = f.number; lecturer = f.owner; place = f.place; student = f.named; is = f.is })
-      (db.trees ranking_tree) apart (kept Datatype w).1.1.1.1.1.0 (kept NotNull w).1.1.1.1.1.0
+      let cs = (list_table (names l) (tree_of l)).columns in
+      formed IsPlace (are_typed None 0 cs) (are_present None 0 cs) (λ n cells t p. place_form n (names l).owner (codes "place") (names l).item cells t p) (db.trees (tree_of l)) apart (at_list l w.checks w.terms Datatype db.trees (kept Datatype w)) (at_list l w.checks w.terms NotNull db.trees (kept NotNull w))

@@ -3,13 +3,14 @@ use Rattle.std.proofs.Common.{◌≡◌, inl, inr, true, false, ◌||◌, cond, 
 use Rattle.std.proofs.lemmas.List.{append-nil}
 use Rattle.std.specs.List.{AllByRecursion, IsDistinct}
 use Rattle.std.specs.List.Sorted.{IsPermutation}
-use Rattle.std.proofs.lemmas.List.Sorted.{IsPermutation-refl, IsPermutation-trans, IsPermutation-sym, IsPermutation-cons, IsPermutation-middle, IsPermutation-map, IsPermutation-append_right, All-permutation}
-use Rattle.std.proofs.lemmas.List.Elements.{All-from_recursion, recursion_from_All}
+use Rattle.std.proofs.lemmas.List.Sorted.{IsPermutation-refl, IsPermutation-trans, IsPermutation-sym, IsPermutation-cons, IsPermutation-middle, IsPermutation-map, IsPermutation-append_right}
 use Rattle.std.proofs.lemmas.Map.Keys.{IsDistinct-IsPermutation}
 use Rattle.sqlite_rules.specs.Lists.{Has}
-use Rattle.portal_core.specs.Words.{Key, is, has, is_before, Rise, AreDistinct, put, put_all}
+pub use Rattle.sqlite_rules.proofs.ListLemmas.{all_has as at, all_from as all_has}
+pub use Rattle.sqlite_trees.proofs.ListLemmas.{all-permutation as all_permuted, all_both as all_two}
+use Rattle.portal_core.specs.Words.{Key, is, has, is_before, Rise, put, put_all}
 use Rattle.portal_core.proofs.Keys.{is_own, not_before_itself}
-use Rattle.portal_core.proofs.AllLaws.{is_sym, none_is}
+use Rattle.portal_core.proofs.AllLaws.{is_sym}
 use Rattle.portal_core.proofs.Puts.{before_trans, after_other}
 use Rattle.portal_core.proofs.Fills.{before_other}
 
@@ -21,16 +22,6 @@ pub rise_distinct : (ks : List Key) → Rise ks → IsDistinct is ks
 unfolding IsDistinct
 rise_distinct [] h = tt
 rise_distinct (k ∷ ks) h = (all_apart k ks h.0, rise_distinct ks h.1)
-
-flip_all : (k : Key) (ks : List Key) → AllByRecursion (λ l. is k l ≡ false) ks → AllByRecursion (λ l. is l k ≡ false) ks
-flip_all k [] h = tt
-flip_all k (l ∷ ks) h = (is_sym l k ∙ h.0, flip_all k ks h.1)
-
--- the same by the word of worlds
-pub are_distinct : (ks : List Key) → IsDistinct is ks → AreDistinct ks
-unfolding IsDistinct
-are_distinct [] h = tt
-are_distinct (k ∷ ks) h = (none_is k ks (flip_all k ks h.0), are_distinct ks h.1)
 
 -- no key comes before one that stands in front of it
 abbrev pub NeverFall : List Key → Type 0
@@ -47,31 +38,8 @@ unfolding IsDistinct
 rise_from_distinct [] h d = tt
 rise_from_distinct (k ∷ ks) h d = (above_others k ks h.0 d.0, rise_from_distinct ks h.1 d.1)
 
-module _ {X : Type 0} where
-  pub at : (P : X → Type 0) (xs : List X) (x : X) → AllByRecursion P xs → Has xs x → P x
-  at P [] x all h = absurd h
-  at P (y ∷ xs) x all (inl e) = subst P (sym e) all.0
-  at P (y ∷ xs) x all (inr h) = at P xs x all.1 h
-
-  within : (zs all : List X) → ((z : X) → Has zs z → Has all z) → AllByRecursion (λ z. Has all z) zs
-  within [] all h = tt
-  within (z ∷ zs) all h = (h z (inl refl), within zs all (λ w k. h w (inr k)))
-
-  pub all_has : (P : X → Type 0) (xs : List X) → ((x : X) → Has xs x → P x) → AllByRecursion P xs
-  all_has P [] h = tt
-  all_has P (x ∷ xs) h = (h x (inl refl), all_has P xs (λ y k. h y (inr k)))
-
-  -- what holds of each row holds of each in another order
-  pub all_permuted : (P : X → Type 0) (xs ys : List X) → IsPermutation xs ys → AllByRecursion P xs → AllByRecursion P ys
-  all_permuted P xs ys same all = recursion_from_All P ys (All-permutation P xs ys same (All-from_recursion P xs all))
-
-  -- of two facts of each row a third
-  pub all_two : (P Q R : X → Type 0) → ((x : X) → P x → Q x → R x) → (xs : List X) → AllByRecursion P xs → AllByRecursion Q xs → AllByRecursion R xs
-  all_two P Q R f [] p q = tt
-  all_two P Q R f (x ∷ xs) p q = (f x p.0 q.0, all_two P Q R f xs p.1 q.1)
-
-  pub has_permuted : (xs ys : List X) → IsPermutation xs ys → (x : X) → Has xs x → Has ys x
-  has_permuted xs ys same x h = at (λ z. Has ys z) xs x (all_permuted (λ z. Has ys z) ys xs (IsPermutation-sym xs ys same) (within ys ys (λ z k. k))) h
+pub has_permuted : {X : Type 0} (xs ys : List X) → IsPermutation xs ys → (x : X) → Has xs x → Has ys x
+has_permuted xs ys same x h = at (λ z. Has ys z) xs x (all_permuted (λ z. Has ys z) ys xs (IsPermutation-sym xs ys same) (all_has (λ z. Has ys z) ys (λ z k. k))) h
 
 -- a key that is a member passes the test of it
 pub has_of : (ks : List Key) (k : Key) → Has ks k → has ks k ≡ true

@@ -30,7 +30,7 @@ told Less = refl
 told Equal = refl
 told Greater = refl
 
-equals_text : (v : Value) (t : List ℕ) → (is_true (binary (Compare Eq Binary) v (Text t)) && true) ≡ is_eq (value_cmp v (Text t))
+pub equals_text : (v : Value) (t : List ℕ) → (is_true (binary (Compare Eq Binary) v (Text t)) && true) ≡ is_eq (value_cmp v (Text t))
 unfolding binary value_cmp
 equals_text Null t = refl
 equals_text (Int n) t = told (value_cmp (Int n) (Text t))

@@ -1,27 +1,24 @@
--- The key of a row of a roll is a text, and the owner of a row of a list.
-use Rattle.std.proofs.Common.{◌≡◌, true, false, not, ◌&&◌, drop, codes, None, List, [], ◌∷◌, ℕ, refl, subst}
+-- The key of a row of a roll is a text, and so is the owner's in a row of a list.
+use Rattle.std.proofs.Common.{◌≡◌, true, false, ◌&&◌, drop, codes, None, List, [], ◌∷◌, ℕ, subst}
 use Rattle.std.specs.List.{AllByRecursion}
 use Rattle.std.proofs.lemmas.Bool.{and_parts}
-use Rattle.sqlite.specs.declared.types.Value.{Value}
-use Rattle.sqlite.specs.declared.types.Value.TheVariants.{Null, Int, Real, Blob, Text as Words}
 use Rattle.sqlite.specs.Order.{Row, column}
 use Rattle.sqlite.specs.Effect.{Database, IsDatabase}
 use Rattle.sqlite_schema.specs.declared.schema.Column.{Column}
 use Rattle.sqlite_schema.specs.declared.schema.Constraint.TheVariants.{Datatype, NotNull}
 use Rattle.sqlite_schema.specs.Rules.{Keeps, are_typed, are_present, is_of}
-use Rattle.sqlite_sql.specs.Ops.{is_null}
 use Rattle.sqlite.specs.Kind.TheVariants.{Integer, Text}
 use Rattle.portal_tables.specs.Tables.{column_of, lecturer_tree, project_tree, student_tree, choice_tree, ranking_tree}
+use Rattle.portal_tables.specs.ListTables.{tree_of}
+use Rattle.portal_tables.specs.declared.list_table.Lists.{Lists}
+use Rattle.portal_tables.specs.declared.list_table.Lists.TheVariants as which
 use Rattle.portal_tables.specs.Own.{IsOwn}
+use Rattle.portal_tables.specs.Queries.{roll_tree}
+use Rattle.portal_tables.specs.declared.select.Roll.{Roll}
+use Rattle.portal_tables.specs.declared.select.Roll.TheVariants.{Lecturers, Projects, Students}
 use Rattle.portal_tables.proofs.Weak.{portal_with, IsWith, own_is}
 use Rattle.portal_tables.proofs.Listed.{IsText}
-
-text_cell : (v : Value) → is_of Text v ≡ true → not (is_null v) ≡ true → IsText v
-text_cell Null a b = absurd (cc)
-text_cell (Int n) a b = absurd (cc)
-text_cell (Real x) a b = absurd (cc)
-text_cell (Blob x) a b = absurd (cc)
-text_cell (Words t) a b = (t, refl)
+use Rattle.portal_tables.proofs.Shapes.{text_cell}
 
 text_key : (name : List ℕ) (cs : List Column) (r : Row) → (are_typed None 0 (column_of name Text true ∷ cs) (drop 1 r) && true) ≡ true → are_present None 0 (column_of name Text true ∷ cs) r ≡ true → IsText (column r 1)
 text_key name cs [] t p = absurd (let e : false ≡ true = p in cc)
@@ -55,12 +52,15 @@ module _ (db : Database) (own : IsOwn db.schema) (sound : IsDatabase db) where
       let w = own_is db.schema own in
       texts (codes "key") (column_of (codes "name") Text true ∷ column_of (codes "code") Text true ∷ column_of (codes "assigned") Text false ∷ []) (db.trees student_tree) (typed w).1.1.1.0 (present w).1.1.1.0
 
-  pub choice_texts : AllByRecursion (λ r. IsText (column r 1)) (db.trees choice_tree)
-  choice_texts =
+  pub roll_texts : (roll : Roll) → AllByRecursion (λ r. IsText (column r 1)) (db.trees (roll_tree roll))
+  roll_texts Lecturers = lecturer_texts
+  roll_texts Projects = project_texts
+  roll_texts Students = student_texts
+
+  pub owner_texts : (l : Lists) → AllByRecursion (λ r. IsText (column r 1)) (db.trees (tree_of l))
+  owner_texts which.Choices =
       let w = own_is db.schema own in
       texts (codes "student") (column_of (codes "place") Integer true ∷ column_of (codes "project") Text true ∷ []) (db.trees choice_tree) (typed w).1.1.1.1.0 (present w).1.1.1.1.0
-
-  pub ranking_texts : AllByRecursion (λ r. IsText (column r 1)) (db.trees ranking_tree)
-  ranking_texts =
+  owner_texts which.Rankings =
       let w = own_is db.schema own in
       texts (codes "lecturer") (column_of (codes "place") Integer true ∷ column_of (codes "student") Text true ∷ []) (db.trees ranking_tree) (typed w).1.1.1.1.1.0 (present w).1.1.1.1.1.0

@@ -27,6 +27,7 @@ use Rattle.sqlite_schema.specs.declared.schema.Column.{Column}
 use Rattle.sqlite_schema.specs.declared.schema.Reference.{Reference}
 use Rattle.sqlite_value.specs.declared.keys.Order.{Order}
 use Rattle.portal_tables.proofs.Weak.{portal_with}
+use Rattle.portal_tables.specs.Tables.{own_trees}
 use Rattle.portal_tables.specs.Changes.{Puts, Drops, Sets, IsApart, with_rows, AreNew}
 use Rattle.portal_tables.proofs.Query.{one_table, passes, shown_as}
 use Rattle.portal_tables.proofs.Lists.{looped, not_true, filter_same, without_is, found_once, apart_filter}
@@ -45,26 +46,6 @@ use Rattle.sqlite_trees.proofs.ListLemmas.{map-map}
 abbrev KeepsIn : Schema → ℕ → Database → Database → Type 0
 KeepsIn schema tree old new = AllByRecursion (λ t. t.tree ≢ tree → new.trees t.tree ≡ old.trees t.tree) schema.tables
 
-pub record PutsIn (schema : Schema) (tree : ℕ) (cells : List Row) (old new : Database) : Type 0 where
-  pub schema_is : new.schema ≡ schema
-  pub free : AreNew (old.trees tree) cells
-  pub rows : new.trees tree ≡ with_rows (old.trees tree) cells
-  pub others : KeepsIn schema tree old new
-  pub sound : IsDatabase new
-
-pub record DropsIn (schema : Schema) (tree : ℕ) (p : Row → Bool) (old new : Database) : Type 0 where
-  pub schema_is : new.schema ≡ schema
-  pub rows : new.trees tree ≡ filter (λ r. not (p r)) (old.trees tree)
-  pub others : KeepsIn schema tree old new
-  pub sound : IsDatabase new
-
-pub record SetsIn (schema : Schema) (tree : ℕ) (p : Row → Bool) (row : Row) (old new : Database) : Type 0 where
-  pub schema_is : new.schema ≡ schema
-  pub free : is_taken (filter (λ r. not (p r)) (old.trees tree)) row ≡ false
-  pub rows : new.trees tree ≡ put_row row (filter (λ r. not (p r)) (old.trees tree))
-  pub others : KeepsIn schema tree old new
-  pub sound : IsDatabase new
-
 -- in place of each row that passes stands what is made of it
 pub record AltersIn (schema : Schema) (tree : ℕ) (p : Row → Bool) (made : Row → Row) (old new : Database) : Type 0 where
   pub schema_is : new.schema ≡ schema
@@ -72,17 +53,6 @@ pub record AltersIn (schema : Schema) (tree : ℕ) (p : Row → Bool) (made : Ro
   pub rows : IsPermutation (map made (filter p (old.trees tree)) ++ filter (λ r. not (p r)) (old.trees tree)) (new.trees tree)
   pub others : KeepsIn schema tree old new
   pub sound : IsDatabase new
-
--- in the portal's own schema
-module _ (checks terms : ℕ → List Term) (tree : ℕ) (old new : Database) (has : old.schema ≡ portal_with checks terms) where
-  pub puts_own : (cells : List Row) → PutsIn (portal_with checks terms) tree cells old new → Puts tree cells old new
-  puts_own cells h = record { schema_is = h.schema_is ∙ sym has; free = h.free; rows = h.rows; others = h.others; sound = λ _. h.sound }
-
-  pub drops_own : (p : Row → Bool) → DropsIn (portal_with checks terms) tree p old new → Drops tree p old new
-  drops_own p h = record { schema_is = h.schema_is ∙ sym has; rows = h.rows; others = h.others; sound = h.sound }
-
-  pub sets_own : (p : Row → Bool) (row : Row) → SetsIn (portal_with checks terms) tree p row old new → Sets tree p row old new
-  sets_own p row h = record { schema_is = h.schema_is ∙ sym has; free = h.free; rows = h.rows; others = h.others; sound = h.sound }
 
 either : {X : Type 0} (b : Bool) (x : X) → cond b x x ≡ x
 either true x = refl
@@ -174,13 +144,14 @@ module _ (schema : Schema) (sql : List ℕ) (at : ℕ) (name : List ℕ) (tree :
     is_counted = false;
   }
 
-  module _ (place : slice_get schema.tables at ≡ Some table) where
+  -- where its tables are the portal's own
+  module _ (place : slice_get schema.tables at ≡ Some table) (own : (P : ℕ → Type 0) → AllByRecursion (λ (t : Table). P t.tree) schema.tables → AllByRecursion P own_trees) where
     pub inserted : (terms : List Term) (width : ℕ) (command : command_of (understood schema sql) ≡ Insert at (Values terms width)) (plain : IsPlain (understood schema sql))
         → ((rows : List Row) → works schema Enforced 0 tree [] rows ≡ [])
         → (params : Row) (cells : List Row) → ((more : Row) → value_rows (params ++ more) width (length terms / width) terms ≡ map unnumbered cells)
         → AllByRecursion (λ c. cast_row table (unnumbered c) ≡ unnumbered c) cells
         → (old new : State) (count : ℕ) → old.now.schema ≡ schema → Executes sql params old new (Ok count)
-        → PutsIn schema tree cells old.now new.now
+        → Puts tree cells old.now new.now
     inserted terms width command plain idle params cells given casts old new count has h =
         let db = old.now.trees in
         let w = runs_as sql params old new schema has _ command plain count h in
@@ -197,11 +168,11 @@ module _ (schema : Schema) (sql : List ℕ) (at : ℕ) (name : List ℕ) (tree :
         let wrote = one_step schema Enforced db written.0 edit (idle edit.news) (subst (λ e. Edited schema Enforced db e (Ok written.0)) edit_is written.1) in
         let after : new.now.trees ≡ written.0 = ap (λ (d : Database). d.trees) now ∙ trees in
         record {
-          schema_is = ap (λ (d : Database). d.schema) now;
+          schema_is = ap (λ (d : Database). d.schema) now ∙ sym has;
           free = rows_new (db tree) cells wrote.fresh;
           rows = ap (λ (t : Trees). t tree) after ∙ wrote.rows ∙ rows_come (db tree) cells;
-          others = subst (λ (t : Trees). AllByRecursion (λ s. s.tree ≢ tree → t s.tree ≡ db s.tree) schema.tables) (sym after) wrote.tables;
-          sound = w.sound;
+          others = own (λ t. t ≢ tree → new.now.trees t ≡ db t) (subst (λ (t : Trees). AllByRecursion (λ s. s.tree ≢ tree → t s.tree ≡ db s.tree) schema.tables) (sym after) wrote.tables);
+          sound = λ _. w.sound;
         }
       where
         edit_with : List Row → Edit
@@ -215,7 +186,7 @@ module _ (schema : Schema) (sql : List ℕ) (at : ℕ) (name : List ℕ) (tree :
     pub deleted : (tests : List Term) (command : command_of (understood schema sql) ≡ Delete at (record { lets = []; body = one_table tree tests (col 1 0 ∷ []) })) (plain : IsPlain (understood schema sql))
         → ((olds : List Row) → works schema Enforced 0 tree olds [] ≡ [])
         → (params : Row) (old new : State) (count : ℕ) → old.now.schema ≡ schema → IsApart (old.now.trees tree) → Executes sql params old new (Ok count)
-        → DropsIn schema tree (passes tests params) old.now new.now
+        → Drops tree (passes tests params) old.now new.now
     deleted tests command plain idle params old new count has apart h =
         let db = old.now.trees in
         let q : Program = record { lets = []; body = one_table tree tests (col 1 0 ∷ []) } in
@@ -232,9 +203,9 @@ module _ (schema : Schema) (sql : List ℕ) (at : ℕ) (name : List ℕ) (tree :
         let after : new.now.trees ≡ written.0 = ap (λ (d : Database). d.trees) now ∙ trees in
         let shown : IsPermutation (map (λ r. rowid r ∷ []) (filter (passes tests params) (db tree))) queried.0 = answered tree tests (col 1 0 ∷ []) db params queried.0 (queried.1.answer) in
         record {
-          schema_is = ap (λ (d : Database). d.schema) now;
+          schema_is = ap (λ (d : Database). d.schema) now ∙ sym has;
           rows = ap (λ (t : Trees). t tree) after ∙ wrote.rows ∙ left_is (passes tests params) (λ _. []) (db tree) queried.0 apart shown;
-          others = subst (λ (t : Trees). AllByRecursion (λ s. s.tree ≢ tree → t s.tree ≡ db s.tree) schema.tables) (sym after) wrote.tables;
+          others = own (λ t. t ≢ tree → new.now.trees t ≡ db t) (subst (λ (t : Trees). AllByRecursion (λ s. s.tree ≢ tree → t s.tree ≡ db s.tree) schema.tables) (sym after) wrote.tables);
           sound = w.sound;
         }
 
@@ -242,7 +213,7 @@ module _ (schema : Schema) (sql : List ℕ) (at : ℕ) (name : List ℕ) (tree :
     pub updated : (tests project : List Term) (command : command_of (understood schema sql) ≡ Update at (record { lets = []; body = one_table tree tests (col 1 0 ∷ project) })) (plain : IsPlain (understood schema sql))
         → ((r new : Row) → works schema Enforced 0 tree (r ∷ []) (new ∷ []) ≡ [])
         → (params : Row) (r : Row) (old new : State) (count : ℕ) → old.now.schema ≡ schema → IsApart (old.now.trees tree) → filter (passes tests params) (old.now.trees tree) ≡ r ∷ [] → Executes sql params old new (Ok count)
-        → SetsIn schema tree (passes tests params) (cast_row table (shown_as project params r)) old.now new.now
+        → Sets tree (passes tests params) (cast_row table (shown_as project params r)) old.now new.now
     updated tests project command plain idle params r old new count has apart one h =
         let db = old.now.trees in
         let q : Program = record { lets = []; body = one_table tree tests (col 1 0 ∷ project) } in
@@ -264,13 +235,14 @@ module _ (schema : Schema) (sql : List ℕ) (at : ℕ) (name : List ℕ) (tree :
         let left : without_all (db tree) (id_in (rowid r) ∷ []) ≡ filter (λ x. not (passes tests params x)) (db tree) =
         ap (without_all (db tree)) (ap ids_of (sym rows)) ∙ left_is (passes tests params) (shown_as project params) (db tree) queried.0 apart shown in
         record {
-          schema_is = ap (λ (d : Database). d.schema) now;
+          schema_is = ap (λ (d : Database). d.schema) now ∙ sym has;
           free = only_new (is_taken (filter (λ x. not (passes tests params x)) (db tree)) fresh) (subst (λ l. are_fresh l (fresh ∷ []) ≡ true) left wrote.fresh);
           rows = ap (λ (t : Trees). t tree) after ∙ wrote.rows ∙ ap (put_row fresh) left;
-          others = subst (λ (t : Trees). AllByRecursion (λ s. s.tree ≢ tree → t s.tree ≡ db s.tree) schema.tables) (sym after) wrote.tables;
+          others = own (λ t. t ≢ tree → new.now.trees t ≡ db t) (subst (λ (t : Trees). AllByRecursion (λ s. s.tree ≢ tree → t s.tree ≡ db s.tree) schema.tables) (sym after) wrote.tables);
           sound = w.sound;
         }
 
+  module _ (place : slice_get schema.tables at ≡ Some table) where
     -- an UPDATE of all rows that pass
     pub altered : (tests project : List Term) (command : command_of (understood schema sql) ≡ Update at (record { lets = []; body = one_table tree tests (col 1 0 ∷ project) })) (plain : IsPlain (understood schema sql))
         → ((olds news : List Row) → works schema Enforced 0 tree olds news ≡ [])

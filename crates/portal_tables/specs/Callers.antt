@@ -5,6 +5,7 @@ use Rattle.sqlite.specs.Order.{Row, column, bytes}
 use Rattle.sqlite.specs.Tree.{Trees}
 use Rattle.sqlite_trees.specs.Objects.{number_in}
 use Rattle.portal_core.specs.declared.phase.Phase.{Phase}
+use Rattle.portal_core.specs.declared.phase.Round.TheVariants.{First}
 use Rattle.portal_core.specs.declared.rows.Listing.{Listing}
 use Rattle.portal_core.specs.declared.rows.Person.{Person}
 use Rattle.portal_core.specs.Sight.{StudentSees, LecturerSees}
@@ -43,6 +44,7 @@ own_keys offers lecturer = map (λ p. p.key) (filter (λ p. is p.lecturer lectur
 abbrev pub lecturer_shown : Trees → Phase → Row → List Listing → LecturerSees
 lecturer_shown db phase c offers =
     record {
+      round = First;
       phase = phase;
       me = record { key = first c; name = bytes (column c 1) };
       capacity = number_in (column c 3);
@@ -56,6 +58,7 @@ lecturer_shown db phase c offers =
 abbrev pub student_shown : Trees → Phase → Row → List Listing → StudentSees
 student_shown db phase c offers =
     record {
+      round = First;
       phase = phase;
       me = record { key = first c; name = bytes (column c 1) };
       catalogue = offers;

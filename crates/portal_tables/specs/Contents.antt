@@ -11,7 +11,7 @@ use Rattle.portal_core.specs.declared.rows.StudentRow.{StudentRow}
 use Rattle.portal_tables.specs.Owners.{entry, with_list, IsRead, IsFine}
 use Rattle.portal_tables.specs.Shown.{shown_lecturer, shown_project, shown_student, shown_pair, HasPlace}
 use Rattle.portal_tables.specs.declared.contents.Contents.{Contents}
-use Rattle.portal_tables.specs.declared.entries.Lists.TheVariants.{Choices, Rankings}
+use Rattle.portal_tables.specs.declared.list_table.Lists.TheVariants.{Choices, Rankings}
 
 pub record AllRows : Type 0 where
   pub lecturers : List LecturerRow

@@ -1,4 +1,5 @@
 pub mod Tables
+pub mod ListTables
 pub mod Own
 pub mod Changes
 pub mod Steps
@@ -8,10 +9,10 @@ pub mod Rising
 pub mod Lists
 pub mod Office
 pub mod Reading
+pub mod Queries
 pub mod Decoding
 pub mod Rolls
 pub mod Shown
-pub mod Cuts
 pub mod Owners
 pub mod Names
 pub mod Putting

@@ -11,12 +11,9 @@ use Rattle.portal_tables.specs.Rows.{portal_row}
 abbrev pub are_empty : Schema → Trees → Type 0
 are_empty schema db = AllByRecursion (λ t. db t.tree ≡ []) schema.tables
 
--- the first three tables, and all six, as they are made one after the other
-abbrev pub half_schema : Schema
-half_schema = created (created (created no_schema (portal 0)) (lecturer 0)) (project 0)
-
+-- the six tables, as they are made one after the other
 abbrev pub full_schema : Schema
-full_schema = created (created (created half_schema (student 0)) (choice 0)) (ranking 0)
+full_schema = created (created (created (created (created (created no_schema (portal 0)) (lecturer 0)) (project 0)) (student 0)) (choice 0)) (ranking 0)
 
 -- these tables are there, all empty
 pub record Has (schema : Schema) (db : Database) : Type 0 where

@@ -3,6 +3,7 @@ use Rattle.std.specs.Prelude.{◌≡◌, []}
 use Rattle.std.specs.List.{AllZip}
 use Rattle.sqlite.specs.Table.{Table}
 use Rattle.sqlite.specs.Schema.{Schema}
+use Rattle.sqlite.specs.Effect.{Database}
 use Rattle.portal_tables.specs.Tables.{portal_schema}
 
 pub record SameRules (a b : Table) : Type 0 where
@@ -34,3 +35,6 @@ pub record SameSchema (a b : Schema) : Type 0 where
 -- the tables are those that the portal makes, and there is no other
 abbrev pub IsOwn : Schema → Type 0
 IsOwn schema = SameSchema schema portal_schema
+
+abbrev pub HasOwn : Database → Type 0
+HasOwn db = IsOwn db.schema

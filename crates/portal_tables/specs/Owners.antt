@@ -1,5 +1,5 @@
 -- The lists that the tables hold of the owners whose rows are shown.
-use Rattle.std.specs.Prelude.{Vec, ◌≡◌, ℕ, true, false, Bool, ◌==◌, if◌then◌else◌, List, [], Option, Some, None, map}
+use Rattle.std.specs.Prelude.{Vec, ◌≡◌, true, false, Bool, ◌==◌, if◌then◌else◌, List, [], Option, Some, None, map}
 use Rattle.std.specs.List.{AllByRecursion}
 use Rattle.std.specs.declared.alloc.Global.{Global}
 use Rattle.sqlite.specs.Order.{Row, column}
@@ -7,16 +7,12 @@ use Rattle.sqlite.specs.Tree.{Trees}
 use Rattle.sqlite_trees.specs.Objects.{number_in}
 use Rattle.spa_rows.specs.Form.{is_key}
 use Rattle.portal_core.specs.Words.{Key, has, Rise}
-use Rattle.portal_tables.specs.Tables.{choice_tree, ranking_tree}
+pub use Rattle.portal_tables.specs.ListTables.{tree_of}
 use Rattle.portal_tables.specs.Rolls.{row_key}
 use Rattle.portal_tables.specs.Shown.{first}
-use Rattle.portal_tables.specs.declared.entries.Lists.{Lists}
-use Rattle.portal_tables.specs.declared.entries.Lists.TheVariants.{Choices, Rankings}
+use Rattle.portal_tables.specs.declared.list_table.Lists.{Lists}
+use Rattle.portal_tables.specs.declared.list_table.Lists.TheVariants.{Choices, Rankings}
 use Rattle.portal_tables.specs.Lists.{IsWhole, chosen, of_key}
-
-abbrev pub tree_of : Lists → ℕ
-tree_of Choices = choice_tree
-tree_of Rankings = ranking_tree
 
 -- each student has a list, and each lecturer whose row says that a ranking is there
 abbrev pub has_list : Lists → Row → Bool
@@ -42,7 +38,7 @@ pub record IsFine (lists : Lists) (db : Trees) (c : Row) : Type 0 where
   pub read : IsRead lists db c
   pub names : AllByRecursion (λ k. is_key k ≡ true) (chosen (db (tree_of lists)) (first c))
 
--- the owners whose rows are shown have rising keys, and each row of a list is of one of them
+-- the keys of the owners whose rows are shown rise, and each row of a list is of one of them
 pub record AreOwned (lists : Lists) (db : Trees) (owners : List Row) : Type 0 where
   pub rise : Rise (map first owners)
   pub known : AllByRecursion (λ r. has (map first owners) (row_key r) ≡ true) (db (tree_of lists))

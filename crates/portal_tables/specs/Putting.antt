@@ -6,7 +6,7 @@ use Rattle.sqlite.specs.Effect.{Database, IsDatabase}
 use Rattle.portal_core.specs.Words.{Key, is}
 use Rattle.portal_tables.specs.Own.{IsOwn}
 use Rattle.portal_tables.specs.Changes.{IsApart, Keeps}
-use Rattle.portal_tables.specs.Rows.{choice_cells}
+use Rattle.portal_tables.specs.Rows.{place_cells}
 use Rattle.portal_tables.specs.Lists.{of_key, place_of, named_by}
 
 -- the places from n, each beside what stands there
@@ -16,7 +16,7 @@ numbered n (k ∷ ks) = (n, k) ∷ numbered (n + 1) ks
 
 -- the cells of the rows of a list, in either table of lists
 abbrev pub list_cells : Key → List Key → List Row
-list_cells owner list = map (λ p. choice_cells owner (pos p.0) p.1) (numbered 1 list)
+list_cells owner list = map (λ p. place_cells owner (pos p.0) p.1) (numbered 1 list)
 
 abbrev pub placed : Row → ℕ × Key
 placed r = (place_of r, named_by r)

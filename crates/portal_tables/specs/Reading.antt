@@ -1,11 +1,31 @@
--- How a reading of several queries ends.
-use Rattle.std.specs.Prelude.{IsTrue, Result, OnOk, OnErr}
+-- What queries leave, and what they tell.
+use Rattle.std.specs.Prelude.{◌≡◌, false, IsTrue, Result, IfOk, OnOk, OnErr}
+use Rattle.sqlite.specs.Effect.{Database}
+use Rattle.sqlite.specs.Held.{Held, state}
 use Rattle.sqlite.specs.State.{State, HasCleanDisk, IsUnchanged, Survives}
+use Rattle.sqlite.specs.Store.{Ghosts}
 use Rattle.portal_tables.specs.Own.{IsOwn}
 use Rattle.portal_tables.specs.Steps.{Leaves}
 
--- With an answer nothing is changed, and with an error nothing or the open transaction is undone. A crash leaves what it left before.
+-- One query: with an answer nothing is changed, with an error at most the open transaction is undone, none is begun, and a crash leaves what it left before.
+pub record Asks {V E : Type 0} (result : Result V E) (old new : State) : Type 0 where
+  pub same : IsOwn old.now.schema → HasCleanDisk new → OnOk result (IsUnchanged old new)
+  pub err : IsOwn old.now.schema → HasCleanDisk new → OnErr result (Leaves old new)
+  pub mode : old.in_transaction ≡ false → new.in_transaction ≡ false
+  pub crash : Survives old new (λ _. IsOwn old.now.schema → ⊥)
+
+-- Several queries, or none: the same, where the connection was open. `now` asks nothing of that, so that it holds where no query was made.
 pub record Reads {V E : Type 0} (result : Result V E) (old new : State) : Type 0 where
   pub same : IsOwn old.now.schema → HasCleanDisk new → IsTrue old.is_open → OnOk result (IsUnchanged old new)
   pub err : IsOwn old.now.schema → HasCleanDisk new → IsTrue old.is_open → OnErr result (Leaves old new)
+  pub now : IsOwn old.now.schema → HasCleanDisk new → OnOk result (new.now ≡ old.now)
+  pub mode : old.in_transaction ≡ false → new.in_transaction ≡ false
   pub crash : Survives old new (λ _. IsOwn old.now.schema → IsTrue old.is_open → ⊥)
+
+-- over tables of the portal's own, and where the disk is clean, the answer is this of the database
+abbrev pub Tells : {S V E : Type 0} → Ghosts S → Held S → Held S → Result V E → (Database → V → Type 0) → Type 0
+Tells g old new result P = IsOwn old.schema → HasCleanDisk (state g new) → IfOk result (P (state g old).now)
+
+-- after several queries, where the connection was open: of a database of which this holds the answer is that
+abbrev pub TellsOf : {S V E : Type 0} → (Database → Type 0) → Ghosts S → Held S → Held S → Result V E → (Database → V → Type 0) → Type 0
+TellsOf Holds g old new result P = Holds (state g old).now → HasCleanDisk (state g new) → IsTrue (state g old).is_open → IfOk result (P (state g old).now)

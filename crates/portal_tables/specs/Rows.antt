@@ -1,12 +1,20 @@
 -- What the statements put into the six tables.
-use Rattle.std.specs.Prelude.{◌≡◌, ℕ, ℤ, pos, if◌then◌else◌, List, [], ◌∷◌, map, filter, Option, Some, None}
+use Rattle.std.specs.Prelude.{◌≡◌, ℕ, ℤ, pos, if◌then◌else◌, List, [], ◌∷◌, map, filter, length, Option, Some, None}
+use Rattle.std.specs.List.{flat_map}
+use Rattle.std.specs.Ordering.{is_eq}
 use Rattle.sqlite.specs.declared.types.Value.{Value}
 use Rattle.sqlite.specs.declared.types.Value.TheVariants.{Null, Int, Text as Words}
-use Rattle.sqlite.specs.Order.{Row, column}
+use Rattle.sqlite.specs.Order.{Row, column, value_cmp}
 use Rattle.sqlite.specs.Effect.{Database, IsDatabase}
-use Rattle.portal_core.specs.Words.{Rise}
+use Rattle.sqlite.specs.Store.{Ghosts}
+use Rattle.sqlite.specs.Held.{Held, state}
+use Rattle.portal_core.specs.declared.rows.LecturerRow.{LecturerRow}
+use Rattle.portal_core.specs.declared.rows.ProjectRow.{ProjectRow}
+use Rattle.portal_core.specs.declared.rows.StudentRow.{StudentRow}
+use Rattle.portal_tables.specs.declared.insert.lists.NewPlace.{NewPlace}
 use Rattle.portal_tables.specs.Tables.{portal_tree, lecturer_tree, student_tree}
 use Rattle.portal_tables.specs.Own.{IsOwn}
+use Rattle.portal_tables.specs.Steps.{Ran, Made}
 use Rattle.portal_tables.specs.Changes.{Puts, Drops, Sets, Alters, Becomes, IsApart, has_text, columns}
 
 -- the cells of a row after its number; that of `portal` has its id for a number, and nothing in the column
@@ -22,11 +30,28 @@ project_cells key lecturer title capacity = Words key ∷ Words lecturer ∷ Wor
 abbrev pub student_cells : List ℕ → List ℕ → List ℕ → Value → Row
 student_cells key name code assigned = Words key ∷ Words name ∷ Words code ∷ assigned ∷ []
 
-abbrev pub choice_cells : List ℕ → ℤ → List ℕ → Row
-choice_cells student place project = Words student ∷ Int place ∷ Words project ∷ []
+abbrev pub place_cells : List ℕ → ℤ → List ℕ → Row
+place_cells owner place item = Words owner ∷ Int place ∷ Words item ∷ []
 
-abbrev pub ranking_cells : List ℕ → ℤ → List ℕ → Row
-ranking_cells lecturer place student = Words lecturer ∷ Int place ∷ Words student ∷ []
+-- The cells of rows to come, and the values that their texts are given where those are fewer: a lecturer of whom no ranking is there yet, a
+-- project, a student who is assigned to none, and a place of a list.
+abbrev pub lecturer_new : LecturerRow → Row
+lecturer_new r = lecturer_cells r.key r.name r.code (pos r.capacity) (pos 0)
+
+abbrev pub lecturer_values : LecturerRow → Row
+lecturer_values r = Words r.key ∷ Words r.name ∷ Words r.code ∷ Int (pos r.capacity) ∷ []
+
+abbrev pub project_new : ProjectRow → Row
+project_new r = project_cells r.key r.lecturer r.title (pos r.capacity)
+
+abbrev pub student_new : StudentRow → Row
+student_new r = student_cells r.key r.name r.code Null
+
+abbrev pub student_values : StudentRow → Row
+student_values r = Words r.key ∷ Words r.name ∷ Words r.code ∷ []
+
+abbrev pub place_new : NewPlace → Row
+place_new r = place_cells r.owner.now (pos r.place) r.item.now
 
 -- the row of `portal`, whose id is 1
 abbrev pub portal_row : ℤ → ℤ → List ℕ → Row
@@ -35,6 +60,11 @@ portal_row version phase office = Int (pos 1) ∷ portal_cells version phase off
 -- rows with these cells come to a table of the portal's own
 abbrev pub Adds : ℕ → List Row → Database → Database → Type 0
 Adds tree cells old new = IsOwn old.schema → Puts tree cells old new
+
+-- a text that adds so many rows to the table, where it is run with the values of one after the other
+abbrev pub AddsBy : {S R : Type 0} → Ghosts S → List ℕ → ℕ → ℕ → (R → Row) → (R → Row) → Type 0
+AddsBy {S} {R} g text count tree values cells = (rows : List R) → length rows ≡ count → (old new : Held S) → Ran text (flat_map values rows) (state g old) (state g new)
+    → Made (Adds tree (map cells rows)) (state g old) (state g new)
 
 -- the rows with this key in their first column are gone
 abbrev pub Clears : ℕ → List ℕ → Database → Database → Type 0
@@ -64,14 +94,14 @@ student_shown = columns (0 ∷ 1 ∷ 2 ∷ 3 ∷ 4 ∷ [])
 abbrev pub Assigned : Type 0
 Assigned = List ℕ × Option (List ℕ)
 
--- what the first of these says of the row's student, or this value where none does
-abbrev pub assigned_by : List Assigned → Value → Row → Value
-assigned_by [] otherwise r = otherwise
-assigned_by (a ∷ all) otherwise r = if has_text 1 a.0 r then text_or_null a.1 else assigned_by all otherwise r
+-- what the last of these says of the student with this key, or this value where none does
+abbrev pub assigned_by : List Assigned → Value → Value → Value
+assigned_by [] key value = value
+assigned_by (a ∷ all) key value = assigned_by all key (if is_eq (value_cmp key (Words a.0)) then text_or_null a.1 else value)
 
 abbrev pub with_assigned : List Assigned → Row → Row
-with_assigned all r = column r 0 ∷ column r 1 ∷ column r 2 ∷ column r 3 ∷ assigned_by all (column r 4) r ∷ []
+with_assigned all r = column r 0 ∷ column r 1 ∷ column r 2 ∷ column r 3 ∷ assigned_by all (column r 1) (column r 4) ∷ []
 
--- each of these students, whose keys rise, is assigned to the project or to none, and no other student's row has changed
+-- each of these students is assigned to the project or to none, one after another, and no other student's row has changed
 abbrev pub Assigns : List Assigned → Database → Database → Type 0
-Assigns all old new = Rise (map (λ a. a.0) all) → IsOwn old.schema → IsDatabase old → IsApart (old.trees student_tree) → Alters student_tree student_shown (with_assigned all) old new
+Assigns all old new = IsOwn old.schema → IsDatabase old → IsApart (old.trees student_tree) → Alters student_tree student_shown (with_assigned all) old new

@@ -1,9 +1,13 @@
 -- What a step of a transaction does, and what is there when the transaction has ended.
-use Rattle.std.specs.Prelude.{◌≡◌, ◌⊎◌, true, false, List, ℕ, IsTrue, Ok}
+use Rattle.std.specs.Prelude.{◌≡◌, ◌⊎◌, true, false, List, ℕ, IsTrue, Ok, Result, OnOk}
 use Rattle.sqlite.specs.Order.{Row}
 use Rattle.sqlite.specs.Tree.{Trees}
 use Rattle.sqlite.specs.Effect.{Database}
-use Rattle.sqlite.specs.State.{State, Shows, ExecutesIn, IsUnchanged, IsRolledBack}
+use Rattle.sqlite.specs.State.{State, Shows, ExecutesIn, IsUnchanged, IsRolledBack, HasCleanDisk, KeepsCommit, Survives}
+use Rattle.sqlite.specs.Store.{Ghosts}
+use Rattle.sqlite.specs.Held.{state}
+use Rattle.sqlite.specs.declared.error.Error.{Error}
+use Rattle.sqlite.specs.declared.transaction.Transaction.{Transaction}
 
 -- the text ran inside the transaction, with these values
 pub record Ran (sql : List ℕ) (params : Row) (old new : State) : Type 0 where
@@ -20,6 +24,14 @@ pub record Made (Change : Database → Database → Type 0) (old new : State) : 
 pub record GoesOn (Change : Database → Database → Type 0) (old new : State) : Type 0 where
   pub mode : old.in_transaction ≡ true → new.in_transaction ≡ true
   pub changed : Change old.now new.now
+
+-- What a call leaves that works in a transaction: after Ok it took this step; whatever it answered, the transaction is of the same
+-- connection, nothing is committed, and a crash leaves what it left before.
+pub record Does {S A : Type 0} (g : Ghosts S) (Step : State → State → Type 0) (result : Result A Error) (old new : Transaction S) : Type 0 where
+  pub same_reference : new.conn.ghost_name ≡ old.conn.ghost_name
+  pub done : HasCleanDisk (state g new.conn.now) → OnOk result (Step (state g old.conn.now) (state g new.conn.now))
+  pub kept : HasCleanDisk (state g new.conn.now) → KeepsCommit (state g old.conn.now) (state g new.conn.now)
+  pub survives : Survives (state g old.conn.now) (state g new.conn.now) (λ _. ⊥)
 
 -- the change is made and committed
 pub record Commits (Change : Database → Database → Type 0) (old new : State) : Type 0 where

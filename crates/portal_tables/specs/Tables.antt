@@ -94,25 +94,34 @@ student tree = table_of (codes "student") tree
     column_of (codes "assigned") Text false ∷ [])
     None (1 ∷ []) ((1 ∷ []) ∷ (3 ∷ []) ∷ []) (plain ∷ plain ∷ []) [] (refers_to 4 (codes "project") ∷ [])
 
-abbrev pub choice_text : List ℕ
-choice_text = codes "CREATE TABLE choice (student TEXT NOT NULL REFERENCES student (key), place INTEGER NOT NULL, "
-    ++ codes "project TEXT NOT NULL REFERENCES project (key), PRIMARY KEY (student, place), UNIQUE (project, "
-    ++ codes "student)) STRICT"
+-- A table of lists: its name, and the names of two of its columns, each that of the roll to which it refers.
+pub record ListTable : Type 0 where
+  pub name : List ℕ
+  pub owner : List ℕ
+  pub item : List ℕ
+
+abbrev pub list_table_text : ListTable → List ℕ
+list_table_text t = codes "CREATE TABLE " ++ t.name ++ codes " (" ++ t.owner ++ codes " TEXT NOT NULL REFERENCES " ++ t.owner
+    ++ codes " (key), place INTEGER NOT NULL, " ++ t.item ++ codes " TEXT NOT NULL REFERENCES " ++ t.item
+    ++ codes " (key), PRIMARY KEY (" ++ t.owner ++ codes ", place), UNIQUE (" ++ t.item ++ codes ", " ++ t.owner ++ codes ")) STRICT"
+
+abbrev pub list_table : ListTable → ℕ → Table
+list_table t tree = table_of t.name tree
+    (column_of t.owner Text true ∷ column_of (codes "place") Integer true ∷ column_of t.item Text true ∷ [])
+    None (1 ∷ 2 ∷ []) ((1 ∷ 2 ∷ []) ∷ (3 ∷ 1 ∷ []) ∷ []) (plain ∷ plain ∷ []) [] (refers_to 1 t.owner ∷ refers_to 3 t.item ∷ [])
+
+-- students' lists of projects, and lecturers' rankings of students
+abbrev pub choice_names : ListTable
+choice_names = record { name = codes "choice"; owner = codes "student"; item = codes "project" }
+
+abbrev pub ranking_names : ListTable
+ranking_names = record { name = codes "ranking"; owner = codes "lecturer"; item = codes "student" }
 
 abbrev pub choice : ℕ → Table
-choice tree = table_of (codes "choice") tree
-    (column_of (codes "student") Text true ∷ column_of (codes "place") Integer true ∷ column_of (codes "project") Text true ∷ [])
-    None (1 ∷ 2 ∷ []) ((1 ∷ 2 ∷ []) ∷ (3 ∷ 1 ∷ []) ∷ []) (plain ∷ plain ∷ []) [] (refers_to 1 (codes "student") ∷ refers_to 3 (codes "project") ∷ [])
-
-abbrev pub ranking_text : List ℕ
-ranking_text = codes "CREATE TABLE ranking (lecturer TEXT NOT NULL REFERENCES lecturer (key), place INTEGER NOT NULL, "
-    ++ codes "student TEXT NOT NULL REFERENCES student (key), PRIMARY KEY (lecturer, place), UNIQUE (student, "
-    ++ codes "lecturer)) STRICT"
+choice = list_table choice_names
 
 abbrev pub ranking : ℕ → Table
-ranking tree = table_of (codes "ranking") tree
-    (column_of (codes "lecturer") Text true ∷ column_of (codes "place") Integer true ∷ column_of (codes "student") Text true ∷ [])
-    None (1 ∷ 2 ∷ []) ((1 ∷ 2 ∷ []) ∷ (3 ∷ 1 ∷ []) ∷ []) (plain ∷ plain ∷ []) [] (refers_to 1 (codes "lecturer") ∷ refers_to 3 (codes "student") ∷ [])
+ranking = list_table ranking_names
 
 abbrev pub no_schema : Schema
 no_schema = record { tables = []; indexes = []; views = [] }

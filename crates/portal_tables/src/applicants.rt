@@ -1,24 +1,17 @@
 //! Applicants and placed students of a lecturer's projects.
 
-ghost use Rattle.std.specs.Prelude.{◌≡◌, [], ◌∷◌, ◌++◌, false, IfOk, OnOk, IsTrue, map, filter};
-ghost use Rattle.sqlite.specs.State.{HasCleanDisk};
+ghost use Rattle.std.specs.Prelude.{◌≡◌, [], ◌∷◌, ◌++◌, IfOk, OnOk, map, filter};
 ghost use Rattle.sqlite.specs.Held.{state};
 ghost use Rattle.portal_core.specs.World.{is_at, is_from_ranking};
 ghost use Rattle.portal_tables.specs.Callers.{with_persons, lines_shown, placed_among, applicants_told, placed_told};
-ghost use Rattle.portal_tables.specs.Changes.{ListsBy, columns, has_text};
-ghost use Rattle.portal_tables.specs.Decoding.{FindsAny};
 ghost use Rattle.portal_tables.specs.Lines.{HasTables};
-ghost use Rattle.portal_tables.specs.Own.{IsOwn};
-ghost use Rattle.portal_tables.specs.Reading.{Reads};
-ghost use Rattle.portal_tables.specs.Tables.{choice_tree};
+ghost use Rattle.portal_tables.specs.Reading.{Reads, TellsOf};
 
 use crate::fault::TableFault;
 use crate::lines::{Line, lines_to, persons_of};
-use crate::run::finds_any;
 use portal_core::{Person, Phase};
 use spa_rows::Key;
-use sqlite::types::ValueRef;
-use sqlite::{Alter, Connection, Error};
+use sqlite::{Alter, Connection};
 use std::alloc::{AllocError, Global};
 
 /// Whether the students' lists are closed.
@@ -38,9 +31,9 @@ fn lines_in<S: Alter>(
     phase: Phase,
     project: &Key,
 ) -> Result<Vec<Line>, TableFault>
-    ensures told { HasTables (state S.Store conn.old).now → HasCleanDisk (state S.Store conn.new) → IsTrue (state S.Store conn.old).is_open → IfOk result (λ v. v.items ≡ lines_shown (state S.Store conn.old).now.trees phase project.now) }
+    ensures told { TellsOf HasTables S.Store conn.old conn.new result
+        (λ db v. v.items ≡ lines_shown db.trees phase project.now) }
     ensures reads { Reads result (state S.Store conn.old) (state S.Store conn.new) }
-    ensures mode { conn.old.in_transaction ≡ false → conn.new.in_transaction ≡ false }
 {
     if are_closed(phase) {
         return lines_to(alloc, conn, project);
@@ -60,7 +53,8 @@ fn is_placed_at(placed: &Option<Key>, project: &Key) -> bool
 
 /// The students on the lines whom the result places at the project.
 fn placed_at(alloc: Global, lines: &[Line], project: &Key) -> Result<Vec<Person>, AllocError>
-    ensures { IfOk result (λ v. v.items ≡ map (λ l. l.person) (filter (λ l. is_at project.now l.placed) lines.now)) }
+    ensures { IfOk result (λ v. v.items
+        ≡ map (λ l. l.person) (filter (λ l. is_at project.now l.placed) lines.now)) }
 {
     let mut found = Vec::new(alloc);
     for line in lines {
@@ -86,19 +80,6 @@ fn placed_in(
     }
 }
 
-/// Whether a student's list names the project. One row is asked for.
-pub fn is_chosen<S: Alter>(conn: &mut Connection<S>, project: &[u8]) -> Result<bool, Error>
-    ensures told { IsOwn conn.old.schema → HasCleanDisk (state S.Store conn.new) → IfOk result (FindsAny (ListsBy (1 ∷ []) (has_text 3 project.now) (columns (1 ∷ [])) ((state S.Store conn.old).now.trees choice_tree))) }
-    ensures reads { Reads result (state S.Store conn.old) (state S.Store conn.new) }
-    ensures mode { conn.old.in_transaction ≡ false → conn.new.in_transaction ≡ false }
-{
-    finds_any(
-        conn,
-        "SELECT student FROM choice WHERE project = ?1 ORDER BY student",
-        &[ValueRef::Text(project)],
-    )
-}
-
 /// What is told of a lecturer's projects.
 #[derive(Drop)]
 pub(crate) struct Told {
@@ -115,8 +96,12 @@ impl Told {
         project: &Key,
         lines: &[Line],
     ) -> Result<(), AllocError>
-        ensures applicants { OnOk result (map with_persons self.new.applicants.items ≡ map with_persons self.old.applicants.items ++ ((project.now, map (λ l. l.person) lines.now) ∷ [])) }
-        ensures placed { OnOk result (map with_persons self.new.placed.items ≡ map with_persons self.old.placed.items ++ ((project.now, placed_among phase project.now lines.now) ∷ [])) }
+        ensures applicants { OnOk result (map with_persons self.new.applicants.items
+            ≡ map with_persons self.old.applicants.items
+            ++ ((project.now, map (λ l. l.person) lines.now) ∷ [])) }
+        ensures placed { OnOk result (map with_persons self.new.placed.items
+            ≡ map with_persons self.old.placed.items
+            ++ ((project.now, placed_among phase project.now lines.now) ∷ [])) }
     {
         let applicants = persons_of(alloc, lines)?;
         let placed = placed_in(alloc, phase, lines, project)?;
@@ -133,10 +118,12 @@ pub(crate) fn told_in<S: Alter>(
     phase: Phase,
     projects: &[Key],
 ) -> Result<Told, TableFault>
-    ensures applicants { HasTables (state S.Store conn.old).now → HasCleanDisk (state S.Store conn.new) → IsTrue (state S.Store conn.old).is_open → IfOk result (λ t. map with_persons t.applicants.items ≡ applicants_told (state S.Store conn.old).now.trees phase projects.now) }
-    ensures placed { HasTables (state S.Store conn.old).now → HasCleanDisk (state S.Store conn.new) → IsTrue (state S.Store conn.old).is_open → IfOk result (λ t. map with_persons t.placed.items ≡ placed_told (state S.Store conn.old).now.trees phase projects.now) }
+    ensures applicants { TellsOf HasTables S.Store conn.old conn.new result
+        (λ db t. map with_persons t.applicants.items
+        ≡ applicants_told db.trees phase projects.now) }
+    ensures placed { TellsOf HasTables S.Store conn.old conn.new result
+        (λ db t. map with_persons t.placed.items ≡ placed_told db.trees phase projects.now) }
     ensures reads { Reads result (state S.Store conn.old) (state S.Store conn.new) }
-    ensures mode { conn.old.in_transaction ≡ false → conn.new.in_transaction ≡ false }
 {
     let mut told = Told {
         applicants: Vec::new(alloc),

@@ -49,7 +49,8 @@ pub fn key_at(alloc: Global, row: &Row, at: usize) -> Result<Key, TableFault>
 /// The name or title in a cell. The fault is `Damaged` where the bytes have not the form of a name.
 pub fn name_at(alloc: Global, row: &Row, at: usize) -> Result<Name, TableFault>
     ensures ok { IfOk result (λ name. name ≡ bytes (column row.now at)) }
-    ensures damaged { result ≡ Err TableFault.Damaged → is_name (bytes (column row.now at)) ≡ false }
+    ensures damaged { result ≡ Err TableFault.Damaged
+        → is_name (bytes (column row.now at)) ≡ false }
 {
     match Name::parse(alloc, bytes_at(row, at)) {
         Ok(name) => Ok(name),
@@ -61,7 +62,8 @@ pub fn name_at(alloc: Global, row: &Row, at: usize) -> Result<Name, TableFault>
 /// The code in a cell. The fault is `Damaged` where the bytes have not the form of a code.
 pub fn code_at(alloc: Global, row: &Row, at: usize) -> Result<Code, TableFault>
     ensures ok { IfOk result (λ code. code ≡ bytes (column row.now at)) }
-    ensures damaged { result ≡ Err TableFault.Damaged → is_code (bytes (column row.now at)) ≡ false }
+    ensures damaged { result ≡ Err TableFault.Damaged
+        → is_code (bytes (column row.now at)) ≡ false }
 {
     match Code::parse(alloc, bytes_at(row, at)) {
         Ok(code) => Ok(code),
@@ -73,7 +75,8 @@ pub fn code_at(alloc: Global, row: &Row, at: usize) -> Result<Code, TableFault>
 /// The capacity in a cell, in students. The fault is `Damaged` where it is not from 1 to 200.
 pub fn capacity_at(row: &Row, at: usize) -> Result<u32, TableFault>
     ensures ok { IfOk result (λ capacity. capacity ≡ number_in (column row.now at)) }
-    ensures damaged { result ≡ Err TableFault.Damaged → 1 ≤ number_in (column row.now at) → number_in (column row.now at) ≤ 200 → ⊥ }
+    ensures damaged { result ≡ Err TableFault.Damaged → 1 ≤ number_in (column row.now at)
+        → number_in (column row.now at) ≤ 200 → ⊥ }
 {
     let number = number_at(row, at);
     if number < 1 || 200 < number {
@@ -85,7 +88,8 @@ pub fn capacity_at(row: &Row, at: usize) -> Result<u32, TableFault>
 /// The key in a cell that may be NULL, or none. The fault is `Damaged` where anything else is there.
 pub fn assigned_at(alloc: Global, row: &Row, at: usize) -> Result<Option<Key>, TableFault>
     ensures ok { IfOk result (λ key. key ≡ text_or_none (column row.now at)) }
-    ensures damaged { result ≡ Err TableFault.Damaged → IfSome (text_or_none (column row.now at)) (λ p. is_key p ≡ true) → ⊥ }
+    ensures damaged { result ≡ Err TableFault.Damaged
+        → IfSome (text_or_none (column row.now at)) (λ p. is_key p ≡ true) → ⊥ }
 {
     match row.get_ref(at) {
         Ok(ValueRef::Null) | Err(_) => Ok(None),

@@ -13,8 +13,9 @@ ghost use Rattle.portal_tables.specs.Reading.{Reads};
 ghost use Rattle.portal_tables.specs.Rolls.{lecturers_shown, projects_shown, students_shown, RollsRise};
 ghost use Rattle.portal_tables.specs.Shown.{shown_lecturer, shown_project, shown_student, shown_pair, HasPlace};
 
-use crate::entries::{Lists, entries_in};
+use crate::entries::entries_in;
 use crate::fault::TableFault;
+use crate::list_table::Lists;
 use crate::rolls::{Rolls, parts_of, rolls_in};
 use portal_core::{LecturerRow, ProjectRow, StudentRow};
 use spa_rows::Key;
@@ -42,8 +43,13 @@ fn put_together(
     choices: Vec<(Key, Vec<Key>)>,
     rankings: Vec<(Key, Vec<Key>)>,
 ) -> Result<Contents, TableFault>
-    ensures rows { IfOk result (λ rows. rows_held rows ≡ record { lecturers = map shown_lecturer rolls.now.lecturers.items; projects = map shown_project rolls.now.projects.items; students = map shown_student rolls.now.students.items; choices = map with_list choices.items; rankings = map with_list rankings.items; pairs = filter_map shown_pair rolls.now.students.items }) }
-    ensures damaged { result ≡ Err TableFault.Damaged → AllByRecursion (λ c. IsLecturer (shown_lecturer c)) rolls.now.lecturers.items → AllByRecursion (λ c. IsProject (shown_project c)) rolls.now.projects.items → AllByRecursion (λ c. IsStudent (shown_student c)) rolls.now.students.items → AllByRecursion HasPlace rolls.now.students.items → ⊥ }
+    ensures rows { IfOk result (λ rows. rows_held rows
+        ≡ record { lecturers = map shown_lecturer rolls.now.lecturers.items; projects = map shown_project rolls.now.projects.items; students = map shown_student rolls.now.students.items; choices = map with_list choices.items; rankings = map with_list rankings.items; pairs = filter_map shown_pair rolls.now.students.items }) }
+    ensures damaged { result ≡ Err TableFault.Damaged
+        → AllByRecursion (λ c. IsLecturer (shown_lecturer c)) rolls.now.lecturers.items
+        → AllByRecursion (λ c. IsProject (shown_project c)) rolls.now.projects.items
+        → AllByRecursion (λ c. IsStudent (shown_student c)) rolls.now.students.items
+        → AllByRecursion HasPlace rolls.now.students.items → ⊥ }
 {
     let parts = parts_of(alloc, rolls)?;
     Ok(Contents {
@@ -62,29 +68,53 @@ fn rows_in<S: Alter>(
     conn: &mut Connection<S>,
     rolls: Rolls,
 ) -> Result<Contents, TableFault>
-    ensures rows { IsOwn conn.old.schema → IsDatabase (state S.Store conn.old).now → HasCleanDisk (state S.Store conn.new) → IsTrue (state S.Store conn.old).is_open → IfOk result (λ rows. rows_held rows ≡ rows_from (state S.Store conn.old).now.trees rolls.lecturers.items rolls.projects.items rolls.students.items) }
-    ensures read { IsOwn conn.old.schema → IsDatabase (state S.Store conn.old).now → HasCleanDisk (state S.Store conn.new) → IsTrue (state S.Store conn.old).is_open → OnOk result (AreRead (state S.Store conn.old).now.trees rolls.lecturers.items rolls.students.items) }
-    ensures damaged { IsOwn conn.old.schema → IsDatabase (state S.Store conn.old).now → HasCleanDisk (state S.Store conn.new) → IsTrue (state S.Store conn.old).is_open → result ≡ Err TableFault.Damaged → AreOwned Lists.Choices (state S.Store conn.old).now.trees rolls.students.items → AreOwned Lists.Rankings (state S.Store conn.old).now.trees rolls.lecturers.items → AreFine (state S.Store conn.old).now.trees rolls.lecturers.items rolls.projects.items rolls.students.items → ⊥ }
+    ensures rows { IsOwn conn.old.schema → HasCleanDisk (state S.Store conn.new)
+        → IsTrue (state S.Store conn.old).is_open
+        → IfOk result (λ rows. rows_held rows
+        ≡ rows_from (state S.Store conn.old).now.trees rolls.lecturers.items rolls.projects.items rolls.students.items) }
+    ensures read { IsOwn conn.old.schema → HasCleanDisk (state S.Store conn.new)
+        → IsTrue (state S.Store conn.old).is_open
+        → OnOk result (AreRead
+        (state S.Store conn.old).now.trees rolls.lecturers.items rolls.students.items) }
+    ensures damaged { IsOwn conn.old.schema → HasCleanDisk (state S.Store conn.new)
+        → IsTrue (state S.Store conn.old).is_open → result ≡ Err TableFault.Damaged
+        → AreOwned Lists.Choices (state S.Store conn.old).now.trees rolls.students.items
+        → AreOwned Lists.Rankings (state S.Store conn.old).now.trees rolls.lecturers.items
+        → AreFine (state S.Store conn.old).now.trees rolls.lecturers.items rolls.projects.items rolls.students.items → ⊥ }
     ensures reads { Reads result (state S.Store conn.old) (state S.Store conn.new) }
-    ensures mode { conn.old.in_transaction ≡ false → conn.new.in_transaction ≡ false }
 {
     let choices = entries_in(alloc, conn, Lists::Choices, &rolls.students)?;
     let rankings = entries_in(alloc, conn, Lists::Rankings, &rolls.lecturers)?;
     put_together(alloc, &rolls, choices, rankings)
 }
 
-/// The rows of the rolls and lists, by a query of each of the five tables. The fault is `Damaged` where the keys of a roll do not
-/// rise, a cell has not its form or a list is not one that `list_in` would give, `Store` where the store answered an error, `Memory`
-/// where there is not enough memory.
+/// The rows of the rolls and lists, by a query of each roll and table of lists and one for each owner of a list. The fault is `Damaged` where
+/// the keys of a roll do not rise, a row of a list is of nobody, a cell has not its form or a list is not one that `list_in` would give,
+/// `Store` where the store answered an error, `Memory` where there is not enough memory.
 pub fn contents_in<S: Alter>(
     alloc: Global,
     conn: &mut Connection<S>,
 ) -> Result<Contents, TableFault>
-    ensures rows { IsOwn conn.old.schema → IsDatabase (state S.Store conn.old).now → HasCleanDisk (state S.Store conn.new) → IsTrue (state S.Store conn.old).is_open → IfOk result (λ rows. rows_held rows ≡ rows_from (state S.Store conn.old).now.trees (lecturers_shown (state S.Store conn.old).now.trees) (projects_shown (state S.Store conn.old).now.trees) (students_shown (state S.Store conn.old).now.trees)) }
-    ensures read { IsOwn conn.old.schema → IsDatabase (state S.Store conn.old).now → HasCleanDisk (state S.Store conn.new) → IsTrue (state S.Store conn.old).is_open → OnOk result (AreRead (state S.Store conn.old).now.trees (lecturers_shown (state S.Store conn.old).now.trees) (students_shown (state S.Store conn.old).now.trees)) }
-    ensures damaged { IsOwn conn.old.schema → IsDatabase (state S.Store conn.old).now → HasCleanDisk (state S.Store conn.new) → IsTrue (state S.Store conn.old).is_open → result ≡ Err TableFault.Damaged → RollsRise (state S.Store conn.old).now.trees → AreFine (state S.Store conn.old).now.trees (lecturers_shown (state S.Store conn.old).now.trees) (projects_shown (state S.Store conn.old).now.trees) (students_shown (state S.Store conn.old).now.trees) → ⊥ }
+    ensures rows { IsOwn conn.old.schema → IsDatabase (state S.Store conn.old).now
+        → HasCleanDisk (state S.Store conn.new) → IsTrue (state S.Store conn.old).is_open
+        → IfOk result (λ rows. rows_held rows
+        ≡ rows_from (state S.Store conn.old).now.trees
+        (lecturers_shown (state S.Store conn.old).now.trees)
+        (projects_shown (state S.Store conn.old).now.trees)
+        (students_shown (state S.Store conn.old).now.trees)) }
+    ensures read { IsOwn conn.old.schema → IsDatabase (state S.Store conn.old).now
+        → HasCleanDisk (state S.Store conn.new) → IsTrue (state S.Store conn.old).is_open
+        → OnOk result (AreRead (state S.Store conn.old).now.trees
+        (lecturers_shown (state S.Store conn.old).now.trees)
+        (students_shown (state S.Store conn.old).now.trees)) }
+    ensures damaged { IsOwn conn.old.schema → IsDatabase (state S.Store conn.old).now
+        → HasCleanDisk (state S.Store conn.new) → IsTrue (state S.Store conn.old).is_open
+        → result ≡ Err TableFault.Damaged → RollsRise (state S.Store conn.old).now.trees
+        → AreFine (state S.Store conn.old).now.trees
+        (lecturers_shown (state S.Store conn.old).now.trees)
+        (projects_shown (state S.Store conn.old).now.trees)
+        (students_shown (state S.Store conn.old).now.trees) → ⊥ }
     ensures reads { Reads result (state S.Store conn.old) (state S.Store conn.new) }
-    ensures mode { conn.old.in_transaction ≡ false → conn.new.in_transaction ≡ false }
 {
     let rolls = rolls_in(alloc, conn)?;
     rows_in(alloc, conn, rolls)

@@ -150,7 +150,8 @@ fn do_count_up(rows: &[Row]) -> bool
 pub fn list_from(alloc: Global, rows: &[Row]) -> Result<Vec<Key>, TableFault>
     ensures names { IfOk result (λ v. v.items ≡ map shown_name rows.now) }
     ensures whole { IfOk result (λ v. CountUp 1 (map shown_place rows.now)) }
-    ensures damaged { result ≡ Err TableFault.Damaged → CountUp 1 (map shown_place rows.now) → AllByRecursion (λ c. is_key (shown_name c) ≡ true) rows.now → ⊥ }
+    ensures damaged { result ≡ Err TableFault.Damaged → CountUp 1 (map shown_place rows.now)
+        → AllByRecursion (λ c. is_key (shown_name c) ≡ true) rows.now → ⊥ }
 {
     if !do_count_up(rows) {
         return Err(TableFault::Damaged);
@@ -161,7 +162,8 @@ pub fn list_from(alloc: Global, rows: &[Row]) -> Result<Vec<Key>, TableFault>
 /// The pair of the result that a student's row tells.
 fn pair_from(alloc: Global, row: &Row) -> Result<Option<(Key, Key)>, TableFault>
     ensures ok { IfOk result (λ pair. pair ≡ shown_pair row.now) }
-    ensures damaged { result ≡ Err TableFault.Damaged → IsStudent (shown_student row.now) → HasPlace row.now → ⊥ }
+    ensures damaged { result ≡ Err TableFault.Damaged → IsStudent (shown_student row.now)
+        → HasPlace row.now → ⊥ }
 {
     match assigned_at(alloc, row, 3)? {
         Some(project) => Ok(Some((key_at(alloc, row, 0)?, project))),
@@ -173,7 +175,9 @@ fn pair_from(alloc: Global, row: &Row) -> Result<Option<(Key, Key)>, TableFault>
 /// key or what is assigned has not the form of a key.
 pub fn pairs_from(alloc: Global, rows: &[Row]) -> Result<Vec<(Key, Key)>, TableFault>
     ensures ok { IfOk result (λ v. v.items ≡ filter_map shown_pair rows.now) }
-    ensures damaged { result ≡ Err TableFault.Damaged → AllByRecursion (λ c. IsStudent (shown_student c)) rows.now → AllByRecursion HasPlace rows.now → ⊥ }
+    ensures damaged { result ≡ Err TableFault.Damaged
+        → AllByRecursion (λ c. IsStudent (shown_student c)) rows.now
+        → AllByRecursion HasPlace rows.now → ⊥ }
 {
     let mut pairs = Vec::new(alloc);
     for row in rows {

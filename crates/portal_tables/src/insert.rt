@@ -1,28 +1,27 @@
 //! Rows more: the office's row, and rows of the other tables, eight in a statement where there are as many.
 
-ghost use Rattle.std.specs.Prelude.{◌≡◌, [], ◌∷◌, ℕ, pos, map, OnOk};
-ghost use Rattle.sqlite.specs.State.{HasCleanDisk, KeepsCommit, Survives};
-ghost use Rattle.sqlite.specs.Held.{state};
+ghost use Rattle.std.specs.Prelude.{◌≡◌, ℕ, ◌<◌, ◌≤◌, ◌++◌, [], ◌∷◌, pos, map, OnOk};
+ghost use Rattle.std.specs.List.{flat_map};
 ghost use Rattle.sqlite.specs.Order.{Row};
-ghost use Rattle.portal_tables.specs.Steps.{Made, GoesOn};
+ghost use Rattle.sqlite.specs.Values.{bound};
+ghost use Rattle.portal_tables.specs.Steps.{Does, Ran, Made, GoesOn};
 ghost use Rattle.portal_tables.specs.Tables.{portal_tree};
-ghost use Rattle.portal_tables.specs.Rows.{Adds, portal_cells};
+ghost use Rattle.portal_tables.specs.Rows.{Adds, AddsBy, portal_cells};
 
 mod lists;
 mod rolls;
 
 use crate::run::write;
-pub use lists::{NewChoice, NewRanking, choices_of, rankings_of};
-pub use rolls::{NewLecturer, NewProject, NewStudent};
+pub use lists::NewPlace;
+pub use rolls::{Lecturers, Projects, Students};
 use sqlite::types::ValueRef;
 use sqlite::{Alter, Error, Transaction};
+use std::alloc::{AllocError, Global};
 
 /// Adds the row of `portal`: version 1, phase 0 and the office's code.
 pub fn add_portal<S: Alter>(tx: &mut Transaction<'_, S>, office: &[u8]) -> Result<(), Error>
-    ensures same_reference { tx.new.conn.ghost_name ≡ tx.old.conn.ghost_name }
-    ensures done { HasCleanDisk (state S.Store tx.new.conn.now) → OnOk result (Made (Adds portal_tree (portal_cells (pos 1) (pos 0) office.now ∷ [])) (state S.Store tx.old.conn.now) (state S.Store tx.new.conn.now)) }
-    ensures kept { HasCleanDisk (state S.Store tx.new.conn.now) → KeepsCommit (state S.Store tx.old.conn.now) (state S.Store tx.new.conn.now) }
-    ensures survives { Survives (state S.Store tx.old.conn.now) (state S.Store tx.new.conn.now) (λ _. ⊥) }
+    ensures { Does S.Store (Made
+        (Adds portal_tree (portal_cells (pos 1) (pos 0) office.now ∷ []))) result tx.old tx.new }
 {
     write(
         tx,
@@ -31,74 +30,74 @@ pub fn add_portal<S: Alter>(tx: &mut Transaction<'_, S>, office: &[u8]) -> Resul
     )
 }
 
-/// A row to come, of one of the tables.
-pub trait NewRow {
+/// A table to which rows of a type come.
+pub trait Target<R> {
     // the table's number
-    ghost tree: { ℕ };
+    ghost tree: { Self → ℕ };
 
-    // what stands in the row behind its number
-    ghost cells: { Self → Row };
+    // what stands in a row behind its number, and the values that it is made of
+    ghost cells: { R → Row };
 
-    /// Adds the row.
-    fn add<S: Alter>(&self, tx: &mut Transaction<'_, S>) -> Result<(), Error>
-        ensures same_reference { tx.new.conn.ghost_name ≡ tx.old.conn.ghost_name }
-        ensures done { HasCleanDisk (state S.Store tx.new.conn.now) → OnOk result (Made (Adds tree (cells self.now ∷ [])) (state S.Store tx.old.conn.now) (state S.Store tx.new.conn.now)) }
-        ensures kept { HasCleanDisk (state S.Store tx.new.conn.now) → KeepsCommit (state S.Store tx.old.conn.now) (state S.Store tx.new.conn.now) }
-        ensures survives { Survives (state S.Store tx.old.conn.now) (state S.Store tx.new.conn.now) (λ _. ⊥) };
+    ghost values: { R → Row };
 
-    /// Adds the eight rows, in turn, by one statement.
-    fn add_eight<S: Alter>(
-        tx: &mut Transaction<'_, S>,
-        a: &Self,
-        b: &Self,
-        c: &Self,
-        d: &Self,
-        e: &Self,
-        f: &Self,
-        g: &Self,
-        h: &Self,
-    ) -> Result<(), Error>
-        ensures same_reference { tx.new.conn.ghost_name ≡ tx.old.conn.ghost_name }
-        ensures done { HasCleanDisk (state S.Store tx.new.conn.now) → OnOk result (Made (Adds tree (cells a.now ∷ cells b.now ∷ cells c.now ∷ cells d.now ∷ cells e.now ∷ cells f.now ∷ cells g.now ∷ cells h.now ∷ [])) (state S.Store tx.old.conn.now) (state S.Store tx.new.conn.now)) }
-        ensures kept { HasCleanDisk (state S.Store tx.new.conn.now) → KeepsCommit (state S.Store tx.old.conn.now) (state S.Store tx.new.conn.now) }
-        ensures survives { Survives (state S.Store tx.old.conn.now) (state S.Store tx.new.conn.now) (λ _. ⊥) };
+    /// The text that adds one row, given its values.
+    fn text<S: Alter>(&self) -> &'static str
+        ensures { AddsBy S.Store result.now 1 (tree self.now) values cells };
+
+    /// The text that adds eight rows, given the values of one after the other.
+    fn text_of_eight<S: Alter>(&self) -> &'static str
+        ensures { AddsBy S.Store result.now 8 (tree self.now) values cells };
+
+    /// Puts the row's values behind those that are there. The error is want of memory.
+    fn put_values<'v>(row: &'v R, all: &mut Vec<ValueRef<'v>>) -> Result<(), AllocError>
+        ensures { OnOk result (bound all.new.items ≡ bound all.old.items ++ values row.now) };
 }
 
-/// Adds rows one by one.
-fn add_each<S: Alter, R: NewRow>(tx: &mut Transaction<'_, S>, rows: &[R]) -> Result<(), Error>
-    ensures same_reference { tx.new.conn.ghost_name ≡ tx.old.conn.ghost_name }
-    ensures done { HasCleanDisk (state S.Store tx.new.conn.now) → OnOk result (GoesOn (Adds R.tree (map R.cells rows.now)) (state S.Store tx.old.conn.now) (state S.Store tx.new.conn.now)) }
-    ensures kept { HasCleanDisk (state S.Store tx.new.conn.now) → KeepsCommit (state S.Store tx.old.conn.now) (state S.Store tx.new.conn.now) }
-    ensures survives { Survives (state S.Store tx.old.conn.now) (state S.Store tx.new.conn.now) (λ _. ⊥) }
+/// How many rows the next statement adds, of as many as are left, and its text.
+fn next_text<S: Alter, R, T: Target<R>>(table: &T, left: usize) -> (usize, &'static str)
+    ensures adds { AddsBy S.Store result.1.now result.0 (T.tree table.now) T.values T.cells }
+    ensures some { 0 < result.0 }
+    ensures fits { 0 < left → result.0 ≤ left }
 {
+    if left < 8 {
+        (1, table.text::<S>())
+    } else {
+        (8, table.text_of_eight::<S>())
+    }
+}
+
+/// Runs the text with the values of these rows.
+fn write_rows<S: Alter, R, T: Target<R>>(
+    alloc: Global,
+    tx: &mut Transaction<'_, S>,
+    text: &str,
+    rows: &[R],
+) -> Result<(), Error>
+    ensures { Does S.Store (Ran text.now (flat_map T.values rows.now)) result tx.old tx.new }
+{
+    let mut values = Vec::new(alloc);
     for row in rows {
-        row.add(tx)?;
+        T::put_values(row, &mut values)?;
     }
-    Ok(())
+    write(tx, text, &values)
 }
 
-/// Adds a run of rows: by one statement where they are eight.
-fn add_run<S: Alter, R: NewRow>(tx: &mut Transaction<'_, S>, rows: &[R]) -> Result<(), Error>
-    ensures same_reference { tx.new.conn.ghost_name ≡ tx.old.conn.ghost_name }
-    ensures done { HasCleanDisk (state S.Store tx.new.conn.now) → OnOk result (GoesOn (Adds R.tree (map R.cells rows.now)) (state S.Store tx.old.conn.now) (state S.Store tx.new.conn.now)) }
-    ensures kept { HasCleanDisk (state S.Store tx.new.conn.now) → KeepsCommit (state S.Store tx.old.conn.now) (state S.Store tx.new.conn.now) }
-    ensures survives { Survives (state S.Store tx.old.conn.now) (state S.Store tx.new.conn.now) (λ _. ⊥) }
+/// Adds the rows to the table, in turn. The first error ends it, and is handed on; it may be want of memory.
+pub fn add_all<S: Alter, R, T: Target<R>>(
+    alloc: Global,
+    tx: &mut Transaction<'_, S>,
+    table: &T,
+    rows: &[R],
+) -> Result<(), Error>
+    ensures { Does S.Store (GoesOn
+        (Adds (T.tree table.now) (map T.cells rows.now))) result tx.old tx.new }
 {
-    match rows {
-        [a, b, c, d, e, f, g, h] => R::add_eight(tx, a, b, c, d, e, f, g, h),
-        _ => add_each(tx, rows),
-    }
-}
-
-/// Adds the rows, in turn. The first error ends it, and is handed on.
-pub fn add_all<S: Alter, R: NewRow>(tx: &mut Transaction<'_, S>, rows: &[R]) -> Result<(), Error>
-    ensures same_reference { tx.new.conn.ghost_name ≡ tx.old.conn.ghost_name }
-    ensures done { HasCleanDisk (state S.Store tx.new.conn.now) → OnOk result (GoesOn (Adds R.tree (map R.cells rows.now)) (state S.Store tx.old.conn.now) (state S.Store tx.new.conn.now)) }
-    ensures kept { HasCleanDisk (state S.Store tx.new.conn.now) → KeepsCommit (state S.Store tx.old.conn.now) (state S.Store tx.new.conn.now) }
-    ensures survives { Survives (state S.Store tx.old.conn.now) (state S.Store tx.new.conn.now) (λ _. ⊥) }
-{
-    for run in rows.chunks(8) {
-        add_run(tx, run)?;
+    let mut rest = rows;
+    'runs: while !rest.is_empty() {
+        let (count, text) = next_text::<S, R, T>(table, rest.len());
+        let (run, after) = rest.split_at(count);
+        write_rows::<S, R, T>(alloc, tx, text, run)?;
+        rest = after;
     }
     Ok(())
 }

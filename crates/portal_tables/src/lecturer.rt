@@ -1,24 +1,23 @@
 //! What a lecturer sees, by queries of the own list and of the own projects' applicants.
 
-ghost use Rattle.std.specs.Prelude.{◌≡◌, ◌==◌, false, IfOk, IsTrue, if◌then◌else◌, Some, None, option_map, map};
+ghost use Rattle.std.specs.Prelude.{◌≡◌, ◌==◌, IfOk, if◌then◌else◌, Some, None, option_map, map};
 ghost use Rattle.sqlite.specs.Order.{column, bytes};
-ghost use Rattle.sqlite.specs.State.{HasCleanDisk};
 ghost use Rattle.sqlite.specs.Held.{state};
 ghost use Rattle.sqlite_trees.specs.Objects.{number_in};
-ghost use Rattle.portal_tables.specs.Own.{IsOwn};
 ghost use Rattle.portal_tables.specs.Tables.{ranking_tree};
 ghost use Rattle.portal_tables.specs.Callers.{with_persons, own_keys, lecturer_shown};
 ghost use Rattle.portal_tables.specs.Lines.{HasTables};
 ghost use Rattle.portal_tables.specs.Lists.{chosen};
-ghost use Rattle.portal_tables.specs.Reading.{Reads};
+ghost use Rattle.portal_tables.specs.Reading.{Reads, Tells, TellsOf};
 ghost use Rattle.portal_tables.specs.Shown.{first};
 
 use crate::applicants::{Told, told_in};
 use crate::cells::{bytes_at, capacity_at, key_at, number_at};
-use crate::entries::{Lists, list_in};
+use crate::entries::list_in;
 use crate::fault::TableFault;
 use crate::lines::person_at;
-use portal_core::{LecturerView, Listing, Phase};
+use crate::list_table::Lists;
+use portal_core::{LecturerView, Listing, Phase, Round};
 use spa_rows::Key;
 use sqlite::{Alter, Connection, Row};
 use std::alloc::{AllocError, Global};
@@ -43,9 +42,11 @@ fn ranking_in<S: Alter>(
     conn: &mut Connection<S>,
     row: &Row,
 ) -> Result<Option<Vec<Key>>, TableFault>
-    ensures names { IsOwn conn.old.schema → HasCleanDisk (state S.Store conn.new) → IfOk result (λ o. option_map (λ v. v.items) o ≡ (if number_in (column row.now 4) == 1 then Some (chosen ((state S.Store conn.old).now.trees ranking_tree) (first row.now)) else None)) }
+    ensures names { Tells S.Store conn.old conn.new result
+        (λ db o. option_map (λ v. v.items) o
+        ≡ (if number_in (column row.now 4) == 1 then Some
+        (chosen (db.trees ranking_tree) (first row.now)) else None)) }
     ensures reads { Reads result (state S.Store conn.old) (state S.Store conn.new) }
-    ensures mode { conn.old.in_transaction ≡ false → conn.new.in_transaction ≡ false }
 {
     if number_at(row, 4) != 1 {
         return Ok(None);
@@ -64,9 +65,25 @@ fn put_together(
     ranking: Option<Vec<Key>>,
     told: Told,
 ) -> Result<LecturerView, TableFault>
-    ensures { IfOk result (λ v. v ≡ record { phase = phase; me = record { key = first row.now; name = bytes (column row.now 1) }; capacity = number_in (column row.now 3); catalogue = catalogue.value.items; applicants = map with_persons told.applicants.items; ranking = option_map (λ r. r.items) ranking; placed = map with_persons told.placed.items }) }
+    ensures { IfOk result (λ v. v
+        ≡ record {
+          round = Round.First;
+          phase = phase;
+          me = record {
+            key = first row.now;
+            name =
+                bytes (column row.now 1);
+          };
+          capacity = number_in
+              (column row.now 3);
+          catalogue = catalogue.value.items;
+          applicants = map with_persons told.applicants.items;
+          ranking = option_map (λ r. r.items) ranking;
+          placed = map with_persons told.placed.items;
+        }) }
 {
     Ok(LecturerView {
+        round: Round::First,
         phase,
         me: person_at(alloc, row)?,
         capacity: capacity_at(row, 3)?,
@@ -86,9 +103,9 @@ pub fn lecturer_view<S: Alter>(
     row: &Row,
     catalogue: Rc<Vec<Listing>>,
 ) -> Result<LecturerView, TableFault>
-    ensures shows { HasTables (state S.Store conn.old).now → HasCleanDisk (state S.Store conn.new) → IsTrue (state S.Store conn.old).is_open → IfOk result (λ v. v ≡ lecturer_shown (state S.Store conn.old).now.trees phase row.now catalogue.value.items) }
+    ensures shows { TellsOf HasTables S.Store conn.old conn.new result
+        (λ db v. v ≡ lecturer_shown db.trees phase row.now catalogue.value.items) }
     ensures reads { Reads result (state S.Store conn.old) (state S.Store conn.new) }
-    ensures mode { conn.old.in_transaction ≡ false → conn.new.in_transaction ≡ false }
 {
     let own = own_projects(alloc, &catalogue, row)?;
     let ranking = ranking_in(alloc, conn, row)?;

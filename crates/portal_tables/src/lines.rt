@@ -1,19 +1,19 @@
 //! What may be told of a student: of one, of those whose keys rows begin with, and of those whose list holds a project. Each is
 //! asked for by key.
 
-ghost use Rattle.std.specs.Prelude.{◌≡◌, ◌∷◌, [], false, IfOk, IsTrue, Some, map};
+ghost use Rattle.std.specs.Prelude.{◌≡◌, ◌∷◌, [], IfOk, Some, map};
 ghost use Rattle.sqlite.specs.Order.{column, bytes};
 ghost use Rattle.sqlite.specs.State.{HasCleanDisk};
 ghost use Rattle.sqlite.specs.Held.{state};
 ghost use Rattle.portal_core.specs.Words.{Rise};
-ghost use Rattle.portal_tables.specs.Reading.{Reads};
+ghost use Rattle.portal_tables.specs.Reading.{Reads, TellsOf};
 ghost use Rattle.portal_tables.specs.Shown.{first};
 ghost use Rattle.portal_tables.specs.Lines.{HasTables, told_line, line_at, applicant_lines};
 
 use crate::cells::{assigned_at, bytes_at, key_at, name_at};
 use crate::decode::{FromCells, do_rise, only};
 use crate::fault::TableFault;
-use crate::select::{choosers_of, student_told};
+use crate::select::{Query, read_each, read_rows};
 use portal_core::Person;
 use spa_rows::Key;
 use sqlite::{Alter, Connection, Row};
@@ -22,7 +22,8 @@ use std::alloc::{AllocError, Global};
 /// The person whose row of a roll this is: key and name come first. The fault is `Damaged` where one of them has not its form,
 /// `Memory` where there is not enough memory.
 pub fn person_at(alloc: Global, row: &Row) -> Result<Person, TableFault>
-    ensures { IfOk result (λ p. p ≡ record { key = first row.now; name = bytes (column row.now 1) }) }
+    ensures { IfOk result (λ p. p
+        ≡ record { key = first row.now; name = bytes (column row.now 1) }) }
 {
     Ok(Person {
         key: key_at(alloc, row, 0)?,
@@ -69,11 +70,11 @@ fn line_in<S: Alter>(
     conn: &mut Connection<S>,
     key: &[u8],
 ) -> Result<Line, TableFault>
-    ensures told { HasTables (state S.Store conn.old).now → HasCleanDisk (state S.Store conn.new) → IfOk result (λ l. Some l ≡ line_at (state S.Store conn.old).now.trees key.now) }
+    ensures told { HasTables (state S.Store conn.old).now → HasCleanDisk (state S.Store conn.new)
+        → IfOk result (λ l. Some l ≡ line_at (state S.Store conn.old).now.trees key.now) }
     ensures reads { Reads result (state S.Store conn.old) (state S.Store conn.new) }
-    ensures mode { conn.old.in_transaction ≡ false → conn.new.in_transaction ≡ false }
 {
-    let lines = student_told(alloc, conn, key)?;
+    let lines = read_each(alloc, conn, Query::StudentTold(key))?;
     only_line(lines)
 }
 
@@ -83,9 +84,9 @@ fn lines_from<S: Alter>(
     conn: &mut Connection<S>,
     rows: &[Row],
 ) -> Result<Vec<Line>, TableFault>
-    ensures told { HasTables (state S.Store conn.old).now → HasCleanDisk (state S.Store conn.new) → IsTrue (state S.Store conn.old).is_open → IfOk result (λ v. map Some v.items ≡ map (λ c. line_at (state S.Store conn.old).now.trees (first c)) rows.now) }
+    ensures told { TellsOf HasTables S.Store conn.old conn.new result
+        (λ db v. map Some v.items ≡ map (λ c. line_at db.trees (first c)) rows.now) }
     ensures reads { Reads result (state S.Store conn.old) (state S.Store conn.new) }
-    ensures mode { conn.old.in_transaction ≡ false → conn.new.in_transaction ≡ false }
 {
     let mut lines = Vec::new(alloc);
     for row in rows {
@@ -101,9 +102,9 @@ fn rising_lines<S: Alter>(
     rows: &[Row],
 ) -> Result<Vec<Line>, TableFault>
     ensures rise { IfOk result (λ v. Rise (map first rows.now)) }
-    ensures told { HasTables (state S.Store conn.old).now → HasCleanDisk (state S.Store conn.new) → IsTrue (state S.Store conn.old).is_open → IfOk result (λ v. map Some v.items ≡ map (λ c. line_at (state S.Store conn.old).now.trees (first c)) rows.now) }
+    ensures told { TellsOf HasTables S.Store conn.old conn.new result
+        (λ db v. map Some v.items ≡ map (λ c. line_at db.trees (first c)) rows.now) }
     ensures reads { Reads result (state S.Store conn.old) (state S.Store conn.new) }
-    ensures mode { conn.old.in_transaction ≡ false → conn.new.in_transaction ≡ false }
 {
     if !do_rise(rows) {
         return Err(TableFault::Damaged);
@@ -118,11 +119,11 @@ pub fn lines_to<S: Alter>(
     conn: &mut Connection<S>,
     project: &Key,
 ) -> Result<Vec<Line>, TableFault>
-    ensures told { HasTables (state S.Store conn.old).now → HasCleanDisk (state S.Store conn.new) → IsTrue (state S.Store conn.old).is_open → IfOk result (λ v. v.items ≡ applicant_lines (state S.Store conn.old).now.trees project.now) }
+    ensures told { TellsOf HasTables S.Store conn.old conn.new result
+        (λ db v. v.items ≡ applicant_lines db.trees project.now) }
     ensures reads { Reads result (state S.Store conn.old) (state S.Store conn.new) }
-    ensures mode { conn.old.in_transaction ≡ false → conn.new.in_transaction ≡ false }
 {
-    let rows = choosers_of(alloc, conn, project.as_bytes())?;
+    let rows = read_rows(alloc, conn, Query::Choosers(project.as_bytes()))?;
     rising_lines(alloc, conn, &rows)
 }
 

@@ -1,22 +1,22 @@
 //! Makes the six tables.
 
 ghost use Rattle.std.specs.Prelude.{◌≡◌, false, OnOk, OnErr, IsTrue};
-ghost use Rattle.sqlite.specs.State.{HasCleanDisk, KeepsCommit, Survives};
+ghost use Rattle.sqlite.specs.State.{HasCleanDisk, Survives};
 ghost use Rattle.sqlite.specs.Held.{state};
-ghost use Rattle.portal_tables.specs.Tables.{no_schema};
-ghost use Rattle.portal_tables.specs.Steps.{Made, Commits, IsAfter, LeavesOnly, Stays};
-ghost use Rattle.portal_tables.specs.Making.{Creates, Grows, Makes, half_schema, full_schema};
+ghost use Rattle.portal_tables.specs.Steps.{Does, Made, Commits, IsAfter, LeavesOnly, Stays};
+ghost use Rattle.portal_tables.specs.Making.{Creates, Makes};
 
+use crate::fault::TableFault;
 use crate::insert::add_portal;
 use crate::run::write;
+use crate::step::{Step, commit};
 use sqlite::{Alter, Connection, Error, Transaction};
+use std::alloc::Global;
 
-/// The tables of the portal, the lecturers and the projects.
-fn make_first<S: Alter>(tx: &mut Transaction<'_, S>) -> Result<(), Error>
-    ensures same_reference { tx.new.conn.ghost_name ≡ tx.old.conn.ghost_name }
-    ensures done { HasCleanDisk (state S.Store tx.new.conn.now) → OnOk result (Made (Grows no_schema half_schema) (state S.Store tx.old.conn.now) (state S.Store tx.new.conn.now)) }
-    ensures kept { HasCleanDisk (state S.Store tx.new.conn.now) → KeepsCommit (state S.Store tx.old.conn.now) (state S.Store tx.new.conn.now) }
-    ensures survives { Survives (state S.Store tx.old.conn.now) (state S.Store tx.new.conn.now) (λ _. ⊥) }
+/// Makes the six tables, all empty, where the database has no table. An error of the store is handed on; the transaction
+/// should then be dropped, which undoes it.
+pub fn make_tables<S: Alter>(tx: &mut Transaction<'_, S>) -> Result<(), Error>
+    ensures { Does S.Store (Made Makes) result tx.old tx.new }
 {
     write(
         tx,
@@ -33,16 +33,6 @@ fn make_first<S: Alter>(tx: &mut Transaction<'_, S>) -> Result<(), Error>
         "CREATE TABLE project (key TEXT NOT NULL PRIMARY KEY, lecturer TEXT NOT NULL REFERENCES lecturer (key), title TEXT NOT NULL, capacity INTEGER NOT NULL CHECK (capacity >= 1 AND capacity <= 200)) STRICT",
         &[],
     )?;
-    Ok(())
-}
-
-/// The tables of the students, their lists and the rankings.
-fn make_last<S: Alter>(tx: &mut Transaction<'_, S>) -> Result<(), Error>
-    ensures same_reference { tx.new.conn.ghost_name ≡ tx.old.conn.ghost_name }
-    ensures done { HasCleanDisk (state S.Store tx.new.conn.now) → OnOk result (Made (Grows half_schema full_schema) (state S.Store tx.old.conn.now) (state S.Store tx.new.conn.now)) }
-    ensures kept { HasCleanDisk (state S.Store tx.new.conn.now) → KeepsCommit (state S.Store tx.old.conn.now) (state S.Store tx.new.conn.now) }
-    ensures survives { Survives (state S.Store tx.old.conn.now) (state S.Store tx.new.conn.now) (λ _. ⊥) }
-{
     write(
         tx,
         "CREATE TABLE student (key TEXT NOT NULL PRIMARY KEY, name TEXT NOT NULL, code TEXT NOT NULL UNIQUE, assigned TEXT REFERENCES project (key)) STRICT",
@@ -57,48 +47,42 @@ fn make_last<S: Alter>(tx: &mut Transaction<'_, S>) -> Result<(), Error>
         tx,
         "CREATE TABLE ranking (lecturer TEXT NOT NULL REFERENCES lecturer (key), place INTEGER NOT NULL, student TEXT NOT NULL REFERENCES student (key), PRIMARY KEY (lecturer, place), UNIQUE (student, lecturer)) STRICT",
         &[],
-    )?;
-    Ok(())
+    )
 }
 
-/// Makes the six tables, all empty, where the database has no table. An error of the store is handed on; the transaction
-/// should then be dropped, which undoes it.
-pub fn make_tables<S: Alter>(tx: &mut Transaction<'_, S>) -> Result<(), Error>
-    ensures same_reference { tx.new.conn.ghost_name ≡ tx.old.conn.ghost_name }
-    ensures done { HasCleanDisk (state S.Store tx.new.conn.now) → OnOk result (Made Makes (state S.Store tx.old.conn.now) (state S.Store tx.new.conn.now)) }
-    ensures kept { HasCleanDisk (state S.Store tx.new.conn.now) → KeepsCommit (state S.Store tx.old.conn.now) (state S.Store tx.new.conn.now) }
-    ensures survives { Survives (state S.Store tx.old.conn.now) (state S.Store tx.new.conn.now) (λ _. ⊥) }
-{
-    make_first(tx)?;
-    make_last(tx)?;
-    Ok(())
+/// The six tables with the row of the office, of this code; all other tables are empty.
+struct MakePortal<'a> {
+    office: &'a [u8],
 }
 
-/// Makes the six tables and the row of the office, with its code; all other tables are empty. As `make_tables` otherwise.
-pub fn make_portal<S: Alter>(tx: &mut Transaction<'_, S>, office: &[u8]) -> Result<(), Error>
-    ensures same_reference { tx.new.conn.ghost_name ≡ tx.old.conn.ghost_name }
-    ensures done { HasCleanDisk (state S.Store tx.new.conn.now) → OnOk result (Made (Creates office.now) (state S.Store tx.old.conn.now) (state S.Store tx.new.conn.now)) }
-    ensures kept { HasCleanDisk (state S.Store tx.new.conn.now) → KeepsCommit (state S.Store tx.old.conn.now) (state S.Store tx.new.conn.now) }
-    ensures survives { Survives (state S.Store tx.old.conn.now) (state S.Store tx.new.conn.now) (λ _. ⊥) }
-{
-    make_tables(tx)?;
-    add_portal(tx, office)?;
-    Ok(())
+impl Step for MakePortal<'_> {
+    ghost makes = { λ s. Creates s.office.now };
+
+    fn take<S: Alter>(self, _alloc: Global, tx: &mut Transaction<'_, S>) -> Result<(), Error> {
+        let MakePortal { office } = self;
+        make_tables(tx)?;
+        add_portal(tx, office)
+    }
 }
 
 /// Makes the portal's tables and the row of the office in a transaction of their own. After an error nothing is there of
-/// them; after Ok a crash leaves them alone.
-pub fn create_portal<S: Alter>(conn: &mut Connection<S>, office: &[u8]) -> Result<(), Error>
+/// them, and it is `Memory` for want of memory, else `Store`; after Ok a crash leaves them alone.
+pub fn create_portal<S: Alter>(
+    alloc: Global,
+    conn: &mut Connection<S>,
+    office: &[u8],
+) -> Result<(), TableFault>
     requires idle { conn.old.in_transaction ≡ false }
     ensures idle { conn.new.in_transaction ≡ false }
-    ensures ok { HasCleanDisk (state S.Store conn.new) → OnOk result (Commits (Creates office.now) (state S.Store conn.old) (state S.Store conn.new)) }
-    ensures err { HasCleanDisk (state S.Store conn.new) → IsTrue (state S.Store conn.new).is_open → OnErr result (Stays (state S.Store conn.old) (state S.Store conn.new)) }
-    ensures durable { HasCleanDisk (state S.Store conn.new) → OnOk result (LeavesOnly (state S.Store conn.new)) }
-    ensures crash { Survives (state S.Store conn.old) (state S.Store conn.new) (IsAfter (Creates office.now) (state S.Store conn.old)) }
+    ensures ok { HasCleanDisk (state S.Store conn.new)
+        → OnOk result (Commits (Creates office.now) (state S.Store conn.old)
+        (state S.Store conn.new)) }
+    ensures err { HasCleanDisk (state S.Store conn.new) → IsTrue (state S.Store conn.new).is_open
+        → OnErr result (Stays (state S.Store conn.old) (state S.Store conn.new)) }
+    ensures durable { HasCleanDisk (state S.Store conn.new)
+        → OnOk result (LeavesOnly (state S.Store conn.new)) }
+    ensures crash { Survives (state S.Store conn.old) (state S.Store conn.new)
+        (IsAfter (Creates office.now) (state S.Store conn.old)) }
 {
-    let _idle = conn.is_autocommit();
-    let mut tx = conn.transaction();
-    make_portal(&mut tx, office)?;
-    tx.commit()?;
-    Ok(())
+    commit(alloc, conn, MakePortal { office })
 }

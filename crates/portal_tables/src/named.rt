@@ -19,7 +19,8 @@ use std::cmp::Ordering;
 pub(crate) fn place_named(rows: &[Row], key: &[u8]) -> Option<usize>
     requires { Rise (map first rows.now) }
     ensures within { IfSome result (λ i. i < length rows.now) }
-    ensures there { IfSome result (λ i. (c : Cells) → first (slice_index_or rows.now i c) ≡ key.now) }
+    ensures there { IfSome result
+        (λ i. (c : Cells) → first (slice_index_or rows.now i c) ≡ key.now) }
     ensures known { is_some result ≡ has (map first rows.now) key.now }
 {
     match rows.binary_search_by(
@@ -43,7 +44,8 @@ pub fn is_named(rows: &[Row], key: &[u8]) -> bool
 /// The keys that the rows begin with, but for those of the others, whose keys rise.
 fn keys_but(alloc: Global, rows: &[Row], others: &[Row]) -> Result<Vec<Key>, TableFault>
     requires { Rise (map first others.now) }
-    ensures { IfOk result (λ v. v.items ≡ map first (filter (λ c. not (has (map first others.now) (first c))) rows.now)) }
+    ensures { IfOk result (λ v. v.items
+        ≡ map first (filter (λ c. not (has (map first others.now) (first c))) rows.now)) }
 {
     let mut keys = Vec::new(alloc);
     for row in rows {
@@ -57,7 +59,8 @@ fn keys_but(alloc: Global, rows: &[Row], others: &[Row]) -> Result<Vec<Key>, Tab
 /// The keys that the rows begin with, in their order, but for those that the others begin with. The fault is `Damaged` where the
 /// keys of the others do not rise or one of the rows does not begin with a key, `Memory` where there is not enough memory.
 pub fn keys_without(alloc: Global, rows: &[Row], others: &[Row]) -> Result<Vec<Key>, TableFault>
-    ensures { IfOk result (λ v. v.items ≡ map first (filter (λ c. not (has (map first others.now) (first c))) rows.now)) }
+    ensures { IfOk result (λ v. v.items
+        ≡ map first (filter (λ c. not (has (map first others.now) (first c))) rows.now)) }
 {
     if !do_rise(others) {
         return Err(TableFault::Damaged);

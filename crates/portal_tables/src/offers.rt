@@ -1,17 +1,17 @@
 //! The catalogue of the projects: each with its lecturer's name.
 
-ghost use Rattle.std.specs.Prelude.{◌≡◌, false, IfOk, IsTrue, option_map, map};
-ghost use Rattle.sqlite.specs.State.{HasCleanDisk};
+ghost use Rattle.std.specs.Prelude.{◌≡◌, IfOk, option_map, map};
 ghost use Rattle.sqlite.specs.Held.{state};
 ghost use Rattle.portal_core.specs.View.{listing_with};
 ghost use Rattle.portal_tables.specs.Offers.{name_of, offered, catalogue_shown};
-ghost use Rattle.portal_tables.specs.Own.{IsOwn};
-ghost use Rattle.portal_tables.specs.Reading.{Reads};
+ghost use Rattle.portal_tables.specs.Own.{HasOwn};
+ghost use Rattle.portal_tables.specs.Reading.{Reads, TellsOf};
 ghost use Rattle.portal_tables.specs.Shown.{shown_lecturer, shown_project};
 
 use crate::decode::decoded;
 use crate::fault::TableFault;
-use crate::rolls::{lecturer_roll, project_roll};
+use crate::rolls::roll_in;
+use crate::select::Roll;
 use portal_core::{LecturerRow, Listing, Name, ProjectRow};
 use spa_rows::Key;
 use sqlite::{Alter, Connection, Row};
@@ -35,7 +35,8 @@ fn listing_among(
     lecturers: &[LecturerRow],
     project: &ProjectRow,
 ) -> Result<Option<Listing>, AllocError>
-    ensures { IfOk result (λ o. o ≡ option_map (listing_with project.now) (name_of lecturers.now project.now.lecturer)) }
+    ensures { IfOk result (λ o. o
+        ≡ option_map (listing_with project.now) (name_of lecturers.now project.now.lecturer)) }
 {
     match name_among(lecturers, &project.lecturer) {
         Some(name) => Ok(Some(Listing::of(alloc, project, name)?)),
@@ -66,7 +67,8 @@ fn catalogue_of(
     lecturers: &[Row],
     projects: &[Row],
 ) -> Result<Rc<Vec<Listing>>, TableFault>
-    ensures { IfOk result (λ shared. shared.value.items ≡ offered (map shown_lecturer lecturers.now) (map shown_project projects.now)) }
+    ensures { IfOk result (λ shared. shared.value.items
+        ≡ offered (map shown_lecturer lecturers.now) (map shown_project projects.now)) }
 {
     let lecturers: Vec<LecturerRow> = decoded(alloc, lecturers)?;
     let projects: Vec<ProjectRow> = decoded(alloc, projects)?;
@@ -79,11 +81,11 @@ pub fn catalogue_in<S: Alter>(
     alloc: Global,
     conn: &mut Connection<S>,
 ) -> Result<Rc<Vec<Listing>>, TableFault>
-    ensures shows { IsOwn conn.old.schema → HasCleanDisk (state S.Store conn.new) → IsTrue (state S.Store conn.old).is_open → IfOk result (λ shared. shared.value.items ≡ catalogue_shown (state S.Store conn.old).now.trees) }
+    ensures shows { TellsOf HasOwn S.Store conn.old conn.new result
+        (λ db shared. shared.value.items ≡ catalogue_shown db.trees) }
     ensures reads { Reads result (state S.Store conn.old) (state S.Store conn.new) }
-    ensures mode { conn.old.in_transaction ≡ false → conn.new.in_transaction ≡ false }
 {
-    let lecturers = lecturer_roll(alloc, conn)?;
-    let projects = project_roll(alloc, conn)?;
+    let lecturers = roll_in(alloc, conn, Roll::Lecturers)?;
+    let projects = roll_in(alloc, conn, Roll::Projects)?;
     catalogue_of(alloc, &lecturers, &projects)
 }

@@ -3,20 +3,20 @@
 ghost use Rattle.std.specs.Prelude.{◌≡◌, ◌↔◌, ◌∷◌, [], pos, true, false, Err, IfOk, IfSome, IfNone, OnOk, OnErr, IsTrue, List, ℕ};
 ghost use Rattle.sqlite.specs.declared.types.Value.TheVariants.{Int, Text as Words};
 ghost use Rattle.sqlite.specs.Order.{Row as Cells, column};
-ghost use Rattle.sqlite.specs.State.{HasCleanDisk, IsUnchanged, Survives};
+ghost use Rattle.sqlite.specs.State.{HasCleanDisk};
 ghost use Rattle.sqlite.specs.Effect.{IsDatabase};
 ghost use Rattle.sqlite.specs.Held.{state};
 ghost use Rattle.portal_core.specs.Form.{is_code};
 ghost use Rattle.portal_core.specs.declared.phase.Phase.{Phase as ThePhase};
 ghost use Rattle.portal_tables.specs.Tables.{portal_tree};
 ghost use Rattle.portal_tables.specs.Own.{IsOwn};
-ghost use Rattle.portal_tables.specs.Steps.{Leaves};
+ghost use Rattle.portal_tables.specs.Reading.{Asks};
 ghost use Rattle.portal_tables.specs.Rows.{portal_row};
 ghost use Rattle.portal_tables.specs.Office.{number_of, IsOffice, HasOffice};
 
 use crate::cells::code_at;
 use crate::fault::TableFault;
-use crate::row_by_row::office_row;
+use crate::select::{Query, read_rows};
 use portal_core::{Code, Phase};
 use sqlite::types::ValueRef;
 use sqlite::{Alter, Connection, Row};
@@ -39,7 +39,8 @@ fn is_one(row: &Row, at: usize) -> bool
 
 fn phase_at(row: &Row, at: usize) -> Option<Phase>
     ensures some { IfSome result (λ phase. column row.now at ≡ Int (pos (number_of phase))) }
-    ensures none { IfNone result ((phase : ThePhase) → column row.now at ≡ Int (pos (number_of phase)) → ⊥) }
+    ensures none { IfNone result
+        ((phase : ThePhase) → column row.now at ≡ Int (pos (number_of phase)) → ⊥) }
 {
     match row.get_ref(at) {
         Ok(ValueRef::Int(0)) => Some(Phase::Setup),
@@ -53,7 +54,8 @@ fn phase_at(row: &Row, at: usize) -> Option<Phase>
 /// The code in a cell that has a text.
 fn text_code_at(alloc: Global, row: &Row, at: usize) -> Result<Code, TableFault>
     ensures ok { IfOk result (λ code. column row.now at ≡ Words code) }
-    ensures damaged { result ≡ Err TableFault.Damaged → (code : List ℕ) → column row.now at ≡ Words code → is_code code ≡ true → ⊥ }
+    ensures damaged { result ≡ Err TableFault.Damaged → (code : List ℕ)
+        → column row.now at ≡ Words code → is_code code ≡ true → ⊥ }
 {
     match row.get_ref(at) {
         Ok(ValueRef::Text(_)) => code_at(alloc, row, at),
@@ -64,7 +66,8 @@ fn text_code_at(alloc: Global, row: &Row, at: usize) -> Result<Code, TableFault>
 /// The office, of its row: id and version are 1.
 fn office_at(alloc: Global, row: &Row) -> Result<Office, TableFault>
     ensures ok { IfOk result (λ office. IsOffice office.phase office.code row.now) }
-    ensures damaged { result ≡ Err TableFault.Damaged → (phase : ThePhase) (code : List ℕ) → IsOffice phase code row.now → is_code code ≡ true → ⊥ }
+    ensures damaged { result ≡ Err TableFault.Damaged → (phase : ThePhase) (code : List ℕ)
+        → IsOffice phase code row.now → is_code code ≡ true → ⊥ }
 {
     if !is_one(row, 0) || !is_one(row, 1) {
         return Err(TableFault::Damaged);
@@ -79,8 +82,11 @@ fn office_at(alloc: Global, row: &Row) -> Result<Office, TableFault>
 /// The office, of the only row of its table. The fault is `Damaged` where there is not one row, with id and version 1, a phase and
 /// a code.
 pub fn office_from(alloc: Global, rows: &[Row]) -> Result<Office, TableFault>
-    ensures ok { IfOk result (λ office. (row : Cells) × (rows.now ≡ row ∷ []) × IsOffice office.phase office.code row) }
-    ensures damaged { result ≡ Err TableFault.Damaged → (row : Cells) (phase : ThePhase) (code : List ℕ) → rows.now ≡ row ∷ [] → IsOffice phase code row → is_code code ≡ true → ⊥ }
+    ensures ok { IfOk result (λ office. (row : Cells) × (rows.now ≡ row ∷ [])
+        × IsOffice office.phase office.code row) }
+    ensures damaged { result ≡ Err TableFault.Damaged
+        → (row : Cells) (phase : ThePhase) (code : List ℕ) → rows.now ≡ row ∷ []
+        → IsOffice phase code row → is_code code ≡ true → ⊥ }
 {
     match rows {
         [row] => office_at(alloc, row),
@@ -91,13 +97,16 @@ pub fn office_from(alloc: Global, rows: &[Row]) -> Result<Office, TableFault>
 /// The office, of its table. The fault is `Damaged` where the table has not the one row of version 1, `Store` where the store
 /// answered an error.
 pub fn office_in<S: Alter>(alloc: Global, conn: &mut Connection<S>) -> Result<Office, TableFault>
-    ensures row { IsOwn conn.old.schema → IsDatabase (state S.Store conn.old).now → HasCleanDisk (state S.Store conn.new) → IfOk result (λ office. (state S.Store conn.old).now.trees portal_tree ≡ portal_row (pos 1) (pos (number_of office.phase)) office.code ∷ []) }
-    ensures damaged { IsOwn conn.old.schema → HasCleanDisk (state S.Store conn.new) → result ≡ Err TableFault.Damaged → (office : HasOffice ((state S.Store conn.old).now.trees portal_tree)) → is_code office.office ≡ true → ⊥ }
-    ensures same { IsOwn conn.old.schema → HasCleanDisk (state S.Store conn.new) → OnOk result (IsUnchanged (state S.Store conn.old) (state S.Store conn.new)) }
-    ensures err { IsOwn conn.old.schema → HasCleanDisk (state S.Store conn.new) → OnErr result (Leaves (state S.Store conn.old) (state S.Store conn.new)) }
-    ensures mode { conn.old.in_transaction ≡ false → conn.new.in_transaction ≡ false }
-    ensures survives { Survives (state S.Store conn.old) (state S.Store conn.new) (λ _. IsOwn conn.old.schema → ⊥) }
+    ensures row { IsOwn conn.old.schema → IsDatabase (state S.Store conn.old).now
+        → HasCleanDisk (state S.Store conn.new)
+        → IfOk result (λ office. (state S.Store conn.old).now.trees portal_tree
+        ≡ portal_row (pos 1) (pos (number_of office.phase)) office.code ∷ []) }
+    ensures damaged { IsOwn conn.old.schema → HasCleanDisk (state S.Store conn.new)
+        → result ≡ Err TableFault.Damaged
+        → (office : HasOffice ((state S.Store conn.old).now.trees portal_tree))
+        → is_code office.office ≡ true → ⊥ }
+    ensures asks { Asks result (state S.Store conn.old) (state S.Store conn.new) }
 {
-    let rows = office_row(alloc, conn)?;
+    let rows = read_rows(alloc, conn, Query::Office)?;
     office_from(alloc, &rows)
 }

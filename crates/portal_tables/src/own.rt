@@ -200,12 +200,3 @@ impl Pattern {
         is_same_schema(conn.schema(), self.conn.schema())
     }
 }
-
-/// Whether the tables are those that `make_tables` makes, and no other table, index or view is there. It reads nothing of
-/// the database: the only errors are those of the scratch connection, as too little memory.
-pub fn is_own<S: Alter>(alloc: Global, conn: &Connection<S>) -> Result<bool, Error>
-    ensures { IfOk result (λ own. IsTrue own ↔ IsOwn conn.now.schema) }
-{
-    let own = Pattern::new(alloc)?;
-    Ok(own.fits(conn))
-}

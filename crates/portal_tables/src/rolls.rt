@@ -1,22 +1,20 @@
 //! The three rolls of the portal, read by key and decoded.
 
-ghost use Rattle.std.specs.Prelude.{◌≡◌, ◌∷◌, [], false, Err, IfOk, IsTrue, map};
+ghost use Rattle.std.specs.Prelude.{◌≡◌, Err, IfOk, IsTrue, map};
 ghost use Rattle.std.specs.List.{AllByRecursion, filter_map};
 ghost use Rattle.sqlite.specs.State.{HasCleanDisk};
 ghost use Rattle.sqlite.specs.Effect.{IsDatabase};
 ghost use Rattle.sqlite.specs.Held.{state};
 ghost use Rattle.portal_core.specs.Good.{IsLecturer, IsProject, IsStudent};
 ghost use Rattle.portal_core.specs.Words.{Rise};
-ghost use Rattle.portal_tables.specs.Tables.{lecturer_tree, project_tree, student_tree};
-ghost use Rattle.portal_tables.specs.Own.{IsOwn};
-ghost use Rattle.portal_tables.specs.Changes.{columns};
-ghost use Rattle.portal_tables.specs.Reading.{Reads};
-ghost use Rattle.portal_tables.specs.Rolls.{row_key, by_key, lecturers_shown, projects_shown, students_shown, RollsRise};
+ghost use Rattle.portal_tables.specs.Own.{IsOwn, HasOwn};
+ghost use Rattle.portal_tables.specs.Reading.{Reads, Tells, TellsOf};
+ghost use Rattle.portal_tables.specs.Rolls.{roll_rows, RollRises, lecturers_shown, projects_shown, students_shown, RollsRise};
 ghost use Rattle.portal_tables.specs.Shown.{first, shown_lecturer, shown_project, shown_student, shown_pair, HasPlace};
 
 use crate::decode::{decoded, do_rise, pairs_from};
 use crate::fault::TableFault;
-use crate::row_by_row::{lecturers_by_key, projects_by_key, students_by_key};
+use crate::select::{Query, Roll, read_rows};
 use portal_core::{LecturerRow, ProjectRow, StudentRow};
 use spa_rows::Key;
 use sqlite::{Alter, Connection, Row};
@@ -45,60 +43,39 @@ fn risen(rows: Vec<Row>) -> Result<Vec<Row>, TableFault>
     }
 }
 
-/// The lecturers by key. The fault is `Damaged` where the keys do not rise, `Store` where the store answered an error.
-pub fn lecturer_roll<S: Alter>(
+/// A roll by key. The fault is `Damaged` where the keys do not rise, `Store` where the store answered an error.
+pub(crate) fn roll_in<S: Alter>(
     alloc: Global,
     conn: &mut Connection<S>,
+    roll: Roll,
 ) -> Result<Vec<Row>, TableFault>
-    ensures rows { IsOwn conn.old.schema → HasCleanDisk (state S.Store conn.new) → IfOk result (λ v. v.items ≡ map (columns (1 ∷ 2 ∷ 3 ∷ 4 ∷ 5 ∷ [])) (by_key ((state S.Store conn.old).now.trees lecturer_tree))) }
-    ensures damaged { IsOwn conn.old.schema → IsDatabase (state S.Store conn.old).now → HasCleanDisk (state S.Store conn.new) → result ≡ Err TableFault.Damaged → Rise (map row_key (by_key ((state S.Store conn.old).now.trees lecturer_tree))) → ⊥ }
+    ensures rows { Tells S.Store conn.old conn.new result
+        (λ db v. v.items ≡ roll_rows roll db.trees) }
+    ensures damaged { IsOwn conn.old.schema → IsDatabase (state S.Store conn.old).now
+        → HasCleanDisk (state S.Store conn.new) → result ≡ Err TableFault.Damaged
+        → RollRises roll (state S.Store conn.old).now.trees → ⊥ }
     ensures reads { Reads result (state S.Store conn.old) (state S.Store conn.new) }
-    ensures mode { conn.old.in_transaction ≡ false → conn.new.in_transaction ≡ false }
 {
-    let rows = lecturers_by_key(alloc, conn)?;
-    risen(rows)
-}
-
-/// The projects by key, with the faults of `lecturer_roll`.
-pub fn project_roll<S: Alter>(
-    alloc: Global,
-    conn: &mut Connection<S>,
-) -> Result<Vec<Row>, TableFault>
-    ensures rows { IsOwn conn.old.schema → HasCleanDisk (state S.Store conn.new) → IfOk result (λ v. v.items ≡ map (columns (1 ∷ 2 ∷ 3 ∷ 4 ∷ [])) (by_key ((state S.Store conn.old).now.trees project_tree))) }
-    ensures damaged { IsOwn conn.old.schema → IsDatabase (state S.Store conn.old).now → HasCleanDisk (state S.Store conn.new) → result ≡ Err TableFault.Damaged → Rise (map row_key (by_key ((state S.Store conn.old).now.trees project_tree))) → ⊥ }
-    ensures reads { Reads result (state S.Store conn.old) (state S.Store conn.new) }
-    ensures mode { conn.old.in_transaction ≡ false → conn.new.in_transaction ≡ false }
-{
-    let rows = projects_by_key(alloc, conn)?;
-    risen(rows)
-}
-
-/// The students by key, with the faults of `lecturer_roll`.
-pub fn student_roll<S: Alter>(
-    alloc: Global,
-    conn: &mut Connection<S>,
-) -> Result<Vec<Row>, TableFault>
-    ensures rows { IsOwn conn.old.schema → HasCleanDisk (state S.Store conn.new) → IfOk result (λ v. v.items ≡ map (columns (1 ∷ 2 ∷ 3 ∷ 4 ∷ [])) (by_key ((state S.Store conn.old).now.trees student_tree))) }
-    ensures damaged { IsOwn conn.old.schema → IsDatabase (state S.Store conn.old).now → HasCleanDisk (state S.Store conn.new) → result ≡ Err TableFault.Damaged → Rise (map row_key (by_key ((state S.Store conn.old).now.trees student_tree))) → ⊥ }
-    ensures reads { Reads result (state S.Store conn.old) (state S.Store conn.new) }
-    ensures mode { conn.old.in_transaction ≡ false → conn.new.in_transaction ≡ false }
-{
-    let rows = students_by_key(alloc, conn)?;
+    let rows = read_rows(alloc, conn, Query::Whole(roll))?;
     risen(rows)
 }
 
 /// The three rolls by key, or the fault of the first that cannot be read.
 pub fn rolls_in<S: Alter>(alloc: Global, conn: &mut Connection<S>) -> Result<Rolls, TableFault>
-    ensures lecturers { IsOwn conn.old.schema → HasCleanDisk (state S.Store conn.new) → IsTrue (state S.Store conn.old).is_open → IfOk result (λ r. r.lecturers.items ≡ lecturers_shown (state S.Store conn.old).now.trees) }
-    ensures projects { IsOwn conn.old.schema → HasCleanDisk (state S.Store conn.new) → IsTrue (state S.Store conn.old).is_open → IfOk result (λ r. r.projects.items ≡ projects_shown (state S.Store conn.old).now.trees) }
-    ensures students { IsOwn conn.old.schema → HasCleanDisk (state S.Store conn.new) → IsTrue (state S.Store conn.old).is_open → IfOk result (λ r. r.students.items ≡ students_shown (state S.Store conn.old).now.trees) }
-    ensures damaged { IsOwn conn.old.schema → IsDatabase (state S.Store conn.old).now → HasCleanDisk (state S.Store conn.new) → IsTrue (state S.Store conn.old).is_open → result ≡ Err TableFault.Damaged → RollsRise (state S.Store conn.old).now.trees → ⊥ }
+    ensures lecturers { TellsOf HasOwn S.Store conn.old conn.new result
+        (λ db r. r.lecturers.items ≡ lecturers_shown db.trees) }
+    ensures projects { TellsOf HasOwn S.Store conn.old conn.new result
+        (λ db r. r.projects.items ≡ projects_shown db.trees) }
+    ensures students { TellsOf HasOwn S.Store conn.old conn.new result
+        (λ db r. r.students.items ≡ students_shown db.trees) }
+    ensures damaged { IsOwn conn.old.schema → IsDatabase (state S.Store conn.old).now
+        → HasCleanDisk (state S.Store conn.new) → IsTrue (state S.Store conn.old).is_open
+        → result ≡ Err TableFault.Damaged → RollsRise (state S.Store conn.old).now.trees → ⊥ }
     ensures reads { Reads result (state S.Store conn.old) (state S.Store conn.new) }
-    ensures mode { conn.old.in_transaction ≡ false → conn.new.in_transaction ≡ false }
 {
-    let lecturers = lecturer_roll(alloc, conn)?;
-    let projects = project_roll(alloc, conn)?;
-    let students = student_roll(alloc, conn)?;
+    let lecturers = roll_in(alloc, conn, Roll::Lecturers)?;
+    let projects = roll_in(alloc, conn, Roll::Projects)?;
+    let students = roll_in(alloc, conn, Roll::Students)?;
     Ok(Rolls {
         lecturers,
         projects,
@@ -117,11 +94,19 @@ pub struct Parts {
 
 /// The rows of the rolls, decoded. The fault is `Damaged` where a cell has not the form that it is to have.
 pub fn parts_of(alloc: Global, rolls: &Rolls) -> Result<Parts, TableFault>
-    ensures lecturers { IfOk result (λ p. p.lecturers.items ≡ map shown_lecturer rolls.now.lecturers.items) }
-    ensures projects { IfOk result (λ p. p.projects.items ≡ map shown_project rolls.now.projects.items) }
-    ensures students { IfOk result (λ p. p.students.items ≡ map shown_student rolls.now.students.items) }
-    ensures pairs { IfOk result (λ p. p.pairs.items ≡ filter_map shown_pair rolls.now.students.items) }
-    ensures damaged { result ≡ Err TableFault.Damaged → AllByRecursion (λ c. IsLecturer (shown_lecturer c)) rolls.now.lecturers.items → AllByRecursion (λ c. IsProject (shown_project c)) rolls.now.projects.items → AllByRecursion (λ c. IsStudent (shown_student c)) rolls.now.students.items → AllByRecursion HasPlace rolls.now.students.items → ⊥ }
+    ensures lecturers { IfOk result (λ p. p.lecturers.items
+        ≡ map shown_lecturer rolls.now.lecturers.items) }
+    ensures projects { IfOk result (λ p. p.projects.items
+        ≡ map shown_project rolls.now.projects.items) }
+    ensures students { IfOk result (λ p. p.students.items
+        ≡ map shown_student rolls.now.students.items) }
+    ensures pairs { IfOk result (λ p. p.pairs.items
+        ≡ filter_map shown_pair rolls.now.students.items) }
+    ensures damaged { result ≡ Err TableFault.Damaged
+        → AllByRecursion (λ c. IsLecturer (shown_lecturer c)) rolls.now.lecturers.items
+        → AllByRecursion (λ c. IsProject (shown_project c)) rolls.now.projects.items
+        → AllByRecursion (λ c. IsStudent (shown_student c)) rolls.now.students.items
+        → AllByRecursion HasPlace rolls.now.students.items → ⊥ }
 {
     Ok(Parts {
         lecturers: decoded(alloc, &rolls.lecturers)?,

@@ -1,288 +1,197 @@
-//! What one table shows. Each query leaves all as it was, in an own database. A query of a whole table is read at once, and hands
-//! on an error of the store; one for a caller's view is read row by row, each row decoded as it comes, up to the first fault.
-//! Over any tables a query forgets no fault (`survives`), so that several queries in turn have that too.
+//! What can be asked of the tables: each query is a text, with a value at most, and shows rows of one table.
 
-ghost use Rattle.std.specs.Prelude.{◌≡◌, [], ◌∷◌, false, Err, IfOk, OnOk, OnErr};
-ghost use Rattle.sqlite.specs.State.{HasCleanDisk, IsUnchanged, Survives};
+ghost use Rattle.std.specs.Prelude.{◌≡◌, Err, IfOk, map};
 ghost use Rattle.sqlite.specs.Held.{state};
-ghost use Rattle.portal_tables.specs.Own.{IsOwn};
-ghost use Rattle.portal_tables.specs.Decoding.{ShowsAs};
-ghost use Rattle.portal_tables.specs.Lines.{told_line};
-ghost use Rattle.portal_tables.specs.Reading.{Reads};
-ghost use Rattle.portal_tables.specs.Steps.{Leaves};
-ghost use Rattle.portal_tables.specs.Tables.{portal_tree, lecturer_tree, project_tree, student_tree, choice_tree, ranking_tree};
-ghost use Rattle.portal_tables.specs.Changes.{ListsBy, every, columns, has_text, has_number};
+ghost use Rattle.sqlite.specs.Order.{Row as Cells};
+ghost use Rattle.sqlite.specs.Values.{bound};
+ghost use Rattle.portal_tables.specs.Decoding.{ShowsAs, FindsAny};
+ghost use Rattle.portal_tables.specs.Queries.{Shows, text_of, given};
+ghost use Rattle.portal_tables.specs.Reading.{Asks, Reads, Tells};
+ghost use Rattle.portal_tables.specs.Shown.{as_list};
 
+use crate::decode::FromCells;
 use crate::fault::TableFault;
-use crate::lines::Line;
-use crate::run::{read, read_each};
+use crate::list_table::Lists;
+use crate::run;
 use sqlite::types::ValueRef;
 use sqlite::{Alter, Connection, Error, Row};
 use std::alloc::Global;
+use std::slice;
 
-/// The rows of `portal`: id, version, phase and the code of the office.
-pub fn portal_rows<S: Alter>(conn: &mut Connection<S>) -> Result<Vec<Row>, Error>
-    ensures rows { IsOwn conn.old.schema → HasCleanDisk (state S.Store conn.new) → IfOk result (λ rows. ListsBy (0 ∷ []) every (columns (0 ∷ 2 ∷ 3 ∷ 4 ∷ [])) ((state S.Store conn.old).now.trees portal_tree) rows.items) }
-    ensures same { IsOwn conn.old.schema → HasCleanDisk (state S.Store conn.new) → OnOk result (IsUnchanged (state S.Store conn.old) (state S.Store conn.new)) }
-    ensures err { IsOwn conn.old.schema → HasCleanDisk (state S.Store conn.new) → OnErr result (Leaves (state S.Store conn.old) (state S.Store conn.new)) }
-    ensures mode { conn.old.in_transaction ≡ false → conn.new.in_transaction ≡ false }
-    ensures crash { IsOwn conn.old.schema → Survives (state S.Store conn.old) (state S.Store conn.new) (λ _. ⊥) }
-    ensures survives { Survives (state S.Store conn.old) (state S.Store conn.new) (λ _. IsOwn conn.old.schema → ⊥) }
-{
-    read(
-        conn,
-        "SELECT id, version, phase, office FROM portal ORDER BY id",
-        &[],
-    )
+/// The rolls.
+#[derive(Clone, Copy, Drop)]
+pub enum Roll {
+    /// Key, name, code, capacity, and 1 where a ranking is there.
+    Lecturers,
+    /// Key, lecturer, title and capacity.
+    Projects,
+    /// Key, name, code and assigned project.
+    Students,
 }
 
-/// The lecturers by key: key, name, code, capacity, and 1 where a ranking is there.
-pub fn lecturer_rows<S: Alter>(conn: &mut Connection<S>) -> Result<Vec<Row>, Error>
-    ensures rows { IsOwn conn.old.schema → HasCleanDisk (state S.Store conn.new) → IfOk result (λ rows. ListsBy (1 ∷ []) every (columns (1 ∷ 2 ∷ 3 ∷ 4 ∷ 5 ∷ [])) ((state S.Store conn.old).now.trees lecturer_tree) rows.items) }
-    ensures same { IsOwn conn.old.schema → HasCleanDisk (state S.Store conn.new) → OnOk result (IsUnchanged (state S.Store conn.old) (state S.Store conn.new)) }
-    ensures err { IsOwn conn.old.schema → HasCleanDisk (state S.Store conn.new) → OnErr result (Leaves (state S.Store conn.old) (state S.Store conn.new)) }
-    ensures mode { conn.old.in_transaction ≡ false → conn.new.in_transaction ≡ false }
-    ensures crash { IsOwn conn.old.schema → Survives (state S.Store conn.old) (state S.Store conn.new) (λ _. ⊥) }
-    ensures survives { Survives (state S.Store conn.old) (state S.Store conn.new) (λ _. IsOwn conn.old.schema → ⊥) }
-{
-    read(
-        conn,
-        "SELECT key, name, code, capacity, ranked FROM lecturer ORDER BY key",
-        &[],
-    )
+/// The tables of many rows.
+#[derive(Clone, Copy, Drop)]
+pub enum Table {
+    OfRoll(Roll),
+    OfLists(Lists),
 }
 
-/// The projects by key: key, lecturer, title and capacity.
-pub fn project_rows<S: Alter>(conn: &mut Connection<S>) -> Result<Vec<Row>, Error>
-    ensures rows { IsOwn conn.old.schema → HasCleanDisk (state S.Store conn.new) → IfOk result (λ rows. ListsBy (1 ∷ []) every (columns (1 ∷ 2 ∷ 3 ∷ 4 ∷ [])) ((state S.Store conn.old).now.trees project_tree) rows.items) }
-    ensures same { IsOwn conn.old.schema → HasCleanDisk (state S.Store conn.new) → OnOk result (IsUnchanged (state S.Store conn.old) (state S.Store conn.new)) }
-    ensures err { IsOwn conn.old.schema → HasCleanDisk (state S.Store conn.new) → OnErr result (Leaves (state S.Store conn.old) (state S.Store conn.new)) }
-    ensures mode { conn.old.in_transaction ≡ false → conn.new.in_transaction ≡ false }
-    ensures crash { IsOwn conn.old.schema → Survives (state S.Store conn.old) (state S.Store conn.new) (λ _. ⊥) }
-    ensures survives { Survives (state S.Store conn.old) (state S.Store conn.new) (λ _. IsOwn conn.old.schema → ⊥) }
-{
-    read(
-        conn,
-        "SELECT key, lecturer, title, capacity FROM project ORDER BY key",
-        &[],
-    )
+/// What can be asked of a table.
+#[derive(Clone, Copy, Drop)]
+pub enum Query<'a> {
+    /// The row of the office: id, version, phase and code.
+    Office,
+    /// A roll by key, with all its columns.
+    Whole(Roll),
+    /// The lecturers with a code, with all columns.
+    LecturerByCode(&'a [u8]),
+    /// The students with a code, with all columns.
+    StudentByCode(&'a [u8]),
+    /// The key of the lecturer with this key, where there is one.
+    LecturerByKey(&'a [u8]),
+    /// What a lecturer may be told of the student with a key, where there is one: key, name and assigned project.
+    StudentTold(&'a [u8]),
+    /// All lists, in whatever order their rows stand: owner, place and name.
+    AllLists(Lists),
+    /// One owner's list by place: place and name.
+    ListOf(Lists, &'a [u8]),
+    /// The students whose lists name a project, by key.
+    Choosers(&'a [u8]),
+    /// The students who have a list, by key: those of the first rows of lists.
+    Listed,
+    /// The numbers of a table's rows.
+    Numbers(Table),
 }
 
-/// The students by key: key, name, code and assigned project.
-pub fn student_rows<S: Alter>(conn: &mut Connection<S>) -> Result<Vec<Row>, Error>
-    ensures rows { IsOwn conn.old.schema → HasCleanDisk (state S.Store conn.new) → IfOk result (λ rows. ListsBy (1 ∷ []) every (columns (1 ∷ 2 ∷ 3 ∷ 4 ∷ [])) ((state S.Store conn.old).now.trees student_tree) rows.items) }
-    ensures same { IsOwn conn.old.schema → HasCleanDisk (state S.Store conn.new) → OnOk result (IsUnchanged (state S.Store conn.old) (state S.Store conn.new)) }
-    ensures err { IsOwn conn.old.schema → HasCleanDisk (state S.Store conn.new) → OnErr result (Leaves (state S.Store conn.old) (state S.Store conn.new)) }
-    ensures mode { conn.old.in_transaction ≡ false → conn.new.in_transaction ≡ false }
-    ensures crash { IsOwn conn.old.schema → Survives (state S.Store conn.old) (state S.Store conn.new) (λ _. ⊥) }
-    ensures survives { Survives (state S.Store conn.old) (state S.Store conn.new) (λ _. IsOwn conn.old.schema → ⊥) }
-{
-    read(
-        conn,
-        "SELECT key, name, code, assigned FROM student ORDER BY key",
-        &[],
-    )
+impl<'a> Query<'a> {
+    fn text(self) -> &'static str
+        ensures { result.now ≡ text_of self.entry }
+    {
+        match self {
+            Query::Office => "SELECT id, version, phase, office FROM portal ORDER BY id",
+            Query::Whole(Roll::Lecturers) => {
+                "SELECT key, name, code, capacity, ranked FROM lecturer ORDER BY key"
+            }
+            Query::Whole(Roll::Projects) => {
+                "SELECT key, lecturer, title, capacity FROM project ORDER BY key"
+            }
+            Query::Whole(Roll::Students) => {
+                "SELECT key, name, code, assigned FROM student ORDER BY key"
+            }
+            Query::LecturerByCode(_) => {
+                "SELECT key, name, code, capacity, ranked FROM lecturer WHERE code = ?1 ORDER BY key"
+            }
+            Query::StudentByCode(_) => {
+                "SELECT key, name, code, assigned FROM student WHERE code = ?1 ORDER BY key"
+            }
+            Query::LecturerByKey(_) => "SELECT key FROM lecturer WHERE key = ?1 ORDER BY key",
+            Query::StudentTold(_) => {
+                "SELECT key, name, assigned FROM student WHERE key = ?1 ORDER BY key"
+            }
+            Query::AllLists(Lists::Choices) => "SELECT student, place, project FROM choice",
+            Query::AllLists(Lists::Rankings) => "SELECT lecturer, place, student FROM ranking",
+            Query::ListOf(Lists::Choices, _) => {
+                "SELECT place, project FROM choice WHERE student = ?1 ORDER BY place"
+            }
+            Query::ListOf(Lists::Rankings, _) => {
+                "SELECT place, student FROM ranking WHERE lecturer = ?1 ORDER BY place"
+            }
+            Query::Choosers(_) => "SELECT student FROM choice WHERE project = ?1 ORDER BY student",
+            Query::Listed => "SELECT student FROM choice WHERE place = 1 ORDER BY student",
+            Query::Numbers(Table::OfRoll(Roll::Lecturers)) => {
+                "SELECT rowid FROM lecturer ORDER BY rowid"
+            }
+            Query::Numbers(Table::OfRoll(Roll::Projects)) => {
+                "SELECT rowid FROM project ORDER BY rowid"
+            }
+            Query::Numbers(Table::OfRoll(Roll::Students)) => {
+                "SELECT rowid FROM student ORDER BY rowid"
+            }
+            Query::Numbers(Table::OfLists(Lists::Choices)) => {
+                "SELECT rowid FROM choice ORDER BY rowid"
+            }
+            Query::Numbers(Table::OfLists(Lists::Rankings)) => {
+                "SELECT rowid FROM ranking ORDER BY rowid"
+            }
+        }
+    }
+
+    /// The value that the text asks for.
+    fn value(self) -> Option<ValueRef<'a>>
+        ensures { bound (as_list result) ≡ given self.entry }
+    {
+        match self {
+            Query::LecturerByCode(key)
+            | Query::StudentByCode(key)
+            | Query::LecturerByKey(key)
+            | Query::StudentTold(key)
+            | Query::ListOf(_, key)
+            | Query::Choosers(key) => Some(ValueRef::Text(key)),
+            Query::Office
+            | Query::Whole(_)
+            | Query::AllLists(_)
+            | Query::Listed
+            | Query::Numbers(_) => None,
+        }
+    }
 }
 
-/// All lists, by student and place: student, place and project.
-pub fn choice_rows<S: Alter>(conn: &mut Connection<S>) -> Result<Vec<Row>, Error>
-    ensures rows { IsOwn conn.old.schema → HasCleanDisk (state S.Store conn.new) → IfOk result (λ rows. ListsBy (1 ∷ 2 ∷ []) every (columns (1 ∷ 2 ∷ 3 ∷ [])) ((state S.Store conn.old).now.trees choice_tree) rows.items) }
-    ensures same { IsOwn conn.old.schema → HasCleanDisk (state S.Store conn.new) → OnOk result (IsUnchanged (state S.Store conn.old) (state S.Store conn.new)) }
-    ensures err { IsOwn conn.old.schema → HasCleanDisk (state S.Store conn.new) → OnErr result (Leaves (state S.Store conn.old) (state S.Store conn.new)) }
-    ensures mode { conn.old.in_transaction ≡ false → conn.new.in_transaction ≡ false }
-    ensures crash { IsOwn conn.old.schema → Survives (state S.Store conn.old) (state S.Store conn.new) (λ _. ⊥) }
-    ensures survives { Survives (state S.Store conn.old) (state S.Store conn.new) (λ _. IsOwn conn.old.schema → ⊥) }
+fn values<'a>(value: &'a Option<ValueRef<'a>>) -> &'a [ValueRef<'a>]
+    ensures { result.now ≡ as_list value.now }
 {
-    read(
-        conn,
-        "SELECT student, place, project FROM choice ORDER BY student, place",
-        &[],
-    )
+    match value {
+        Some(value) => slice::from_ref(value),
+        None => &[],
+    }
 }
 
-/// All rankings, by lecturer and place: lecturer, place and student.
-pub fn ranking_rows<S: Alter>(conn: &mut Connection<S>) -> Result<Vec<Row>, Error>
-    ensures rows { IsOwn conn.old.schema → HasCleanDisk (state S.Store conn.new) → IfOk result (λ rows. ListsBy (1 ∷ 2 ∷ []) every (columns (1 ∷ 2 ∷ 3 ∷ [])) ((state S.Store conn.old).now.trees ranking_tree) rows.items) }
-    ensures same { IsOwn conn.old.schema → HasCleanDisk (state S.Store conn.new) → OnOk result (IsUnchanged (state S.Store conn.old) (state S.Store conn.new)) }
-    ensures err { IsOwn conn.old.schema → HasCleanDisk (state S.Store conn.new) → OnErr result (Leaves (state S.Store conn.old) (state S.Store conn.new)) }
-    ensures mode { conn.old.in_transaction ≡ false → conn.new.in_transaction ≡ false }
-    ensures crash { IsOwn conn.old.schema → Survives (state S.Store conn.old) (state S.Store conn.new) (λ _. ⊥) }
-    ensures survives { Survives (state S.Store conn.old) (state S.Store conn.new) (λ _. IsOwn conn.old.schema → ⊥) }
+/// The rows that a query shows, or the store's own error.
+
+pub fn read<S: Alter>(conn: &mut Connection<S>, query: Query<'_>) -> Result<Vec<Row>, Error>
+    ensures rows { Tells S.Store conn.old conn.new result
+        (λ db rows. Shows query.entry db.trees rows.items) }
+    ensures asks { Asks result (state S.Store conn.old) (state S.Store conn.new) }
+    ensures reads { Reads result (state S.Store conn.old) (state S.Store conn.new) }
 {
-    read(
-        conn,
-        "SELECT lecturer, place, student FROM ranking ORDER BY lecturer, place",
-        &[],
-    )
+    conn.query_all(query.text(), values(&query.value()))
 }
 
-/// All lists, in whatever order their rows stand: student, place and project.
-pub fn stored_choices<S: Alter>(conn: &mut Connection<S>) -> Result<Vec<Row>, Error>
-    ensures rows { IsOwn conn.old.schema → HasCleanDisk (state S.Store conn.new) → IfOk result (λ rows. ListsBy [] every (columns (1 ∷ 2 ∷ 3 ∷ [])) ((state S.Store conn.old).now.trees choice_tree) rows.items) }
-    ensures same { IsOwn conn.old.schema → HasCleanDisk (state S.Store conn.new) → OnOk result (IsUnchanged (state S.Store conn.old) (state S.Store conn.new)) }
-    ensures err { IsOwn conn.old.schema → HasCleanDisk (state S.Store conn.new) → OnErr result (Leaves (state S.Store conn.old) (state S.Store conn.new)) }
-    ensures mode { conn.old.in_transaction ≡ false → conn.new.in_transaction ≡ false }
-    ensures crash { IsOwn conn.old.schema → Survives (state S.Store conn.old) (state S.Store conn.new) (λ _. ⊥) }
-    ensures survives { Survives (state S.Store conn.old) (state S.Store conn.new) (λ _. IsOwn conn.old.schema → ⊥) }
-{
-    read(conn, "SELECT student, place, project FROM choice", &[])
-}
-
-/// All rankings, in whatever order their rows stand: lecturer, place and student.
-pub fn stored_rankings<S: Alter>(conn: &mut Connection<S>) -> Result<Vec<Row>, Error>
-    ensures rows { IsOwn conn.old.schema → HasCleanDisk (state S.Store conn.new) → IfOk result (λ rows. ListsBy [] every (columns (1 ∷ 2 ∷ 3 ∷ [])) ((state S.Store conn.old).now.trees ranking_tree) rows.items) }
-    ensures same { IsOwn conn.old.schema → HasCleanDisk (state S.Store conn.new) → OnOk result (IsUnchanged (state S.Store conn.old) (state S.Store conn.new)) }
-    ensures err { IsOwn conn.old.schema → HasCleanDisk (state S.Store conn.new) → OnErr result (Leaves (state S.Store conn.old) (state S.Store conn.new)) }
-    ensures mode { conn.old.in_transaction ≡ false → conn.new.in_transaction ≡ false }
-    ensures crash { IsOwn conn.old.schema → Survives (state S.Store conn.old) (state S.Store conn.new) (λ _. ⊥) }
-    ensures survives { Survives (state S.Store conn.old) (state S.Store conn.new) (λ _. IsOwn conn.old.schema → ⊥) }
-{
-    read(conn, "SELECT lecturer, place, student FROM ranking", &[])
-}
-
-/// One student's list by place: place and project.
-pub fn list_of<S: Alter>(
+/// What a query shows, each row decoded as it is read, or the first fault: of the store, or of a row that is refused.
+pub fn read_each<S: Alter, T: FromCells>(
     alloc: Global,
     conn: &mut Connection<S>,
-    student: &[u8],
+    query: Query<'_>,
+) -> Result<Vec<T>, TableFault>
+    ensures rows { Tells S.Store conn.old conn.new result
+        (λ db v. ShowsAs T.shown (Shows query.entry db.trees) v.items) }
+    ensures undamaged { result ≡ Err TableFault.Damaged → ((c : Cells) → T.is_fine c) → ⊥ }
+    ensures asks { Asks result (state S.Store conn.old) (state S.Store conn.new) }
+    ensures reads { Reads result (state S.Store conn.old) (state S.Store conn.new) }
+{
+    run::read_each(alloc, conn, query.text(), values(&query.value()))
+}
+
+/// What a query shows, each row kept as it is, or the first fault of the store.
+pub fn read_rows<S: Alter>(
+    alloc: Global,
+    conn: &mut Connection<S>,
+    query: Query<'_>,
 ) -> Result<Vec<Row>, TableFault>
-    ensures rows { IsOwn conn.old.schema → HasCleanDisk (state S.Store conn.new) → IfOk result (λ rows. ListsBy (2 ∷ []) (has_text 1 student.now) (columns (2 ∷ 3 ∷ [])) ((state S.Store conn.old).now.trees choice_tree) rows.items) }
+    ensures rows { Tells S.Store conn.old conn.new result
+        (λ db rows. Shows query.entry db.trees rows.items) }
     ensures undamaged { result ≡ Err TableFault.Damaged → ⊥ }
+    ensures asks { Asks result (state S.Store conn.old) (state S.Store conn.new) }
     ensures reads { Reads result (state S.Store conn.old) (state S.Store conn.new) }
-    ensures mode { conn.old.in_transaction ≡ false → conn.new.in_transaction ≡ false }
 {
-    read_each(
-        alloc,
-        conn,
-        "SELECT place, project FROM choice WHERE student = ?1 ORDER BY place",
-        &[ValueRef::Text(student)],
-    )
+    read_each(alloc, conn, query)
 }
 
-/// One lecturer's ranking by place: place and student.
-pub fn ranking_of<S: Alter>(
-    alloc: Global,
-    conn: &mut Connection<S>,
-    lecturer: &[u8],
-) -> Result<Vec<Row>, TableFault>
-    ensures rows { IsOwn conn.old.schema → HasCleanDisk (state S.Store conn.new) → IfOk result (λ rows. ListsBy (2 ∷ []) (has_text 1 lecturer.now) (columns (2 ∷ 3 ∷ [])) ((state S.Store conn.old).now.trees ranking_tree) rows.items) }
-    ensures undamaged { result ≡ Err TableFault.Damaged → ⊥ }
+/// Whether a query shows a row. No more than one is read.
+pub fn finds_any<S: Alter>(conn: &mut Connection<S>, query: Query<'_>) -> Result<bool, Error>
+    ensures told { Tells S.Store conn.old conn.new result
+        (λ db. FindsAny (Shows query.entry db.trees)) }
+    ensures asks { Asks result (state S.Store conn.old) (state S.Store conn.new) }
     ensures reads { Reads result (state S.Store conn.old) (state S.Store conn.new) }
-    ensures mode { conn.old.in_transaction ≡ false → conn.new.in_transaction ≡ false }
 {
-    read_each(
-        alloc,
-        conn,
-        "SELECT place, student FROM ranking WHERE lecturer = ?1 ORDER BY place",
-        &[ValueRef::Text(lecturer)],
-    )
-}
-
-/// The students whose lists name a project, by key.
-pub fn choosers_of<S: Alter>(
-    alloc: Global,
-    conn: &mut Connection<S>,
-    project: &[u8],
-) -> Result<Vec<Row>, TableFault>
-    ensures rows { IsOwn conn.old.schema → HasCleanDisk (state S.Store conn.new) → IfOk result (λ rows. ListsBy (1 ∷ []) (has_text 3 project.now) (columns (1 ∷ [])) ((state S.Store conn.old).now.trees choice_tree) rows.items) }
-    ensures undamaged { result ≡ Err TableFault.Damaged → ⊥ }
-    ensures reads { Reads result (state S.Store conn.old) (state S.Store conn.new) }
-    ensures mode { conn.old.in_transaction ≡ false → conn.new.in_transaction ≡ false }
-{
-    read_each(
-        alloc,
-        conn,
-        "SELECT student FROM choice WHERE project = ?1 ORDER BY student",
-        &[ValueRef::Text(project)],
-    )
-}
-
-/// The students who have a list, by key: those of the first rows of lists.
-pub fn listed_students<S: Alter>(
-    alloc: Global,
-    conn: &mut Connection<S>,
-) -> Result<Vec<Row>, TableFault>
-    ensures rows { IsOwn conn.old.schema → HasCleanDisk (state S.Store conn.new) → IfOk result (λ rows. ListsBy (1 ∷ []) (has_number 2 1) (columns (1 ∷ [])) ((state S.Store conn.old).now.trees choice_tree) rows.items) }
-    ensures undamaged { result ≡ Err TableFault.Damaged → ⊥ }
-    ensures reads { Reads result (state S.Store conn.old) (state S.Store conn.new) }
-    ensures mode { conn.old.in_transaction ≡ false → conn.new.in_transaction ≡ false }
-{
-    read_each(
-        alloc,
-        conn,
-        "SELECT student FROM choice WHERE place = 1 ORDER BY student",
-        &[],
-    )
-}
-
-/// The lecturers with a code, with the columns of `lecturer_rows`.
-pub fn lecturer_by_code<S: Alter>(
-    alloc: Global,
-    conn: &mut Connection<S>,
-    code: &[u8],
-) -> Result<Vec<Row>, TableFault>
-    ensures rows { IsOwn conn.old.schema → HasCleanDisk (state S.Store conn.new) → IfOk result (λ rows. ListsBy (1 ∷ []) (has_text 3 code.now) (columns (1 ∷ 2 ∷ 3 ∷ 4 ∷ 5 ∷ [])) ((state S.Store conn.old).now.trees lecturer_tree) rows.items) }
-    ensures undamaged { result ≡ Err TableFault.Damaged → ⊥ }
-    ensures reads { Reads result (state S.Store conn.old) (state S.Store conn.new) }
-    ensures mode { conn.old.in_transaction ≡ false → conn.new.in_transaction ≡ false }
-{
-    read_each(
-        alloc,
-        conn,
-        "SELECT key, name, code, capacity, ranked FROM lecturer WHERE code = ?1 ORDER BY key",
-        &[ValueRef::Text(code)],
-    )
-}
-
-/// The key of the lecturer with this key, where there is one.
-pub fn lecturer_by_key<S: Alter>(conn: &mut Connection<S>, key: &[u8]) -> Result<Vec<Row>, Error>
-    ensures rows { IsOwn conn.old.schema → HasCleanDisk (state S.Store conn.new) → IfOk result (λ rows. ListsBy (1 ∷ []) (has_text 1 key.now) (columns (1 ∷ [])) ((state S.Store conn.old).now.trees lecturer_tree) rows.items) }
-    ensures same { IsOwn conn.old.schema → HasCleanDisk (state S.Store conn.new) → OnOk result (IsUnchanged (state S.Store conn.old) (state S.Store conn.new)) }
-    ensures err { IsOwn conn.old.schema → HasCleanDisk (state S.Store conn.new) → OnErr result (Leaves (state S.Store conn.old) (state S.Store conn.new)) }
-    ensures mode { conn.old.in_transaction ≡ false → conn.new.in_transaction ≡ false }
-    ensures crash { IsOwn conn.old.schema → Survives (state S.Store conn.old) (state S.Store conn.new) (λ _. ⊥) }
-    ensures survives { Survives (state S.Store conn.old) (state S.Store conn.new) (λ _. IsOwn conn.old.schema → ⊥) }
-{
-    read(
-        conn,
-        "SELECT key FROM lecturer WHERE key = ?1 ORDER BY key",
-        &[ValueRef::Text(key)],
-    )
-}
-
-/// The students with a code, with the columns of `student_rows`.
-pub fn student_by_code<S: Alter>(
-    alloc: Global,
-    conn: &mut Connection<S>,
-    code: &[u8],
-) -> Result<Vec<Row>, TableFault>
-    ensures rows { IsOwn conn.old.schema → HasCleanDisk (state S.Store conn.new) → IfOk result (λ rows. ListsBy (1 ∷ []) (has_text 3 code.now) (columns (1 ∷ 2 ∷ 3 ∷ 4 ∷ [])) ((state S.Store conn.old).now.trees student_tree) rows.items) }
-    ensures undamaged { result ≡ Err TableFault.Damaged → ⊥ }
-    ensures reads { Reads result (state S.Store conn.old) (state S.Store conn.new) }
-    ensures mode { conn.old.in_transaction ≡ false → conn.new.in_transaction ≡ false }
-{
-    read_each(
-        alloc,
-        conn,
-        "SELECT key, name, code, assigned FROM student WHERE code = ?1 ORDER BY key",
-        &[ValueRef::Text(code)],
-    )
-}
-
-/// What a lecturer may be told of the student with a key, where there is one: key, name and assigned project.
-pub fn student_told<S: Alter>(
-    alloc: Global,
-    conn: &mut Connection<S>,
-    key: &[u8],
-) -> Result<Vec<Line>, TableFault>
-    ensures rows { IsOwn conn.old.schema → HasCleanDisk (state S.Store conn.new) → IfOk result (λ lines. ShowsAs told_line (ListsBy (1 ∷ []) (has_text 1 key.now) (columns (1 ∷ 2 ∷ 4 ∷ [])) ((state S.Store conn.old).now.trees student_tree)) lines.items) }
-    ensures reads { Reads result (state S.Store conn.old) (state S.Store conn.new) }
-    ensures mode { conn.old.in_transaction ≡ false → conn.new.in_transaction ≡ false }
-{
-    read_each(
-        alloc,
-        conn,
-        "SELECT key, name, assigned FROM student WHERE key = ?1 ORDER BY key",
-        &[ValueRef::Text(key)],
-    )
+    run::finds_any(conn, query.text(), values(&query.value()))
 }

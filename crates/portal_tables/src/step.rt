@@ -1,10 +1,10 @@
 //! What is done in a transaction of its own.
 
 ghost use Rattle.std.specs.Prelude.{◌≡◌, false, Err, OnOk, OnErr, IsTrue};
-ghost use Rattle.sqlite.specs.State.{HasCleanDisk, KeepsCommit, Survives};
+ghost use Rattle.sqlite.specs.State.{HasCleanDisk, Survives};
 ghost use Rattle.sqlite.specs.Held.{state};
 ghost use Rattle.sqlite.specs.Effect.{Database};
-ghost use Rattle.portal_tables.specs.Steps.{GoesOn, Commits, IsAfter, LeavesOnly, Stays};
+ghost use Rattle.portal_tables.specs.Steps.{Does, GoesOn, Commits, IsAfter, LeavesOnly, Stays};
 
 use crate::fault::TableFault;
 use sqlite::{Alter, Connection, Error, Transaction};
@@ -17,10 +17,7 @@ pub trait Step {
 
     /// Does it. After an error of the store the transaction should be dropped, which undoes it.
     fn take<S: Alter>(self, alloc: Global, tx: &mut Transaction<'_, S>) -> Result<(), Error>
-        ensures same_reference { tx.new.conn.ghost_name ≡ tx.old.conn.ghost_name }
-        ensures done { HasCleanDisk (state S.Store tx.new.conn.now) → OnOk result (GoesOn (makes self) (state S.Store tx.old.conn.now) (state S.Store tx.new.conn.now)) }
-        ensures kept { HasCleanDisk (state S.Store tx.new.conn.now) → KeepsCommit (state S.Store tx.old.conn.now) (state S.Store tx.new.conn.now) }
-        ensures survives { Survives (state S.Store tx.old.conn.now) (state S.Store tx.new.conn.now) (λ _. ⊥) };
+        ensures { Does S.Store (GoesOn (makes self)) result tx.old tx.new };
 }
 
 /// Takes the step in a transaction of its own and commits it. After an error nothing is changed, where the disk is clean and the
@@ -32,11 +29,15 @@ pub fn commit<S: Alter, T: Step>(
 ) -> Result<(), TableFault>
     requires idle { conn.old.in_transaction ≡ false }
     ensures idle { conn.new.in_transaction ≡ false }
-    ensures ok { HasCleanDisk (state S.Store conn.new) → OnOk result (Commits (T.makes step) (state S.Store conn.old) (state S.Store conn.new)) }
-    ensures err { HasCleanDisk (state S.Store conn.new) → IsTrue (state S.Store conn.new).is_open → OnErr result (Stays (state S.Store conn.old) (state S.Store conn.new)) }
-    ensures durable { HasCleanDisk (state S.Store conn.new) → OnOk result (LeavesOnly (state S.Store conn.new)) }
+    ensures ok { HasCleanDisk (state S.Store conn.new)
+        → OnOk result (Commits (T.makes step) (state S.Store conn.old) (state S.Store conn.new)) }
+    ensures err { HasCleanDisk (state S.Store conn.new) → IsTrue (state S.Store conn.new).is_open
+        → OnErr result (Stays (state S.Store conn.old) (state S.Store conn.new)) }
+    ensures durable { HasCleanDisk (state S.Store conn.new)
+        → OnOk result (LeavesOnly (state S.Store conn.new)) }
     ensures fault { result ≡ Err TableFault.Damaged → ⊥ }
-    ensures crash { Survives (state S.Store conn.old) (state S.Store conn.new) (IsAfter (T.makes step) (state S.Store conn.old)) }
+    ensures crash { Survives (state S.Store conn.old) (state S.Store conn.new)
+        (IsAfter (T.makes step) (state S.Store conn.old)) }
 {
     let _idle = conn.is_autocommit();
     let mut tx = conn.transaction();

@@ -1,20 +1,19 @@
 //! What a student sees, by a query of the own list.
 
-ghost use Rattle.std.specs.Prelude.{◌≡◌, false, IfOk, IsTrue, if◌then◌else◌, None};
+ghost use Rattle.std.specs.Prelude.{◌≡◌, IfOk, if◌then◌else◌, None};
 ghost use Rattle.sqlite.specs.Order.{column, bytes};
-ghost use Rattle.sqlite.specs.State.{HasCleanDisk};
 ghost use Rattle.sqlite.specs.Held.{state};
 ghost use Rattle.portal_core.specs.World.{is_published};
-ghost use Rattle.portal_tables.specs.Own.{IsOwn};
 ghost use Rattle.portal_tables.specs.Callers.{student_shown};
-ghost use Rattle.portal_tables.specs.Reading.{Reads};
+ghost use Rattle.portal_tables.specs.Reading.{Reads, Tells};
 ghost use Rattle.portal_tables.specs.Shown.{text_or_none, first};
 
 use crate::cells::{assigned_at, key_at};
-use crate::entries::{Lists, list_in};
+use crate::entries::list_in;
 use crate::fault::TableFault;
 use crate::lines::person_at;
-use portal_core::{Listing, Phase, StudentView};
+use crate::list_table::Lists;
+use portal_core::{Listing, Phase, Round, StudentView};
 use spa_rows::Key;
 use sqlite::{Alter, Connection, Row};
 use std::alloc::Global;
@@ -22,7 +21,8 @@ use std::rc::Rc;
 
 /// The student's project, once the result is shown.
 fn result_at(alloc: Global, phase: Phase, row: &Row) -> Result<Option<Key>, TableFault>
-    ensures { IfOk result (λ p. p ≡ (if is_published phase then text_or_none (column row.now 3) else None)) }
+    ensures { IfOk result (λ p. p
+        ≡ (if is_published phase then text_or_none (column row.now 3) else None)) }
 {
     match phase {
         Phase::Published => assigned_at(alloc, row, 3),
@@ -38,9 +38,22 @@ fn put_together(
     catalogue: Rc<Vec<Listing>>,
     choices: Vec<Key>,
 ) -> Result<StudentView, TableFault>
-    ensures { IfOk result (λ v. v ≡ record { phase = phase; me = record { key = first row.now; name = bytes (column row.now 1) }; catalogue = catalogue.value.items; choices = choices.items; result = if is_published phase then text_or_none (column row.now 3) else None }) }
+    ensures { IfOk result (λ v. v
+        ≡ record {
+          round = Round.First;
+          phase = phase;
+          me = record {
+            key = first row.now;
+            name =
+                bytes (column row.now 1);
+          };
+          catalogue = catalogue.value.items;
+          choices = choices.items;
+          result = if is_published phase then text_or_none (column row.now 3) else None;
+        }) }
 {
     Ok(StudentView {
+        round: Round::First,
         phase,
         me: person_at(alloc, row)?,
         catalogue,
@@ -58,9 +71,9 @@ pub fn student_view<S: Alter>(
     row: &Row,
     catalogue: Rc<Vec<Listing>>,
 ) -> Result<StudentView, TableFault>
-    ensures shows { IsOwn conn.old.schema → HasCleanDisk (state S.Store conn.new) → IfOk result (λ v. v ≡ student_shown (state S.Store conn.old).now.trees phase row.now catalogue.value.items) }
+    ensures shows { Tells S.Store conn.old conn.new result
+        (λ db v. v ≡ student_shown db.trees phase row.now catalogue.value.items) }
     ensures reads { Reads result (state S.Store conn.old) (state S.Store conn.new) }
-    ensures mode { conn.old.in_transaction ≡ false → conn.new.in_transaction ≡ false }
 {
     let student = key_at(alloc, row, 0)?;
     let choices = list_in(alloc, conn, Lists::Choices, &student)?;

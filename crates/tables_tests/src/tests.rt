@@ -1,25 +1,17 @@
 //! Each statement and each query once, over a small department.
 
-use portal_tables::apart::{
-    has_apart_choices, has_apart_lecturers, has_apart_portal, has_apart_projects,
-    has_apart_rankings, has_apart_students,
-};
-use portal_tables::applicants::is_chosen;
+use portal_core::{Code, LecturerRow, Name, ProjectRow, StudentRow};
+use portal_tables::apart;
 use portal_tables::assign::{Assignment, assign_all};
-use portal_tables::entries::{Lists, entries_in};
+use portal_tables::entries::entries_in;
 use portal_tables::fault::TableFault;
-use portal_tables::insert::{
-    NewChoice, NewLecturer, NewProject, NewRanking, NewRow, NewStudent, add_all,
-};
+use portal_tables::insert::{Lecturers, NewPlace, Projects, Students, add_all};
 use portal_tables::lines::Line;
+use portal_tables::list_table::Lists;
 use portal_tables::make::create_portal;
-use portal_tables::own::is_own;
-use portal_tables::remove::{clear_choices, clear_rankings};
-use portal_tables::select::{
-    choice_rows, choosers_of, lecturer_by_code, lecturer_rows, list_of, listed_students,
-    portal_rows, project_rows, ranking_of, ranking_rows, stored_choices, stored_rankings,
-    student_by_code, student_rows, student_told,
-};
+use portal_tables::own::Pattern;
+use portal_tables::put::{clear_list, put_list};
+use portal_tables::select::{Query, Roll, Table, finds_any, read, read_each, read_rows};
 use portal_tables::update::{set_phase, set_ranked};
 use spa_rows::Key;
 use sqlite::types::ValueRef;
@@ -108,82 +100,105 @@ fn tells(
     assert_eq!(rt; text.as_str(), wanted);
 }
 
-fn create(conn: &mut Connection<MemStore>) -> Result<(), Error> {
+/// Makes the tables, or says that they are not made.
+fn creates(rt: &impl AllocGlobal, conn: &mut Connection<MemStore>) -> bool {
     if !conn.is_autocommit() {
-        return Ok(());
+        return false;
     }
-    create_portal(conn, b"office-code-1")
+    create_portal(rt.alloc(), conn, b"office-code-1").is_ok()
 }
 
-fn add_rolls(tx: &mut Transaction<'_, MemStore>) -> Result<(), Error> {
-    let lee = NewLecturer {
-        key: b"L1",
-        name: b"Lee",
-        code: b"lee-code-1",
+fn key(rt: &(impl Abort + AllocGlobal), text: &[u8]) -> Key {
+    Key::parse(rt.alloc(), text).expect(rt, "a key")
+}
+
+fn name(rt: &(impl Abort + AllocGlobal), text: &[u8]) -> Name {
+    Name::parse(rt.alloc(), text).expect(rt, "a name")
+}
+
+fn code(rt: &(impl Abort + AllocGlobal), text: &[u8]) -> Code {
+    Code::parse(rt.alloc(), text).expect(rt, "a code")
+}
+
+fn lecturer(
+    rt: &(impl Abort + AllocGlobal),
+    own: &[u8],
+    called: &[u8],
+    with: &[u8],
+) -> LecturerRow {
+    LecturerRow {
+        key: key(rt, own),
+        name: name(rt, called),
+        code: code(rt, with),
         capacity: 2,
-    };
-    let tides = NewProject {
-        key: b"P1",
-        lecturer: b"L1",
-        title: b"Tides",
-        capacity: 1,
-    };
-    let kites = NewProject {
-        key: b"P2",
-        lecturer: b"L1",
-        title: b"Kites",
-        capacity: 200,
-    };
-    let ann = NewStudent {
-        key: b"S1",
-        name: b"Ann",
-        code: b"ann-code-1",
-    };
-    let bea = NewStudent {
-        key: b"S2",
-        name: b"Bea",
-        code: b"bea-code-1",
-    };
-    lee.add(tx)?;
-    add_all(tx, &[tides, kites])?;
-    add_all(tx, &[ann, bea])
-}
-
-fn choice<'a>(student: &'a [u8], place: u32, project: &'a [u8]) -> NewChoice<'a> {
-    NewChoice {
-        student,
-        place,
-        project,
     }
 }
 
-fn ranking<'a>(lecturer: &'a [u8], place: u32, student: &'a [u8]) -> NewRanking<'a> {
-    NewRanking {
-        lecturer,
-        place,
-        student,
+fn project(
+    rt: &(impl Abort + AllocGlobal),
+    own: &[u8],
+    lecturer: &[u8],
+    title: &[u8],
+    capacity: u32,
+) -> ProjectRow {
+    ProjectRow {
+        key: key(rt, own),
+        lecturer: key(rt, lecturer),
+        title: name(rt, title),
+        capacity,
     }
 }
 
-fn add_lists(tx: &mut Transaction<'_, MemStore>) -> Result<(), Error> {
-    add_all(
-        tx,
-        &[
-            choice(b"S1", 1, b"P2"),
-            choice(b"S1", 2, b"P1"),
-            choice(b"S2", 1, b"P1"),
-        ],
-    )?;
-    add_all(tx, &[ranking(b"L1", 1, b"S2"), ranking(b"L1", 2, b"S1")])
+fn student(rt: &(impl Abort + AllocGlobal), own: &[u8], called: &[u8], with: &[u8]) -> StudentRow {
+    StudentRow {
+        key: key(rt, own),
+        name: name(rt, called),
+        code: code(rt, with),
+    }
 }
 
-fn fill(conn: &mut Connection<MemStore>) -> Result<(), Error> {
+fn add_rolls(
+    rt: &(impl Abort + AllocGlobal),
+    tx: &mut Transaction<'_, MemStore>,
+) -> Result<(), Error> {
+    let lecturers = [lecturer(rt, b"L1", b"Lee", b"lee-code-1")];
+    let projects = [
+        project(rt, b"P1", b"L1", b"Tides", 1),
+        project(rt, b"P2", b"L1", b"Kites", 200),
+    ];
+    let students = [
+        student(rt, b"S1", b"Ann", b"ann-code-1"),
+        student(rt, b"S2", b"Bea", b"bea-code-1"),
+    ];
+    add_all(rt.alloc(), tx, &Lecturers, &lecturers)?;
+    add_all(rt.alloc(), tx, &Projects, &projects)?;
+    add_all(rt.alloc(), tx, &Students, &students)
+}
+
+fn place<'a>(owner: &'a [u8], place: u32, item: &'a [u8]) -> NewPlace<'a> {
+    NewPlace { owner, place, item }
+}
+
+fn add_lists(
+    rt: &(impl Abort + AllocGlobal),
+    tx: &mut Transaction<'_, MemStore>,
+) -> Result<(), Error> {
+    let alloc = rt.alloc();
+    let (tides, kites) = (key(rt, b"P1"), key(rt, b"P2"));
+    put_list(alloc, tx, Lists::Choices, &key(rt, b"S2"), &[tides])?;
+    let tides = key(rt, b"P1");
+    put_list(alloc, tx, Lists::Choices, &key(rt, b"S1"), &[kites, tides])?;
+    let (ann, bea) = (key(rt, b"S1"), key(rt, b"S2"));
+    put_list(alloc, tx, Lists::Rankings, &key(rt, b"L1"), &[bea, ann])
+}
+
+fn fill(rt: &(impl Abort + AllocGlobal), conn: &mut Connection<MemStore>) -> Result<(), Error> {
     if !conn.is_autocommit() {
         return Ok(());
     }
     let mut tx = conn.transaction();
-    add_rolls(&mut tx)?;
-    add_lists(&mut tx)?;
+    add_rolls(rt, &mut tx)?;
+    add_lists(rt, &mut tx)?;
     tx.commit()
 }
 
@@ -195,8 +210,8 @@ fn set_all(tx: &mut Transaction<'_, MemStore>) -> Result<(), Error> {
     set_phase(tx, 3)?;
     set_ranked(tx, b"L1")?;
     assign_all(tx, &[assignment(b"S2", Some(b"P1".as_slice()))])?;
-    clear_choices(tx, b"S1")?;
-    clear_rankings(tx, b"L1")?;
+    clear_list(tx, Lists::Choices, b"S1")?;
+    clear_list(tx, Lists::Rankings, b"L1")?;
     Ok(())
 }
 
@@ -209,46 +224,61 @@ fn change(conn: &mut Connection<MemStore>) -> Result<(), Error> {
     tx.commit()
 }
 
-fn are_first_apart(conn: &mut Connection<MemStore>) -> Result<bool, Error> {
-    Ok(has_apart_portal(conn)? && has_apart_lecturers(conn)? && has_apart_projects(conn)?)
+fn are_rolls_apart(conn: &mut Connection<MemStore>) -> Result<bool, Error> {
+    Ok(
+        apart::are_apart(conn, Table::OfRoll(Roll::Lecturers))?
+            && apart::are_apart(conn, Table::OfRoll(Roll::Projects))?
+            && apart::are_apart(conn, Table::OfRoll(Roll::Students))?,
+    )
 }
 
-fn are_last_apart(conn: &mut Connection<MemStore>) -> Result<bool, Error> {
-    Ok(has_apart_students(conn)? && has_apart_choices(conn)? && has_apart_rankings(conn)?)
+fn are_lists_apart(conn: &mut Connection<MemStore>) -> Result<bool, Error> {
+    Ok(
+        apart::are_apart(conn, Table::OfLists(Lists::Choices))?
+            && apart::are_apart(conn, Table::OfLists(Lists::Rankings))?,
+    )
 }
 
 /// The rows have numbers of their own.
 fn are_apart(rt: &impl Abort, conn: &mut Connection<MemStore>) {
-    assert!(rt; are_first_apart(conn).expect(rt, "numbers"));
-    assert!(rt; are_last_apart(conn).expect(rt, "numbers"));
+    assert!(rt; are_rolls_apart(conn).expect(rt, "numbers"));
+    assert!(rt; are_lists_apart(conn).expect(rt, "numbers"));
 }
 
 /// A database in memory with the portal's tables and the small department.
 fn department(rt: &(impl Abort + AllocGlobal)) -> Connection<MemStore> {
     let mut conn = Connection::open_in_memory(rt.alloc()).expect(rt, "memory");
-    create(&mut conn).expect(rt, "tables");
-    fill(&mut conn).expect(rt, "rows");
+    assert!(rt; creates(rt, &mut conn));
+    fill(rt, &mut conn).expect(rt, "rows");
     conn
 }
 
 /// The same lists, whose rows stand neither by owner nor by place; the lecturer has a ranking.
-fn add_mixed(tx: &mut Transaction<'_, MemStore>) -> Result<(), Error> {
-    choice(b"S1", 2, b"P1").add(tx)?;
-    choice(b"S2", 1, b"P1").add(tx)?;
-    choice(b"S1", 1, b"P2").add(tx)?;
-    ranking(b"L1", 2, b"S1").add(tx)?;
-    ranking(b"L1", 1, b"S2").add(tx)?;
-    set_ranked(tx, b"L1")?;
-    Ok(())
+fn add_mixed(
+    rt: &(impl Abort + AllocGlobal),
+    tx: &mut Transaction<'_, MemStore>,
+) -> Result<(), Error> {
+    let choices = [
+        place(b"S1", 2, b"P1"),
+        place(b"S2", 1, b"P1"),
+        place(b"S1", 1, b"P2"),
+    ];
+    let rankings = [place(b"L1", 2, b"S1"), place(b"L1", 1, b"S2")];
+    add_all(rt.alloc(), tx, &Lists::Choices, &choices)?;
+    add_all(rt.alloc(), tx, &Lists::Rankings, &rankings)?;
+    set_ranked(tx, b"L1")
 }
 
-fn fill_mixed(conn: &mut Connection<MemStore>) -> Result<(), Error> {
+fn fill_mixed(
+    rt: &(impl Abort + AllocGlobal),
+    conn: &mut Connection<MemStore>,
+) -> Result<(), Error> {
     if !conn.is_autocommit() {
         return Ok(());
     }
     let mut tx = conn.transaction();
-    add_rolls(&mut tx)?;
-    add_mixed(&mut tx)?;
+    add_rolls(rt, &mut tx)?;
+    add_mixed(rt, &mut tx)?;
     tx.commit()
 }
 
@@ -259,45 +289,43 @@ fn nine() -> [&'static [u8]; 9] {
     ]
 }
 
-/// Nine rows in each table, each of whose texts is a key; the first of the nine has a list of all and ranks all.
+/// Their code.
+fn code_of(rt: &(impl Abort + AllocGlobal), key: &[u8]) -> Code {
+    let word = str::from_utf8(key).expect(rt, "a text");
+    let text = format!(in rt.alloc(); "code-of-{word}").expect(rt, "memory");
+    code(rt, text.as_bytes())
+}
+
+/// Nine rows in each table; the first of the nine has a list of all and ranks all.
 fn add_nine(
     rt: &(impl Abort + AllocGlobal),
     tx: &mut Transaction<'_, MemStore>,
 ) -> Result<(), Error> {
-    let keys = nine();
-    let mut lecturers = Vec::new(rt.alloc());
-    let mut projects = Vec::new(rt.alloc());
-    let mut students = Vec::new(rt.alloc());
-    let mut choices = Vec::new(rt.alloc());
-    let mut rankings = Vec::new(rt.alloc());
-    let mut place = 1u32;
-    for key in keys {
-        lecturers.push(NewLecturer {
-            key,
-            name: key,
-            code: key,
+    let alloc = rt.alloc();
+    let mut lecturers = Vec::new(alloc);
+    let mut projects = Vec::new(alloc);
+    let mut students = Vec::new(alloc);
+    let mut list = Vec::new(alloc);
+    for word in nine() {
+        lecturers.push(LecturerRow {
+            key: key(rt, word),
+            name: name(rt, word),
+            code: code_of(rt, word),
             capacity: 1,
         })?;
-        projects.push(NewProject {
-            key,
-            lecturer: b"K1",
-            title: key,
-            capacity: 1,
+        projects.push(project(rt, word, b"K1", word, 1))?;
+        students.push(StudentRow {
+            key: key(rt, word),
+            name: name(rt, word),
+            code: code_of(rt, word),
         })?;
-        students.push(NewStudent {
-            key,
-            name: key,
-            code: key,
-        })?;
-        choices.push(choice(b"K1", place, key))?;
-        rankings.push(ranking(b"K1", place, key))?;
-        place = place.wrapping_add(1);
+        list.push(key(rt, word))?;
     }
-    add_all(tx, &lecturers)?;
-    add_all(tx, &projects)?;
-    add_all(tx, &students)?;
-    add_all(tx, &choices)?;
-    add_all(tx, &rankings)
+    add_all(alloc, tx, &Lecturers, &lecturers)?;
+    add_all(alloc, tx, &Projects, &projects)?;
+    add_all(alloc, tx, &Students, &students)?;
+    put_list(alloc, tx, Lists::Choices, &key(rt, b"K1"), &list)?;
+    put_list(alloc, tx, Lists::Rankings, &key(rt, b"K1"), &list)
 }
 
 fn fill_nine(
@@ -315,35 +343,35 @@ fn fill_nine(
 #[test]
 fn rows_come_by_the_eight(rt: HostRuntime) -> Result<(), Fail> {
     let mut conn = Connection::open_in_memory(rt.alloc())?;
-    create(&mut conn)?;
+    assert!(rt; creates(&rt, &mut conn));
     fill_nine(&rt, &mut conn)?;
     shows(
         &rt,
-        lecturer_rows(&mut conn),
+        read(&mut conn, Query::Whole(Roll::Lecturers)),
         5,
-        "K1 K1 K1 1 0 /K2 K2 K2 1 0 /K3 K3 K3 1 0 /K4 K4 K4 1 0 /K5 K5 K5 1 0 /K6 K6 K6 1 0 /K7 K7 K7 1 0 /K8 K8 K8 1 0 /K9 K9 K9 1 0 /",
+        "K1 K1 code-of-K1 1 0 /K2 K2 code-of-K2 1 0 /K3 K3 code-of-K3 1 0 /K4 K4 code-of-K4 1 0 /K5 K5 code-of-K5 1 0 /K6 K6 code-of-K6 1 0 /K7 K7 code-of-K7 1 0 /K8 K8 code-of-K8 1 0 /K9 K9 code-of-K9 1 0 /",
     );
     shows(
         &rt,
-        project_rows(&mut conn),
+        read(&mut conn, Query::Whole(Roll::Projects)),
         4,
         "K1 K1 K1 1 /K2 K1 K2 1 /K3 K1 K3 1 /K4 K1 K4 1 /K5 K1 K5 1 /K6 K1 K6 1 /K7 K1 K7 1 /K8 K1 K8 1 /K9 K1 K9 1 /",
     );
     shows(
         &rt,
-        student_rows(&mut conn),
+        read(&mut conn, Query::Whole(Roll::Students)),
         4,
-        "K1 K1 K1 - /K2 K2 K2 - /K3 K3 K3 - /K4 K4 K4 - /K5 K5 K5 - /K6 K6 K6 - /K7 K7 K7 - /K8 K8 K8 - /K9 K9 K9 - /",
+        "K1 K1 code-of-K1 - /K2 K2 code-of-K2 - /K3 K3 code-of-K3 - /K4 K4 code-of-K4 - /K5 K5 code-of-K5 - /K6 K6 code-of-K6 - /K7 K7 code-of-K7 - /K8 K8 code-of-K8 - /K9 K9 code-of-K9 - /",
     );
     shows(
         &rt,
-        list_of(rt.alloc(), &mut conn, b"K1"),
+        read_rows(rt.alloc(), &mut conn, Query::ListOf(Lists::Choices, b"K1")),
         2,
         "1 K1 /2 K2 /3 K3 /4 K4 /5 K5 /6 K6 /7 K7 /8 K8 /9 K9 /",
     );
     shows(
         &rt,
-        ranking_of(rt.alloc(), &mut conn, b"K1"),
+        read_rows(rt.alloc(), &mut conn, Query::ListOf(Lists::Rankings, b"K1")),
         2,
         "1 K1 /2 K2 /3 K3 /4 K4 /5 K5 /6 K6 /7 K7 /8 K8 /9 K9 /",
     );
@@ -374,16 +402,16 @@ fn assign_nine(
 }
 
 #[test]
-fn students_are_assigned_by_the_eight(rt: HostRuntime) -> Result<(), Fail> {
+fn students_are_assigned(rt: HostRuntime) -> Result<(), Fail> {
     let mut conn = Connection::open_in_memory(rt.alloc())?;
-    create(&mut conn)?;
+    assert!(rt; creates(&rt, &mut conn));
     fill_nine(&rt, &mut conn)?;
     assign_nine(&rt, &mut conn)?;
     shows(
         &rt,
-        student_rows(&mut conn),
+        read(&mut conn, Query::Whole(Roll::Students)),
         4,
-        "K1 K1 K1 K1 /K2 K2 K2 K2 /K3 K3 K3 K3 /K4 K4 K4 K4 /K5 K5 K5 - /K6 K6 K6 K6 /K7 K7 K7 K7 /K8 K8 K8 K8 /K9 K9 K9 K9 /",
+        "K1 K1 code-of-K1 K1 /K2 K2 code-of-K2 K2 /K3 K3 code-of-K3 K3 /K4 K4 code-of-K4 K4 /K5 K5 code-of-K5 - /K6 K6 code-of-K6 K6 /K7 K7 code-of-K7 K7 /K8 K8 code-of-K8 K8 /K9 K9 code-of-K9 K9 /",
     );
     are_apart(&rt, &mut conn);
     Ok(())
@@ -392,34 +420,45 @@ fn students_are_assigned_by_the_eight(rt: HostRuntime) -> Result<(), Fail> {
 #[test]
 fn own_tables_are_told(rt: HostRuntime) -> Result<(), Fail> {
     let mut conn = Connection::open_in_memory(rt.alloc())?;
-    assert!(rt; !is_own(rt.alloc(), &conn)?);
-    create(&mut conn)?;
-    assert!(rt; is_own(rt.alloc(), &conn)?);
-    assert!(rt; create(&mut conn).is_err());
+    let pattern = Pattern::new(rt.alloc())?;
+    assert!(rt; !pattern.fits(&conn));
+    assert!(rt; creates(&rt, &mut conn));
+    assert!(rt; pattern.fits(&conn));
+    assert!(rt; !creates(&rt, &mut conn));
     Ok(())
 }
 
 #[test]
 fn rows_are_there_once(rt: HostRuntime) {
     let mut conn = department(&rt);
-    assert!(rt; fill(&mut conn).is_err());
+    assert!(rt; fill(&rt, &mut conn).is_err());
     are_apart(&rt, &mut conn);
 }
 
 #[test]
 fn rolls_are_shown(rt: HostRuntime) {
     let mut conn = department(&rt);
-    shows(&rt, portal_rows(&mut conn), 4, "1 1 0 office-code-1 /");
-    shows(&rt, lecturer_rows(&mut conn), 5, "L1 Lee lee-code-1 2 0 /");
     shows(
         &rt,
-        project_rows(&mut conn),
+        read(&mut conn, Query::Office),
+        4,
+        "1 1 0 office-code-1 /",
+    );
+    shows(
+        &rt,
+        read(&mut conn, Query::Whole(Roll::Lecturers)),
+        5,
+        "L1 Lee lee-code-1 2 0 /",
+    );
+    shows(
+        &rt,
+        read(&mut conn, Query::Whole(Roll::Projects)),
         4,
         "P1 L1 Tides 1 /P2 L1 Kites 200 /",
     );
     shows(
         &rt,
-        student_rows(&mut conn),
+        read(&mut conn, Query::Whole(Roll::Students)),
         4,
         "S1 Ann ann-code-1 - /S2 Bea bea-code-1 - /",
     );
@@ -430,20 +469,25 @@ fn lists_are_shown(rt: HostRuntime) {
     let mut conn = department(&rt);
     shows(
         &rt,
-        choice_rows(&mut conn),
+        read(&mut conn, Query::AllLists(Lists::Choices)),
         3,
-        "S1 1 P2 /S1 2 P1 /S2 1 P1 /",
+        "S2 1 P1 /S1 1 P2 /S1 2 P1 /",
     );
-    shows(&rt, ranking_rows(&mut conn), 3, "L1 1 S2 /L1 2 S1 /");
     shows(
         &rt,
-        list_of(rt.alloc(), &mut conn, b"S1"),
+        read(&mut conn, Query::AllLists(Lists::Rankings)),
+        3,
+        "L1 1 S2 /L1 2 S1 /",
+    );
+    shows(
+        &rt,
+        read_rows(rt.alloc(), &mut conn, Query::ListOf(Lists::Choices, b"S1")),
         2,
         "1 P2 /2 P1 /",
     );
     shows(
         &rt,
-        ranking_of(rt.alloc(), &mut conn, b"L1"),
+        read_rows(rt.alloc(), &mut conn, Query::ListOf(Lists::Rankings, b"L1")),
         2,
         "1 S2 /2 S1 /",
     );
@@ -452,7 +496,7 @@ fn lists_are_shown(rt: HostRuntime) {
 #[test]
 fn lists_are_told(rt: HostRuntime) {
     let mut conn = department(&rt);
-    let students = student_rows(&mut conn);
+    let students = read(&mut conn, Query::Whole(Roll::Students));
     tells(
         &rt,
         &mut conn,
@@ -465,16 +509,9 @@ fn lists_are_told(rt: HostRuntime) {
 #[test]
 fn lists_are_told_of_rows_in_any_order(rt: HostRuntime) -> Result<(), Fail> {
     let mut conn = Connection::open_in_memory(rt.alloc())?;
-    create(&mut conn)?;
-    fill_mixed(&mut conn)?;
-    shows(
-        &rt,
-        stored_choices(&mut conn),
-        3,
-        "S1 2 P1 /S2 1 P1 /S1 1 P2 /",
-    );
-    shows(&rt, stored_rankings(&mut conn), 3, "L1 2 S1 /L1 1 S2 /");
-    let students = student_rows(&mut conn);
+    assert!(rt; creates(&rt, &mut conn));
+    fill_mixed(&rt, &mut conn)?;
+    let students = read(&mut conn, Query::Whole(Roll::Students));
     tells(
         &rt,
         &mut conn,
@@ -482,9 +519,20 @@ fn lists_are_told_of_rows_in_any_order(rt: HostRuntime) -> Result<(), Fail> {
         students,
         "S1 P2 P1 /S2 P1 /",
     );
-    let lecturers = lecturer_rows(&mut conn);
+    let lecturers = read(&mut conn, Query::Whole(Roll::Lecturers));
     tells(&rt, &mut conn, Lists::Rankings, lecturers, "L1 S2 S1 /");
     Ok(())
+}
+
+#[test]
+fn rows_of_nobody_are_damage(rt: HostRuntime) {
+    let mut conn = department(&rt);
+    let ann = read(&mut conn, Query::StudentByCode(b"ann-code-1"));
+    let Ok(ann) = ann else {
+        panic!(&rt; "no row");
+    };
+    let lists = entries_in(rt.alloc(), &mut conn, Lists::Choices, &ann);
+    assert!(rt; matches!(lists, Err(TableFault::Damaged)));
 }
 
 #[test]
@@ -492,56 +540,91 @@ fn rows_are_found(rt: HostRuntime) {
     let mut conn = department(&rt);
     shows(
         &rt,
-        choosers_of(rt.alloc(), &mut conn, b"P1"),
+        read_rows(rt.alloc(), &mut conn, Query::Choosers(b"P1")),
         1,
         "S1 /S2 /",
     );
-    shows(&rt, listed_students(rt.alloc(), &mut conn), 1, "S1 /S2 /");
     shows(
         &rt,
-        lecturer_by_code(rt.alloc(), &mut conn, b"lee-code-1"),
+        read_rows(rt.alloc(), &mut conn, Query::Listed),
+        1,
+        "S1 /S2 /",
+    );
+    shows(
+        &rt,
+        read_rows(rt.alloc(), &mut conn, Query::LecturerByCode(b"lee-code-1")),
         2,
         "L1 Lee /",
     );
     shows(
         &rt,
-        student_by_code(rt.alloc(), &mut conn, b"bea-code-1"),
+        read_rows(rt.alloc(), &mut conn, Query::StudentByCode(b"bea-code-1")),
         2,
         "S2 Bea /",
     );
     shows(
         &rt,
-        student_by_code(rt.alloc(), &mut conn, b"lee-code-1"),
+        read_rows(rt.alloc(), &mut conn, Query::StudentByCode(b"lee-code-1")),
         2,
         "",
     );
     are_told(
         &rt,
-        student_told(rt.alloc(), &mut conn, b"S2"),
+        read_each(rt.alloc(), &mut conn, Query::StudentTold(b"S2")),
         "S2 Bea - /",
     );
-    are_told(&rt, student_told(rt.alloc(), &mut conn, b"L1"), "");
-    assert_eq!(rt; is_chosen(&mut conn, b"P1").expect(&rt, "an answer"), true);
-    assert_eq!(rt; is_chosen(&mut conn, b"P3").expect(&rt, "an answer"), false);
+    are_told(
+        &rt,
+        read_each(rt.alloc(), &mut conn, Query::StudentTold(b"L1")),
+        "",
+    );
+    assert_eq!(rt;
+        finds_any(&mut conn, Query::Choosers(b"P1")).expect(&rt, "an answer"),
+        true
+    );
+    assert_eq!(rt;
+        finds_any(&mut conn, Query::Choosers(b"P3")).expect(&rt, "an answer"),
+        false
+    );
 }
 
 #[test]
 fn changes_are_shown(rt: HostRuntime) {
     let mut conn = department(&rt);
     change(&mut conn).expect(&rt, "a change");
-    shows(&rt, portal_rows(&mut conn), 4, "1 1 3 office-code-1 /");
-    shows(&rt, lecturer_rows(&mut conn), 5, "L1 Lee lee-code-1 2 1 /");
     shows(
         &rt,
-        student_rows(&mut conn),
+        read(&mut conn, Query::Office),
+        4,
+        "1 1 3 office-code-1 /",
+    );
+    shows(
+        &rt,
+        read(&mut conn, Query::Whole(Roll::Lecturers)),
+        5,
+        "L1 Lee lee-code-1 2 1 /",
+    );
+    shows(
+        &rt,
+        read(&mut conn, Query::Whole(Roll::Students)),
         4,
         "S1 Ann ann-code-1 - /S2 Bea bea-code-1 P1 /",
     );
-    shows(&rt, choice_rows(&mut conn), 3, "S2 1 P1 /");
-    shows(&rt, listed_students(rt.alloc(), &mut conn), 1, "S2 /");
+    shows(
+        &rt,
+        read(&mut conn, Query::AllLists(Lists::Choices)),
+        3,
+        "S2 1 P1 /",
+    );
+    shows(
+        &rt,
+        read_rows(rt.alloc(), &mut conn, Query::Listed),
+        1,
+        "S2 /",
+    );
     are_told(
         &rt,
-        student_told(rt.alloc(), &mut conn, b"S2"),
+        read_each(rt.alloc(), &mut conn, Query::StudentTold(b"S2")),
         "S2 Bea P1 /",
     );
     are_apart(&rt, &mut conn);

@@ -49,5 +49,4 @@ loop-project-preserved g c =
           let added = c.in_ok-add.ensures.placed in
           grind (arith, common_steps, before, here, added);
       reads = reads_more c.in_ok-lines.lines _ a d (reads_then c.loop-project.told _ a b d inv.reads c.in_ok-lines.ensures.reads);
-      mode = λ idle. c.in_ok-lines.ensures.mode (inv.mode idle);
     }

@@ -1,4 +1,4 @@
-use Rattle.std.proofs.Common.{◌≡◌, false, Ok, IsTrue, map, take}
+use Rattle.std.proofs.Common.{◌≡◌, Ok, IsTrue, map, take}
 use Rattle.sqlite.specs.State.{HasCleanDisk}
 use Rattle.sqlite.specs.Held.{state}
 use Rattle.portal_tables.specs.Callers.{with_persons, applicants_told, placed_told}
@@ -14,5 +14,4 @@ invariant-loop-project g l = record {
   placed : HasTables (state g.S.Store l.fn.conn).now → HasCleanDisk (state g.S.Store l.conn) → IsTrue (state g.S.Store l.fn.conn).is_open
       → map with_persons l.told.placed.items ≡ placed_told (state g.S.Store l.fn.conn).now.trees l.phase (take l.project-index l.projects);
   reads : Reads {E = TableFault} (Ok l.told) (state g.S.Store l.fn.conn) (state g.S.Store l.conn);
-  mode : l.fn.conn.in_transaction ≡ false → l.conn.in_transaction ≡ false;
 }

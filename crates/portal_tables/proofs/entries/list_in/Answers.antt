@@ -3,7 +3,7 @@ use Rattle.std.specs.List.{AllByRecursion}
 use Rattle.sqlite.specs.Held.{state}
 use Rattle.spa_rows.specs.Form.{is_key}
 use Rattle.portal_tables.specs.Changes.{ListsBy, has_text, columns}
-use Rattle.portal_tables.specs.Owners.{tree_of}
+use Rattle.portal_tables.specs.ListTables.{tree_of}
 use Rattle.portal_tables.specs.Shown.{shown_name}
 use Rattle.portal_tables.proofs.Listed.{list_whole, list_names, list_counts}
 use Rattle.portal_tables.proofs.InTurn.{named, wholly}

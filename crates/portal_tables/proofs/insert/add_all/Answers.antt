@@ -1,52 +1,27 @@
-use Rattle.std.proofs.Common.{map, [], ◌++◌, subst, ◌∙◌, arith, ap, sym, refl}
-use Rattle.std.proofs.lemmas.List.{append-nil, append_assoc, nil_from_length}
-use Rattle.sqlite.specs.Held.{state}
-use Rattle.sqlite.proofs.StateLemmas.{survives_then}
-use Rattle.portal_tables.specs.Steps.{GoesOn}
+use Rattle.std.proofs.Common.{rules, ◌≡◌, [], ◌++◌, Ok, map, refl, sym, ap, ap₂, subst, ◌∙◌}
+use Rattle.std.proofs.lemmas.List.{append-nil, append_assoc, nil_from_length, take-append-drop}
+use Rattle.portal_tables.specs.Steps.{Does, GoesOn}
 use Rattle.portal_tables.specs.Rows.{Adds}
-use Rattle.portal_tables.proofs.Runs.{kept_same, kept_then, survives_same, goes_nowhere, goes_both}
-use Rattle.portal_tables.proofs.Keeping.{adds_none, adds_run}
+use Rattle.portal_tables.proofs.Runs.{does_none, goes_nowhere}
+use Rattle.portal_tables.proofs.Keeping.{adds_none, rows_run}
 use Rattle.portal_tables.proofs.insert.add_all.Goals as goal
 
-pub loop-run-init : goal.loop-run-init
-loop-run-init g c =
-    let s = state g.S.Store c.args.tx.now.conn.now in
-    let is = c.into_iter-run-iterator.ensures.into_iter_gives in
-    record {
-      same = refl;
-      kept = λ clean. kept_same s;
-      survives = survives_same s;
-      size = ap (λ it. it.size) is ∙ c.chunks-run-items.ensures.size;
-      before = [];
-      cut = ap (λ it. it.rest.now) is ∙ c.chunks-run-items.ensures.rest;
-      done = λ clean. goes_nowhere _ s (adds_none g.R.NewRow.tree s.now);
-    }
+pub runs-init : goal.runs-init
+runs-init g c = record { before = []; cut = refl; does = does_none g.S.Store _ _ _ (goes_nowhere _ _ (adds_none (g.T.Target.tree c.args.table.now) _)) }
 
-pub loop-run-preserved : goal.loop-run-preserved
-loop-run-preserved g c =
-    let old = state g.S.Store c.args.tx.now.conn.now in
-    let mid = state g.S.Store c.loop-run.tx.conn.now in
-    let new = state g.S.Store c.add_run.new.tx.conn.now in
-    let e = c.in_ok-add_run.ensures in
-    let was = c.loop-run.invariant in
-    let run = c.in-Some.run'.now in
-    let next = rw c.in-Some.is at c.next.ensures.steps.1 in
+pub runs-preserved : goal.runs-preserved
+runs-preserved g c =
+    let was = c.runs.invariant in
+    let run = c.split_at.result.0.now in
     record {
-      same = e.same_reference ∙ was.same;
-      kept = λ clean. kept_then old mid new (was.kept (omega (arith, clean, e.survives.clean))) (e.kept clean);
-      survives = survives_then old mid new _ _ (λ _. ⊥) (λ _ db none. none) (λ _ db none. none) was.survives e.survives;
-      size = c.next.ensures.steps.0 ∙ was.size;
       before = was.before ++ run;
-      cut = append_assoc was.before run c.next.new.self.rest.now ∙ ap (λ l. was.before ++ l) (sym next.0) ∙ was.cut;
-      done = λ clean. goes_both _ _ _ old mid new (was.done (omega (arith, clean, e.survives.clean))) (e.done clean)
-          (adds_run g.R.NewRow.tree g.R.NewRow.cells was.before run old.now mid.now new.now);
+      cut = append_assoc was.before run c.split_at.result.1.now ∙ ap (λ l. was.before ++ l) (ap₂ (λ x y. x ++ y) c.split_at.ensures.front c.split_at.ensures.back ∙ take-append-drop _ _) ∙ was.cut;
+      does = rows_run g.S.Store _ g.T.Target.values _ _ _ c.next_text-count.ensures.adds was.before run c.split_at.ensures.front_len _ _ _ _ _ was.does c.in_ok-write_rows.ensures;
     }
 
-pub returns-clause-done : goal.returns-clause-done
-returns-clause-done g c clean =
-    let old = state g.S.Store c.args.tx.now.conn.now in
-    let new = state g.S.Store c.loop-run.tx.conn.now in
-    let was = c.loop-run.invariant in
-    let none = nil_from_length c.loop-run.run-iterator.rest.now (rw c.in-None.is at c.next.ensures.steps.1).0 in
+pub returns : goal.returns
+returns g c =
+    let was = c.runs.invariant in
+    let none : c.runs.rest.now ≡ [] = nil_from_length c.runs.rest.now (search rules) in
     let whole = sym (append-nil was.before) ∙ ap (λ l. was.before ++ l) (sym none) ∙ was.cut in
-    subst (λ l. GoesOn (Adds g.R.NewRow.tree (map g.R.NewRow.cells l)) old new) whole (was.done clean)
+    subst (λ l. Does g.S.Store (GoesOn (Adds (g.T.Target.tree c.args.table.now) (map g.T.Target.cells l))) (Ok (tt {0})) c.args.tx.now c.runs.tx) whole was.does

@@ -11,8 +11,8 @@ returns-clause-told g c tables clean =
 
 pub returns-clause-reads : goal.returns-clause-reads
 returns-clause-reads g c =
-    reads_more {D = TableFault} c.in_ok-lines.lines c.only_line.result (state g.S.Store c.args.conn.now) (state g.S.Store c.student_told.new.conn) c.in_ok-lines.ensures.reads
+    reads_more {D = TableFault} c.in_ok-lines.lines c.only_line.result (state g.S.Store c.args.conn.now) (state g.S.Store c.read_each.new.conn) c.in_ok-lines.ensures.reads
 
 pub returns-in_err-lines-clause-reads : goal.returns-in_err-lines-clause-reads
 returns-in_err-lines-clause-reads g c =
-    reads_handed c.in_err-lines.field-0.0 c.from_residual.result (state g.S.Store c.args.conn.now) (state g.S.Store c.student_told.new.conn) c.from_residual.ensures.0 c.in_err-lines.ensures.reads
+    reads_handed c.in_err-lines.field-0.0 c.from_residual.result (state g.S.Store c.args.conn.now) (state g.S.Store c.read_each.new.conn) c.from_residual.ensures.0 c.in_err-lines.ensures.reads

@@ -36,5 +36,4 @@ loop-row-preserved g c =
           let here = there tables clean ∙ ap (line_at (state g.S.Store c.args.conn.now).now.trees) c.bytes_at.ensures in
           grind (arith, common_steps, before, here),
       reads_more c.in_ok-line_in.field-0 _ a d (reads_then c.loop-row.lines _ a b d inv.1 c.in_ok-line_in.ensures.reads),
-      λ idle. c.in_ok-line_in.ensures.mode (inv.2 idle),
     )

@@ -1,4 +1,4 @@
-use Rattle.std.proofs.Common.{◌≡◌, false, Ok, IsTrue, map, take, Some}
+use Rattle.std.proofs.Common.{◌≡◌, Ok, IsTrue, map, take, Some}
 use Rattle.sqlite.specs.State.{HasCleanDisk}
 use Rattle.sqlite.specs.Held.{state}
 use Rattle.portal_tables.specs.Reading.{Reads}
@@ -12,4 +12,3 @@ invariant-loop-row g l =
     (HasTables (state g.S.Store l.fn.conn).now → HasCleanDisk (state g.S.Store l.conn) → IsTrue (state g.S.Store l.fn.conn).is_open
     → map Some l.lines.items ≡ map (λ c. line_at (state g.S.Store l.fn.conn).now.trees (first c)) (take l.row-index l.rows))
     × Reads {E = TableFault} (Ok l.lines) (state g.S.Store l.fn.conn) (state g.S.Store l.conn)
-    × (l.fn.conn.in_transaction ≡ false → l.conn.in_transaction ≡ false)

@@ -15,7 +15,7 @@ use Rattle.portal_tables.proofs.lines.lines_to.Goals as goal
 pub returns-clause-told : goal.returns-clause-told
 returns-clause-told g c tables clean on =
     let a = state g.S.Store c.args.conn.now in
-    let b = state g.S.Store c.choosers_of.new.conn in
+    let b = state g.S.Store c.read_rows.new.conn in
     let d = state g.S.Store c.rising_lines.new.conn in
     let before = clean_before b d _ c.rising_lines.ensures.reads.crash clean in
     let m : IsUnchanged a b = c.in_ok-rows.ensures.reads.same tables.own before on in
@@ -28,9 +28,9 @@ returns-clause-told g c tables clean on =
 pub returns-clause-reads : goal.returns-clause-reads
 returns-clause-reads g c =
     let a = state g.S.Store c.args.conn.now in
-    let b = state g.S.Store c.choosers_of.new.conn in
+    let b = state g.S.Store c.read_rows.new.conn in
     reads_then {D = TableFault} c.in_ok-rows.rows c.rising_lines.result a b (state g.S.Store c.rising_lines.new.conn) c.in_ok-rows.ensures.reads c.rising_lines.ensures.reads
 
 pub returns-in_err-rows-clause-reads : goal.returns-in_err-rows-clause-reads
 returns-in_err-rows-clause-reads g c =
-    reads_handed c.in_err-rows.field-0.0 c.from_residual.result (state g.S.Store c.args.conn.now) (state g.S.Store c.choosers_of.new.conn) c.from_residual.ensures.0 c.in_err-rows.ensures.reads
+    reads_handed c.in_err-rows.field-0.0 c.from_residual.result (state g.S.Store c.args.conn.now) (state g.S.Store c.read_rows.new.conn) c.from_residual.ensures.0 c.in_err-rows.ensures.reads

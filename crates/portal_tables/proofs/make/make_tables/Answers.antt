@@ -1,13 +1,10 @@
-use Rattle.std.proofs.Common.{arith}
-use Rattle.sqlite.specs.State.{HasCleanDisk}
-use Rattle.sqlite.specs.Held.{state}
-use Rattle.portal_tables.proofs.Making.{all_made}
+use Rattle.portal_tables.proofs.Making.{grown, grown_then, all_made, portal_made, lecturer_made, project_made, student_made, choice_made, ranking_made}
 use Rattle.portal_tables.proofs.make.make_tables.Goals as goal
 
-pub returns-clause-done : goal.returns-clause-done
-returns-clause-done g c clean =
-    let a = state g.S.Store c.args.tx.now.conn.now in
-    let b = state g.S.Store c.make_first.new.tx.conn.now in
-    let d = state g.S.Store c.make_last.new.tx.conn.now in
-    let second : HasCleanDisk b = omega (arith, clean, c.in_ok-make_last.ensures.survives.clean) in
-    all_made a b d (c.in_ok-make_first.ensures.done second) (c.in_ok-make_last.ensures.done clean)
+pub returns : goal.returns
+returns g c =
+    let st = g.S.Store in
+    all_made st _ _ _
+    (grown_then st _ _ _ _ _ _ _ _ (grown_then st _ _ _ _ _ _ _ _ (grown_then st _ _ _ _ _ _ _ _ (grown_then st _ _ _ _ _ _ _ _ (grown_then st _ _ _ _ _ _ _ _
+    (grown st _ _ _ portal_made _ _ _ c.in_ok-write.ensures) (grown st _ _ _ lecturer_made _ _ _ c.in_ok-write-2.ensures)) (grown st _ _ _ project_made _ _ _ c.in_ok-write-3.ensures))
+    (grown st _ _ _ student_made _ _ _ c.in_ok-write-4.ensures)) (grown st _ _ _ choice_made _ _ _ c.in_ok-write-5.ensures)) (grown st _ _ _ ranking_made _ _ _ c.write-6.ensures))

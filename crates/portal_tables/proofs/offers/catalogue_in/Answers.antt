@@ -12,15 +12,15 @@ use Rattle.portal_tables.proofs.offers.catalogue_in.Goals as goal
 pub returns-in_err-projects-clause-reads : goal.returns-in_err-projects-clause-reads
 returns-in_err-projects-clause-reads g c =
     let a = state g.S.Store c.args.conn.now in
-    let b = state g.S.Store c.lecturer_roll.new.conn in
-    let d = state g.S.Store c.project_roll.new.conn in
+    let b = state g.S.Store c.roll_in.new.conn in
+    let d = state g.S.Store c.roll_in-2.new.conn in
     reads_handed c.in_err-projects.field-0.0 c.from_residual-in_err-projects.result a d c.from_residual-in_err-projects.ensures.0 (reads_then c.in_ok-lecturers.lecturers _ a b d c.in_ok-lecturers.ensures.reads c.in_err-projects.ensures.reads)
 
 pub returns-clause-shows : goal.returns-clause-shows
 returns-clause-shows g c own clean on =
     let a = state g.S.Store c.args.conn.now in
-    let b = state g.S.Store c.lecturer_roll.new.conn in
-    let d = state g.S.Store c.project_roll.new.conn in
+    let b = state g.S.Store c.roll_in.new.conn in
+    let d = state g.S.Store c.roll_in-2.new.conn in
     let before = clean_before b d _ c.in_ok-projects.ensures.reads.crash clean in
     let m : IsUnchanged a b = c.in_ok-lecturers.ensures.reads.same own before on in
     let lecturers = c.deref.ensures.value ∙ c.in_ok-lecturers.ensures.rows own before in
@@ -30,6 +30,6 @@ returns-clause-shows g c own clean on =
 pub returns-clause-reads : goal.returns-clause-reads
 returns-clause-reads g c =
     let a = state g.S.Store c.args.conn.now in
-    let b = state g.S.Store c.lecturer_roll.new.conn in
-    let d = state g.S.Store c.project_roll.new.conn in
+    let b = state g.S.Store c.roll_in.new.conn in
+    let d = state g.S.Store c.roll_in-2.new.conn in
     reads_more c.in_ok-projects.projects c.catalogue_of.result a d (reads_then c.in_ok-lecturers.lecturers _ a b d c.in_ok-lecturers.ensures.reads c.in_ok-projects.ensures.reads)

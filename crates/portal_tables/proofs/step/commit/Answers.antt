@@ -3,7 +3,7 @@ use Rattle.sqlite.specs.State.{HasCleanDisk, Survives}
 use Rattle.sqlite.specs.Held.{Held, state}
 use Rattle.portal_tables.specs.Steps.{Commits, IsAfter, Stays}
 use Rattle.portal_tables.proofs.Queries.{on_err}
-use Rattle.portal_tables.proofs.Ending.{ended_well, ended_crash, ended_badly}
+use Rattle.portal_tables.proofs.Runs.{ended_well, ended_crash, ended_badly}
 use Rattle.portal_tables.proofs.step.commit.Goals as goal
 
 pub returns-clause-ok : goal.returns-clause-ok

@@ -1,9 +1,6 @@
-use Rattle.sqlite.specs.Held.{state}
-use Rattle.std.proofs.lemmas.Result.{on_ok_weaker}
+use Rattle.portal_tables.proofs.Runs.{does_more}
 use Rattle.portal_tables.proofs.Statements.{lecturer_ranked}
 use Rattle.portal_tables.proofs.update.set_ranked.Goals as goal
 
-pub returns-clause-done : goal.returns-clause-done
-returns-clause-done g c clean =
-    on_ok_weaker c.write.result (lecturer_ranked (state g.S.Store c.args.tx.now.conn.now) (state g.S.Store c.write.new.tx.conn.now) c.args.lecturer.now)
-    (c.write.ensures.done clean)
+pub returns : goal.returns
+returns g c = does_more g.S.Store _ _ _ _ _ c.write.ensures (lecturer_ranked _ _ c.args.lecturer.now)

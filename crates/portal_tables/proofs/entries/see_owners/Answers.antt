@@ -1,0 +1,24 @@
+use Rattle.std.proofs.Common.{◌≡◌, true, false, List, [], ◌∷◌, map, filter, sym, subst}
+use Rattle.std.specs.List.{AllByRecursion}
+use Rattle.sqlite.specs.Held.{state}
+use Rattle.sqlite.specs.Order.{Row as Cells}
+use Rattle.sqlite_trees.proofs.ListLemmas.{all-filter}
+use Rattle.portal_core.specs.Words.{Key, has}
+use Rattle.portal_core.proofs.AllLaws.{all_map}
+use Rattle.portal_tables.specs.Changes.{columns, every}
+use Rattle.portal_tables.specs.ListTables.{tree_of}
+use Rattle.portal_tables.specs.Rolls.{row_key}
+use Rattle.portal_tables.specs.Shown.{first}
+use Rattle.portal_tables.proofs.Listed.{permuted}
+use Rattle.portal_tables.proofs.Sorted.{all_permuted}
+use Rattle.portal_tables.proofs.entries.see_owners.Goals as goal
+
+pub returns-clause-damaged : goal.returns-clause-damaged
+returns-clause-damaged g c own clean damaged owned =
+    let table = (state g.S.Store c.args.conn.now).now.trees (tree_of c.args.lists) in
+    let rows = c.in_ok-rows.rows.items in
+    let Known : Key → Type 0 = λ k. has (map first c.args.owners.now) k ≡ true in
+    let named : AllByRecursion (λ r. Known (first r)) rows =
+    all_permuted (λ r. Known (first r)) _ rows (permuted _ _ _ table rows (c.in_ok-rows.ensures.rows own clean))
+    (all_map (λ r. Known (first r)) (columns (1 ∷ 2 ∷ 3 ∷ [])) (filter every table) (all-filter (λ r. Known (row_key r)) every table owned.known)) in
+    absurd (let e : false ≡ true = c.if-are_owned.ensures.owned owned.rise (subst (AllByRecursion (λ (r : Cells). Known (first r))) (sym c.deref.ensures.value) named) in cc)

@@ -1,0 +1,10 @@
+use Rattle.std.proofs.Common.{refl}
+use Rattle.portal_tables.specs.declared.list_table.Lists.TheVariants.{Choices, Rankings}
+use Rattle.portal_tables.proofs.Statements.{places_added, add_is, by_one}
+use Rattle.portal_tables.proofs.insert.lists.ListsTargetNewPlace.text.Goals as goal
+
+pub returns-in-Choices : goal.returns-in-Choices
+returns-in-Choices g c = rw c.in-Choices.is (places_added Choices g.S.Store 1 _ _ (add_is Choices) (by_one (λ a more. refl)))
+
+pub returns-in-Rankings : goal.returns-in-Rankings
+returns-in-Rankings g c = rw c.in-Rankings.is (places_added Rankings g.S.Store 1 _ _ (add_is Rankings) (by_one (λ a more. refl)))

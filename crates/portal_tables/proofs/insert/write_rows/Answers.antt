@@ -1,0 +1,12 @@
+use Rattle.std.proofs.Common.{subst, ap, ◌∙◌, arith, sym}
+use Rattle.std.specs.List.{flat_map}
+use Rattle.std.proofs.lemmas.List.{take_all}
+use Rattle.sqlite.specs.Values.{bound}
+use Rattle.portal_tables.specs.Steps.{Does, Ran}
+use Rattle.portal_tables.proofs.insert.write_rows.Goals as goal
+
+pub returns : goal.returns
+returns g c =
+    let params = ap bound c.deref.ensures.value ∙ c.loop-row.invariant
+    ∙ ap (flat_map g.T.Target.values) (take_all c.loop-row.row-index c.args.rows.now (omega (arith, c.loop-row-test.false))) in
+    subst (λ params. Does g.S.Store (Ran c.args.text.now params) c.write.result c.args.tx.now c.write.new.tx) params c.write.ensures

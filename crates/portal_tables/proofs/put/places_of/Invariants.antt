@@ -1,0 +1,10 @@
+use Rattle.std.proofs.Common.{◌≡◌, map, take}
+use Rattle.portal_tables.specs.Rows.{place_new}
+use Rattle.portal_tables.specs.Putting.{list_cells}
+use Rattle.portal_tables.proofs.put.places_of.Given as goal
+
+abbrev pub invariant-rows : goal.invariant-rows
+invariant-rows l = record {
+  at : l.place ≡ l.item-index;
+  is : map place_new l.rows.items ≡ list_cells l.owner (take l.item-index l.items);
+}

@@ -1,0 +1,29 @@
+-- The tables of lists: what each is, and a text on it.
+use Rattle.std.specs.Prelude.{ℕ, List, codes, ◌++◌}
+use Rattle.portal_tables.specs.Tables.{ListTable, choice_names, ranking_names, choice_tree, ranking_tree}
+use Rattle.portal_tables.specs.declared.list_table.Lists.{Lists}
+use Rattle.portal_tables.specs.declared.list_table.Lists.TheVariants.{Choices, Rankings}
+
+-- its names, its place among the tables, and its tree
+abbrev pub names : Lists → ListTable
+names Choices = choice_names
+names Rankings = ranking_names
+
+abbrev pub place_among : Lists → ℕ
+place_among Choices = 4
+place_among Rankings = 5
+
+abbrev pub tree_of : Lists → ℕ
+tree_of Choices = choice_tree
+tree_of Rankings = ranking_tree
+
+-- the text that takes the rows of one owner away
+abbrev pub clear_text : ListTable → List ℕ
+clear_text t = codes "DELETE FROM " ++ t.name ++ codes " WHERE " ++ t.owner ++ codes " = ?1"
+
+-- the texts that add one row, and eight
+abbrev pub add_text : ListTable → List ℕ
+add_text t = codes "INSERT INTO " ++ t.name ++ codes " (" ++ t.owner ++ codes ", place, " ++ t.item ++ codes ") VALUES (?1, ?2, ?3)"
+
+abbrev pub add_eight_text : ListTable → List ℕ
+add_eight_text t = add_text t ++ codes ", (?4, ?5, ?6), (?7, ?8, ?9), (?10, ?11, ?12), (?13, ?14, ?15), (?16, ?17, ?18), (?19, ?20, ?21), (?22, ?23, ?24)"

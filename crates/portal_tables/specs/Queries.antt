@@ -1,0 +1,85 @@
+-- What each query reads of the tables, and shows.
+use Rattle.std.specs.Prelude.{codes, ℕ, List, [], ◌∷◌, ◌++◌, Bool}
+use Rattle.sqlite.specs.declared.types.Value.TheVariants.{Text as Words}
+use Rattle.sqlite.specs.Order.{Row}
+use Rattle.sqlite.specs.Tree.{Trees}
+use Rattle.portal_tables.specs.declared.select.Query.{Query}
+use Rattle.portal_tables.specs.declared.select.Query.TheVariants.{Office, Whole, LecturerByCode, StudentByCode, LecturerByKey, StudentTold, AllLists, ListOf, Choosers, Listed, Numbers}
+use Rattle.portal_tables.specs.declared.select.Roll.{Roll}
+use Rattle.portal_tables.specs.declared.select.Roll.TheVariants.{Lecturers, Projects, Students}
+use Rattle.portal_tables.specs.declared.select.Table.{Table}
+use Rattle.portal_tables.specs.declared.select.Table.TheVariants.{OfRoll, OfLists}
+use Rattle.portal_tables.specs.Changes.{ListsBy, every, columns, has_text, has_number}
+use Rattle.portal_tables.specs.ListTables.{names, tree_of}
+use Rattle.portal_tables.specs.Tables.{portal_tree, lecturer_tree, project_tree, student_tree, choice_tree}
+
+abbrev pub roll_tree : Roll → ℕ
+roll_tree Lecturers = lecturer_tree
+roll_tree Projects = project_tree
+roll_tree Students = student_tree
+
+-- the columns of a roll, behind the key
+abbrev pub columns_of : Roll → List ℕ
+columns_of Lecturers = 2 ∷ 3 ∷ 4 ∷ 5 ∷ []
+columns_of Projects = 2 ∷ 3 ∷ 4 ∷ []
+columns_of Students = 2 ∷ 3 ∷ 4 ∷ []
+
+abbrev pub table_tree : Table → ℕ
+table_tree (OfRoll roll) = roll_tree roll
+table_tree (OfLists lists) = tree_of lists
+
+-- of the table with this tree the rows that pass, by rising values of some columns, each shown by some columns
+pub record Selection : Type 0 where
+  pub tree : ℕ
+  pub passes : Row → Bool
+  pub by : List ℕ
+  pub shown : List ℕ
+
+abbrev pub selection : Query → Selection
+selection Office = record { tree = portal_tree; passes = every; by = 0 ∷ []; shown = 0 ∷ 2 ∷ 3 ∷ 4 ∷ [] }
+selection (Whole roll) = record { tree = roll_tree roll; passes = every; by = 1 ∷ []; shown = 1 ∷ columns_of roll }
+selection (LecturerByCode code) = record { tree = lecturer_tree; passes = has_text 3 code.now; by = 1 ∷ []; shown = 1 ∷ columns_of Lecturers }
+selection (StudentByCode code) = record { tree = student_tree; passes = has_text 3 code.now; by = 1 ∷ []; shown = 1 ∷ columns_of Students }
+selection (LecturerByKey key) = record { tree = lecturer_tree; passes = has_text 1 key.now; by = 1 ∷ []; shown = 1 ∷ [] }
+selection (StudentTold key) = record { tree = student_tree; passes = has_text 1 key.now; by = 1 ∷ []; shown = 1 ∷ 2 ∷ 4 ∷ [] }
+selection (AllLists lists) = record { tree = tree_of lists; passes = every; by = []; shown = 1 ∷ 2 ∷ 3 ∷ [] }
+selection (ListOf lists owner) = record { tree = tree_of lists; passes = has_text 1 owner.now; by = 2 ∷ []; shown = 2 ∷ 3 ∷ [] }
+selection (Choosers project) = record { tree = choice_tree; passes = has_text 3 project.now; by = 1 ∷ []; shown = 1 ∷ [] }
+selection Listed = record { tree = choice_tree; passes = has_number 2 1; by = 1 ∷ []; shown = 1 ∷ [] }
+selection (Numbers table) = record { tree = table_tree table; passes = every; by = 0 ∷ []; shown = 0 ∷ [] }
+
+-- the query shows these rows of the tables
+abbrev pub Shows : Query → Trees → List Row → Type 0
+Shows q db rows = ListsBy (selection q).by (selection q).passes (columns (selection q).shown) (db (selection q).tree) rows
+
+-- the texts, and the value that each asks for
+
+abbrev pub table_name : Table → List ℕ
+table_name (OfRoll Lecturers) = codes "lecturer"
+table_name (OfRoll Projects) = codes "project"
+table_name (OfRoll Students) = codes "student"
+table_name (OfLists lists) = (names lists).name
+
+abbrev pub text_of : Query → List ℕ
+text_of Office = codes "SELECT id, version, phase, office FROM portal ORDER BY id"
+text_of (Whole Lecturers) = codes "SELECT key, name, code, capacity, ranked FROM lecturer ORDER BY key"
+text_of (Whole Projects) = codes "SELECT key, lecturer, title, capacity FROM project ORDER BY key"
+text_of (Whole Students) = codes "SELECT key, name, code, assigned FROM student ORDER BY key"
+text_of (LecturerByCode code) = codes "SELECT key, name, code, capacity, ranked FROM lecturer WHERE code = ?1 ORDER BY key"
+text_of (StudentByCode code) = codes "SELECT key, name, code, assigned FROM student WHERE code = ?1 ORDER BY key"
+text_of (LecturerByKey key) = codes "SELECT key FROM lecturer WHERE key = ?1 ORDER BY key"
+text_of (StudentTold key) = codes "SELECT key, name, assigned FROM student WHERE key = ?1 ORDER BY key"
+text_of (AllLists lists) = let t = names lists in codes "SELECT " ++ t.owner ++ codes ", place, " ++ t.item ++ codes " FROM " ++ t.name
+text_of (ListOf lists owner) = let t = names lists in codes "SELECT place, " ++ t.item ++ codes " FROM " ++ t.name ++ codes " WHERE " ++ t.owner ++ codes " = ?1 ORDER BY place"
+text_of (Choosers project) = codes "SELECT student FROM choice WHERE project = ?1 ORDER BY student"
+text_of Listed = codes "SELECT student FROM choice WHERE place = 1 ORDER BY student"
+text_of (Numbers table) = codes "SELECT rowid FROM " ++ table_name table ++ codes " ORDER BY rowid"
+
+abbrev pub given : Query → Row
+given (LecturerByCode code) = Words code.now ∷ []
+given (StudentByCode code) = Words code.now ∷ []
+given (LecturerByKey key) = Words key.now ∷ []
+given (StudentTold key) = Words key.now ∷ []
+given (ListOf lists owner) = Words owner.now ∷ []
+given (Choosers project) = Words project.now ∷ []
+given _ = []

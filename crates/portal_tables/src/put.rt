@@ -1,0 +1,71 @@
+//! A list in place of another.
+
+ghost use Rattle.std.specs.Prelude.{◌≡◌, ◌≤◌, length, map, IfOk};
+ghost use Rattle.portal_tables.specs.Steps.{Does, Made, GoesOn};
+ghost use Rattle.portal_tables.specs.ListTables.{tree_of};
+ghost use Rattle.portal_tables.specs.Rows.{Clears, place_new};
+ghost use Rattle.portal_tables.specs.Putting.{list_cells, PutsList};
+
+use crate::insert::{NewPlace, add_all};
+use crate::list_table::Lists;
+use crate::run::write;
+use spa_rows::Key;
+use sqlite::types::ValueRef;
+use sqlite::{Alter, Error, ErrorCode, Transaction};
+use std::alloc::{AllocError, Global};
+
+/// No list is longer: there are at most 1,000 projects and 2,000 students.
+const LONGEST: usize = 2000;
+
+/// Takes the rows of an owner's list away.
+pub fn clear_list<S: Alter>(
+    tx: &mut Transaction<'_, S>,
+    lists: Lists,
+    owner: &[u8],
+) -> Result<(), Error>
+    ensures { Does S.Store (Made (Clears (tree_of lists) owner.now)) result tx.old tx.new }
+{
+    write(tx, lists.clear_text(), &[ValueRef::Text(owner)])
+}
+
+/// The rows of a list: its items at the places from 1 on. The error is want of memory.
+fn places_of<'a>(
+    alloc: Global,
+    owner: &'a Key,
+    items: &'a [Key],
+) -> Result<Vec<NewPlace<'a>>, AllocError>
+    requires few { length items.now ≤ 2000 }
+    ensures { IfOk result (λ v. map place_new v.items ≡ list_cells owner.now items.now) }
+{
+    let mut rows = Vec::with_capacity(alloc, items.len())?;
+    let mut place = 0u32;
+    'rows: for item in items {
+        place += 1;
+        rows.push(NewPlace {
+            owner: owner.as_bytes(),
+            place,
+            item: item.as_bytes(),
+        })?;
+    }
+    Ok(rows)
+}
+
+/// The owner's list becomes these items, best first, in place of any other. A list that is longer than any may be is refused as too big; the
+/// first error of the store ends it and is handed on, and it may be want of memory.
+pub fn put_list<S: Alter>(
+    alloc: Global,
+    tx: &mut Transaction<'_, S>,
+    lists: Lists,
+    owner: &Key,
+    items: &[Key],
+) -> Result<(), Error>
+    ensures { Does S.Store (GoesOn
+        (PutsList (tree_of lists) owner.now items.now)) result tx.old tx.new }
+{
+    if items.len() > LONGEST {
+        return Err(Error::SqliteFailure(ErrorCode::TooBig));
+    }
+    clear_list(tx, lists, owner.as_bytes())?;
+    let rows = places_of(alloc, owner, items)?;
+    add_all(alloc, tx, &lists, &rows)
+}
