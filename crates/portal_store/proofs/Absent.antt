@@ -6,6 +6,7 @@ use Rattle.std.specs.List.{AllByRecursion}
 use Rattle.std.proofs.lemmas.List.Sorted.{length_permutation}
 use Rattle.sqlite.specs.Order.{Row, bytes}
 use Rattle.sqlite.specs.Effect.{Database}
+use Rattle.portal_core.specs.declared.phase.Round.TheVariants.{First}
 use Rattle.portal_core.specs.Words.{Key, is, has, put_all}
 use Rattle.portal_core.specs.World.{Lecturer, lecturer_key}
 use Rattle.portal_core.specs.Change.{Ranks, with_ranking}
@@ -71,7 +72,7 @@ ranks_nobody k list db none holds good then =
     let roll : put_all lecturer_key (map show rows) [] ≡ map turn (put_all lecturer_key (map show rows) []) =
     ap (λ l. put_all lecturer_key l []) still ∙ put_all_map lecturer_key lecturer_key turn (same_key k list) (map show rows) [] in
     let w = world_of db.trees in
-    record { holds = holds; world = λ i. record { phase = w.phase; office = w.office; lecturers = roll i; projects = w.projects; students = w.students } }
+    record { holds = holds; world = λ i. record { round = First; phase = w.phase; office = w.office; lecturers = roll i; projects = w.projects; students = w.students } }
 
 -- where the lecturer is on the roll of a good world
 turns_there : (k : Key) (list : List Key) (first now : Database) → length (filter (has_text 1 k) (first.trees lecturer_tree)) ≢ 0

@@ -11,6 +11,7 @@ use Rattle.sqlite.specs.Edit.{next_rowid}
 use Rattle.sqlite.specs.Tree.{put_row}
 use Rattle.sqlite.specs.Effect.{Database, IsDatabase}
 use Rattle.sqlite_trees.specs.Objects.{number_in}
+use Rattle.portal_core.specs.declared.phase.Round.TheVariants.{First}
 use Rattle.portal_core.specs.declared.rows.LecturerRow.{LecturerRow}
 use Rattle.portal_core.specs.declared.rows.ProjectRow.{ProjectRow}
 use Rattle.portal_core.specs.declared.rows.StudentRow.{StudentRow}
@@ -19,9 +20,10 @@ use Rattle.portal_core.specs.World.{lecturer_key, project_key, student_key}
 use Rattle.portal_core.specs.Change.{changed, Lecturers, Projects, Students, new_lecturer, new_student}
 use Rattle.portal_core.specs.Good.{Good}
 use Rattle.portal_tables.specs.Tables.{portal_tree, lecturer_tree, project_tree, student_tree, choice_tree, ranking_tree}
+use Rattle.portal_tables.specs.declared.list_table.Lists.TheVariants as which
 use Rattle.portal_tables.specs.Own.{IsOwn}
 use Rattle.portal_tables.specs.Changes.{IsApart, Puts, Keeps, with_rows, AreNew}
-use Rattle.portal_tables.specs.Rows.{Adds, lecturer_cells, project_cells, student_cells}
+use Rattle.portal_tables.specs.Rows.{Adds, lecturer_new, project_new, student_new}
 use Rattle.portal_tables.proofs.Keeping.{puts_apart}
 use Rattle.portal_tables.proofs.Writes.{unnumbered}
 use Rattle.portal_tables.proofs.Lists.{put_splits}
@@ -29,10 +31,11 @@ use Rattle.portal_tables.specs.Office.{HasOffice}
 use Rattle.portal_store.specs.Kept.{Holds, Turned, Turns}
 use Rattle.portal_tables.specs.Lists.{of_key, IsWhole, list_of}
 use Rattle.portal_tables.specs.Rolls.{row_key}
+use Rattle.portal_store.proofs.Still.{apart_kept}
 use Rattle.portal_store.specs.World.{world_of, phase_of, is_ranked, lecturer_of, project_row, student_of}
 use Rattle.portal_tables.proofs.Sorted.{permutes, permutes_more, more_put, rise_distinct, all_permuted, distinct_permuted, map_twice, map_alike}
 use Rattle.portal_tables.proofs.Listed.{all_map_on}
-use Rattle.portal_tables.proofs.Parents.{none_of, choice_parents, ranking_parents}
+use Rattle.portal_tables.proofs.Parents.{none_of, place_parents}
 use Rattle.portal_store.proofs.Holding.{whole_same}
 use Rattle.portal_core.proofs.Keys.{all_unmap}
 use Rattle.portal_core.proofs.AllLaws.{all_map, all_append}
@@ -134,15 +137,6 @@ module _ {X : Type 0} (key : X → Key) where
       fresh_from news olds (distinct_permuted key (put_all key news (put_all key olds [])) (news ++ olds)
       (IsPermutation-sym _ _ (IsPermutation-trans _ _ _ (IsPermutation-append_right news _ _ (permutes key olds)) (permutes_more key news (put_all key olds [])))) (rise_distinct _ up))
 
-abbrev pub lecturer_new : LecturerRow → Row
-lecturer_new r = lecturer_cells r.key r.name r.code (pos r.capacity) (pos 0)
-
-abbrev pub project_new : ProjectRow → Row
-project_new r = project_cells r.key r.lecturer r.title (pos r.capacity)
-
-abbrev pub student_new : StudentRow → Row
-student_new r = student_cells r.key r.name r.code Null
-
 module _ (rows : List LecturerRow) (old new : Database) (was : Holds old) (better : Good (changed (world_of old.trees) (Lecturers rows))) (a : Added lecturer_tree (map lecturer_new rows) old new) where
   lecturers_up : Rise (map lecturer_key (put_all lecturer_key (map new_lecturer rows) (put_all lecturer_key (map (lecturer_of (old.trees ranking_tree)) (old.trees lecturer_tree)) [])))
   unfolding world_of
@@ -155,7 +149,7 @@ module _ (rows : List LecturerRow) (old new : Database) (was : Holds old) (bette
     where
       go : (rs : List LecturerRow) → AllByRecursion (λ r. has (map row_key (old.trees lecturer_tree)) r.key ≡ false) rs → AllByRecursion (λ r. of_key r.key (old.trees ranking_tree) ≡ []) rs
       go [] h = tt
-      go (r ∷ rs) h = (none_of _ (old.trees lecturer_tree) r.key (old.trees ranking_tree) (ranking_parents old was.own was.sound was.apart.1.1.1.1.1.0) h.0, go rs h.1)
+      go (r ∷ rs) h = (none_of _ (old.trees lecturer_tree) r.key (old.trees ranking_tree) (place_parents old was.own was.sound which.Rankings was.apart.1.1.1.1.1.0) h.0, go rs h.1)
 
   lecturers_turned : Turned (Lecturers rows) old new
   unfolding world_of
@@ -177,13 +171,7 @@ module _ (rows : List LecturerRow) (old new : Database) (was : Holds old) (bette
         holds = record {
           own = subst IsOwn (sym a.schema_is) was.own;
           sound = a.sound was.sound;
-          apart = (
-            subst IsApart (sym portal) ready.0,
-            (
-              a.apart ready.1.0,
-              (subst IsApart (sym projects) ready.1.1.0, (subst IsApart (sym students) ready.1.1.1.0, (subst IsApart (sym choices) ready.1.1.1.1.0, (subst IsApart (sym rankings) ready.1.1.1.1.1.0, tt)))),
-            ),
-          );
+          apart = apart_kept lecturer_tree old new a.others (a.apart ready.1.0) ready;
           office = subst HasOffice (sym portal) was.office;
           whole = record {
             choices = subst₂ (λ x y. AllByRecursion (λ r. IsWhole (of_key (row_key r) y)) x) (sym students) (sym choices) was.whole.choices;
@@ -198,6 +186,7 @@ module _ (rows : List LecturerRow) (old new : Database) (was : Holds old) (bette
           };
         };
         world = λ i. record {
+          round = First;
           phase = phase_of (number_in (column (slice_index_or (portal i) 0 []) 3));
           office = bytes (column (slice_index_or (portal i) 0 []) 4);
           lecturers = roll i;
@@ -240,17 +229,12 @@ module _ (rows : List ProjectRow) (old new : Database) (was : Holds old) (better
         holds = record {
           own = subst IsOwn (sym a.schema_is) was.own;
           sound = a.sound was.sound;
-          apart = (
-            subst IsApart (sym portal) ready.0,
-            (
-              subst IsApart (sym lecturers) ready.1.0,
-              (a.apart ready.1.1.0, (subst IsApart (sym students) ready.1.1.1.0, (subst IsApart (sym choices) ready.1.1.1.1.0, (subst IsApart (sym rankings) ready.1.1.1.1.1.0, tt)))),
-            ),
-          );
+          apart = apart_kept project_tree old new a.others (a.apart ready.1.1.0) ready;
           office = subst HasOffice (sym portal) was.office;
           whole = whole_same old.trees new.trees lecturers students choices rankings was.whole;
         };
         world = λ i. record {
+          round = First;
           phase = phase_of (number_in (column (slice_index_or (portal i) 0 []) 3));
           office = bytes (column (slice_index_or (portal i) 0 []) 4);
           lecturers = put_all lecturer_key (map (lecturer_of (rankings i)) (lecturers i)) [];
@@ -278,7 +262,7 @@ module _ (rows : List StudentRow) (old new : Database) (was : Holds old) (better
     where
       go : (rs : List StudentRow) → AllByRecursion (λ r. has (map row_key (old.trees student_tree)) r.key ≡ false) rs → AllByRecursion (λ r. of_key r.key (old.trees choice_tree) ≡ []) rs
       go [] h = tt
-      go (r ∷ rs) h = (none_of _ (old.trees student_tree) r.key (old.trees choice_tree) (choice_parents old was.own was.sound was.apart.1.1.1.1.0) h.0, go rs h.1)
+      go (r ∷ rs) h = (none_of _ (old.trees student_tree) r.key (old.trees choice_tree) (place_parents old was.own was.sound which.Choices was.apart.1.1.1.1.0) h.0, go rs h.1)
 
   students_turned : Turned (Students rows) old new
   unfolding world_of
@@ -292,7 +276,7 @@ module _ (rows : List StudentRow) (old new : Database) (was : Holds old) (better
       let f = student_of (old.trees choice_tree) in
       let news : map (λ c. f (unnumbered c)) (map student_new rows) ≡ map new_student rows =
       sym (map_twice (λ c. f (unnumbered c)) student_new rows) ∙ all_map_on (λ r. of_key r.key (old.trees choice_tree) ≡ []) (λ r. f (unnumbered (student_new r))) new_student rows unlisted_yet
-      (λ r h. ap (λ l. record { row = r; choice = list_of l; placed = None }) h) in
+      (λ r h. ap (λ l. record { row = r; choice = list_of l; placed = None; earlier_choice = []; earlier_place = None }) h) in
       let same : IsPermutation (map new_student rows ++ map f (old.trees student_tree)) (map f (new.trees student_tree)) =
       subst (λ l. IsPermutation (l ++ map f (old.trees student_tree)) (map f (new.trees student_tree))) news (decoded f student_tree (map student_new rows) old new (student_bare (old.trees choice_tree)) a) in
       let roll : put_all student_key (map (student_of (new.trees choice_tree)) (new.trees student_tree)) [] ≡ put_all student_key (map new_student rows) (put_all student_key (map f (old.trees student_tree)) []) =
@@ -302,13 +286,7 @@ module _ (rows : List StudentRow) (old new : Database) (was : Holds old) (better
         holds = record {
           own = subst IsOwn (sym a.schema_is) was.own;
           sound = a.sound was.sound;
-          apart = (
-            subst IsApart (sym portal) ready.0,
-            (
-              subst IsApart (sym lecturers) ready.1.0,
-              (subst IsApart (sym projects) ready.1.1.0, (a.apart ready.1.1.1.0, (subst IsApart (sym choices) ready.1.1.1.1.0, (subst IsApart (sym rankings) ready.1.1.1.1.1.0, tt)))),
-            ),
-          );
+          apart = apart_kept student_tree old new a.others (a.apart ready.1.1.1.0) ready;
           office = subst HasOffice (sym portal) was.office;
           whole = record {
             choices = subst (λ y. AllByRecursion (λ r. IsWhole (of_key (row_key r) y)) (new.trees student_tree)) (sym choices)
@@ -320,6 +298,7 @@ module _ (rows : List StudentRow) (old new : Database) (was : Holds old) (better
           };
         };
         world = λ i. record {
+          round = First;
           phase = phase_of (number_in (column (slice_index_or (portal i) 0 []) 3));
           office = bytes (column (slice_index_or (portal i) 0 []) 4);
           lecturers = put_all lecturer_key (map (lecturer_of (rankings i)) (lecturers i)) [];

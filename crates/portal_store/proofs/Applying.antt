@@ -5,9 +5,10 @@ use Rattle.std.specs.List.{AllByRecursion}
 use Rattle.sqlite.specs.Order.{Row}
 use Rattle.sqlite.specs.Tree.{Trees}
 use Rattle.sqlite.specs.Effect.{Database}
-use Rattle.sqlite_trees.proofs.ListLemmas.{filter-map, map-map}
+use Rattle.sqlite_trees.proofs.ListLemmas.{filter-map, map-map, all_of}
 use Rattle.portal_core.specs.declared.phase.Phase.{Phase}
 use Rattle.portal_core.specs.declared.phase.Phase.TheVariants.{Setup, Choosing, Ranking, Published}
+use Rattle.portal_core.specs.declared.phase.Round.TheVariants.{First}
 use Rattle.portal_core.specs.declared.rows.Listing.{Listing}
 use Rattle.portal_core.specs.declared.rows.ProjectRow.{ProjectRow}
 use Rattle.portal_core.specs.Words.{Key, has}
@@ -22,16 +23,15 @@ use Rattle.portal_tables.specs.declared.lines.Line.{Line}
 use Rattle.portal_store.specs.Kept.{Holds}
 use Rattle.portal_tables.specs.Lists.{chosen}
 use Rattle.portal_tables.specs.Lines.{shown_line, applicant_lines}
-use Rattle.portal_tables.specs.Rolls.{row_key, by_key}
+use Rattle.portal_tables.specs.Rolls.{row_key, by_key, roll_columns}
 use Rattle.portal_store.specs.World.{world_of, student_of}
 use Rattle.portal_tables.specs.Shown.{first}
 use Rattle.portal_tables.specs.Callers.{lines_shown, placed_among, applicants_told, placed_told, own_keys, lecturer_shown}
 use Rattle.portal_store.specs.Queried.{lecturer_from}
 use Rattle.portal_tables.proofs.Choosers.{chooser}
-use Rattle.portal_tables.proofs.Listed.{for_each}
-use Rattle.portal_tables.proofs.Owners.{roll_columns}
 use Rattle.portal_store.proofs.Holding.{has_tables}
-use Rattle.portal_store.proofs.Loaded.{students_are}
+use Rattle.portal_store.proofs.Loaded.{students_are, world_first}
+use Rattle.portal_store.proofs.InFirst.{none_earlier, placed_shown}
 use Rattle.portal_store.proofs.Fine.{placed_listed}
 use Rattle.portal_store.proofs.Remembered.{own_listed}
 
@@ -42,7 +42,7 @@ unfolding world_of
 choosers db holds p shown lists =
     subst (AllByRecursion (λ (s : Student). has (map first shown) s.row.key ≡ has s.choice p)) (sym (students_are db.trees))
     (all_map (λ (s : Student). has (map first shown) s.row.key ≡ has s.choice p) (student_of (db.trees choice_tree)) (by_key (db.trees student_tree))
-    (for_each _ (by_key (db.trees student_tree)) (λ r. chooser db (has_tables db holds) p shown lists (row_key r))))
+    (all_of _ (λ r. chooser db (has_tables db holds) p shown lists (row_key r)) (by_key (db.trees student_tree))))
 
 -- what a lecturer may be told of a student
 abbrev line_of : Student → Line
@@ -79,10 +79,10 @@ at_listed : (k : Key) (choice : List Key) (o : Option Key) → IfSome o (λ p. h
 at_listed k choice None on e = absurd (cc)
 at_listed k choice (Some p) on e = subst (λ x. has choice x ≡ true) (is_same p k e) on
 
-placed_by_lines : (w : World) → Good w → (k : Key) → map (λ (l : Line). l.person) (filter (λ (l : Line). is_at k l.placed) (map line_of (applicants_to w k))) ≡ persons (placed_at w k)
-placed_by_lines w good k =
+placed_by_lines : (w : World) → w.round ≡ First → Good w → (k : Key) → map (λ (l : Line). l.person) (filter (λ (l : Line). is_at k l.placed) (map line_of (applicants_to w k))) ≡ persons (filter (λ s. is_at k s.placed) w.students)
+placed_by_lines w one good k =
     persons_of (λ (l : Line). is_at k l.placed) (applicants_to w k)
-    ∙ ap persons (filter_twice (λ s. is_at k s.placed) (λ s. has s.choice k) w.students (all_weaker _ _ (λ s on. at_listed k s.choice s.placed on) w.students (placed_listed w good)))
+    ∙ ap persons (filter_twice (λ s. is_at k s.placed) (λ s. has s.choice k) w.students (all_weaker _ _ (λ s on. at_listed k s.choice s.placed on) w.students (placed_listed w one good)))
 
 -- told of one project, by the lines that the phase shows
 
@@ -93,14 +93,15 @@ persons_shown w k =
       | false ↦ refl
     ]
 
-placed_shown : (w : World) → Good w → (k : Key) → placed_among w.phase k (if is_from_ranking w.phase then map line_of (applicants_to w k) else []) ≡ (if is_published w.phase then persons (placed_at w k) else [])
-placed_shown w good k =
-    elim w.phase as (λ (f : Phase). placed_among f k (if is_from_ranking f then map line_of (applicants_to w k) else []) ≡ (if is_published f then persons (placed_at w k) else [])) [
+placed_among_shown : (w : World) → w.round ≡ First → AllByRecursion (λ (s : Student). s.earlier_place ≡ None) w.students → Good w → (k : Key) → placed_among w.phase k (if is_from_ranking w.phase then map line_of (applicants_to w k) else []) ≡ persons (placed_at w k)
+placed_among_shown w one none good k =
+    elim w.phase as (λ (f : Phase). placed_among f k (if is_from_ranking f then map line_of (applicants_to w k) else []) ≡ persons (if is_published f then filter (λ s. is_at k s.placed) w.students else [])) [
       | Setup ↦ refl
       | Choosing ↦ refl
       | Ranking ↦ refl
-      | Published ↦ placed_by_lines w good k
+      | Published ↦ placed_by_lines w one good k
     ]
+    ∙ ap persons (sym (placed_shown w.phase k w.students none))
 
 -- what a lecturer sees, of what was read
 pub lecturer_told : (db : Trees) → Good (world_of db) → (row : Row) (phase : Phase) (offers : List Listing) → phase ≡ (world_of db).phase → offers ≡ catalogue (world_of db)
@@ -108,13 +109,13 @@ pub lecturer_told : (db : Trees) → Good (world_of db) → (row : Row) (phase :
 lecturer_told db good row phase offers at_phase all =
     let w = world_of db in
     let own = projects_of w (first row) in
-    let listed : own_keys (catalogue w) (first row) ≡ map project_key own = own_listed w (first row) good in
+    let listed : own_keys (catalogue w) (first row) ≡ map project_key own = own_listed w (first row) (world_first db) good in
     let shown : Key → List Line → List Line = λ k ls. if is_from_ranking w.phase then ls else [] in
     let applicants = ap (applicants_told db w.phase) listed ∙ map-map (λ k. (k, map (λ (l : Line). l.person) (lines_shown db w.phase k))) project_key own
     ∙ (λ i. map (λ (p : ProjectRow). (p.key, map (λ (l : Line). l.person) (shown p.key (lines_told db p.key i)))) own)
     ∙ (λ i. map (λ (p : ProjectRow). (p.key, persons_shown w p.key i)) own) in
     let placed = ap (placed_told db w.phase) listed ∙ map-map (λ k. (k, placed_among w.phase k (lines_shown db w.phase k))) project_key own
     ∙ (λ i. map (λ (p : ProjectRow). (p.key, placed_among w.phase p.key (shown p.key (lines_told db p.key i)))) own)
-    ∙ (λ i. map (λ (p : ProjectRow). (p.key, placed_shown w good p.key i)) own) in
+    ∙ (λ i. map (λ (p : ProjectRow). (p.key, placed_among_shown w (world_first db) (none_earlier db) good p.key i)) own) in
     let from = lecturer_shown db w.phase row (catalogue w) in
-    (λ i. lecturer_shown db (at_phase i) row (all i)) ∙ (λ i. record from { applicants = applicants i; placed = placed i })
+    (λ i. lecturer_shown db (at_phase i) row (all i)) ∙ (λ i. record from { round = sym (world_first db) i; applicants = applicants i; placed = placed i })

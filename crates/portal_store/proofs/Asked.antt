@@ -24,14 +24,10 @@ use Rattle.portal_tables.specs.Office.{number_of}
 use Rattle.portal_store.specs.World.{world_of}
 use Rattle.portal_store.specs.Kept.{Holds, IsKept}
 use Rattle.portal_tables.proofs.InTurn.{unchanged_then, then_leaves}
-use Rattle.portal_store.specs.Asked.{Asks, IsVersion1, Refutes, Admits}
+use Rattle.portal_tables.specs.Reading.{Asks}
+use Rattle.portal_store.specs.Asked.{IsVersion1, Refutes, Admits}
 use Rattle.portal_store.specs.declared.store.OpenFault.{OpenFault}
 use Rattle.portal_store.specs.declared.store.OpenFault.TheVariants.{NotPortal, OtherVersion, Damaged, Store, Memory}
-
--- one query
-pub asks_of : {V E : Type 0} (r : Result V E) (a b : State) → (IsOwn a.now.schema → HasCleanDisk b → OnOk r (IsUnchanged a b)) → (IsOwn a.now.schema → HasCleanDisk b → OnErr r (Leaves a b))
-    → Survives a b (λ _. IsOwn a.now.schema → ⊥) → Asks r a b
-asks_of r a b same err crash = record { same = same; err = err; crash = crash }
 
 -- after one that answered, another
 pub asks_then : {U D V E : Type 0} (u : U) (r : Result V E) (a b c : State) → Asks {V = U} {E = D} (Ok u) a b → Asks r b c → Asks r a c
@@ -41,13 +37,14 @@ asks_then u r a b c p q =
     record {
       same = λ own clean. let m = middle own clean in on_ok_weaker r (unchanged_then a b c m) (q.same (own_there m own) clean);
       err = λ own clean. let m = middle own clean in on_err_weaker r (then_leaves a b c m) (q.err (own_there m own) clean);
+      mode = λ idle. q.mode (p.mode idle);
       crash = survives_then a b c _ _ _ (λ clean db no. no) (λ clean db no own. no (own_there (middle own clean) own)) p.crash q.crash;
     }
 
 -- the same queries, where an error is answered in the end
 asks_fail : {U D V E : Type 0} (x : Result U D) (e : E) (a b : State) → Asks x a b → Asks {V = V} {E = E} (Err e) a b
-asks_fail (Ok u) e a b h = record { same = λ own clean. tt; err = λ own clean. inl (h.same own clean); crash = h.crash }
-asks_fail (Err d) e a b h = record { same = λ own clean. tt; err = h.err; crash = h.crash }
+asks_fail (Ok u) e a b h = record { same = λ own clean. tt; err = λ own clean. inl (h.same own clean); mode = h.mode; crash = h.crash }
+asks_fail (Err d) e a b h = record { same = λ own clean. tt; err = h.err; mode = h.mode; crash = h.crash }
 
 pub asks_err : {U D V E : Type 0} (x : Result U D) (r : Result V E) (a b : State) → IsErr r → Asks x a b → Asks r a b
 asks_err x (Ok v) a b is h = absurd (cc)
@@ -61,7 +58,7 @@ asks_after {U} {D} x u r a b c is h then = asks_then u r a b c (subst (λ (y : R
 pub asks_so : {U D V E : Type 0} (x : Result U D) (u : U) (r : Result V E) (a b : State) → OnOk r (x ≡ Ok u) → Asks x a b → Asks r a b
 asks_so {U} {D} x u (Ok v) a b is h =
     let there = subst (λ (y : Result U D). Asks y a b) is h in
-    record { same = there.same; err = λ own clean. tt; crash = there.crash }
+    record { same = there.same; err = λ own clean. tt; mode = there.mode; crash = there.crash }
 asks_so x u (Err e) a b is h = asks_fail x e a b h
 
 -- the row of the office

@@ -6,6 +6,7 @@ use Rattle.sqlite.specs.Order.{Row, column, bytes}
 use Rattle.sqlite.specs.Effect.{Database}
 use Rattle.sqlite.specs.State.{State}
 use Rattle.sqlite_trees.specs.Objects.{number_in}
+use Rattle.portal_core.specs.declared.phase.Round.TheVariants.{First}
 use Rattle.portal_core.specs.Words.{Key, is, put_all}
 use Rattle.portal_core.specs.World.{Student, lecturer_key, project_key, student_key}
 use Rattle.portal_core.specs.Change.{changed, Choices, with_choice}
@@ -17,6 +18,7 @@ use Rattle.portal_tables.specs.Changes.{IsApart}
 use Rattle.portal_tables.specs.Steps.{GoesOn}
 use Rattle.portal_tables.proofs.Runs.{goes_more}
 use Rattle.portal_tables.specs.Lists.{of_key, list_of, chosen, IsWhole}
+use Rattle.portal_store.proofs.Still.{apart_kept}
 use Rattle.portal_store.specs.World.{world_of, phase_of, student_of, lecturer_of, project_row, is_ranked}
 use Rattle.portal_tables.specs.Rolls.{row_key}
 use Rattle.portal_tables.specs.Office.{HasOffice}
@@ -72,6 +74,7 @@ module _ (k : Key) (list : List Key) (first now : Database) (put : HasPut choice
       ∙ ap (λ l. put_all student_key l []) (map_alike _ _ (first.trees 6) one ∙ map_twice (with_choice k list) (student_of (first.trees 9)) (first.trees 6))
       ∙ put_all_map student_key student_key (with_choice k list) (same_key k list) (map (student_of (first.trees 9)) (first.trees 6)) [] in
       λ i. record {
+        round = First;
         phase = phase_of (number_in (column (slice_index_or (portal i) 0 []) 3));
         office = bytes (column (slice_index_or (portal i) 0 []) 4);
         lecturers = put_all lecturer_key (map (lecturer_of (rankings i)) (lecturers i)) [];
@@ -93,16 +96,7 @@ module _ (k : Key) (list : List Key) (first now : Database) (put : HasPut choice
   choice_holds was = record {
     own = subst IsOwn (sym put.schema_is) was.own;
     sound = put.sound;
-    apart = (
-      subst IsApart (sym portal) was.apart.0,
-      (
-        subst IsApart (sym lecturers) was.apart.1.0,
-        (
-          subst IsApart (sym projects) was.apart.1.1.0,
-          (subst IsApart (sym students) was.apart.1.1.1.0, (put.apart, (subst IsApart (sym rankings) was.apart.1.1.1.1.1.0, tt))),
-        ),
-      ),
-    );
+    apart = apart_kept choice_tree first now put.tables put.apart was.apart;
     office = subst HasOffice (sym portal) was.office;
     whole = choice_whole was.whole;
   }

@@ -16,27 +16,27 @@ use Rattle.spa_model.specs.Spa.{IsStable, IsOn, place}
 use Rattle.spa_model.proofs.Numbers.{number_is}
 use Rattle.portal_core.specs.Form.{is_code}
 use Rattle.portal_core.specs.Good.{Good, IsLecturer, IsProject, IsStudent, IsChoice, IsRanking}
-use Rattle.portal_core.specs.Instance.{instance, matching_of, project_keys}
+use Rattle.portal_core.specs.Instance.{instance_of, places_of, project_keys}
 use Rattle.portal_core.specs.declared.rows.ProjectRow.{ProjectRow}
 use Rattle.portal_core.specs.Words.{Key, is, has, Rise}
 use Rattle.portal_core.specs.World.{World, Lecturer, Student, lecturer_key, project_key, student_key, applicants_of, is_published}
 use Rattle.portal_core.proofs.AllLaws.{all_weaker, all_map, all_both}
 use Rattle.portal_core.proofs.Keys.{is_same, is_own, all_unmap}
 use Rattle.portal_core.proofs.Only.{on_roll}
+use Rattle.portal_core.proofs.Capacities.{first_plays}
+use Rattle.portal_core.specs.declared.phase.Round.TheVariants.{First}
 use Rattle.portal_tables.specs.Tables.{lecturer_tree, project_tree, student_tree, choice_tree, ranking_tree}
-use Rattle.portal_tables.specs.declared.entries.Lists.TheVariants.{Choices, Rankings}
-use Rattle.portal_tables.specs.Rolls.{row_key, by_key, RollsRise, lecturers_shown, projects_shown, students_shown}
+use Rattle.portal_tables.specs.declared.list_table.Lists.TheVariants.{Choices, Rankings}
+use Rattle.portal_tables.specs.Rolls.{row_key, by_key, RollsRise, lecturers_shown, projects_shown, students_shown, lecturer_columns, roll_columns}
 use Rattle.portal_store.specs.World.{world_of, is_ranked, lecturer_row, student_row, lecturer_of, project_row, student_of}
 use Rattle.portal_tables.specs.Lists.{of_key, chosen, list_of, IsWhole}
 use Rattle.portal_store.specs.Kept.{Stands}
 use Rattle.portal_tables.specs.Shown.{shown_lecturer, shown_project, shown_student, HasPlace}
 use Rattle.portal_tables.specs.Owners.{IsFine}
 use Rattle.portal_tables.specs.Contents.{AreFine}
-use Rattle.portal_tables.proofs.Choosers.{all_filtered}
-use Rattle.portal_tables.proofs.Owners.{lecturer_columns, roll_columns}
-use Rattle.portal_store.proofs.Loaded.{lecturers_are, projects_are, students_are}
+use Rattle.portal_store.proofs.Loaded.{lecturers_are, projects_are, students_are, world_first}
 use Rattle.portal_tables.proofs.Sorted.{all_permuted, all_two, permutes}
-use Rattle.sqlite_trees.proofs.ListLemmas.{map-map}
+use Rattle.sqlite_trees.proofs.ListLemmas.{map-map, all-filter}
 
 abbrev IsKey : Key → Type 0
 IsKey k = is_key k ≡ true
@@ -57,8 +57,14 @@ numbered (x ∷ xs) all k low =
       | false ↦ λ e f. numbered xs all.1 k (omega (arith, f))
     ]) refl low
 
--- in a good world whatever is told of a student is a key
-module _ (w : World) (good : Good w) where
+-- in a good world of the first round whatever is told of a student is a key
+module _ (w : World) (one : w.round ≡ First) (good : Good w) where
+  known_choices : AllByRecursion (λ s. IsChoice (project_keys w) s.choice) w.students
+  known_choices = subst (λ u. AllByRecursion (λ s. IsChoice (project_keys u) s.choice) w.students) (first_plays w one) good.sound.choices
+
+  stable : is_published w.phase ≡ true → IsStable (instance_of w) (places_of w)
+  stable so = subst (λ u. IsStable (instance_of u) (places_of u)) (first_plays w one) (good.stable so)
+
   known_projects : AllByRecursion IsKey (project_keys w)
   known_projects = all_map IsKey project_key w.projects (all_weaker IsProject (λ p. IsKey (project_key p)) (λ p x. x.key) w.projects good.sound.project_forms)
 
@@ -68,11 +74,11 @@ module _ (w : World) (good : Good w) where
   abbrev place_of : Student → Option ℕ
   place_of s = option_map (number_in (project_keys w)) s.placed
 
-  is_placed : IsStable (instance w) (matching_of w) → (i : ℕ) (d : Student) → i < length w.students → (o : Option Key) → (get_or w.students i d).placed ≡ o → IfSome o IsKey
-  is_placed stable i d low None e = tt
-  is_placed stable i d low (Some p) e =
-      let here : get_or (matching_of w) i None ≡ Some (number_in (project_keys w) p) = get_or-map place_of w.students i d None low ∙ ap (option_map (number_in (project_keys w))) e in
-      numbered (project_keys w) known_projects p (on_roll (project_keys w) w.students good.sound.choices i (number_in (project_keys w) p) (stable.matching.acceptable i (number_in (project_keys w) p) here))
+  is_placed : IsStable (instance_of w) (places_of w) → (i : ℕ) (d : Student) → i < length w.students → (o : Option Key) → (get_or w.students i d).placed ≡ o → IfSome o IsKey
+  is_placed held i d low None e = tt
+  is_placed held i d low (Some p) e =
+      let here : get_or (places_of w) i None ≡ Some (number_in (project_keys w) p) = get_or-map place_of w.students i d None low ∙ ap (option_map (number_in (project_keys w))) e in
+      numbered (project_keys w) known_projects p (on_roll (project_keys w) w.students known_choices i (number_in (project_keys w) p) (held.matching.acceptable i (number_in (project_keys w) p) here))
 
   -- a number on a list of known keys is that of a key on it
   listed : (choice : List Key) (k : Key) → number_in (project_keys w) k < length (project_keys w) → IsOn (map (number_in (project_keys w)) choice) (number_in (project_keys w) k) → has choice k ≡ true
@@ -87,32 +93,32 @@ module _ (w : World) (good : Good w) where
         | false ↦ λ e f. ap (λ b. is k c || b) (listed cs k low (omega arith)) ∙ or-true (is k c)
       ]) refl on
 
-  is_listed : IsStable (instance w) (matching_of w) → (i : ℕ) (d : Student) → i < length w.students → (o : Option Key) → (get_or w.students i d).placed ≡ o → IfSome o (λ p. has (get_or w.students i d).choice p ≡ true)
-  is_listed stable i d low None e = tt
-  is_listed stable i d low (Some p) e =
-      let here : get_or (matching_of w) i None ≡ Some (number_in (project_keys w) p) = get_or-map place_of w.students i d None low ∙ ap (option_map (number_in (project_keys w))) e in
-      let on = stable.matching.acceptable i (number_in (project_keys w) p) here in
-      listed (get_or w.students i d).choice p (on_roll (project_keys w) w.students good.sound.choices i (number_in (project_keys w) p) on)
+  is_listed : IsStable (instance_of w) (places_of w) → (i : ℕ) (d : Student) → i < length w.students → (o : Option Key) → (get_or w.students i d).placed ≡ o → IfSome o (λ p. has (get_or w.students i d).choice p ≡ true)
+  is_listed held i d low None e = tt
+  is_listed held i d low (Some p) e =
+      let here : get_or (places_of w) i None ≡ Some (number_in (project_keys w) p) = get_or-map place_of w.students i d None low ∙ ap (option_map (number_in (project_keys w))) e in
+      let on = held.matching.acceptable i (number_in (project_keys w) p) here in
+      listed (get_or w.students i d).choice p (on_roll (project_keys w) w.students known_choices i (number_in (project_keys w) p) on)
       (subst (λ l. IsOn l (number_in (project_keys w) p)) (get_or-map (λ (s : Student). map (number_in (project_keys w)) s.choice) w.students i d [] low) on)
 
   -- who is placed has the project on the list
   pub placed_listed : AllByRecursion (λ s. IfSome s.placed (λ p. has s.choice p ≡ true)) w.students
   placed_listed = elim (cases_Bool (is_published w.phase)) [
-    | inl so ↦ recursion_from_All (λ s. IfSome s.placed (λ p. has s.choice p ≡ true)) w.students (λ i d low. is_listed (good.stable so) i d low (get_or w.students i d).placed refl)
+    | inl so ↦ recursion_from_All (λ s. IfSome s.placed (λ p. has s.choice p ≡ true)) w.students (λ i d low. is_listed (stable so) i d low (get_or w.students i d).placed refl)
     | inr other ↦ all_weaker (λ s. s.placed ≡ None) (λ s. IfSome s.placed (λ p. has s.choice p ≡ true)) (λ s e. subst (λ o. IfSome o (λ p. has s.choice p ≡ true)) (sym e) tt) w.students (good.sound.no_result_yet other)
   ]
 
   pub placed_keys : AllByRecursion (λ s. IfSome s.placed IsKey) w.students
   placed_keys = elim (cases_Bool (is_published w.phase)) [
-    | inl so ↦ recursion_from_All (λ s. IfSome s.placed IsKey) w.students (λ i d low. is_placed (good.stable so) i d low (get_or w.students i d).placed refl)
+    | inl so ↦ recursion_from_All (λ s. IfSome s.placed IsKey) w.students (λ i d low. is_placed (stable so) i d low (get_or w.students i d).placed refl)
     | inr other ↦ all_weaker (λ s. s.placed ≡ None) (λ s. IfSome s.placed IsKey) (λ s e. subst (λ o. IfSome o IsKey) (sym e) tt) w.students (good.sound.no_result_yet other)
   ]
 
   pub choice_keys : AllByRecursion (λ s. AllByRecursion IsKey s.choice) w.students
-  choice_keys = all_weaker (λ s. IsChoice (project_keys w) s.choice) (λ s. AllByRecursion IsKey s.choice) (λ s x. all_weaker (λ p. has (project_keys w) p ≡ true) IsKey (λ p known. among (project_keys w) known_projects p known) s.choice x.known) w.students good.sound.choices
+  choice_keys = all_weaker (λ s. IsChoice (project_keys w) s.choice) (λ s. AllByRecursion IsKey s.choice) (λ s x. all_weaker (λ p. has (project_keys w) p ≡ true) IsKey (λ p known. among (project_keys w) known_projects p known) s.choice x.known) w.students known_choices
 
   applicant_keys : (l : Key) → AllByRecursion IsKey (map student_key (applicants_of w l))
-  applicant_keys l = all_map IsKey student_key (applicants_of w l) (all_filtered (λ s. IsKey (student_key s)) _ w.students known_students)
+  applicant_keys l = all_map IsKey student_key (applicants_of w l) (all-filter (λ s. IsKey (student_key s)) _ w.students known_students)
 
   ranked_keys : (l : Key) (o : Option (List Key)) → IfSome o (IsRanking (map student_key (applicants_of w l))) → IfSome o (AllByRecursion IsKey)
   ranked_keys l None h = tt
@@ -167,8 +173,8 @@ module _ (db : Trees) (stands : Stands db) where
       let good = stands.good in
       let lecturers = of_lecturers (λ l. IsLecturer l.row) good.sound.lecturer_forms in
       let students = of_students (λ s. IsStudent s.row) good.sound.student_forms in
-      let choices = of_students (λ s. AllByRecursion IsKey s.choice) (choice_keys w good) in
-      let rankings = of_lecturers (λ l. IfSome l.ranking (AllByRecursion IsKey)) (ranking_keys w good) in
+      let choices = of_students (λ s. AllByRecursion IsKey s.choice) (choice_keys w (world_first db) good) in
+      let rankings = of_lecturers (λ l. IfSome l.ranking (AllByRecursion IsKey)) (ranking_keys w (world_first db) good) in
       let whole_choices = in_order _ (db student_tree) stands.whole.choices in
       let whole_rankings = in_order _ (db lecturer_tree) stands.whole.rankings in
       let ranked = in_order _ (db lecturer_tree) stands.whole.ranked in
@@ -178,7 +184,7 @@ module _ (db : Trees) (stands : Stands db) where
         lecturer_forms = all_map (λ c. IsLecturer (shown_lecturer c)) lecturer_columns L lecturers;
         project_forms = all_map (λ c. IsProject (shown_project c)) roll_columns (by_key (db project_tree)) (of_projects IsProject good.sound.project_forms);
         student_forms = all_map (λ c. IsStudent (shown_student c)) roll_columns S students;
-        places = all_map HasPlace roll_columns S (of_students (λ s. IfSome s.placed IsKey) (placed_keys w good));
+        places = all_map HasPlace roll_columns S (of_students (λ s. IfSome s.placed IsKey) (placed_keys w (world_first db) good));
         choices = all_map (IsFine Choices db) roll_columns S (all_two (λ r. IsStudent (student_row r) × AllByRecursion IsKey (chosen (db choice_tree) (row_key r))) (λ r. IsWhole (of_key (row_key r) (db choice_tree))) (λ r. IsFine Choices db (roll_columns r)) fine_choice S
             (all_both (λ r. IsStudent (student_row r)) (λ r. AllByRecursion IsKey (chosen (db choice_tree) (row_key r))) S students choices) whole_choices);
         rankings = all_map (IsFine Rankings db) lecturer_columns L (all_two (λ r. IsLecturer (lecturer_row r) × IfSome (lecturer_of (db ranking_tree) r).ranking (AllByRecursion IsKey))

@@ -7,6 +7,7 @@ use Rattle.sqlite.specs.Store.{Ghosts}
 use Rattle.sqlite.specs.Held.{Held, state}
 use Rattle.sqlite_trees.specs.Objects.{number_in}
 use Rattle.portal_core.specs.declared.phase.Phase.TheVariants.{Setup}
+use Rattle.portal_core.specs.declared.phase.Round.TheVariants.{First}
 use Rattle.portal_core.specs.Form.{is_code}
 use Rattle.portal_core.specs.Words.{Key, put_all}
 use Rattle.portal_core.specs.World.{lecturer_key, project_key, student_key}
@@ -46,6 +47,7 @@ module _ (office : Key) (db : Database) (f : IsFresh office db) where
   pub first_is : world_of db.trees ≡ first_world office
   unfolding world_of
   first_is = λ i. record {
+    round = First;
     phase = phase_of (number_in (column (slice_index_or (f.row i) 0 []) 3));
     office = bytes (column (slice_index_or (f.row i) 0 []) 4);
     lecturers = put_all lecturer_key (map (lecturer_of (db.trees 12)) (lecturers i)) [];

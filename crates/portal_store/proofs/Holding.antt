@@ -8,6 +8,7 @@ use Rattle.sqlite.specs.Effect.{Database}
 use Rattle.sqlite_trees.specs.Objects.{number_in}
 use Rattle.portal_core.specs.declared.phase.Phase.{Phase}
 use Rattle.portal_core.specs.declared.phase.Phase.TheVariants.{Setup, Choosing, Ranking, Published}
+use Rattle.portal_core.specs.declared.phase.Round.TheVariants.{First}
 use Rattle.portal_core.specs.Words.{put_all}
 use Rattle.portal_core.specs.World.{lecturer_key, project_key, student_key}
 use Rattle.portal_core.specs.Change.{To}
@@ -21,6 +22,7 @@ use Rattle.portal_tables.specs.Lists.{of_key, IsWhole}
 use Rattle.portal_tables.specs.Lines.{HasTables}
 use Rattle.portal_tables.specs.Office.{number_of}
 use Rattle.portal_tables.specs.Rolls.{row_key}
+use Rattle.portal_store.proofs.Still.{apart_kept}
 use Rattle.portal_store.specs.World.{world_of, phase_of, is_ranked, office_row, lecturer_of, project_row, student_of}
 
 -- the lists are whole where the four tables are as they were
@@ -58,14 +60,12 @@ phase_turned phase old new was moves =
       holds = record {
         own = subst IsOwn (sym done.schema_is) was.own;
         sound = done.sound;
-        apart = (
-          apart_one (new.trees portal_tree) (portal_row (pos 1) (pos (number_of phase)) was.office.office) (pos 1) refl done.rows,
-          (subst IsApart (sym lecturers) a.1.0, (subst IsApart (sym projects) a.1.1.0, (subst IsApart (sym students) a.1.1.1.0, (subst IsApart (sym choices) a.1.1.1.1.0, (subst IsApart (sym rankings) a.1.1.1.1.1.0, tt))))),
-        );
+        apart = apart_kept portal_tree old new done.others (apart_one (new.trees portal_tree) (portal_row (pos 1) (pos (number_of phase)) was.office.office) (pos 1) refl done.rows) was.apart;
         office = record { phase = phase; office = was.office.office; is = done.rows };
         whole = whole_same old.trees new.trees lecturers students choices rankings was.whole;
       };
       world = λ i. record {
+        round = First;
         phase = there i;
         office = named i;
         lecturers = put_all lecturer_key (map (lecturer_of (rankings i)) (lecturers i)) [];

@@ -9,6 +9,7 @@ pub mod Filled
 pub mod Fine
 pub mod First
 pub mod Holding
+pub mod InFirst
 pub mod Keeps
 pub mod Loaded
 pub mod OfficeSeen
@@ -17,3 +18,4 @@ pub mod Queried
 pub mod RankTurns
 pub mod Remembered
 pub mod RowsOnce
+pub mod Still

@@ -2,23 +2,24 @@
 use Rattle.std.proofs.Common.{◌≡◌, pos, Bool, true, false, cond, Ok, Err, Result, Option, Some, None, option_map, List, [], ◌∷◌, map, refl, sym, ap, subst, ◌∙◌}
 use Rattle.std.specs.Result.{IsErrAnd}
 use Rattle.std.specs.Prelude.{slice_index_or}
-use Rattle.std.specs.List.{AllByRecursion, filter_map}
+use Rattle.std.specs.List.{AllByRecursion, filter_map, cons_option}
 use Rattle.std.proofs.lemmas.List.Sorted.{IsPermutation-sym}
 use Rattle.sqlite.specs.Order.{Row, column, bytes}
 use Rattle.sqlite.specs.Tree.{Trees}
 use Rattle.sqlite_trees.specs.Objects.{number_in}
 use Rattle.sqlite_trees.proofs.ListLemmas.{map-map}
 use Rattle.portal_core.specs.declared.phase.Phase.{Phase}
+use Rattle.portal_core.specs.declared.phase.Round.TheVariants.{First}
 use Rattle.portal_core.specs.Words.{Key, put_all}
-use Rattle.portal_core.specs.World.{Lecturer, Student, lecturer_key, project_key, student_key}
+use Rattle.portal_core.specs.World.{Lecturer, Student, alone, alone_lecturer, alone_student, lecturer_key, project_key, student_key}
 use Rattle.portal_core.proofs.AllLaws.{all_weaker}
 use Rattle.portal_core.proofs.Keys.{all_unmap}
 use Rattle.portal_list.specs.Rows.{Rows, rows_of}
 use Rattle.portal_tables.specs.Tables.{portal_tree, lecturer_tree, project_tree, student_tree, choice_tree, ranking_tree}
 use Rattle.portal_tables.specs.Rows.{portal_row}
-use Rattle.portal_tables.specs.declared.entries.Lists.TheVariants.{Choices, Rankings}
+use Rattle.portal_tables.specs.declared.list_table.Lists.TheVariants.{Choices, Rankings}
 use Rattle.portal_tables.specs.Office.{number_of}
-use Rattle.portal_tables.specs.Rolls.{row_key, by_key, lecturers_shown, projects_shown, students_shown}
+use Rattle.portal_tables.specs.Rolls.{row_key, by_key, lecturers_shown, projects_shown, students_shown, lecturer_columns, roll_columns}
 use Rattle.portal_store.specs.World.{world_of, phase_of, is_ranked, lecturer_of, project_row, student_of}
 use Rattle.portal_tables.specs.Lists.{of_key, chosen, IsWhole}
 use Rattle.portal_store.specs.Kept.{Whole}
@@ -26,8 +27,6 @@ use Rattle.portal_store.specs.Loads.{Loads}
 use Rattle.portal_tables.specs.Shown.{shown_lecturer, shown_project, shown_student, shown_pair}
 use Rattle.portal_tables.specs.Owners.{entry, IsRead}
 use Rattle.portal_tables.specs.Contents.{AllRows, AreRead, rows_from}
-use Rattle.portal_tables.proofs.Listed.{some_mapped, some_alike}
-use Rattle.portal_tables.proofs.Owners.{lecturer_columns, roll_columns}
 use Rattle.portal_tables.proofs.Sorted.{all_permuted, permutes, put_all_map}
 use Rattle.portal_store.proofs.Holding.{phase_back}
 
@@ -35,6 +34,7 @@ use Rattle.portal_store.proofs.Holding.{phase_back}
 abbrev pub with_office : Phase → Key → AllRows → Rows
 with_office phase code rows =
     record {
+      round = First;
       phase = phase;
       office = code;
       lecturers = rows.lecturers;
@@ -43,11 +43,26 @@ with_office phase code rows =
       choices = rows.choices;
       rankings = rows.rankings;
       pairs = rows.pairs;
+      earlier_choices = [];
+      earlier_rankings = [];
+      earlier_pairs = [];
     }
+
+pub some_mapped : {X Y Z : Type 0} (f : Y → Option Z) (g : X → Y) (xs : List X) → filter_map f (map g xs) ≡ filter_map (λ x. f (g x)) xs
+some_mapped f g [] = refl
+some_mapped f g (x ∷ xs) = ap (cons_option (f (g x))) (some_mapped f g xs)
+
+pub some_alike : {X Z : Type 0} (f g : X → Option Z) (xs : List X) → ((x : X) → f x ≡ g x) → filter_map f xs ≡ filter_map g xs
+some_alike f g [] h = refl
+some_alike f g (x ∷ xs) h = λ i. cons_option (h x i) (some_alike f g xs h i)
 
 each_some : {X Z : Type 0} (f : X → Z) (xs : List X) → filter_map (λ x. Some (f x)) xs ≡ map f xs
 each_some f [] = refl
 each_some f (x ∷ xs) = ap (λ l. f x ∷ l) (each_some f xs)
+
+none_some : {X Z : Type 0} (f : X → Option Z) (xs : List X) → ((x : X) → f x ≡ None) → filter_map f xs ≡ []
+none_some f [] none = refl
+none_some f (x ∷ xs) none = (λ i. cons_option (none x i) (filter_map f xs)) ∙ none_some f xs none
 
 ranked_pair : (b : Bool) (key : Key) (list : List Key) → cond {A = Option (Key × List Key)} b (Some (key, list)) None ≡ option_map (λ l. (key, l)) (cond b (Some list) None)
 ranked_pair true key list = refl
@@ -69,11 +84,29 @@ module _ (db : Trees) where
   pub students_are : put_all student_key (map (student_of (db choice_tree)) (db student_tree)) [] ≡ map (student_of (db choice_tree)) by_student
   students_are = put_all_map row_key student_key (student_of (db choice_tree)) (λ r. refl) (db student_tree) []
 
+  -- nothing was before
+  pub world_alone : alone (world_of db) ≡ world_of db
+  unfolding world_of
+  world_alone = λ i. record (world_of db) {
+    lecturers = (ap (map alone_lecturer) lecturers_are ∙ map-map alone_lecturer (lecturer_of (db ranking_tree)) by_lecturer ∙ sym lecturers_are) i;
+    students = (ap (map alone_student) students_are ∙ map-map alone_student (student_of (db choice_tree)) by_student ∙ sym students_are) i;
+  }
+
+  pub world_first : (world_of db).round ≡ First
+  unfolding world_of
+  world_first = refl
+
   abbrev ranking_entry : Lecturer → Option (Key × List Key)
   ranking_entry l = option_map (λ list. (l.row.key, list)) l.ranking
 
   abbrev placed_pair : Student → Option (Key × Key)
   placed_pair s = option_map (λ p. (s.row.key, p)) s.placed
+
+  abbrev earlier_entry : Lecturer → Option (Key × List Key)
+  earlier_entry l = option_map (λ list. (l.row.key, list)) l.earlier_ranking
+
+  abbrev earlier_pair : Student → Option (Key × Key)
+  earlier_pair s = option_map (λ p. (s.row.key, p)) s.earlier_place
 
   pub rows_are : (phase : Phase) (code : Key) → db portal_tree ≡ portal_row (pos 1) (pos (number_of phase)) code ∷ []
       → with_office phase code (rows_from db (lecturers_shown db) (projects_shown db) (students_shown db)) ≡ rows_of (world_of db)
@@ -90,7 +123,12 @@ module _ (db : Trees) where
       ∙ some_alike (λ r. entry Rankings db (lecturer_columns r)) (λ r. ranking_entry (lecturer_of (db ranking_tree) r)) by_lecturer (λ r. ranked_pair (is_ranked r) (row_key r) (chosen (db ranking_tree) (row_key r)))
       ∙ sym (ap (filter_map ranking_entry) lecturers_are ∙ some_mapped ranking_entry (lecturer_of (db ranking_tree)) by_lecturer) in
       let pairs = some_mapped shown_pair roll_columns by_student ∙ sym (ap (filter_map placed_pair) students_are ∙ some_mapped placed_pair (student_of (db choice_tree)) by_student) in
+      let earlier_rankings : filter_map earlier_entry (put_all lecturer_key (map (lecturer_of (db ranking_tree)) (db lecturer_tree)) []) ≡ [] =
+      ap (filter_map earlier_entry) lecturers_are ∙ some_mapped earlier_entry (lecturer_of (db ranking_tree)) by_lecturer ∙ none_some (λ r. earlier_entry (lecturer_of (db ranking_tree) r)) by_lecturer (λ r. refl) in
+      let earlier_pairs : filter_map earlier_pair (put_all student_key (map (student_of (db choice_tree)) (db student_tree)) []) ≡ [] =
+      ap (filter_map earlier_pair) students_are ∙ some_mapped earlier_pair (student_of (db choice_tree)) by_student ∙ none_some (λ r. earlier_pair (student_of (db choice_tree) r)) by_student (λ r. refl) in
       λ i. record {
+        round = First;
         phase = phase_is i;
         office = code_is i;
         lecturers = lecturers i;
@@ -99,6 +137,9 @@ module _ (db : Trees) where
         choices = choices i;
         rankings = rankings i;
         pairs = pairs i;
+        earlier_choices = [];
+        earlier_rankings = sym earlier_rankings i;
+        earlier_pairs = sym earlier_pairs i;
       }
 
   -- what was found of the rows in their order holds of the table

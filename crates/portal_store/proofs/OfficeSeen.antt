@@ -10,41 +10,42 @@ use Rattle.sqlite.specs.Order.{Row, column, bytes, value_cmp}
 use Rattle.sqlite.specs.Tree.{Trees}
 use Rattle.sqlite.specs.Effect.{Database}
 use Rattle.sqlite.specs.declared.types.Value.TheVariants.{Int}
-use Rattle.sqlite_trees.proofs.ListLemmas.{filter-map, map-map}
+use Rattle.sqlite_trees.proofs.ListLemmas.{filter-map, map-map, all-filter, all_of}
 use Rattle.sqlite_trees.specs.Objects.{number_in}
 use Rattle.portal_core.specs.declared.phase.Phase.{Phase}
 use Rattle.portal_core.specs.declared.rows.Listing.{Listing}
 use Rattle.portal_core.specs.Words.{Key, is, has, is_empty}
-use Rattle.portal_core.specs.World.{World, Lecturer, Student, student_key, is_still_to_rank, is_from_ranking, is_published}
+use Rattle.portal_core.specs.World.{World, Lecturer, Student, student_key, is_still_to_rank, is_from_ranking, is_published, pairs_of}
 use Rattle.portal_core.specs.View.{catalogue, office_sees}
 use Rattle.portal_core.proofs.AllLaws.{all_weaker, any_nowhere, is_sym, all_map, filtered_any, any_map}
 use Rattle.portal_core.proofs.Kept.{empty_map}
+use Rattle.portal_core.proofs.Capacities.{first_plays}
 use Rattle.portal_list.specs.Rows.{Rows, rows_of}
 use Rattle.portal_list.specs.Shown.{is_wanted, is_waiting}
 use Rattle.portal_list.proofs.Waiting.{waiting_lecturers}
 use Rattle.portal_list.proofs.Members.{has_all}
+use Rattle.portal_tables.specs.declared.list_table.Lists.TheVariants as which
 use Rattle.portal_tables.specs.Tables.{portal_tree, lecturer_tree, student_tree, choice_tree, ranking_tree}
 use Rattle.portal_tables.specs.Rows.{portal_row}
 use Rattle.portal_tables.proofs.Lists.{eq_self}
 use Rattle.portal_tables.specs.Changes.{ListsBy, columns, has_text, has_number}
 use Rattle.portal_store.specs.Kept.{Holds}
 use Rattle.portal_tables.specs.Office.{number_of}
-use Rattle.portal_tables.specs.Rolls.{row_key, by_key, lecturers_shown, projects_shown, students_shown}
+use Rattle.portal_tables.specs.Rolls.{row_key, by_key, lecturers_shown, projects_shown, students_shown, lecturer_columns, roll_columns}
 use Rattle.portal_store.specs.World.{world_of, is_ranked, lecturer_of, student_of}
 use Rattle.portal_tables.specs.Lists.{chosen, of_key, place_of, place_key, named_by, by_place, CountUp, IsWhole}
-use Rattle.portal_tables.specs.Shown.{first, shown_project}
+use Rattle.portal_tables.specs.Shown.{first, shown_project, shown_pair}
 use Rattle.portal_tables.specs.Contents.{rows_from}
 use Rattle.portal_store.specs.Queried.{unlisted, waiting_key, office_from}
 use Rattle.portal_store.proofs.Applying.{choosers}
 use Rattle.portal_store.proofs.Holding.{has_tables}
-use Rattle.portal_tables.proofs.Choosers.{all_filtered, any_alike, named_where, choosers_known as shown_known}
-use Rattle.portal_tables.proofs.Listed.{for_each, some_mapped}
-use Rattle.portal_tables.proofs.Owners.{lecturer_columns, roll_columns}
-use Rattle.portal_store.proofs.Loaded.{lecturers_are, students_are, rows_are, with_office}
-use Rattle.portal_tables.proofs.Parents.{choice_parents, none_of}
+use Rattle.portal_tables.proofs.Choosers.{any_alike, named_where, choosers_known as shown_known}
+use Rattle.portal_store.proofs.Loaded.{lecturers_are, students_are, rows_are, with_office, world_first, some_mapped}
+use Rattle.portal_store.proofs.InFirst.{none_earlier, pairs_shown}
+use Rattle.portal_tables.proofs.Parents.{place_parents, none_of}
 use Rattle.portal_tables.proofs.Sorted.{permutes, all_permuted}
 use Rattle.portal_tables.proofs.OneFound.{filter_alike}
-use Rattle.portal_tables.proofs.Shapes.{IsChoiceRow, choice_rows_formed, has_text_of}
+use Rattle.portal_tables.proofs.Shapes.{IsPlace, place_rows_formed, has_text_of}
 
 -- somebody names the project
 
@@ -85,19 +86,19 @@ module _ (db : Database) (holds : Holds db) (p : Key) (shown : List Row) (lists 
 every_whole : (db : Database) → Holds db → (k : Key) → IsWhole (of_key k (db.trees choice_tree))
 every_whole db holds k = elim (cases_Bool (has (map row_key (db.trees student_tree)) k)) [
   | inl known ↦ has_all (λ k. IsWhole (of_key k (db.trees choice_tree))) (map row_key (db.trees student_tree)) k (all_map (λ k. IsWhole (of_key k (db.trees choice_tree))) row_key (db.trees student_tree) holds.whole.choices) known
-  | inr off ↦ subst IsWhole (sym (none_of _ (db.trees student_tree) k (db.trees choice_tree) (choice_parents db holds.own holds.sound holds.apart.1.1.1.1.0) off)) tt
+  | inr off ↦ subst IsWhole (sym (none_of _ (db.trees student_tree) k (db.trees choice_tree) (place_parents db holds.own holds.sound which.Choices holds.apart.1.1.1.1.0) off)) tt
 ]
 
 one_is : (place : ℤ) → number_in (Int place) ≡ 1 → is_eq (value_cmp (Int place) (Int (pos 1))) ≡ true
 one_is (pos n) e = ap (λ m. is_eq (value_cmp (Int (pos m)) (Int (pos 1)))) e ∙ eq_self (Int (pos 1))
 one_is (negsuc n) e = cc
 
-is_first : (r : Row) → IsChoiceRow r → place_of r ≡ 1 → has_number 2 1 r ≡ true
+is_first : (r : Row) → IsPlace r → place_of r ≡ 1 → has_number 2 1 r ≡ true
 is_first r x e =
     ap (λ s. is_eq (value_cmp (column s 2) (Int (pos 1)))) x.is ∙ one_is x.place (sym (ap place_of x.is) ∙ e)
 
 -- rows with the places 1, 2 and so on begin with the first, if there are any
-begins : (rows : List Row) → AllByRecursion IsChoiceRow rows → CountUp 1 (map place_of rows) → list_any (has_number 2 1) rows ≡ not (is_empty (map named_by rows))
+begins : (rows : List Row) → AllByRecursion IsPlace rows → CountUp 1 (map place_of rows) → list_any (has_number 2 1) rows ≡ not (is_empty (map named_by rows))
 begins [] shapes up = refl
 begins (r ∷ rs) shapes up = ap (λ b. b || list_any (has_number 2 1) rs) (is_first r shapes.0 up.0)
 
@@ -105,13 +106,13 @@ module _ (db : Database) (holds : Holds db) (shown : List Row) (lists : ListsBy 
   abbrev table : List Row
   table = db.trees choice_tree
 
-  formed : AllByRecursion IsChoiceRow table
-  formed = choice_rows_formed db holds.own holds.sound holds.apart.1.1.1.1.0
+  formed : AllByRecursion IsPlace table
+  formed = place_rows_formed db holds.own holds.sound which.Choices holds.apart.1.1.1.1.0
 
-  alike : (k : Key) (r : Row) → IsChoiceRow r → (has_number 2 1 r && is k (row_key r)) ≡ (has_text 1 k r && has_number 2 1 r)
+  alike : (k : Key) (r : Row) → IsPlace r → (has_number 2 1 r && is k (row_key r)) ≡ (has_text 1 k r && has_number 2 1 r)
   alike k r x =
-      let by : has_text 1 k r ≡ is x.student k = has_text_of 1 k r x.student (ap (λ s. column s 1) x.is) in
-      let key : is k (row_key r) ≡ is x.student k = ap (λ s. is k (bytes (column s 1))) x.is ∙ is_sym k x.student in
+      let by : has_text 1 k r ≡ is x.owner k = has_text_of 1 k r x.owner (ap (λ s. column s 1) x.is) in
+      let key : is k (row_key r) ≡ is x.owner k = ap (λ s. is k (bytes (column s 1))) x.is ∙ is_sym k x.owner in
       ap (λ b. has_number 2 1 r && b) (key ∙ sym by) ∙ and_comm (has_number 2 1 r) (has_text 1 k r)
 
   -- a key is shown where it has a list
@@ -119,10 +120,10 @@ module _ (db : Database) (holds : Holds db) (shown : List Row) (lists : ListsBy 
   lister k =
       let mine : List Row = of_key k table in
       named_where (has_number 2 1) table shown lists k
-      ∙ any_alike _ _ table (all_weaker IsChoiceRow _ (alike k) table formed)
+      ∙ any_alike _ _ table (all_weaker IsPlace _ (alike k) table formed)
       ∙ sym (filtered_any (has_number 2 1) (has_text 1 k) table)
       ∙ list_any-IsPermutation (has_number 2 1) mine (by_place mine) (permutes place_key mine)
-      ∙ begins (by_place mine) (all_permuted IsChoiceRow mine (by_place mine) (permutes place_key mine) (all_filtered IsChoiceRow (has_text 1 k) table formed)) (every_whole db holds k)
+      ∙ begins (by_place mine) (all_permuted IsPlace mine (by_place mine) (permutes place_key mine) (all-filter IsPlace (has_text 1 k) table formed)) (every_whole db holds k)
 
   twice : (b : Bool) → not (not b) ≡ b
   twice true = refl
@@ -131,7 +132,7 @@ module _ (db : Database) (holds : Holds db) (shown : List Row) (lists : ListsBy 
   pub unlisted_are : (students : List Row) → map first (filter (λ c. not (has (map first shown) (first c))) students) ≡ unlisted db.trees students
   unlisted_are students =
       ap (map first) (filter_alike (λ c. not (has (map first shown) (first c))) (λ c. is_empty (chosen table (first c))) students
-      (for_each _ students (λ c. ap not (lister (first c)) ∙ twice (is_empty (chosen table (first c))))))
+      (all_of _ (λ c. ap not (lister (first c)) ∙ twice (is_empty (chosen table (first c)))) students))
 
 -- the parts of what is seen
 
@@ -173,11 +174,14 @@ pub office_told : (db : Trees) (phase : Phase) (code : Key) (offers : List Listi
 office_told db phase code offers office listed =
     let w = world_of db in
     let same : with_office phase code (rows_from db (lecturers_shown db) (projects_shown db) (students_shown db)) ≡ rows_of w = rows_are db phase code office in
-    let without = unlisted_told db in
+    let without = unlisted_told db ∙ ap (λ (u : World). map (λ (s : Student). s.row.key) (filter (λ s. is_empty s.choice) u.students)) (sym (first_plays w (world_first db))) in
+    let pairs : (if is_published phase then filter_map shown_pair (students_shown db) else []) ≡ pairs_of w
+    = ap (λ (r : Rows). if is_published r.phase then r.pairs else []) same ∙ sym (pairs_shown w.phase w.students (none_earlier db)) in
     let still : (if is_from_ranking phase then filter_map (waiting_key w (map shown_project (projects_shown db))) (lecturers_shown db) else []) ≡ (if is_from_ranking w.phase then map (λ (l : Lecturer). l.row.key) (filter (is_still_to_rank w) w.lecturers) else [])
     = ap (λ (r : Rows). if is_from_ranking r.phase then filter_map (waiting_key w r.projects) (lecturers_shown db) else []) same
     ∙ ap (λ (ks : List Key). if is_from_ranking w.phase then ks else []) (waiting_told db) in
     λ i. record {
+      round = (same i).round;
       phase = (same i).phase;
       office_code = (same i).office;
       lecturers = (same i).lecturers;
@@ -186,5 +190,5 @@ office_told db phase code offers office listed =
       catalogue = listed i;
       without_list = without i;
       still_to_rank = still i;
-      pairs = if is_published (same i).phase then (same i).pairs else [];
+      pairs = pairs i;
     }

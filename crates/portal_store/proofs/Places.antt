@@ -12,21 +12,24 @@ use Rattle.sqlite.specs.State.{State}
 use Rattle.portal_tables.specs.Steps.{Made, GoesOn}
 use Rattle.sqlite_trees.specs.Objects.{number_in}
 use Rattle.portal_core.specs.declared.phase.Phase.TheVariants.{Published}
+use Rattle.portal_core.specs.declared.phase.Round.TheVariants.{First}
 use Rattle.portal_core.specs.Words.{Key, is, has, Rise, put_all}
-use Rattle.portal_core.specs.World.{World, lecturer_key, project_key, student_key}
+use Rattle.portal_core.specs.World.{World, Student, lecturer_key, project_key, student_key}
 use Rattle.portal_core.specs.Change.{place_in, with_place}
 use Rattle.portal_core.specs.Good.{Good}
 use Rattle.portal_core.proofs.Keys.{is_same, all_unmap}
 use Rattle.portal_core.proofs.AllLaws.{map_same, all_map}
+use Rattle.portal_core.proofs.Kept.{place_row}
 use Rattle.portal_tables.specs.Tables.{portal_tree, lecturer_tree, project_tree, student_tree, choice_tree, ranking_tree}
 use Rattle.portal_tables.specs.Own.{IsOwn}
 use Rattle.portal_tables.specs.Changes.{IsApart, has_text, columns, every}
-use Rattle.portal_tables.specs.Rows.{MovesTo, Assigned, Assigns, assigned_by, with_assigned, student_shown, text_or_null}
+use Rattle.portal_tables.specs.Rows.{MovesTo, Assigns, assigned_by, with_assigned, student_shown, text_or_null}
 use Rattle.portal_tables.specs.Office.{HasOffice}
 use Rattle.portal_store.specs.Kept.{Holds}
 use Rattle.portal_tables.specs.Lists.{of_key, IsWhole}
 use Rattle.portal_tables.specs.Rolls.{row_key}
 use Rattle.portal_tables.specs.Shown.{first, text_or_none}
+use Rattle.portal_store.proofs.Still.{apart_kept}
 use Rattle.portal_store.specs.World.{world_of, phase_of, is_ranked, lecturer_of, project_row, student_of}
 use Rattle.portal_store.specs.Placing.{assigned_of, ShowsRoll, TurnsShown}
 use Rattle.portal_tables.proofs.Lists.{filter_all}
@@ -39,20 +42,32 @@ text_back : (o : Option Key) → text_or_none (text_or_null o) ≡ o
 text_back None = refl
 text_back (Some t) = refl
 
--- what is written for a student of whom a row is shown
-assigned_is : (pairs : List (Key × Key)) (shown : List Row) (r : Row) → IsStudentRow r → has (map first shown) (row_key r) ≡ true → (v : Value)
-    → text_or_none (assigned_by (map (assigned_of pairs) shown) v r) ≡ place_in pairs (row_key r)
-assigned_is pairs [] r f h v = absurd (cc)
-assigned_is pairs (x ∷ shown) r f h v = elim (cases_Bool (has_text 1 (first x) r)) [
-  | inl hit ↦
+-- what is written for a student of whom rows are shown
+module _ (pairs : List (Key × Key)) (r : Row) (f : IsStudentRow r) where
+  abbrev place : Option Key
+  place = place_in pairs (row_key r)
+
+  abbrev put : Row → Value → Value
+  put x v = cond (has_text 1 (first x) r) (text_or_null (place_in pairs (first x))) v
+
+  own_put : (x : Row) (v : Value) → has_text 1 (first x) r ≡ true → text_or_none (put x v) ≡ place
+  own_put x v hit =
       let key : row_key r ≡ first x = is_same (row_key r) (first x) (sym (student_test (first x) r f) ∙ hit) in
-      ap (λ b. text_or_none (cond b (text_or_null (place_in pairs (first x))) (assigned_by (map (assigned_of pairs) shown) v r))) hit
-      ∙ text_back (place_in pairs (first x)) ∙ sym (ap (place_in pairs) key)
-  | inr other ↦
-      let another : is (row_key r) (first x) ≡ false = sym (student_test (first x) r f) ∙ other in
-      ap (λ b. text_or_none (cond b (text_or_null (place_in pairs (first x))) (assigned_by (map (assigned_of pairs) shown) v r))) other
-      ∙ assigned_is pairs shown r f (sym (ap (λ b. b || has (map first shown) (row_key r)) another) ∙ h) v
-]
+      ap (λ b. text_or_none (cond b (text_or_null (place_in pairs (first x))) v)) hit ∙ text_back (place_in pairs (first x)) ∙ sym (ap (place_in pairs) key)
+
+  stays_put : (shown : List Row) (v : Value) → text_or_none v ≡ place → text_or_none (assigned_by (map (assigned_of pairs) shown) (column r 1) v) ≡ place
+  stays_put [] v is = is
+  stays_put (x ∷ shown) v is = stays_put shown (put x v) (elim (cases_Bool (has_text 1 (first x) r)) [
+    | inl hit ↦ own_put x v hit
+    | inr other ↦ ap (λ b. text_or_none (cond b (text_or_null (place_in pairs (first x))) v)) other ∙ is
+  ])
+
+  assigned_is : (shown : List Row) → has (map first shown) (row_key r) ≡ true → (v : Value) → text_or_none (assigned_by (map (assigned_of pairs) shown) (column r 1) v) ≡ place
+  assigned_is [] h v = absurd (cc)
+  assigned_is (x ∷ shown) h v = elim (cases_Bool (has_text 1 (first x) r)) [
+    | inl hit ↦ stays_put shown (put x v) (own_put x v hit)
+    | inr other ↦ assigned_is shown (sym (ap (λ b. b || has (map first shown) (row_key r)) (sym (student_test (first x) r f) ∙ other)) ∙ h) (put x v)
+  ]
 
 each_there : (ks : List Key) → AllByRecursion (λ k. has ks k ≡ true) ks
 each_there ks = all_has (λ k. has ks k ≡ true) ks (has_of ks)
@@ -73,13 +88,14 @@ record IsPlaced (pairs : List (Key × Key)) (old new : Database) : Type 0 where
   world : world_of new.trees ≡ record (world_of old.trees) { students = map (with_place pairs) (world_of old.trees).students }
 
 -- where the rows are the roll, each student has the place
-placed_all : (pairs : List (Key × Key)) (shown : List Row) (old new : Database) → Assigns (map (assigned_of pairs) shown) old new → Holds old → Good (world_of old.trees) → Rise (map first shown) → ShowsRoll shown old → IsPlaced pairs old new
+placed_all : (pairs : List (Key × Key)) (shown : List Row) (old new : Database) → Assigns (map (assigned_of pairs) shown) old new → Holds old → Good (world_of old.trees) → ShowsRoll shown old → IsPlaced pairs old new
 unfolding world_of
-placed_all pairs shown old new assigns was good rise shows =
+placed_all pairs shown old new assigns was good shows =
     let roll = old.trees student_tree in
+    let same_key : (s : Student) → student_key (with_place pairs s) ≡ student_key s = λ s. ap (λ r. r.key) (place_row pairs s) in
     let all = map (assigned_of pairs) shown in
     let formed = student_rows_formed old was.own was.sound was.apart.1.1.1.0 in
-    let a = assigns (subst Rise (map_twice (λ (x : Assigned). x.0) (assigned_of pairs) shown) rise) was.own was.sound was.apart.1.1.1.0 in
+    let a = assigns was.own was.sound was.apart.1.1.1.0 in
     let keys = map first shown in
     let known : AllByRecursion (λ r. has keys (row_key r) ≡ true) roll =
     all_unmap (λ k. has keys k ≡ true) row_key roll (all_permuted (λ k. has keys k ≡ true) keys (map row_key roll) (IsPermutation-sym _ _ (shown_keys shown old shows)) (each_there keys)) in
@@ -87,14 +103,14 @@ placed_all pairs shown old new assigns was good rise shows =
     let written : map f (map (with_assigned all) roll) ≡ map (with_place pairs) (map f roll) =
     sym (map_twice f (with_assigned all) roll)
     ∙ map_alike_on (λ r. f (with_assigned all r)) (λ r. with_place pairs (f r)) roll
-    (λ r there. ap (λ o. record (f r) { placed = o }) (assigned_is pairs shown r (at IsStudentRow roll r formed there) (at (λ x. has keys (row_key x) ≡ true) roll r known there) (column r 4)))
+    (λ r there. ap (λ o. record (f r) { placed = o }) (assigned_is pairs r (at IsStudentRow roll r formed there) shown (at (λ x. has keys (row_key x) ≡ true) roll r known there) (column r 4)))
     ∙ map_twice (with_place pairs) f roll in
     let read : map f (map student_shown (new.trees student_tree)) ≡ map f (new.trees student_tree) =
     sym (map_twice f student_shown (new.trees student_tree)) ∙ map_alike (λ r. f (student_shown r)) f (new.trees student_tree) (λ r. refl) in
     let same : IsPermutation (map (with_place pairs) (map f roll)) (map f (new.trees student_tree)) =
     subst₂ IsPermutation written read (IsPermutation-map f (map (with_assigned all) roll) (map student_shown (new.trees student_tree)) a.rows) in
     let before : map student_key (map (with_place pairs) (map f roll)) ≡ map row_key roll =
-    map_same student_key (with_place pairs) (λ s. refl) (map f roll) ∙ sym (map_twice student_key f roll) in
+    map_same student_key (with_place pairs) same_key (map f roll) ∙ sym (map_twice student_key f roll) in
     let kept : IsPermutation (map row_key roll) (map row_key (new.trees student_tree)) =
     subst₂ IsPermutation before (sym (map_twice student_key f (new.trees student_tree))) (IsPermutation-map student_key _ _ same) in
     let portal : new.trees portal_tree ≡ old.trees portal_tree = a.others.0 (λ e. absurd (cc)) in
@@ -103,9 +119,9 @@ placed_all pairs shown old new assigns was good rise shows =
     let choices : new.trees choice_tree ≡ old.trees choice_tree = a.others.1.1.1.1.0 (λ e. absurd (cc)) in
     let rankings : new.trees ranking_tree ≡ old.trees ranking_tree = a.others.1.1.1.1.1.0 (λ e. absurd (cc)) in
     let ready = was.apart in
-    let put : put_all student_key (map (with_place pairs) (map f roll)) [] ≡ map (with_place pairs) (put_all student_key (map f roll) []) = put_all_map student_key student_key (with_place pairs) (λ s. refl) (map f roll) [] in
+    let put : put_all student_key (map (with_place pairs) (map f roll)) [] ≡ map (with_place pairs) (put_all student_key (map f roll) []) = put_all_map student_key student_key (with_place pairs) same_key (map f roll) [] in
     let up : Rise (map student_key (put_all student_key (map (with_place pairs) (map f roll)) [])) =
-    subst Rise (sym (ap (map student_key) put ∙ map_same student_key (with_place pairs) (λ s. refl) (put_all student_key (map f roll) []))) good.sound.students_rise in
+    subst Rise (sym (ap (map student_key) put ∙ map_same student_key (with_place pairs) same_key (put_all student_key (map f roll) []))) good.sound.students_rise in
     let students : put_all student_key (map (student_of (new.trees choice_tree)) (new.trees student_tree)) [] ≡ map (with_place pairs) (put_all student_key (map f roll) []) =
     ap (λ l. put_all student_key (map (student_of l) (new.trees student_tree)) []) choices ∙ put_same student_key (map (with_place pairs) (map f roll)) (map f (new.trees student_tree)) same up ∙ put in
     let lists : AllByRecursion (λ r. IsWhole (of_key (row_key r) (old.trees choice_tree))) (new.trees student_tree) =
@@ -115,13 +131,7 @@ placed_all pairs shown old new assigns was good rise shows =
       holds = record {
         own = subst IsOwn (sym a.schema_is) was.own;
         sound = a.sound;
-        apart = (
-          subst IsApart (sym portal) ready.0,
-          (
-            subst IsApart (sym lecturers) ready.1.0,
-            (subst IsApart (sym projects) ready.1.1.0, (a.apart, (subst IsApart (sym choices) ready.1.1.1.1.0, (subst IsApart (sym rankings) ready.1.1.1.1.1.0, tt)))),
-          ),
-        );
+        apart = apart_kept student_tree old new a.others a.apart ready;
         office = subst HasOffice (sym portal) was.office;
         whole = record {
           choices = subst (λ y. AllByRecursion (λ r. IsWhole (of_key (row_key r) y)) (new.trees student_tree)) (sym choices) lists;
@@ -130,6 +140,7 @@ placed_all pairs shown old new assigns was good rise shows =
         };
       };
       world = λ i. record {
+        round = First;
         phase = phase_of (number_in (column (slice_index_or (portal i) 0 []) 3));
         office = bytes (column (slice_index_or (portal i) 0 []) 4);
         lecturers = put_all lecturer_key (map (lecturer_of (rankings i)) (lecturers i)) [];
@@ -142,11 +153,11 @@ now_published : {v w : World} → v ≡ w → ◌≡◌ {A = World} (record v { 
 now_published e = λ i. record (e i) { phase = Published }
 
 -- the places, and then the phase
-result_turned : (pairs : List (Key × Key)) (shown : List Row) → Rise (map first shown) → (old mid new : Database) → Assigns (map (assigned_of pairs) shown) old mid → MovesTo 3 mid new → TurnsShown pairs shown old new
-result_turned pairs shown rise old mid new assigns moves shows was good better =
-    let placed = placed_all pairs shown old mid assigns was good rise shows in
+result_turned : (pairs : List (Key × Key)) (shown : List Row) (old mid new : Database) → Assigns (map (assigned_of pairs) shown) old mid → MovesTo 3 mid new → TurnsShown pairs shown old new
+result_turned pairs shown old mid new assigns moves shows was good better =
+    let placed = placed_all pairs shown old mid assigns was good shows in
     let done = phase_turned Published mid new placed.holds moves in
     record { holds = done.holds; world = done.world ∙ now_published placed.world }
 
-pub result_made : (pairs : List (Key × Key)) (shown : List Row) → Rise (map first shown) → (old mid new : State) → GoesOn (Assigns (map (assigned_of pairs) shown)) old mid → Made (MovesTo 3) mid new → GoesOn (TurnsShown pairs shown) old new
-result_made pairs shown rise old mid new assigns moves = goes_then _ _ _ old mid new assigns moves (result_turned pairs shown rise old.now mid.now new.now)
+pub result_made : (pairs : List (Key × Key)) (shown : List Row) (old mid new : State) → GoesOn (Assigns (map (assigned_of pairs) shown)) old mid → Made (MovesTo 3) mid new → GoesOn (TurnsShown pairs shown) old new
+result_made pairs shown old mid new assigns moves = goes_then _ _ _ old mid new assigns moves (result_turned pairs shown old.now mid.now new.now)

@@ -10,28 +10,27 @@ use Rattle.portal_core.specs.declared.rows.LecturerRow.{LecturerRow}
 use Rattle.portal_core.specs.declared.rows.Listing.{Listing}
 use Rattle.portal_core.specs.declared.rows.ProjectRow.{ProjectRow}
 use Rattle.portal_core.specs.Words.{Key, is}
-use Rattle.portal_core.specs.World.{Lecturer, Student}
+use Rattle.portal_core.specs.World.{World, Lecturer, Student}
 use Rattle.portal_core.specs.declared.phase.Phase.{Phase}
 use Rattle.portal_core.specs.View.{name_in, listing_with, listings, catalogue, student_sees, lecturer_with, student_with}
 use Rattle.portal_core.proofs.AllLaws.{all_weaker}
 use Rattle.portal_core.proofs.Keys.{find_map}
+use Rattle.portal_core.proofs.Capacities.{first_plays}
 use Rattle.portal_tables.specs.Rows.{portal_row}
 use Rattle.sqlite_trees.specs.Objects.{number_in}
 use Rattle.portal_tables.specs.Tables.{portal_tree, lecturer_tree, project_tree, student_tree, choice_tree, ranking_tree}
 use Rattle.portal_tables.specs.Changes.{ListsBy, columns, has_text}
 use Rattle.portal_store.specs.Kept.{Holds}
 use Rattle.portal_tables.specs.Office.{number_of}
-use Rattle.portal_tables.specs.Rolls.{by_key, lecturers_shown, projects_shown}
+use Rattle.portal_tables.specs.Rolls.{by_key, lecturers_shown, projects_shown, lecturer_columns, roll_columns}
 use Rattle.portal_store.specs.World.{world_of, phase_of, lecturer_of, student_of}
 use Rattle.portal_tables.specs.Shown.{as_list, shown_lecturer, shown_project}
 use Rattle.portal_tables.specs.Offers.{name_of, offered, catalogue_shown}
 use Rattle.portal_tables.specs.Callers.{student_shown}
 use Rattle.portal_store.specs.Queried.{lecturer_from, student_from}
-use Rattle.portal_tables.proofs.Listed.{some_alike}
 use Rattle.portal_tables.proofs.OneFound.{found}
 use Rattle.portal_store.proofs.Holding.{phase_back}
-use Rattle.portal_tables.proofs.Owners.{lecturer_columns, roll_columns}
-use Rattle.portal_store.proofs.Loaded.{lecturers_are, projects_are, students_are}
+use Rattle.portal_store.proofs.Loaded.{lecturers_are, projects_are, students_are, world_first, some_alike}
 use Rattle.portal_tables.proofs.Shapes.{IsLecturerRow, IsStudentRow, has_text_of, lecturer_rows_formed, student_rows_formed}
 
 module _ (db : Database) (holds : Holds db) where
@@ -80,11 +79,12 @@ all_offered ls ps =
     ∙ name_row (find (λ (l : Lecturer). is l.row.key p.lecturer) ls)))
 
 pub catalogue_told : (db : Trees) → catalogue_shown db ≡ catalogue (world_of db)
-catalogue_told db = ap₂ offered (lecturers_told db) (projects_told db) ∙ all_offered (world_of db).lecturers (world_of db).projects
+catalogue_told db = ap₂ offered (lecturers_told db) (projects_told db) ∙ all_offered (world_of db).lecturers (world_of db).projects ∙ ap (λ (u : World). listings u.lecturers u.projects) (sym (first_plays (world_of db) (world_first db)))
 
 -- what a student sees, of what was read
 pub student_told : (db : Trees) (row : Row) (phase : Phase) (offers : List Listing) → phase ≡ (world_of db).phase → offers ≡ catalogue (world_of db)
     → student_shown db phase row offers ≡ student_sees (world_of db) (student_from db row)
+unfolding world_of
 student_told db row phase offers at_phase all = λ i. student_shown db (at_phase i) row (all i)
 
 -- the office

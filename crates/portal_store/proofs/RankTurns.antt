@@ -9,6 +9,7 @@ use Rattle.sqlite.specs.Order.{Row, column, bytes}
 use Rattle.sqlite.specs.Effect.{Database}
 use Rattle.sqlite.specs.State.{State}
 use Rattle.sqlite_trees.specs.Objects.{number_in}
+use Rattle.portal_core.specs.declared.phase.Round.TheVariants.{First}
 use Rattle.portal_core.specs.Words.{Key, is, has, put_all, Rise}
 use Rattle.portal_core.specs.World.{Lecturer, lecturer_key, project_key, student_key}
 use Rattle.portal_core.specs.Change.{changed, Ranks, with_ranking}
@@ -25,6 +26,7 @@ use Rattle.portal_tables.proofs.Lists.{put_splits}
 use Rattle.portal_tables.proofs.Keeping.{sets_apart}
 use Rattle.portal_tables.proofs.Runs.{goes_then}
 use Rattle.portal_tables.specs.Lists.{of_key, chosen, IsWhole}
+use Rattle.portal_store.proofs.Still.{apart_kept}
 use Rattle.portal_store.specs.World.{world_of, phase_of, student_of, lecturer_of, lecturer_row, project_row, is_ranked}
 use Rattle.portal_tables.specs.Rolls.{row_key}
 use Rattle.portal_tables.specs.Office.{HasOffice}
@@ -151,12 +153,12 @@ module _ (k : Key) (list : List Key) (first mid now : Database) (put : HasPut ra
   other_row r other =
       let same : chosen (mid.trees 12) (row_key r) ≡ chosen (first.trees 12) (row_key r) =
       chosen_is ranking_tree k list first mid put (row_key r) ∙ rw other refl in
-      (λ i. record { row = lecturer_row r; ranking = cond (is_ranked r) (Some (same i)) None }) ∙ sym (ranking_elsewhere k list (lecturer_of (first.trees 12) r) other)
+      (λ i. record { row = lecturer_row r; ranking = cond (is_ranked r) (Some (same i)) None; earlier_ranking = None }) ∙ sym (ranking_elsewhere k list (lecturer_of (first.trees 12) r) other)
 
   this_row : lecturer_of (mid.trees 12) after ≡ with_ranking k list (lecturer_of (first.trees 12) before)
   this_row =
       let same : chosen (mid.trees 12) k ≡ list = chosen_is ranking_tree k list first mid put k ∙ rw (is_own k) refl in
-      (λ i. record { row = lecturer_row before; ranking = Some (same i) }) ∙ ranking_here k list (lecturer_of (first.trees 12) before) (is_own k)
+      (λ i. record { row = lecturer_row before; ranking = Some (same i); earlier_ranking = None }) ∙ ranking_here k list (lecturer_of (first.trees 12) before) (is_own k)
 
   apart_rest : AllByRecursion (λ r. is (row_key r) k ≡ false) rest
   apart_rest = others_apart k (first.trees 1) formed
@@ -188,6 +190,7 @@ module _ (k : Key) (list : List Key) (first mid now : Database) (put : HasPut ra
   rank_world up =
       let roll = roll_is up in
       λ i. record {
+        round = First;
         phase = phase_of (number_in (column (slice_index_or (portal i) 0 []) 3));
         office = bytes (column (slice_index_or (portal i) 0 []) 4);
         lecturers = roll i;
@@ -213,16 +216,7 @@ module _ (k : Key) (list : List Key) (first mid now : Database) (put : HasPut ra
   rank_holds was = record {
     own = subst IsOwn (sym (set.schema_is ∙ put.schema_is)) was.own;
     sound = set.sound;
-    apart = (
-      subst IsApart (sym portal) was.apart.0,
-      (
-        sets_apart lecturer_tree (has_text 1 k) after n mid now refl set (subst IsApart (sym lecturers) was.apart.1.0),
-        (
-          subst IsApart (sym projects) was.apart.1.1.0,
-          (subst IsApart (sym students) was.apart.1.1.1.0, (subst IsApart (sym choices) was.apart.1.1.1.1.0, (subst IsApart (sym rankings) put.apart, tt))),
-        ),
-      ),
-    );
+    apart = apart_kept lecturer_tree mid now set.others (sets_apart lecturer_tree (has_text 1 k) after n mid now refl set (subst IsApart (sym lecturers) was.apart.1.0)) (apart_kept ranking_tree first mid put.tables put.apart was.apart);
     office = subst HasOffice (sym portal) was.office;
     whole = rank_whole was.whole;
   }

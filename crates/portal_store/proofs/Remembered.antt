@@ -12,6 +12,8 @@ use Rattle.portal_core.specs.View.{listing_with, listings, catalogue}
 use Rattle.portal_core.specs.Good.{Good}
 use Rattle.portal_core.proofs.AllLaws.{any_map, any_alike, is_sym}
 use Rattle.portal_core.proofs.Whole.{finds_one}
+use Rattle.portal_core.proofs.Capacities.{first_plays}
+use Rattle.portal_core.specs.declared.phase.Round.TheVariants.{First}
 use Rattle.portal_store.specs.Kept.{Holds}
 
 -- what holds of a reading after one that changed nothing holds over the tables before that one
@@ -34,6 +36,8 @@ own_among ls (p ∷ ps) k known =
       | false ↦ rest
     ]))
 
--- in a good world the catalogue shows each project of a lecturer
-pub own_listed : (w : World) (k : Key) → Good w → map (λ (l : Listing). l.key) (filter (λ (l : Listing). is l.lecturer k) (catalogue w)) ≡ map project_key (projects_of w k)
-own_listed w k good = own_among w.lecturers w.projects k good.sound.lecturers_known
+-- in a good world of the first round the catalogue shows each project of a lecturer
+pub own_listed : (w : World) (k : Key) → w.round ≡ First → Good w → map (λ (l : Listing). l.key) (filter (λ (l : Listing). is l.lecturer k) (catalogue w)) ≡ map project_key (projects_of w k)
+own_listed w k one good =
+    ap (λ (u : World). map (λ (l : Listing). l.key) (filter (λ (l : Listing). is l.lecturer k) (listings u.lecturers u.projects))) (first_plays w one)
+    ∙ own_among w.lecturers w.projects k good.sound.lecturers_known

@@ -1,11 +1,14 @@
--- The rows of a sound world are those of no other world.
-use Rattle.std.proofs.Common.{◌≡◌, map, sym, ◌∙◌, ap, subst}
-use Rattle.std.specs.Prelude.{Some}
+-- The rows of a sound world are those of no other world that has nothing earlier.
+use Rattle.std.proofs.Common.{◌≡◌, map, refl, sym, ◌∙◌, ap, subst}
+use Rattle.std.specs.Prelude.{Some, None, []}
+use Rattle.std.specs.List.{AllByRecursion}
 use Rattle.portal_core.specs.declared.rows.LecturerRow.{LecturerRow}
 use Rattle.portal_core.specs.declared.rows.StudentRow.{StudentRow}
 use Rattle.portal_core.specs.Words.{Rise}
-use Rattle.portal_core.specs.World.{World, Lecturer, Student}
+use Rattle.portal_core.specs.World.{World, Lecturer, Student, alone, alone_student}
 use Rattle.portal_core.specs.Good.{Sound}
+use Rattle.portal_core.proofs.AllLaws.{all_map}
+use Rattle.portal_core.proofs.Capacities.{each_one}
 use Rattle.portal_list.specs.Rows.{Rows, rows_of}
 use Rattle.portal_list.specs.Fit.{lecturers_fitting, students_fitting}
 use Rattle.portal_list.proofs.Fitting.{lecturers_back, students_back}
@@ -14,8 +17,9 @@ use Rattle.sqlite_trees.proofs.ListLemmas.{map-map}
 same_some : {X : Type 0} (x y : X) → Some x ≡ Some y → x ≡ y
 same_some x y e = cc
 
-pub rows_once : (w v : World) → Sound w → rows_of v ≡ rows_of w → v ≡ w
-rows_once w v sound same = λ i. record { phase = (same i).phase; office = (same i).office; lecturers = lecturers i; projects = (same i).projects; students = students i }
+pub rows_once : (w v : World) → Sound w → alone v ≡ v → rows_of v ≡ rows_of w → v ≡ w
+rows_once w v sound before same =
+    λ i. record { round = (same i).round; phase = (same i).phase; office = (same i).office; lecturers = lecturers i; projects = (same i).projects; students = students i }
   where
     lecturers_rise : Rise (map (λ l. l.row.key) v.lecturers)
     lecturers_rise =
@@ -26,7 +30,17 @@ rows_once w v sound same = λ i. record { phase = (same i).phase; office = (same
         subst Rise (sym (map-map (λ (r : StudentRow). r.key) (λ (s : Student). s.row) w.students) ∙ ap (λ (r : Rows). map (λ s. s.key) r.students) (sym same) ∙ map-map (λ (r : StudentRow). r.key) (λ (s : Student). s.row) v.students) sound.students_rise
 
     lecturers : v.lecturers ≡ w.lecturers
-    lecturers = same_some _ _ (sym (lecturers_back v.lecturers lecturers_rise) ∙ ap (λ (r : Rows). lecturers_fitting r.lecturers r.rankings) same ∙ lecturers_back w.lecturers sound.lecturers_rise)
+    lecturers =
+        same_some _ _ (sym (lecturers_back v.lecturers lecturers_rise) ∙ ap (λ (r : Rows). lecturers_fitting r.lecturers r.rankings r.earlier_rankings) same ∙ lecturers_back w.lecturers sound.lecturers_rise)
+
+    nothing_earlier : AllByRecursion (λ (s : Student). (s.earlier_choice ≡ []) × (s.earlier_place ≡ None)) v.students
+    nothing_earlier =
+        subst (λ (u : World). AllByRecursion (λ (s : Student). (s.earlier_choice ≡ []) × (s.earlier_place ≡ None)) u.students) before
+        (all_map (λ (s : Student). (s.earlier_choice ≡ []) × (s.earlier_place ≡ None)) alone_student v.students
+        (each_one (λ s. ((alone_student s).earlier_choice ≡ []) × ((alone_student s).earlier_place ≡ None)) (λ s. (refl, refl)) v.students))
 
     students : v.students ≡ w.students
-    students = same_some _ _ (sym (students_back v.students students_rise) ∙ ap (λ (r : Rows). students_fitting r.students r.choices r.pairs) same ∙ students_back w.students sound.students_rise)
+    students =
+        same_some _ _ (sym (students_back v.round v.students students_rise (λ _. nothing_earlier))
+        ∙ ap (λ (r : Rows). students_fitting r.round r.students r.choices r.pairs r.earlier_choices r.earlier_pairs) same
+        ∙ students_back w.round w.students sound.students_rise sound.no_earlier_lists)

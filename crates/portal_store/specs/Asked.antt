@@ -1,23 +1,14 @@
--- How queries in turn end, and what `open` makes of what they show.
-use Rattle.std.specs.Prelude.{◌≡◌, ◌≢◌, [], ◌∷◌, pos, Result, OnOk, OnErr}
+-- What `open` makes of what queries show.
+use Rattle.std.specs.Prelude.{◌≡◌, ◌≢◌, [], ◌∷◌, pos}
 use Rattle.std.specs.List.{AllByRecursion}
 use Rattle.sqlite.specs.declared.types.Value.TheVariants.{Int}
 use Rattle.sqlite.specs.Order.{Row, column}
 use Rattle.sqlite.specs.Tree.{Trees}
-use Rattle.sqlite.specs.State.{State, HasCleanDisk, IsUnchanged, Survives}
 use Rattle.portal_tables.specs.Tables.{portal_tree, own_trees}
-use Rattle.portal_tables.specs.Own.{IsOwn}
 use Rattle.portal_tables.specs.Changes.{IsApart}
-use Rattle.portal_tables.specs.Steps.{Leaves}
 use Rattle.portal_store.specs.Kept.{Stands}
 use Rattle.portal_store.specs.declared.store.OpenFault.{OpenFault}
 use Rattle.portal_store.specs.declared.store.OpenFault.TheVariants.{NotPortal, OtherVersion, Damaged, Store, Memory}
-
--- With an answer nothing is changed, with an error at most an open transaction is undone, and a crash leaves what it left before.
-pub record Asks {V E : Type 0} (result : Result V E) (old new : State) : Type 0 where
-  pub same : IsOwn old.now.schema → HasCleanDisk new → OnOk result (IsUnchanged old new)
-  pub err : IsOwn old.now.schema → HasCleanDisk new → OnErr result (Leaves old new)
-  pub crash : Survives old new (λ _. IsOwn old.now.schema → ⊥)
 
 -- a row of the office is there, and where it is the only one it is of version 1
 pub record IsVersion1 (db : Trees) : Type 0 where

@@ -4,6 +4,7 @@ use Rattle.std.specs.List.{filter_map}
 use Rattle.sqlite.specs.Order.{Row, column}
 use Rattle.sqlite.specs.Tree.{Trees}
 use Rattle.sqlite_trees.specs.Objects.{number_in}
+use Rattle.portal_core.specs.declared.phase.Round.TheVariants.{First}
 use Rattle.portal_core.specs.declared.rows.Listing.{Listing}
 use Rattle.portal_core.specs.declared.rows.ProjectRow.{ProjectRow}
 use Rattle.portal_core.specs.declared.phase.Phase.{Phase}
@@ -18,11 +19,11 @@ use Rattle.portal_store.specs.World.{world_of}
 
 -- the lecturer whose row is shown, with the ranking in the tables
 abbrev pub lecturer_from : Trees → Row → Lecturer
-lecturer_from db c = record { row = shown_lecturer c; ranking = if number_in (column c 4) == 1 then Some (chosen (db ranking_tree) (first c)) else None }
+lecturer_from db c = record { row = shown_lecturer c; ranking = if number_in (column c 4) == 1 then Some (chosen (db ranking_tree) (first c)) else None; earlier_ranking = None }
 
 -- the student whose row is shown, with the list in the tables
 abbrev pub student_from : Trees → Row → Student
-student_from db c = record { row = shown_student c; choice = chosen (db choice_tree) (first c); placed = text_or_none (column c 3) }
+student_from db c = record { row = shown_student c; choice = chosen (db choice_tree) (first c); placed = text_or_none (column c 3); earlier_choice = []; earlier_place = None }
 
 -- the keys of the students whose rows are shown and who have no list in the tables
 abbrev pub unlisted : Trees → List Row → List Key
@@ -36,6 +37,7 @@ waiting_key w projects c = if number_in (column c 4) == 1 then None else (if is_
 abbrev pub office_from : Trees → Phase → Key → List Listing → List Row → List Row → List Row → OfficeSees
 office_from db phase code offers lecturers projects students =
     record {
+      round = First;
       phase = phase;
       office_code = code;
       lecturers = map shown_lecturer lecturers;

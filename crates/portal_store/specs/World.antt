@@ -1,10 +1,11 @@
--- The world that the six tables stand for.
+-- The world that the six tables stand for, which is one of the first round.
 use Rattle.std.specs.Prelude.{ℕ, Bool, if◌then◌else◌, ◌==◌, List, [], map, slice_index_or, Some, None}
 use Rattle.sqlite.specs.Order.{Row, column, bytes}
 use Rattle.sqlite.specs.Tree.{Trees}
 use Rattle.sqlite_trees.specs.Objects.{number_in}
 use Rattle.portal_core.specs.declared.phase.Phase.{Phase}
 use Rattle.portal_core.specs.declared.phase.Phase.TheVariants.{Setup, Choosing, Ranking, Published}
+use Rattle.portal_core.specs.declared.phase.Round.TheVariants.{First}
 use Rattle.portal_core.specs.declared.rows.LecturerRow.{LecturerRow}
 use Rattle.portal_core.specs.declared.rows.ProjectRow.{ProjectRow}
 use Rattle.portal_core.specs.declared.rows.StudentRow.{StudentRow}
@@ -32,10 +33,10 @@ abbrev pub is_ranked : Row → Bool
 is_ranked r = number_in (column r 5) == 1
 
 abbrev pub lecturer_of : List Row → Row → Lecturer
-lecturer_of rankings r = record { row = lecturer_row r; ranking = if is_ranked r then Some (chosen rankings (row_key r)) else None }
+lecturer_of rankings r = record { row = lecturer_row r; ranking = if is_ranked r then Some (chosen rankings (row_key r)) else None; earlier_ranking = None }
 
 abbrev pub student_of : List Row → Row → Student
-student_of choices r = record { row = student_row r; choice = chosen choices (row_key r); placed = text_or_none (column r 4) }
+student_of choices r = record { row = student_row r; choice = chosen choices (row_key r); placed = text_or_none (column r 4); earlier_choice = []; earlier_place = None }
 
 abbrev pub office_row : Trees → Row
 office_row db = slice_index_or (db portal_tree) 0 []
@@ -43,6 +44,7 @@ office_row db = slice_index_or (db portal_tree) 0 []
 unfoldable pub world_of : Trees → World
 world_of db =
     record {
+      round = First;
       phase = phase_of (number_in (column (office_row db) 3));
       office = bytes (column (office_row db) 4);
       lecturers = put_all lecturer_key (map (lecturer_of (db ranking_tree)) (db lecturer_tree)) [];

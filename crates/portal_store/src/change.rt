@@ -33,11 +33,19 @@ fn take<S: Alter>(
 ) -> Result<(), TableFault>
     requires idle { conn.old.in_transaction ≡ false }
     ensures idle { conn.new.in_transaction ≡ false }
-    ensures ok { IsOwn conn.old.schema → HasCleanDisk (state S.Store conn.new) → OnOk result (Commits (Turns (meant change.now)) (state S.Store conn.old) (state S.Store conn.new)) }
-    ensures err { IsOwn conn.old.schema → HasCleanDisk (state S.Store conn.new) → IsTrue (state S.Store conn.new).is_open → OnErr result (Stays (state S.Store conn.old) (state S.Store conn.new)) }
-    ensures entries { IsOwn conn.old.schema → KeepsEntries entries.old entries.new (state S.Store conn.old) (state S.Store conn.new) }
-    ensures durable { IsOwn conn.old.schema → HasCleanDisk (state S.Store conn.new) → OnOk result (LeavesOnly (state S.Store conn.new)) }
-    ensures crash { IsOwn conn.old.schema → Survives (state S.Store conn.old) (state S.Store conn.new) (IsAfter (Turns (meant change.now)) (state S.Store conn.old)) }
+    ensures ok { IsOwn conn.old.schema → HasCleanDisk (state S.Store conn.new)
+        → OnOk result (Commits (Turns (meant change.now)) (state S.Store conn.old)
+        (state S.Store conn.new)) }
+    ensures err { IsOwn conn.old.schema → HasCleanDisk (state S.Store conn.new)
+        → IsTrue (state S.Store conn.new).is_open
+        → OnErr result (Stays (state S.Store conn.old) (state S.Store conn.new)) }
+    ensures entries { IsOwn conn.old.schema
+        → KeepsEntries entries.old entries.new (state S.Store conn.old) (state S.Store conn.new) }
+    ensures durable { IsOwn conn.old.schema → HasCleanDisk (state S.Store conn.new)
+        → OnOk result (LeavesOnly (state S.Store conn.new)) }
+    ensures crash { IsOwn conn.old.schema
+        → Survives (state S.Store conn.old) (state S.Store conn.new)
+        (IsAfter (Turns (meant change.now)) (state S.Store conn.old)) }
 {
     match change {
         Change::Choices { student, projects } => commit(
@@ -66,11 +74,19 @@ pub(crate) fn make<S: Alter>(
 ) -> Result<(), KeepFault>
     requires idle { conn.old.in_transaction ≡ false }
     ensures idle { conn.new.in_transaction ≡ false }
-    ensures ok { IsOwn conn.old.schema → HasCleanDisk (state S.Store conn.new) → OnOk result (Commits (Turns (meant change.now)) (state S.Store conn.old) (state S.Store conn.new)) }
-    ensures err { IsOwn conn.old.schema → HasCleanDisk (state S.Store conn.new) → IsTrue (state S.Store conn.new).is_open → OnErr result (Stays (state S.Store conn.old) (state S.Store conn.new)) }
-    ensures entries { IsOwn conn.old.schema → KeepsEntries entries.old entries.new (state S.Store conn.old) (state S.Store conn.new) }
-    ensures durable { IsOwn conn.old.schema → HasCleanDisk (state S.Store conn.new) → OnOk result (LeavesOnly (state S.Store conn.new)) }
-    ensures crash { IsOwn conn.old.schema → Survives (state S.Store conn.old) (state S.Store conn.new) (IsAfter (Turns (meant change.now)) (state S.Store conn.old)) }
+    ensures ok { IsOwn conn.old.schema → HasCleanDisk (state S.Store conn.new)
+        → OnOk result (Commits (Turns (meant change.now)) (state S.Store conn.old)
+        (state S.Store conn.new)) }
+    ensures err { IsOwn conn.old.schema → HasCleanDisk (state S.Store conn.new)
+        → IsTrue (state S.Store conn.new).is_open
+        → OnErr result (Stays (state S.Store conn.old) (state S.Store conn.new)) }
+    ensures entries { IsOwn conn.old.schema
+        → KeepsEntries entries.old entries.new (state S.Store conn.old) (state S.Store conn.new) }
+    ensures durable { IsOwn conn.old.schema → HasCleanDisk (state S.Store conn.new)
+        → OnOk result (LeavesOnly (state S.Store conn.new)) }
+    ensures crash { IsOwn conn.old.schema
+        → Survives (state S.Store conn.old) (state S.Store conn.new)
+        (IsAfter (Turns (meant change.now)) (state S.Store conn.old)) }
     ensures counts { CountsFaults result faults.old faults.new }
 {
     match take(alloc, conn, entries, change) {

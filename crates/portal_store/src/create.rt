@@ -15,6 +15,7 @@ ghost use Rattle.portal_store.specs.Made.{first_world};
 use crate::fault::create_fault_of;
 use crate::store::{CreateFault, NotOpened, Store};
 use portal_core::{Code, Remembered};
+use portal_tables::fault::TableFault;
 use portal_tables::make::create_portal;
 use portal_tables::names::{is_empty, is_there};
 use portal_tables::own::Pattern;
@@ -32,17 +33,25 @@ impl<S: Alter> Store<S> {
     ) -> Result<Store<S>, NotOpened<CreateFault, S>>
         requires idle { conn.in_transaction ≡ false }
         ensures own { IfOk result (λ s. IsTrue s.own ↔ (conn.schema ≡ no_schema)) }
-        ensures made { IfOk result (λ s. HasCleanDisk (state S.Store s.conn) → Commits (Creates office) (state S.Store conn) (state S.Store s.conn)) }
-        ensures world { IfOk result (λ s. IsCleanStore S.Store s → kept_world S.Store s ≡ first_world office) }
+        ensures made { IfOk result (λ s. HasCleanDisk (state S.Store s.conn)
+            → Commits (Creates office) (state S.Store conn) (state S.Store s.conn)) }
+        ensures world { IfOk result (λ s. IsCleanStore S.Store s
+            → kept_world S.Store s ≡ first_world office) }
         ensures good { IfOk result (λ s. IsCleanStore S.Store s → Good (kept_world S.Store s)) }
-        ensures durable { IfOk result (λ s. HasCleanDisk (state S.Store s.conn) → LeavesOnly (state S.Store s.conn)) }
-        ensures exists { IfErr result (λ e. IsTrue (has_names conn.schema) ↔ (e.fault ≡ CreateFault.Exists)) }
+        ensures durable { IfOk result (λ s. HasCleanDisk (state S.Store s.conn)
+            → LeavesOnly (state S.Store s.conn)) }
+        ensures exists { IfErr result (λ e. IsTrue (has_names conn.schema)
+            ↔ (e.fault ≡ CreateFault.Exists)) }
         ensures free { IfOk result (λ _. has_names conn.schema ≡ false) }
         ensures untouched { IfErr result (λ e. e.fault ≡ CreateFault.Exists → e.connection ≡ conn) }
-        ensures same { IfErr result (λ e. HasCleanDisk (state S.Store e.connection) → IsTrue (state S.Store e.connection).is_open → Stays (state S.Store conn) (state S.Store e.connection)) }
+        ensures same { IfErr result (λ e. HasCleanDisk (state S.Store e.connection)
+            → IsTrue (state S.Store e.connection).is_open
+            → Stays (state S.Store conn) (state S.Store e.connection)) }
         ensures idle { IfErr result (λ e. e.connection.in_transaction ≡ false) }
-        ensures crash_ok { IfOk result (λ s. Survives (state S.Store conn) (state S.Store s.conn) (IsAfter (Creates office) (state S.Store conn))) }
-        ensures crash_err { IfErr result (λ e. Survives (state S.Store conn) (state S.Store e.connection) (IsAfter (Creates office) (state S.Store conn))) }
+        ensures crash_ok { IfOk result (λ s. Survives (state S.Store conn) (state S.Store s.conn)
+            (IsAfter (Creates office) (state S.Store conn))) }
+        ensures crash_err { IfErr result (λ e. Survives (state S.Store conn)
+            (state S.Store e.connection) (IsAfter (Creates office) (state S.Store conn))) }
     {
         let own = is_empty(conn.schema());
         if is_there(conn.schema()) {
@@ -55,14 +64,14 @@ impl<S: Alter> Store<S> {
             Ok(pattern) => pattern,
             Err(error) => {
                 return Err(NotOpened {
-                    fault: create_fault_of(error),
+                    fault: create_fault_of(TableFault::from(error)),
                     connection: conn,
                 });
             }
         };
-        if let Err(error) = create_portal(&mut conn, office.as_bytes()) {
+        if let Err(fault) = create_portal(alloc, &mut conn, office.as_bytes()) {
             return Err(NotOpened {
-                fault: create_fault_of(error),
+                fault: create_fault_of(fault),
                 connection: conn,
             });
         }

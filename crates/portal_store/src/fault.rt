@@ -15,13 +15,13 @@ use portal_tables::fault::TableFault;
 use sqlite::{Error, ErrorCode};
 
 /// Want of memory, or a fault of the store; never that tables are there.
-pub(crate) fn create_fault_of(error: Error) -> CreateFault
+pub(crate) fn create_fault_of(fault: TableFault) -> CreateFault
     ensures exists { result ≢ CreateFault.Exists }
-    ensures memory { (result ≡ CreateFault.Memory) ↔ (error ≡ Error.SqliteFailure ErrorCode.OutOfMemory) }
+    ensures memory { (result ≡ CreateFault.Memory) ↔ (fault ≡ TableFault.Memory) }
 {
-    match error {
-        Error::SqliteFailure(ErrorCode::OutOfMemory) => CreateFault::Memory,
-        _ => CreateFault::Store,
+    match fault {
+        TableFault::Memory => CreateFault::Memory,
+        TableFault::Damaged | TableFault::Store => CreateFault::Store,
     }
 }
 
@@ -40,7 +40,8 @@ pub(crate) fn rows_fault_of(fault: RowsFault) -> TableFault
 pub(crate) fn open_fault_of(error: Error) -> OpenFault
     ensures refutes { (db : Trees) → Refutes result db }
     ensures kind { (result ≡ OpenFault.Memory) ⊎ (result ≡ OpenFault.Store) }
-    ensures memory { (result ≡ OpenFault.Memory) ↔ (error ≡ Error.SqliteFailure ErrorCode.OutOfMemory) }
+    ensures memory { (result ≡ OpenFault.Memory)
+        ↔ (error ≡ Error.SqliteFailure ErrorCode.OutOfMemory) }
 {
     match error {
         Error::SqliteFailure(ErrorCode::OutOfMemory) => OpenFault::Memory,
@@ -53,8 +54,10 @@ pub(crate) fn open_fault_of(error: Error) -> OpenFault
 pub(crate) fn table_fault_of(error: Error) -> OpenFault
     ensures damaged { result ≢ OpenFault.Damaged }
     ensures version { result ≢ OpenFault.OtherVersion }
-    ensures unknown { (fault : CompileError) → error ≡ Error.SqlInputError fault → result ≡ OpenFault.NotPortal }
-    ensures device { (cause : StoreError) → error ≡ store_error cause → result ≢ OpenFault.NotPortal }
+    ensures unknown { (fault : CompileError) → error ≡ Error.SqlInputError fault
+        → result ≡ OpenFault.NotPortal }
+    ensures device { (cause : StoreError) → error ≡ store_error cause
+        → result ≢ OpenFault.NotPortal }
 {
     match error {
         Error::SqliteFailure(
@@ -75,7 +78,8 @@ pub(crate) fn table_fault_of(error: Error) -> OpenFault
 
 /// What it means to an opening that no world was loaded.
 pub(crate) fn load_open_fault_of(fault: TableFault) -> OpenFault
-    ensures refutes { (db : Trees) → (fault ≡ TableFault.Damaged → Stands db → ⊥) → IsVersion1 db → Refutes result db }
+    ensures refutes { (db : Trees) → (fault ≡ TableFault.Damaged → Stands db → ⊥) → IsVersion1 db
+        → Refutes result db }
     ensures damaged { (result ≡ OpenFault.Damaged) ↔ (fault ≡ TableFault.Damaged) }
     ensures memory { (result ≡ OpenFault.Memory) ↔ (fault ≡ TableFault.Memory) }
 {
@@ -91,7 +95,8 @@ pub(crate) fn load_open_fault_of(fault: TableFault) -> OpenFault
 pub(crate) fn told(faults: &mut u64, fault: TableFault) -> KeepFault
     ensures memory { result ≡ KeepFault.Memory → faults.new ≡ faults.old }
     ensures store { result ≡ KeepFault.Store → faults.new ≡ faults.old + 1 }
-    ensures kind { faults.old ≢ 2 ^ 64 - 1 → (result ≡ KeepFault.Memory) ↔ (fault ≡ TableFault.Memory) }
+    ensures kind { faults.old ≢ 2 ^ 64 - 1
+        → (result ≡ KeepFault.Memory) ↔ (fault ≡ TableFault.Memory) }
 {
     match KeepFault::from(fault) {
         KeepFault::Memory => KeepFault::Memory,

@@ -14,7 +14,8 @@ use std::alloc::Global;
 
 /// The entries after the change, where they follow it.
 fn after(alloc: Global, mut entries: Entries, change: &Change) -> Option<Entries>
-    ensures { (w : World) → Sound w → HasEntries entries w → AreEntries result (changed w (meant change.now)) }
+    ensures { (w : World) → Sound w → HasEntries entries w
+        → AreEntries result (changed w (meant change.now)) }
 {
     match entries.follow(alloc, change) {
         Ok(true) => Some(entries),
@@ -30,7 +31,9 @@ pub(crate) fn follow(
     change: &Change,
     made: &Result<(), KeepFault>,
 )
-    ensures made { OnOk made.now ((w : World) → Sound w → AreEntries entries.old w → AreEntries entries.new (changed w (meant change.now))) }
+    ensures made { OnOk made.now
+        ((w : World) → Sound w → AreEntries entries.old w
+        → AreEntries entries.new (changed w (meant change.now))) }
     ensures not_made { OnErr made.now (entries.new ≡ entries.old) }
 {
     if made.is_ok() {

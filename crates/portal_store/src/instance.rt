@@ -27,7 +27,8 @@ pub(crate) fn instance_of(
     entries: &Entries,
     faults: &mut u64,
 ) -> Result<Instance, KeepFault>
-    ensures instance { IfOk result (λ i. (w : World) → HasEntries entries.now w → Sound w → i ≡ meant_by.instance w) }
+    ensures instance { IfOk result (λ i. (w : World) → HasEntries entries.now w → Sound w
+        → i ≡ meant_by.instance w) }
     ensures counts { CountsFaults result faults.old faults.new }
 {
     match entries.instance(alloc) {
@@ -45,10 +46,16 @@ pub(crate) fn instance_in<S: Alter>(
 ) -> Result<Instance, KeepFault>
     requires idle { conn.old.in_transaction ≡ false }
     ensures idle { conn.new.in_transaction ≡ false }
-    ensures instance { IsOwn conn.old.schema → IsDatabase (state S.Store conn.old).now → HasCleanDisk (state S.Store conn.new) → IfOk result (λ i. Sound (world_of (state S.Store conn.old).now.trees) → i ≡ meant_by.instance (world_of (state S.Store conn.old).now.trees)) }
-    ensures same { IsOwn conn.old.schema → HasCleanDisk (state S.Store conn.new) → OnOk result (IsUnchanged (state S.Store conn.old) (state S.Store conn.new)) }
-    ensures err { IsOwn conn.old.schema → HasCleanDisk (state S.Store conn.new) → OnErr result (Leaves (state S.Store conn.old) (state S.Store conn.new)) }
-    ensures survives { Survives (state S.Store conn.old) (state S.Store conn.new) (λ _. IsOwn conn.old.schema → ⊥) }
+    ensures instance { IsOwn conn.old.schema → IsDatabase (state S.Store conn.old).now
+        → HasCleanDisk (state S.Store conn.new)
+        → IfOk result (λ i. Sound (world_of (state S.Store conn.old).now.trees)
+        → i ≡ meant_by.instance (world_of (state S.Store conn.old).now.trees)) }
+    ensures same { IsOwn conn.old.schema → HasCleanDisk (state S.Store conn.new)
+        → OnOk result (IsUnchanged (state S.Store conn.old) (state S.Store conn.new)) }
+    ensures err { IsOwn conn.old.schema → HasCleanDisk (state S.Store conn.new)
+        → OnErr result (Leaves (state S.Store conn.old) (state S.Store conn.new)) }
+    ensures survives { Survives (state S.Store conn.old) (state S.Store conn.new)
+        (λ _. IsOwn conn.old.schema → ⊥) }
     ensures counts { CountsFaults result faults.old faults.new }
 {
     match load_entries(alloc, conn) {

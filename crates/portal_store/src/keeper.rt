@@ -43,17 +43,28 @@ impl<S: Alter> Store<S> {
     /// disk. `Memory` and `Store` leave all as it was, where the store is clean; a crash leaves the tables before or after.
     pub fn change(&mut self, alloc: Global, change: &Change) -> Result<(), KeepFault>
         requires good { IsCleanStore S.Store self.old → Good (kept_world S.Store self.old) }
-        requires leaves_good { IsCleanStore S.Store self.old → Good (changed (kept_world S.Store self.old) (meant change.now)) }
+        requires leaves_good { IsCleanStore S.Store self.old
+            → Good (changed (kept_world S.Store self.old) (meant change.now)) }
         ensures clean { IsCleanStore S.Store self.new → IsCleanStore S.Store self.old }
-        ensures made { OnOk result (IsCleanStore S.Store self.new → kept_world S.Store self.new ≡ changed (kept_world S.Store self.old) (meant change.now)) }
-        ensures same { OnErr result (IsCleanStore S.Store self.new → kept_world S.Store self.new ≡ kept_world S.Store self.old) }
+        ensures made { OnOk result (IsCleanStore S.Store self.new
+            → kept_world S.Store self.new
+            ≡ changed (kept_world S.Store self.old) (meant change.now)) }
+        ensures same { OnErr result (IsCleanStore S.Store self.new
+            → kept_world S.Store self.new ≡ kept_world S.Store self.old) }
         ensures own { self.new.own ≡ self.old.own }
-        ensures commits { IsTrue self.old.own → HasCleanDisk (state S.Store self.new.conn) → OnOk result (Commits (Turns (meant change.now)) (state S.Store self.old.conn) (state S.Store self.new.conn)) }
-        ensures durable { IsTrue self.old.own → HasCleanDisk (state S.Store self.new.conn) → OnOk result (LeavesOnly (state S.Store self.new.conn)) }
-        ensures crash { IsTrue self.old.own → Survives (state S.Store self.old.conn) (state S.Store self.new.conn) (IsAfter (Turns (meant change.now)) (state S.Store self.old.conn)) }
+        ensures commits { IsTrue self.old.own → HasCleanDisk (state S.Store self.new.conn)
+            → OnOk result (Commits (Turns (meant change.now)) (state S.Store self.old.conn)
+            (state S.Store self.new.conn)) }
+        ensures durable { IsTrue self.old.own → HasCleanDisk (state S.Store self.new.conn)
+            → OnOk result (LeavesOnly (state S.Store self.new.conn)) }
+        ensures crash { IsTrue self.old.own
+            → Survives (state S.Store self.old.conn) (state S.Store self.new.conn)
+            (IsAfter (Turns (meant change.now)) (state S.Store self.old.conn)) }
         ensures lasts { Lasts S.Store self.old self.new }
         ensures counts { CountsFaults result self.old.faults self.new.faults }
-        ensures left { IsCleanStore S.Store self.old → HasCleanDisk (state S.Store self.new.conn) → (db : Trees) → (state S.Store self.new.conn).may_leave db → IsLeft (meant change.now) (state S.Store self.old.conn).now db }
+        ensures left { IsCleanStore S.Store self.old → HasCleanDisk (state S.Store self.new.conn)
+            → (db : Trees) → (state S.Store self.new.conn).may_leave db
+            → IsLeft (meant change.now) (state S.Store self.old.conn).now db }
     {
         if let Err(fault) = self.check_own() {
             return Err(told(&mut self.faults, fault));
@@ -73,8 +84,11 @@ impl<S: Alter> Store<S> {
     /// The instance of the world of the tables, where that is good: of the entries that are remembered, or of what is read.
     fn meant(&mut self, alloc: Global) -> Result<Instance, KeepFault>
         ensures clean { IsCleanStore S.Store self.new → IsCleanStore S.Store self.old }
-        ensures instance { IfOk result (λ i. IsCleanStore S.Store self.new → Good (kept_world S.Store self.old) → i ≡ meant_by.instance (kept_world S.Store self.old)) }
-        ensures same { IsCleanStore S.Store self.new → kept_world S.Store self.new ≡ kept_world S.Store self.old }
+        ensures instance { IfOk result (λ i. IsCleanStore S.Store self.new
+            → Good (kept_world S.Store self.old)
+            → i ≡ meant_by.instance (kept_world S.Store self.old)) }
+        ensures same { IsCleanStore S.Store self.new
+            → kept_world S.Store self.new ≡ kept_world S.Store self.old }
         ensures own { self.new.own ≡ self.old.own }
         ensures lasts { Lasts S.Store self.old self.new }
         ensures counts { CountsFaults result self.old.faults self.new.faults }
@@ -91,8 +105,11 @@ impl<S: Alter> Store<S> {
     /// What the caller with this code sees, by queries of what that caller may see.
     fn shown(&mut self, alloc: Global, code: &[u8]) -> Result<View, KeepFault>
         ensures clean { IsCleanStore S.Store self.new → IsCleanStore S.Store self.old }
-        ensures shown { IfOk result (λ view. IsCleanStore S.Store self.new → Good (kept_world S.Store self.old) → view ≡ seen.view (kept_world S.Store self.old) code.now) }
-        ensures same { IsCleanStore S.Store self.new → kept_world S.Store self.new ≡ kept_world S.Store self.old }
+        ensures shown { IfOk result (λ view. IsCleanStore S.Store self.new
+            → Good (kept_world S.Store self.old)
+            → view ≡ seen.view (kept_world S.Store self.old) code.now) }
+        ensures same { IsCleanStore S.Store self.new
+            → kept_world S.Store self.new ≡ kept_world S.Store self.old }
         ensures own { self.new.own ≡ self.old.own }
         ensures lasts { Lasts S.Store self.old self.new }
         ensures counts { CountsFaults result self.old.faults self.new.faults }
@@ -112,8 +129,10 @@ impl<S: Alter> Store<S> {
     /// The code of the office. `Store` comes for an error of the connection, and where there is no row of the office.
     pub fn office_code(&mut self, alloc: Global) -> Result<Code, KeepFault>
         ensures clean { IsCleanStore S.Store self.new → IsCleanStore S.Store self.old }
-        ensures code { IsCleanStore S.Store self.new → IfOk result (λ code. code ≡ (kept_world S.Store self.old).office) }
-        ensures same { IsCleanStore S.Store self.new → kept_world S.Store self.new ≡ kept_world S.Store self.old }
+        ensures code { IsCleanStore S.Store self.new
+            → IfOk result (λ code. code ≡ (kept_world S.Store self.old).office) }
+        ensures same { IsCleanStore S.Store self.new
+            → kept_world S.Store self.new ≡ kept_world S.Store self.old }
         ensures own { self.new.own ≡ self.old.own }
         ensures lasts { Lasts S.Store self.old self.new }
         ensures counts { CountsFaults result self.old.faults self.new.faults }
@@ -134,8 +153,11 @@ impl<S: Alter> Keeper for Store<S> {
 
     fn view(&mut self, alloc: Global, code: &[u8]) -> Result<View, KeepFault>
         ensures clean { IsCleanStore S.Store self.new → IsCleanStore S.Store self.old }
-        ensures shown { IfOk result (λ view. IsCleanStore S.Store self.new → Good (kept_world S.Store self.old) → view ≡ seen.view (kept_world S.Store self.old) code.now) }
-        ensures same { IsCleanStore S.Store self.new → kept_world S.Store self.new ≡ kept_world S.Store self.old }
+        ensures shown { IfOk result (λ view. IsCleanStore S.Store self.new
+            → Good (kept_world S.Store self.old)
+            → view ≡ seen.view (kept_world S.Store self.old) code.now) }
+        ensures same { IsCleanStore S.Store self.new
+            → kept_world S.Store self.new ≡ kept_world S.Store self.old }
         ensures own { self.new.own ≡ self.old.own }
         ensures lasts { Lasts S.Store self.old self.new }
         ensures counts { CountsFaults result self.old.faults self.new.faults }
@@ -146,8 +168,10 @@ impl<S: Alter> Keeper for Store<S> {
     fn instance(&mut self, alloc: Global) -> Result<Instance, KeepFault>
         requires good { IsCleanStore S.Store self.old → Good (kept_world S.Store self.old) }
         ensures clean { IsCleanStore S.Store self.new → IsCleanStore S.Store self.old }
-        ensures instance { IfOk result (λ i. IsCleanStore S.Store self.new → i ≡ meant_by.instance (kept_world S.Store self.old)) }
-        ensures same { IsCleanStore S.Store self.new → kept_world S.Store self.new ≡ kept_world S.Store self.old }
+        ensures instance { IfOk result (λ i. IsCleanStore S.Store self.new
+            → i ≡ meant_by.instance (kept_world S.Store self.old)) }
+        ensures same { IsCleanStore S.Store self.new
+            → kept_world S.Store self.new ≡ kept_world S.Store self.old }
         ensures own { self.new.own ≡ self.old.own }
         ensures lasts { Lasts S.Store self.old self.new }
         ensures counts { CountsFaults result self.old.faults self.new.faults }
@@ -157,17 +181,28 @@ impl<S: Alter> Keeper for Store<S> {
 
     fn apply(&mut self, alloc: Global, change: &Change) -> Result<(), KeepFault>
         requires good { IsCleanStore S.Store self.old → Good (kept_world S.Store self.old) }
-        requires leaves_good { IsCleanStore S.Store self.old → Good (changed (kept_world S.Store self.old) (meant change.now)) }
+        requires leaves_good { IsCleanStore S.Store self.old
+            → Good (changed (kept_world S.Store self.old) (meant change.now)) }
         ensures clean { IsCleanStore S.Store self.new → IsCleanStore S.Store self.old }
-        ensures made { OnOk result (IsCleanStore S.Store self.new → kept_world S.Store self.new ≡ changed (kept_world S.Store self.old) (meant change.now)) }
-        ensures same { OnErr result (IsCleanStore S.Store self.new → kept_world S.Store self.new ≡ kept_world S.Store self.old) }
+        ensures made { OnOk result (IsCleanStore S.Store self.new
+            → kept_world S.Store self.new
+            ≡ changed (kept_world S.Store self.old) (meant change.now)) }
+        ensures same { OnErr result (IsCleanStore S.Store self.new
+            → kept_world S.Store self.new ≡ kept_world S.Store self.old) }
         ensures own { self.new.own ≡ self.old.own }
         ensures lasts { Lasts S.Store self.old self.new }
         ensures counts { CountsFaults result self.old.faults self.new.faults }
-        ensures commits { IsTrue self.old.own → HasCleanDisk (state S.Store self.new.conn) → OnOk result (Commits (Turns (meant change.now)) (state S.Store self.old.conn) (state S.Store self.new.conn)) }
-        ensures durable { IsTrue self.old.own → HasCleanDisk (state S.Store self.new.conn) → OnOk result (LeavesOnly (state S.Store self.new.conn)) }
-        ensures crash { IsTrue self.old.own → Survives (state S.Store self.old.conn) (state S.Store self.new.conn) (IsAfter (Turns (meant change.now)) (state S.Store self.old.conn)) }
-        ensures left { IsCleanStore S.Store self.old → HasCleanDisk (state S.Store self.new.conn) → (db : Trees) → (state S.Store self.new.conn).may_leave db → IsLeft (meant change.now) (state S.Store self.old.conn).now db }
+        ensures commits { IsTrue self.old.own → HasCleanDisk (state S.Store self.new.conn)
+            → OnOk result (Commits (Turns (meant change.now)) (state S.Store self.old.conn)
+            (state S.Store self.new.conn)) }
+        ensures durable { IsTrue self.old.own → HasCleanDisk (state S.Store self.new.conn)
+            → OnOk result (LeavesOnly (state S.Store self.new.conn)) }
+        ensures crash { IsTrue self.old.own
+            → Survives (state S.Store self.old.conn) (state S.Store self.new.conn)
+            (IsAfter (Turns (meant change.now)) (state S.Store self.old.conn)) }
+        ensures left { IsCleanStore S.Store self.old → HasCleanDisk (state S.Store self.new.conn)
+            → (db : Trees) → (state S.Store self.new.conn).may_leave db
+            → IsLeft (meant change.now) (state S.Store self.old.conn).now db }
     {
         self.change(alloc, change)
     }

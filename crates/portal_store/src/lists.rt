@@ -10,17 +10,14 @@ ghost use Rattle.portal_store.specs.Kept.{Turns};
 ghost use Rattle.portal_store.specs.Putting.{TurnsThere};
 
 use portal_tables::fault::TableFault;
-use portal_tables::insert::{add_all, choices_of, rankings_of};
-use portal_tables::remove::{clear_choices, clear_rankings};
-use portal_tables::select::lecturer_by_key;
+use portal_tables::list_table::Lists;
+use portal_tables::put::put_list;
+use portal_tables::select::{Query, read};
 use portal_tables::step::{Step, commit};
 use portal_tables::update::set_ranked;
 use spa_rows::Key;
-use sqlite::{Alter, Connection, Error, ErrorCode, Transaction};
+use sqlite::{Alter, Connection, Error, Transaction};
 use std::alloc::Global;
-
-/// No list is longer: there are at most 1,000 projects and 2,000 students.
-const LONGEST: usize = 2000;
 
 /// The student's list becomes these projects, best first. A list that is longer than any may be is refused as too big.
 pub(crate) struct PutChoices<'a> {
@@ -33,12 +30,7 @@ impl Step for PutChoices<'_> {
 
     fn take<S: Alter>(self, alloc: Global, tx: &mut Transaction<'_, S>) -> Result<(), Error> {
         let PutChoices { student, projects } = self;
-        if projects.len() > LONGEST {
-            return Err(Error::SqliteFailure(ErrorCode::TooBig));
-        }
-        clear_choices(tx, student.as_bytes())?;
-        let rows = choices_of(alloc, student, projects)?;
-        add_all(tx, &rows)
+        put_list(alloc, tx, Lists::Choices, student, projects)
     }
 }
 
@@ -54,12 +46,7 @@ impl Step for PutRanking<'_> {
 
     fn take<S: Alter>(self, alloc: Global, tx: &mut Transaction<'_, S>) -> Result<(), Error> {
         let PutRanking { lecturer, students } = self;
-        if students.len() > LONGEST {
-            return Err(Error::SqliteFailure(ErrorCode::TooBig));
-        }
-        clear_rankings(tx, lecturer.as_bytes())?;
-        let rows = rankings_of(alloc, lecturer, students)?;
-        add_all(tx, &rows)?;
+        put_list(alloc, tx, Lists::Rankings, lecturer, students)?;
         set_ranked(tx, lecturer.as_bytes())
     }
 }
@@ -73,13 +60,20 @@ pub(crate) fn replace_ranking<S: Alter>(
 ) -> Result<(), TableFault>
     requires idle { conn.old.in_transaction ≡ false }
     ensures idle { conn.new.in_transaction ≡ false }
-    ensures ok { IsOwn conn.old.schema → HasCleanDisk (state S.Store conn.new) → OnOk result (Commits (Turns (Ranks lecturer.now students.now)) (state S.Store conn.old) (state S.Store conn.new)) }
-    ensures err { IsOwn conn.old.schema → HasCleanDisk (state S.Store conn.new) → IsTrue (state S.Store conn.new).is_open → OnErr result (Stays (state S.Store conn.old) (state S.Store conn.new)) }
-    ensures durable { IsOwn conn.old.schema → HasCleanDisk (state S.Store conn.new) → OnOk result (LeavesOnly (state S.Store conn.new)) }
-    ensures crash { IsOwn conn.old.schema → Survives (state S.Store conn.old) (state S.Store conn.new) (IsAfter (Turns (Ranks lecturer.now students.now)) (state S.Store conn.old)) }
+    ensures ok { IsOwn conn.old.schema → HasCleanDisk (state S.Store conn.new)
+        → OnOk result (Commits (Turns (Ranks lecturer.now students.now)) (state S.Store conn.old)
+        (state S.Store conn.new)) }
+    ensures err { IsOwn conn.old.schema → HasCleanDisk (state S.Store conn.new)
+        → IsTrue (state S.Store conn.new).is_open
+        → OnErr result (Stays (state S.Store conn.old) (state S.Store conn.new)) }
+    ensures durable { IsOwn conn.old.schema → HasCleanDisk (state S.Store conn.new)
+        → OnOk result (LeavesOnly (state S.Store conn.new)) }
+    ensures crash { IsOwn conn.old.schema
+        → Survives (state S.Store conn.old) (state S.Store conn.new)
+        (IsAfter (Turns (Ranks lecturer.now students.now)) (state S.Store conn.old)) }
 {
     let _idle = conn.is_autocommit();
-    let there = lecturer_by_key(conn, lecturer.as_bytes())?;
+    let there = read(conn, Query::LecturerByKey(lecturer.as_bytes()))?;
     if there.is_empty() {
         return Ok(());
     }

@@ -22,7 +22,8 @@ pub fn seen_around(
 ) -> Option<(View, View)>
     requires good { Good (changed (first_world office) (meant change.now)) }
     ensures before { IfSome result (λ views. views.0 ≡ seen.view (first_world office) code.now) }
-    ensures after { IfSome result (λ views. views.1 ≡ seen.view (changed (first_world office) (meant change.now)) code.now) }
+    ensures after { IfSome result
+        (λ views. views.1 ≡ seen.view (changed (first_world office) (meant change.now)) code.now) }
 {
     lasts_in_memory();
     let Ok(mut store) = Store::create_memory(alloc, office) else {

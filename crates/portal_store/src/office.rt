@@ -23,10 +23,15 @@ pub(crate) fn office_of<S: Alter>(
 ) -> Result<Code, KeepFault>
     requires idle { conn.old.in_transaction ≡ false }
     ensures idle { conn.new.in_transaction ≡ false }
-    ensures code { IsOwn conn.old.schema → IsDatabase (state S.Store conn.old).now → HasCleanDisk (state S.Store conn.new) → IfOk result (λ code. code ≡ (world_of (state S.Store conn.old).now.trees).office) }
-    ensures same { IsOwn conn.old.schema → HasCleanDisk (state S.Store conn.new) → OnOk result (IsUnchanged (state S.Store conn.old) (state S.Store conn.new)) }
-    ensures err { IsOwn conn.old.schema → HasCleanDisk (state S.Store conn.new) → OnErr result (Leaves (state S.Store conn.old) (state S.Store conn.new)) }
-    ensures survives { Survives (state S.Store conn.old) (state S.Store conn.new) (λ _. IsOwn conn.old.schema → ⊥) }
+    ensures code { IsOwn conn.old.schema → IsDatabase (state S.Store conn.old).now
+        → HasCleanDisk (state S.Store conn.new)
+        → IfOk result (λ code. code ≡ (world_of (state S.Store conn.old).now.trees).office) }
+    ensures same { IsOwn conn.old.schema → HasCleanDisk (state S.Store conn.new)
+        → OnOk result (IsUnchanged (state S.Store conn.old) (state S.Store conn.new)) }
+    ensures err { IsOwn conn.old.schema → HasCleanDisk (state S.Store conn.new)
+        → OnErr result (Leaves (state S.Store conn.old) (state S.Store conn.new)) }
+    ensures survives { Survives (state S.Store conn.old) (state S.Store conn.new)
+        (λ _. IsOwn conn.old.schema → ⊥) }
     ensures counts { CountsFaults result faults.old faults.new }
 {
     match office_in(alloc, conn) {

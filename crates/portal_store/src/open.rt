@@ -16,21 +16,18 @@ ghost use Rattle.portal_tables.specs.Steps.{Stays};
 ghost use Rattle.portal_list.specs.Entries.{HasEntries};
 ghost use Rattle.portal_store.specs.Kept.{Stands, IsCleanStore, kept_world};
 ghost use Rattle.portal_store.specs.World.{world_of};
-ghost use Rattle.portal_store.specs.Asked.{Asks, IsVersion1, Refutes, Admits};
+ghost use Rattle.portal_tables.specs.Reading.{Asks};
+ghost use Rattle.portal_store.specs.Asked.{IsVersion1, Refutes, Admits};
 
 use crate::fault::{load_open_fault_of, open_fault_of, table_fault_of};
 use crate::sound::load_keeper;
 use crate::store::{NotOpened, OpenFault, Store};
 use portal_core::Remembered;
 use portal_list::{Entries, ListKeeper};
-use portal_tables::apart::{
-    has_apart_choices, has_apart_lecturers, has_apart_projects, has_apart_rankings,
-    has_apart_students,
-};
+use portal_tables::apart::are_apart;
+use portal_tables::list_table::Lists;
 use portal_tables::own::Pattern;
-use portal_tables::select::{
-    choice_rows, lecturer_rows, portal_rows, project_rows, ranking_rows, student_rows,
-};
+use portal_tables::select::{Query, Roll, Table, read};
 use sqlite::types::ValueRef;
 use sqlite::{Alter, Connection, Error, Row};
 use std::alloc::Global;
@@ -58,12 +55,12 @@ fn see_tables<S: Alter>(conn: &mut Connection<S>, own: bool) -> Result<(), OpenF
     if own {
         return Ok(());
     }
-    seen(portal_rows(conn))?;
-    seen(lecturer_rows(conn))?;
-    seen(project_rows(conn))?;
-    seen(student_rows(conn))?;
-    seen(choice_rows(conn))?;
-    seen(ranking_rows(conn))
+    seen(read(conn, Query::Office))?;
+    seen(read(conn, Query::Whole(Roll::Lecturers)))?;
+    seen(read(conn, Query::Whole(Roll::Projects)))?;
+    seen(read(conn, Query::Whole(Roll::Students)))?;
+    seen(read(conn, Query::AllLists(Lists::Choices)))?;
+    seen(read(conn, Query::AllLists(Lists::Rankings)))
 }
 
 /// Whether the row of the office is of version 1.
@@ -76,9 +73,11 @@ fn is_version_1(row: &Row) -> bool
 /// Whether there is a row of the office, of version 1.
 fn judge_office(rows: &[Row]) -> Result<(), OpenFault>
     ensures none { (result ≡ Err OpenFault.NotPortal) ↔ (rows.now ≡ []) }
-    ensures version { OnOk result ((row : Cells) × (rest : List Cells) × (rows.now ≡ row ∷ rest) × (column row 1 ≡ Int (pos 1))) }
+    ensures version { OnOk result ((row : Cells) × (rest : List Cells) × (rows.now ≡ row ∷ rest)
+        × (column row 1 ≡ Int (pos 1))) }
     ensures there { result ≡ Err OpenFault.OtherVersion → rows.now ≢ [] }
-    ensures other { result ≡ Err OpenFault.OtherVersion → (row : Cells) → rows.now ≡ row ∷ [] → column row 1 ≡ Int (pos 1) → ⊥ }
+    ensures other { result ≡ Err OpenFault.OtherVersion → (row : Cells) → rows.now ≡ row ∷ []
+        → column row 1 ≡ Int (pos 1) → ⊥ }
     ensures judged { IfErr result (λ fault. (fault ≡ OpenFault.Damaged) → ⊥) }
 {
     match rows {
@@ -98,10 +97,12 @@ fn see_office<S: Alter>(conn: &mut Connection<S>) -> Result<(), OpenFault>
     requires idle { conn.old.in_transaction ≡ false }
     ensures idle { conn.new.in_transaction ≡ false }
     ensures asks { Asks result (state S.Store conn.old) (state S.Store conn.new) }
-    ensures refused { IsOwn conn.old.schema → HasCleanDisk (state S.Store conn.new) → IfErr result (λ fault. Refutes fault (state S.Store conn.old).now.trees) }
-    ensures version { IsOwn conn.old.schema → HasCleanDisk (state S.Store conn.new) → OnOk result (IsVersion1 (state S.Store conn.old).now.trees) }
+    ensures refused { IsOwn conn.old.schema → HasCleanDisk (state S.Store conn.new)
+        → IfErr result (λ fault. Refutes fault (state S.Store conn.old).now.trees) }
+    ensures version { IsOwn conn.old.schema → HasCleanDisk (state S.Store conn.new)
+        → OnOk result (IsVersion1 (state S.Store conn.old).now.trees) }
 {
-    match portal_rows(conn) {
+    match read(conn, Query::Office) {
         Ok(rows) => judge_office(&rows),
         Err(error) => Err(open_fault_of(error)),
     }
@@ -125,11 +126,13 @@ fn see_rolls_apart<S: Alter>(conn: &mut Connection<S>) -> Result<(), OpenFault>
     ensures idle { conn.new.in_transaction ≡ false }
     ensures asks { Asks result (state S.Store conn.old) (state S.Store conn.new) }
     ensures refused { IfErr result (λ fault. (db : Trees) → Refutes fault db) }
-    ensures apart { IsOwn conn.old.schema → HasCleanDisk (state S.Store conn.new) → OnOk result (AllByRecursion (λ t. IsApart ((state S.Store conn.old).now.trees t)) (lecturer_tree ∷ project_tree ∷ student_tree ∷ [])) }
+    ensures apart { IsOwn conn.old.schema → HasCleanDisk (state S.Store conn.new)
+        → OnOk result (AllByRecursion (λ t. IsApart ((state S.Store conn.old).now.trees t))
+        (lecturer_tree ∷ project_tree ∷ student_tree ∷ [])) }
 {
-    apart(has_apart_lecturers(conn))?;
-    apart(has_apart_projects(conn))?;
-    apart(has_apart_students(conn))
+    apart(are_apart(conn, Table::OfRoll(Roll::Lecturers)))?;
+    apart(are_apart(conn, Table::OfRoll(Roll::Projects)))?;
+    apart(are_apart(conn, Table::OfRoll(Roll::Students)))
 }
 
 /// Whether the rows of the lists have numbers of their own.
@@ -138,10 +141,12 @@ fn see_lists_apart<S: Alter>(conn: &mut Connection<S>) -> Result<(), OpenFault>
     ensures idle { conn.new.in_transaction ≡ false }
     ensures asks { Asks result (state S.Store conn.old) (state S.Store conn.new) }
     ensures refused { IfErr result (λ fault. (db : Trees) → Refutes fault db) }
-    ensures apart { IsOwn conn.old.schema → HasCleanDisk (state S.Store conn.new) → OnOk result (AllByRecursion (λ t. IsApart ((state S.Store conn.old).now.trees t)) (choice_tree ∷ ranking_tree ∷ [])) }
+    ensures apart { IsOwn conn.old.schema → HasCleanDisk (state S.Store conn.new)
+        → OnOk result (AllByRecursion (λ t. IsApart ((state S.Store conn.old).now.trees t))
+        (choice_tree ∷ ranking_tree ∷ [])) }
 {
-    apart(has_apart_choices(conn))?;
-    apart(has_apart_rankings(conn))
+    apart(are_apart(conn, Table::OfLists(Lists::Choices)))?;
+    apart(are_apart(conn, Table::OfLists(Lists::Rankings)))
 }
 
 /// Whether the keeper's world is good.
@@ -149,7 +154,8 @@ fn judge_world(alloc: Global, keeper: &ListKeeper) -> Result<(), OpenFault>
     requires { Sound keeper.now }
     ensures good { OnOk result (Good keeper.now) }
     ensures damaged { result ≡ Err OpenFault.Damaged → Good keeper.now → ⊥ }
-    ensures judged { IfErr result (λ fault. (fault ≡ OpenFault.Damaged) ⊎ (fault ≡ OpenFault.Memory)) }
+    ensures judged { IfErr result (λ fault. (fault ≡ OpenFault.Damaged)
+        ⊎ (fault ≡ OpenFault.Memory)) }
 {
     match keeper.is_good(alloc) {
         Ok(true) => Ok(()),
@@ -163,9 +169,17 @@ fn see_world<S: Alter>(alloc: Global, conn: &mut Connection<S>) -> Result<Entrie
     requires idle { conn.old.in_transaction ≡ false }
     ensures idle { conn.new.in_transaction ≡ false }
     ensures asks { Asks result (state S.Store conn.old) (state S.Store conn.new) }
-    ensures refused { IsOwn conn.old.schema → IsDatabase (state S.Store conn.old).now → HasCleanDisk (state S.Store conn.new) → IfErr result (λ fault. IsVersion1 (state S.Store conn.old).now.trees → Refutes fault (state S.Store conn.old).now.trees) }
-    ensures stands { IsOwn conn.old.schema → IsDatabase (state S.Store conn.old).now → HasCleanDisk (state S.Store conn.new) → OnOk result (Stands (state S.Store conn.old).now.trees) }
-    ensures entries { IsOwn conn.old.schema → IsDatabase (state S.Store conn.old).now → HasCleanDisk (state S.Store conn.new) → IfOk result (λ e. HasEntries e (world_of (state S.Store conn.old).now.trees)) }
+    ensures refused { IsOwn conn.old.schema → IsDatabase (state S.Store conn.old).now
+        → HasCleanDisk (state S.Store conn.new)
+        → IfErr result
+        (λ fault. IsVersion1 (state S.Store conn.old).now.trees
+        → Refutes fault (state S.Store conn.old).now.trees) }
+    ensures stands { IsOwn conn.old.schema → IsDatabase (state S.Store conn.old).now
+        → HasCleanDisk (state S.Store conn.new)
+        → OnOk result (Stands (state S.Store conn.old).now.trees) }
+    ensures entries { IsOwn conn.old.schema → IsDatabase (state S.Store conn.old).now
+        → HasCleanDisk (state S.Store conn.new)
+        → IfOk result (λ e. HasEntries e (world_of (state S.Store conn.old).now.trees)) }
 {
     match load_keeper(alloc, conn) {
         Ok(keeper) => {
@@ -181,9 +195,15 @@ fn judge<S: Alter>(alloc: Global, conn: &mut Connection<S>) -> Result<Entries, O
     requires idle { conn.old.in_transaction ≡ false }
     ensures idle { conn.new.in_transaction ≡ false }
     ensures asks { Asks result (state S.Store conn.old) (state S.Store conn.new) }
-    ensures refused { IsOwn conn.old.schema → IsLive (state S.Store conn.old) → HasCleanDisk (state S.Store conn.new) → IfErr result (λ fault. Refutes fault (state S.Store conn.old).now.trees) }
-    ensures admits { IsOwn conn.old.schema → IsLive (state S.Store conn.old) → HasCleanDisk (state S.Store conn.new) → OnOk result (Admits (state S.Store conn.old).now.trees) }
-    ensures entries { IsOwn conn.old.schema → IsLive (state S.Store conn.old) → HasCleanDisk (state S.Store conn.new) → IfOk result (λ e. HasEntries e (world_of (state S.Store conn.old).now.trees)) }
+    ensures refused { IsOwn conn.old.schema → IsLive (state S.Store conn.old)
+        → HasCleanDisk (state S.Store conn.new)
+        → IfErr result (λ fault. Refutes fault (state S.Store conn.old).now.trees) }
+    ensures admits { IsOwn conn.old.schema → IsLive (state S.Store conn.old)
+        → HasCleanDisk (state S.Store conn.new)
+        → OnOk result (Admits (state S.Store conn.old).now.trees) }
+    ensures entries { IsOwn conn.old.schema → IsLive (state S.Store conn.old)
+        → HasCleanDisk (state S.Store conn.new)
+        → IfOk result (λ e. HasEntries e (world_of (state S.Store conn.old).now.trees)) }
 {
     see_office(conn)?;
     see_rolls_apart(conn)?;
@@ -200,9 +220,15 @@ fn examine<S: Alter>(
     requires idle { conn.old.in_transaction ≡ false }
     ensures idle { conn.new.in_transaction ≡ false }
     ensures asks { IsTrue own → Asks result (state S.Store conn.old) (state S.Store conn.new) }
-    ensures refused { IsTrue own → IsOwn conn.old.schema → IsLive (state S.Store conn.old) → HasCleanDisk (state S.Store conn.new) → IfErr result (λ fault. Refutes fault (state S.Store conn.old).now.trees) }
-    ensures admits { IsTrue own → IsOwn conn.old.schema → IsLive (state S.Store conn.old) → HasCleanDisk (state S.Store conn.new) → OnOk result (Admits (state S.Store conn.old).now.trees) }
-    ensures entries { IsTrue own → IsOwn conn.old.schema → IsLive (state S.Store conn.old) → HasCleanDisk (state S.Store conn.new) → IfOk result (λ e. HasEntries e (world_of (state S.Store conn.old).now.trees)) }
+    ensures refused { IsTrue own → IsOwn conn.old.schema → IsLive (state S.Store conn.old)
+        → HasCleanDisk (state S.Store conn.new)
+        → IfErr result (λ fault. Refutes fault (state S.Store conn.old).now.trees) }
+    ensures admits { IsTrue own → IsOwn conn.old.schema → IsLive (state S.Store conn.old)
+        → HasCleanDisk (state S.Store conn.new)
+        → OnOk result (Admits (state S.Store conn.old).now.trees) }
+    ensures entries { IsTrue own → IsOwn conn.old.schema → IsLive (state S.Store conn.old)
+        → HasCleanDisk (state S.Store conn.new)
+        → IfOk result (λ e. HasEntries e (world_of (state S.Store conn.old).now.trees)) }
 {
     see_tables(conn, own)?;
     judge(alloc, conn)
@@ -217,14 +243,23 @@ impl<S: Alter> Store<S> {
     pub fn open(alloc: Global, mut conn: Connection<S>) -> Result<Store<S>, NotOpened<OpenFault, S>>
         requires idle { conn.in_transaction ≡ false }
         ensures own { IfOk result (λ s. IsTrue s.own ↔ IsOwn conn.schema) }
-        ensures same { IfOk result (λ s. IsOwn conn.schema → HasCleanDisk (state S.Store s.conn) → IsUnchanged (state S.Store conn) (state S.Store s.conn)) }
-        ensures stands { IfOk result (λ s. IsOwn conn.schema → HasCleanDisk (state S.Store s.conn) → Stands (state S.Store s.conn).now.trees) }
+        ensures same { IfOk result (λ s. IsOwn conn.schema → HasCleanDisk (state S.Store s.conn)
+            → IsUnchanged (state S.Store conn) (state S.Store s.conn)) }
+        ensures stands { IfOk result (λ s. IsOwn conn.schema → HasCleanDisk (state S.Store s.conn)
+            → Stands (state S.Store s.conn).now.trees) }
         ensures good { IfOk result (λ s. IsCleanStore S.Store s → Good (kept_world S.Store s)) }
-        ensures refused { IfErr result (λ e. IsOwn conn.schema → HasCleanDisk (state S.Store e.connection) → Refutes e.fault (state S.Store conn).now.trees) }
-        ensures err { IfErr result (λ e. IsOwn conn.schema → HasCleanDisk (state S.Store e.connection) → IsTrue (state S.Store e.connection).is_open → Stays (state S.Store conn) (state S.Store e.connection)) }
+        ensures refused { IfErr result (λ e. IsOwn conn.schema
+            → HasCleanDisk (state S.Store e.connection)
+            → Refutes e.fault (state S.Store conn).now.trees) }
+        ensures err { IfErr result (λ e. IsOwn conn.schema
+            → HasCleanDisk (state S.Store e.connection)
+            → IsTrue (state S.Store e.connection).is_open
+            → Stays (state S.Store conn) (state S.Store e.connection)) }
         ensures idle { IfErr result (λ e. e.connection.in_transaction ≡ false) }
-        ensures crash_ok { IfOk result (λ s. IsOwn conn.schema → Survives (state S.Store conn) (state S.Store s.conn) (λ _. ⊥)) }
-        ensures crash_err { IfErr result (λ e. IsOwn conn.schema → Survives (state S.Store conn) (state S.Store e.connection) (λ _. ⊥)) }
+        ensures crash_ok { IfOk result (λ s. IsOwn conn.schema
+            → Survives (state S.Store conn) (state S.Store s.conn) (λ _. ⊥)) }
+        ensures crash_err { IfErr result (λ e. IsOwn conn.schema
+            → Survives (state S.Store conn) (state S.Store e.connection) (λ _. ⊥)) }
     {
         let _idle = conn.is_autocommit();
         let _live = conn.schema();

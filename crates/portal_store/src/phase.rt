@@ -55,11 +55,19 @@ pub(crate) fn set_phase<S: Alter>(
 ) -> Result<(), TableFault>
     requires idle { conn.old.in_transaction ≡ false }
     ensures idle { conn.new.in_transaction ≡ false }
-    ensures ok { IsOwn conn.old.schema → HasCleanDisk (state S.Store conn.new) → OnOk result (Commits (Turns (To phase)) (state S.Store conn.old) (state S.Store conn.new)) }
-    ensures entries { IsOwn conn.old.schema → KeepsEntries entries.old entries.new (state S.Store conn.old) (state S.Store conn.new) }
-    ensures err { IsOwn conn.old.schema → HasCleanDisk (state S.Store conn.new) → IsTrue (state S.Store conn.new).is_open → OnErr result (Stays (state S.Store conn.old) (state S.Store conn.new)) }
-    ensures durable { IsOwn conn.old.schema → HasCleanDisk (state S.Store conn.new) → OnOk result (LeavesOnly (state S.Store conn.new)) }
-    ensures crash { IsOwn conn.old.schema → Survives (state S.Store conn.old) (state S.Store conn.new) (IsAfter (Turns (To phase)) (state S.Store conn.old)) }
+    ensures ok { IsOwn conn.old.schema → HasCleanDisk (state S.Store conn.new)
+        → OnOk result (Commits (Turns (To phase)) (state S.Store conn.old)
+        (state S.Store conn.new)) }
+    ensures entries { IsOwn conn.old.schema
+        → KeepsEntries entries.old entries.new (state S.Store conn.old) (state S.Store conn.new) }
+    ensures err { IsOwn conn.old.schema → HasCleanDisk (state S.Store conn.new)
+        → IsTrue (state S.Store conn.new).is_open
+        → OnErr result (Stays (state S.Store conn.old) (state S.Store conn.new)) }
+    ensures durable { IsOwn conn.old.schema → HasCleanDisk (state S.Store conn.new)
+        → OnOk result (LeavesOnly (state S.Store conn.new)) }
+    ensures crash { IsOwn conn.old.schema
+        → Survives (state S.Store conn.old) (state S.Store conn.new)
+        (IsAfter (Turns (To phase)) (state S.Store conn.old)) }
 {
     let _idle = conn.is_autocommit();
     if entries.is_some() {

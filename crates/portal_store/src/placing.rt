@@ -12,12 +12,12 @@ ghost use Rattle.portal_store.specs.Placing.{TurnsShown, assigned_of};
 use portal_core::Pairs;
 use portal_tables::assign::{Assignment, assign_all};
 use portal_tables::cells::bytes_at;
-use portal_tables::decode::do_rise;
 use portal_tables::fault::TableFault;
+use portal_tables::select::{Query, Roll, read};
 use portal_tables::step::{Step, commit};
-use portal_tables::{select, update};
+use portal_tables::update;
 use spa_rows::Key;
-use sqlite::{Alter, Connection, Error, ErrorCode, Row, Transaction};
+use sqlite::{Alter, Connection, Error, Row, Transaction};
 use std::alloc::{AllocError, Global};
 
 /// The project that the pairs give to the student with this key.
@@ -47,8 +47,7 @@ fn assignments<'a>(
     Ok(all)
 }
 
-/// The result is made public, where the rows are the roll of students: their places, and then the phase. Rows whose keys do not rise are
-/// refused as corrupt.
+/// The result is made public, where the rows are the roll of students: their places, and then the phase.
 struct PutResult<'a> {
     rows: &'a [Row],
     pairs: &'a [(Key, Key)],
@@ -59,9 +58,6 @@ impl Step for PutResult<'_> {
 
     fn take<S: Alter>(self, alloc: Global, tx: &mut Transaction<'_, S>) -> Result<(), Error> {
         let PutResult { rows, pairs } = self;
-        if !do_rise(rows) {
-            return Err(Error::SqliteFailure(ErrorCode::DatabaseCorrupt));
-        }
         let pairs = Pairs::of(alloc, pairs)?;
         let all = assignments(alloc, rows, &pairs)?;
         assign_all(tx, &all)?;
@@ -78,12 +74,19 @@ pub(crate) fn publish<S: Alter>(
 ) -> Result<(), TableFault>
     requires idle { conn.old.in_transaction ≡ false }
     ensures idle { conn.new.in_transaction ≡ false }
-    ensures ok { IsOwn conn.old.schema → HasCleanDisk (state S.Store conn.new) → OnOk result (Commits (Turns (Places pairs.now)) (state S.Store conn.old) (state S.Store conn.new)) }
-    ensures err { IsOwn conn.old.schema → HasCleanDisk (state S.Store conn.new) → IsTrue (state S.Store conn.new).is_open → OnErr result (Stays (state S.Store conn.old) (state S.Store conn.new)) }
-    ensures durable { IsOwn conn.old.schema → HasCleanDisk (state S.Store conn.new) → OnOk result (LeavesOnly (state S.Store conn.new)) }
-    ensures crash { IsOwn conn.old.schema → Survives (state S.Store conn.old) (state S.Store conn.new) (IsAfter (Turns (Places pairs.now)) (state S.Store conn.old)) }
+    ensures ok { IsOwn conn.old.schema → HasCleanDisk (state S.Store conn.new)
+        → OnOk result (Commits (Turns (Places pairs.now)) (state S.Store conn.old)
+        (state S.Store conn.new)) }
+    ensures err { IsOwn conn.old.schema → HasCleanDisk (state S.Store conn.new)
+        → IsTrue (state S.Store conn.new).is_open
+        → OnErr result (Stays (state S.Store conn.old) (state S.Store conn.new)) }
+    ensures durable { IsOwn conn.old.schema → HasCleanDisk (state S.Store conn.new)
+        → OnOk result (LeavesOnly (state S.Store conn.new)) }
+    ensures crash { IsOwn conn.old.schema
+        → Survives (state S.Store conn.old) (state S.Store conn.new)
+        (IsAfter (Turns (Places pairs.now)) (state S.Store conn.old)) }
 {
     let _idle = conn.is_autocommit();
-    let rows = select::student_rows(conn)?;
+    let rows = read(conn, Query::Whole(Roll::Students))?;
     commit(alloc, conn, PutResult { rows: &rows, pairs })
 }

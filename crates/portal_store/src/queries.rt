@@ -42,8 +42,15 @@ fn office_read<S: Alter>(
     remembered: &mut Remembered,
     office: Office,
 ) -> Result<OfficeView, TableFault>
-    ensures shows { Holds (state S.Store conn.old).now → HasCleanDisk (state S.Store conn.new) → IsTrue (state S.Store conn.old).is_open → (state S.Store conn.old).now.trees portal_tree ≡ portal_row (pos 1) (pos (number_of office.phase)) office.code ∷ [] → Remembers remembered.old (world_of (state S.Store conn.old).now.trees) → IfOk result (λ view. view ≡ seen.office_sees (world_of (state S.Store conn.old).now.trees)) }
-    ensures mind { KeepsInMind remembered.old remembered.new (state S.Store conn.old) (state S.Store conn.new) }
+    ensures shows { Holds (state S.Store conn.old).now → HasCleanDisk (state S.Store conn.new)
+        → IsTrue (state S.Store conn.old).is_open
+        → (state S.Store conn.old).now.trees portal_tree
+        ≡ portal_row (pos 1) (pos (number_of office.phase)) office.code ∷ []
+        → Remembers remembered.old (world_of (state S.Store conn.old).now.trees)
+        → IfOk result (λ view. view
+        ≡ seen.office_sees (world_of (state S.Store conn.old).now.trees)) }
+    ensures mind { KeepsInMind remembered.old remembered.new (state S.Store conn.old)
+        (state S.Store conn.new) }
     ensures reads { Reads result (state S.Store conn.old) (state S.Store conn.new) }
     ensures mode { conn.old.in_transaction ≡ false → conn.new.in_transaction ≡ false }
 {
@@ -60,8 +67,17 @@ fn office_sight<S: Alter>(
 ) -> Result<View, TableFault>
     requires idle { conn.old.in_transaction ≡ false }
     ensures idle { conn.new.in_transaction ≡ false }
-    ensures shows { Holds (state S.Store conn.old).now → HasCleanDisk (state S.Store conn.new) → IsTrue (state S.Store conn.old).is_open → (state S.Store conn.old).now.trees portal_tree ≡ portal_row (pos 1) (pos (number_of office.phase)) office.code ∷ [] → Remembers remembered.old (world_of (state S.Store conn.old).now.trees) → IfOk result (λ view. view ≡ sight_of (world_of (state S.Store conn.old).now.trees) OfficeCaller) }
-    ensures mind { (state S.Store conn.old).now.trees portal_tree ≡ portal_row (pos 1) (pos (number_of office.phase)) office.code ∷ [] → KeepsInMind remembered.old remembered.new (state S.Store conn.old) (state S.Store conn.new) }
+    ensures shows { Holds (state S.Store conn.old).now → HasCleanDisk (state S.Store conn.new)
+        → IsTrue (state S.Store conn.old).is_open
+        → (state S.Store conn.old).now.trees portal_tree
+        ≡ portal_row (pos 1) (pos (number_of office.phase)) office.code ∷ []
+        → Remembers remembered.old (world_of (state S.Store conn.old).now.trees)
+        → IfOk result (λ view. view
+        ≡ sight_of (world_of (state S.Store conn.old).now.trees) OfficeCaller) }
+    ensures mind { (state S.Store conn.old).now.trees portal_tree
+        ≡ portal_row (pos 1) (pos (number_of office.phase)) office.code ∷ []
+        → KeepsInMind remembered.old remembered.new (state S.Store conn.old)
+        (state S.Store conn.new) }
     ensures reads { Reads result (state S.Store conn.old) (state S.Store conn.new) }
 {
     if let Some(view) = &remembered.office {
@@ -82,8 +98,15 @@ fn student_sight<S: Alter>(
 ) -> Result<View, TableFault>
     requires idle { conn.old.in_transaction ≡ false }
     ensures idle { conn.new.in_transaction ≡ false }
-    ensures shows { Holds (state S.Store conn.old).now → HasCleanDisk (state S.Store conn.new) → IsTrue (state S.Store conn.old).is_open → phase ≡ (world_of (state S.Store conn.old).now.trees).phase → Remembers remembered.old (world_of (state S.Store conn.old).now.trees) → IfOk result (λ view. view ≡ sight_of (world_of (state S.Store conn.old).now.trees) (caller_among None (student_with (world_of (state S.Store conn.old).now.trees) code.now))) }
-    ensures mind { KeepsInMind remembered.old remembered.new (state S.Store conn.old) (state S.Store conn.new) }
+    ensures shows { Holds (state S.Store conn.old).now → HasCleanDisk (state S.Store conn.new)
+        → IsTrue (state S.Store conn.old).is_open
+        → phase ≡ (world_of (state S.Store conn.old).now.trees).phase
+        → Remembers remembered.old (world_of (state S.Store conn.old).now.trees)
+        → IfOk result (λ view. view
+        ≡ sight_of (world_of (state S.Store conn.old).now.trees)
+        (caller_among None (student_with (world_of (state S.Store conn.old).now.trees) code.now))) }
+    ensures mind { KeepsInMind remembered.old remembered.new (state S.Store conn.old)
+        (state S.Store conn.new) }
     ensures reads { Reads result (state S.Store conn.old) (state S.Store conn.new) }
 {
     let Some(row) = student_in(alloc, conn, code)? else {
@@ -103,8 +126,16 @@ fn person_sight<S: Alter>(
 ) -> Result<View, TableFault>
     requires idle { conn.old.in_transaction ≡ false }
     ensures idle { conn.new.in_transaction ≡ false }
-    ensures shows { Holds (state S.Store conn.old).now → HasCleanDisk (state S.Store conn.new) → IsTrue (state S.Store conn.old).is_open → phase ≡ (world_of (state S.Store conn.old).now.trees).phase → is (world_of (state S.Store conn.old).now.trees).office code.now ≡ false → Good (world_of (state S.Store conn.old).now.trees) → Remembers remembered.old (world_of (state S.Store conn.old).now.trees) → IfOk result (λ view. view ≡ seen.view (world_of (state S.Store conn.old).now.trees) code.now) }
-    ensures mind { KeepsInMind remembered.old remembered.new (state S.Store conn.old) (state S.Store conn.new) }
+    ensures shows { Holds (state S.Store conn.old).now → HasCleanDisk (state S.Store conn.new)
+        → IsTrue (state S.Store conn.old).is_open
+        → phase ≡ (world_of (state S.Store conn.old).now.trees).phase
+        → is (world_of (state S.Store conn.old).now.trees).office code.now ≡ false
+        → Good (world_of (state S.Store conn.old).now.trees)
+        → Remembers remembered.old (world_of (state S.Store conn.old).now.trees)
+        → IfOk result (λ view. view
+        ≡ seen.view (world_of (state S.Store conn.old).now.trees) code.now) }
+    ensures mind { KeepsInMind remembered.old remembered.new (state S.Store conn.old)
+        (state S.Store conn.new) }
     ensures reads { Reads result (state S.Store conn.old) (state S.Store conn.new) }
 {
     let Some(row) = lecturer_in(alloc, conn, code)? else {
@@ -123,10 +154,17 @@ fn sight<S: Alter>(
 ) -> Result<View, TableFault>
     requires idle { conn.old.in_transaction ≡ false }
     ensures idle { conn.new.in_transaction ≡ false }
-    ensures shows { Holds (state S.Store conn.old).now → HasCleanDisk (state S.Store conn.new) → Good (world_of (state S.Store conn.old).now.trees) → Remembers remembered.old (world_of (state S.Store conn.old).now.trees) → IfOk result (λ view. view ≡ seen.view (world_of (state S.Store conn.old).now.trees) code.now) }
-    ensures mind { KeepsInMind remembered.old remembered.new (state S.Store conn.old) (state S.Store conn.new) }
-    ensures same { IsOwn conn.old.schema → HasCleanDisk (state S.Store conn.new) → OnOk result (IsUnchanged (state S.Store conn.old) (state S.Store conn.new)) }
-    ensures err { IsOwn conn.old.schema → HasCleanDisk (state S.Store conn.new) → OnErr result (Leaves (state S.Store conn.old) (state S.Store conn.new)) }
+    ensures shows { Holds (state S.Store conn.old).now → HasCleanDisk (state S.Store conn.new)
+        → Good (world_of (state S.Store conn.old).now.trees)
+        → Remembers remembered.old (world_of (state S.Store conn.old).now.trees)
+        → IfOk result (λ view. view
+        ≡ seen.view (world_of (state S.Store conn.old).now.trees) code.now) }
+    ensures mind { KeepsInMind remembered.old remembered.new (state S.Store conn.old)
+        (state S.Store conn.new) }
+    ensures same { IsOwn conn.old.schema → HasCleanDisk (state S.Store conn.new)
+        → OnOk result (IsUnchanged (state S.Store conn.old) (state S.Store conn.new)) }
+    ensures err { IsOwn conn.old.schema → HasCleanDisk (state S.Store conn.new)
+        → OnErr result (Leaves (state S.Store conn.old) (state S.Store conn.new)) }
     ensures endures { Endures (state S.Store conn.old) (state S.Store conn.new) }
 {
     let office = office_in(alloc, conn)?;
@@ -146,10 +184,17 @@ pub(crate) fn view_with<S: Alter>(
 ) -> Result<View, KeepFault>
     requires idle { conn.old.in_transaction ≡ false }
     ensures idle { conn.new.in_transaction ≡ false }
-    ensures shows { IsOwn conn.old.schema → HasCleanDisk (state S.Store conn.new) → IfOk result (λ view. Holds (state S.Store conn.old).now → Good (world_of (state S.Store conn.old).now.trees) → Remembers remembered.old (world_of (state S.Store conn.old).now.trees) → view ≡ seen.view (world_of (state S.Store conn.old).now.trees) code.now) }
-    ensures mind { KeepsInMind remembered.old remembered.new (state S.Store conn.old) (state S.Store conn.new) }
-    ensures same { IsOwn conn.old.schema → HasCleanDisk (state S.Store conn.new) → OnOk result (IsUnchanged (state S.Store conn.old) (state S.Store conn.new)) }
-    ensures err { IsOwn conn.old.schema → HasCleanDisk (state S.Store conn.new) → OnErr result (Leaves (state S.Store conn.old) (state S.Store conn.new)) }
+    ensures shows { IsOwn conn.old.schema → HasCleanDisk (state S.Store conn.new)
+        → IfOk result (λ view. Holds (state S.Store conn.old).now
+        → Good (world_of (state S.Store conn.old).now.trees)
+        → Remembers remembered.old (world_of (state S.Store conn.old).now.trees)
+        → view ≡ seen.view (world_of (state S.Store conn.old).now.trees) code.now) }
+    ensures mind { KeepsInMind remembered.old remembered.new (state S.Store conn.old)
+        (state S.Store conn.new) }
+    ensures same { IsOwn conn.old.schema → HasCleanDisk (state S.Store conn.new)
+        → OnOk result (IsUnchanged (state S.Store conn.old) (state S.Store conn.new)) }
+    ensures err { IsOwn conn.old.schema → HasCleanDisk (state S.Store conn.new)
+        → OnErr result (Leaves (state S.Store conn.old) (state S.Store conn.new)) }
     ensures endures { Endures (state S.Store conn.old) (state S.Store conn.new) }
     ensures counts { CountsFaults result faults.old faults.new }
 {
@@ -172,9 +217,14 @@ pub fn view<S: Alter>(
 ) -> Result<View, KeepFault>
     requires idle { conn.old.in_transaction ≡ false }
     ensures idle { conn.new.in_transaction ≡ false }
-    ensures shows { IsOwn conn.old.schema → HasCleanDisk (state S.Store conn.new) → IfOk result (λ view. Holds (state S.Store conn.old).now → Good (world_of (state S.Store conn.old).now.trees) → view ≡ seen.view (world_of (state S.Store conn.old).now.trees) code.now) }
-    ensures same { IsOwn conn.old.schema → HasCleanDisk (state S.Store conn.new) → OnOk result (IsUnchanged (state S.Store conn.old) (state S.Store conn.new)) }
-    ensures err { IsOwn conn.old.schema → HasCleanDisk (state S.Store conn.new) → OnErr result (Leaves (state S.Store conn.old) (state S.Store conn.new)) }
+    ensures shows { IsOwn conn.old.schema → HasCleanDisk (state S.Store conn.new)
+        → IfOk result (λ view. Holds (state S.Store conn.old).now
+        → Good (world_of (state S.Store conn.old).now.trees)
+        → view ≡ seen.view (world_of (state S.Store conn.old).now.trees) code.now) }
+    ensures same { IsOwn conn.old.schema → HasCleanDisk (state S.Store conn.new)
+        → OnOk result (IsUnchanged (state S.Store conn.old) (state S.Store conn.new)) }
+    ensures err { IsOwn conn.old.schema → HasCleanDisk (state S.Store conn.new)
+        → OnErr result (Leaves (state S.Store conn.old) (state S.Store conn.new)) }
 {
     let mut remembered = Remembered::nothing();
     let mut faults = 0u64;

@@ -11,7 +11,7 @@ ghost use Rattle.portal_store.specs.Queried.{lecturer_from, student_from};
 
 use portal_tables::decode::only;
 use portal_tables::fault::TableFault;
-use portal_tables::select::{lecturer_by_code, student_by_code};
+use portal_tables::select::{Query, read_rows};
 use sqlite::{Alter, Connection, Row};
 use std::alloc::Global;
 
@@ -21,11 +21,13 @@ pub(super) fn lecturer_in<S: Alter>(
     conn: &mut Connection<S>,
     code: &[u8],
 ) -> Result<Option<Row>, TableFault>
-    ensures found { Holds (state S.Store conn.old).now → HasCleanDisk (state S.Store conn.new) → IfOk result (λ row. option_map (lecturer_from (state S.Store conn.old).now.trees) row ≡ lecturer_with (world_of (state S.Store conn.old).now.trees) code.now) }
+    ensures found { Holds (state S.Store conn.old).now → HasCleanDisk (state S.Store conn.new)
+        → IfOk result (λ row. option_map (lecturer_from (state S.Store conn.old).now.trees) row
+        ≡ lecturer_with (world_of (state S.Store conn.old).now.trees) code.now) }
     ensures reads { Reads result (state S.Store conn.old) (state S.Store conn.new) }
     ensures mode { conn.old.in_transaction ≡ false → conn.new.in_transaction ≡ false }
 {
-    let rows = lecturer_by_code(alloc, conn, code)?;
+    let rows = read_rows(alloc, conn, Query::LecturerByCode(code))?;
     only(rows)
 }
 
@@ -35,10 +37,12 @@ pub(super) fn student_in<S: Alter>(
     conn: &mut Connection<S>,
     code: &[u8],
 ) -> Result<Option<Row>, TableFault>
-    ensures found { Holds (state S.Store conn.old).now → HasCleanDisk (state S.Store conn.new) → IfOk result (λ row. option_map (student_from (state S.Store conn.old).now.trees) row ≡ student_with (world_of (state S.Store conn.old).now.trees) code.now) }
+    ensures found { Holds (state S.Store conn.old).now → HasCleanDisk (state S.Store conn.new)
+        → IfOk result (λ row. option_map (student_from (state S.Store conn.old).now.trees) row
+        ≡ student_with (world_of (state S.Store conn.old).now.trees) code.now) }
     ensures reads { Reads result (state S.Store conn.old) (state S.Store conn.new) }
     ensures mode { conn.old.in_transaction ≡ false → conn.new.in_transaction ≡ false }
 {
-    let rows = student_by_code(alloc, conn, code)?;
+    let rows = read_rows(alloc, conn, Query::StudentByCode(code))?;
     only(rows)
 }

@@ -23,8 +23,13 @@ pub(super) fn shared_catalogue<S: Alter>(
     conn: &mut Connection<S>,
     remembered: &mut Remembered,
 ) -> Result<Rc<Vec<Listing>>, TableFault>
-    ensures shows { Holds (state S.Store conn.old).now → HasCleanDisk (state S.Store conn.new) → IsTrue (state S.Store conn.old).is_open → Remembers remembered.old (world_of (state S.Store conn.old).now.trees) → IfOk result (λ shared. shared.value.items ≡ catalogue (world_of (state S.Store conn.old).now.trees)) }
-    ensures mind { KeepsInMind remembered.old remembered.new (state S.Store conn.old) (state S.Store conn.new) }
+    ensures shows { Holds (state S.Store conn.old).now → HasCleanDisk (state S.Store conn.new)
+        → IsTrue (state S.Store conn.old).is_open
+        → Remembers remembered.old (world_of (state S.Store conn.old).now.trees)
+        → IfOk result (λ shared. shared.value.items
+        ≡ catalogue (world_of (state S.Store conn.old).now.trees)) }
+    ensures mind { KeepsInMind remembered.old remembered.new (state S.Store conn.old)
+        (state S.Store conn.new) }
     ensures reads { Reads result (state S.Store conn.old) (state S.Store conn.new) }
     ensures mode { conn.old.in_transaction ≡ false → conn.new.in_transaction ≡ false }
 {

@@ -17,14 +17,14 @@ ghost use Rattle.portal_tables.specs.Reading.{Reads};
 ghost use Rattle.portal_tables.specs.Shown.{first, shown_lecturer, shown_project, shown_student, shown_pair};
 ghost use Rattle.portal_store.specs.Queried.{unlisted, waiting_key, office_from};
 
-use portal_core::{Listing, OfficeView, Phase};
-use portal_tables::applicants::{are_closed, is_chosen};
+use portal_core::{Listing, OfficeView, Phase, Round};
+use portal_tables::applicants::are_closed;
 use portal_tables::cells::{bytes_at, key_at, number_at};
 use portal_tables::fault::TableFault;
 use portal_tables::named::keys_without;
 use portal_tables::office::Office;
 use portal_tables::rolls::{Rolls, parts_of, rolls_in};
-use portal_tables::select::listed_students;
+use portal_tables::select::{Query, finds_any, read_rows};
 use spa_rows::Key;
 use sqlite::{Alter, Connection, Row};
 use std::alloc::Global;
@@ -36,11 +36,12 @@ fn without_list<S: Alter>(
     conn: &mut Connection<S>,
     students: &[Row],
 ) -> Result<Vec<Key>, TableFault>
-    ensures told { Holds (state S.Store conn.old).now → HasCleanDisk (state S.Store conn.new) → IfOk result (λ v. v.items ≡ unlisted (state S.Store conn.old).now.trees students.now) }
+    ensures told { Holds (state S.Store conn.old).now → HasCleanDisk (state S.Store conn.new)
+        → IfOk result (λ v. v.items ≡ unlisted (state S.Store conn.old).now.trees students.now) }
     ensures reads { Reads result (state S.Store conn.old) (state S.Store conn.new) }
     ensures mode { conn.old.in_transaction ≡ false → conn.new.in_transaction ≡ false }
 {
-    let listed = listed_students(alloc, conn)?;
+    let listed = read_rows(alloc, conn, Query::Listed)?;
     keys_without(alloc, students, &listed)
 }
 
@@ -50,14 +51,18 @@ fn is_chosen_of<S: Alter>(
     lecturer: &Row,
     project: &Row,
 ) -> Result<bool, TableFault>
-    ensures told { Holds (state S.Store conn.old).now → HasCleanDisk (state S.Store conn.new) → IfOk result (λ yes. yes ≡ (is (shown_project project.now).lecturer (first lecturer.now) && list_any (λ s. has s.choice (shown_project project.now).key) (world_of (state S.Store conn.old).now.trees).students)) }
+    ensures told { Holds (state S.Store conn.old).now → HasCleanDisk (state S.Store conn.new)
+        → IfOk result (λ yes. yes
+        ≡ (is (shown_project project.now).lecturer (first lecturer.now)
+        && list_any (λ s. has s.choice (shown_project project.now).key)
+        (world_of (state S.Store conn.old).now.trees).students)) }
     ensures reads { Reads result (state S.Store conn.old) (state S.Store conn.new) }
     ensures mode { conn.old.in_transaction ≡ false → conn.new.in_transaction ≡ false }
 {
     if bytes_at(project, 1) != bytes_at(lecturer, 0) {
         return Ok(false);
     }
-    Ok(is_chosen(conn, bytes_at(project, 0))?)
+    Ok(finds_any(conn, Query::Choosers(bytes_at(project, 0)))?)
 }
 
 /// Whether a student's list holds a project of the lecturer.
@@ -66,7 +71,11 @@ fn has_applicant<S: Alter>(
     projects: &[Row],
     lecturer: &Row,
 ) -> Result<bool, TableFault>
-    ensures told { Holds (state S.Store conn.old).now → HasCleanDisk (state S.Store conn.new) → IsTrue (state S.Store conn.old).is_open → IfOk result (λ yes. yes ≡ is_wanted (world_of (state S.Store conn.old).now.trees).students (map shown_project projects.now) (first lecturer.now)) }
+    ensures told { Holds (state S.Store conn.old).now → HasCleanDisk (state S.Store conn.new)
+        → IsTrue (state S.Store conn.old).is_open
+        → IfOk result (λ yes. yes
+        ≡ is_wanted (world_of (state S.Store conn.old).now.trees).students
+        (map shown_project projects.now) (first lecturer.now)) }
     ensures reads { Reads result (state S.Store conn.old) (state S.Store conn.new) }
     ensures mode { conn.old.in_transaction ≡ false → conn.new.in_transaction ≡ false }
 {
@@ -85,7 +94,11 @@ fn waiting_in<S: Alter>(
     projects: &[Row],
     lecturer: &Row,
 ) -> Result<Option<Key>, TableFault>
-    ensures told { Holds (state S.Store conn.old).now → HasCleanDisk (state S.Store conn.new) → IsTrue (state S.Store conn.old).is_open → IfOk result (λ key. key ≡ waiting_key (world_of (state S.Store conn.old).now.trees) (map shown_project projects.now) lecturer.now) }
+    ensures told { Holds (state S.Store conn.old).now → HasCleanDisk (state S.Store conn.new)
+        → IsTrue (state S.Store conn.old).is_open
+        → IfOk result (λ key. key
+        ≡ waiting_key (world_of (state S.Store conn.old).now.trees)
+        (map shown_project projects.now) lecturer.now) }
     ensures reads { Reads result (state S.Store conn.old) (state S.Store conn.new) }
     ensures mode { conn.old.in_transaction ≡ false → conn.new.in_transaction ≡ false }
 {
@@ -105,7 +118,11 @@ fn all_waiting<S: Alter>(
     projects: &[Row],
     lecturers: &[Row],
 ) -> Result<Vec<Key>, TableFault>
-    ensures told { Holds (state S.Store conn.old).now → HasCleanDisk (state S.Store conn.new) → IsTrue (state S.Store conn.old).is_open → IfOk result (λ v. v.items ≡ filter_map (waiting_key (world_of (state S.Store conn.old).now.trees) (map shown_project projects.now)) lecturers.now) }
+    ensures told { Holds (state S.Store conn.old).now → HasCleanDisk (state S.Store conn.new)
+        → IsTrue (state S.Store conn.old).is_open
+        → IfOk result (λ v. v.items
+        ≡ filter_map (waiting_key (world_of (state S.Store conn.old).now.trees)
+        (map shown_project projects.now)) lecturers.now) }
     ensures reads { Reads result (state S.Store conn.old) (state S.Store conn.new) }
     ensures mode { conn.old.in_transaction ≡ false → conn.new.in_transaction ≡ false }
 {
@@ -125,7 +142,12 @@ fn still_to_rank<S: Alter>(
     phase: Phase,
     rolls: &Rolls,
 ) -> Result<Vec<Key>, TableFault>
-    ensures told { Holds (state S.Store conn.old).now → HasCleanDisk (state S.Store conn.new) → IsTrue (state S.Store conn.old).is_open → IfOk result (λ v. v.items ≡ (if is_from_ranking phase then filter_map (waiting_key (world_of (state S.Store conn.old).now.trees) (map shown_project rolls.now.projects.items)) rolls.now.lecturers.items else [])) }
+    ensures told { Holds (state S.Store conn.old).now → HasCleanDisk (state S.Store conn.new)
+        → IsTrue (state S.Store conn.old).is_open
+        → IfOk result (λ v. v.items
+        ≡ (if is_from_ranking phase then filter_map
+        (waiting_key (world_of (state S.Store conn.old).now.trees)
+        (map shown_project rolls.now.projects.items)) rolls.now.lecturers.items else [])) }
     ensures reads { Reads result (state S.Store conn.old) (state S.Store conn.new) }
     ensures mode { conn.old.in_transaction ≡ false → conn.new.in_transaction ≡ false }
 {
@@ -154,10 +176,12 @@ fn put_together(
     without_list: Vec<Key>,
     still_to_rank: Vec<Key>,
 ) -> Result<OfficeView, TableFault>
-    ensures { IfOk result (λ v. v ≡ record { phase = office.phase; office_code = office.code; lecturers = map shown_lecturer rolls.now.lecturers.items; projects = map shown_project rolls.now.projects.items; students = map shown_student rolls.now.students.items; catalogue = catalogue.value.items; without_list = without_list.items; still_to_rank = still_to_rank.items; pairs = if is_published office.phase then filter_map shown_pair rolls.now.students.items else [] }) }
+    ensures { IfOk result (λ v. v
+        ≡ record { round = Round.First; phase = office.phase; office_code = office.code; lecturers = map shown_lecturer rolls.now.lecturers.items; projects = map shown_project rolls.now.projects.items; students = map shown_student rolls.now.students.items; catalogue = catalogue.value.items; without_list = without_list.items; still_to_rank = still_to_rank.items; pairs = if is_published office.phase then filter_map shown_pair rolls.now.students.items else [] }) }
 {
     let parts = parts_of(alloc, rolls)?;
     Ok(OfficeView {
+        round: Round::First,
         phase: office.phase,
         office_code: office.code,
         lecturers: Rc::new(alloc, parts.lecturers)?,
@@ -178,7 +202,10 @@ fn view_of_rolls<S: Alter>(
     catalogue: Rc<Vec<Listing>>,
     rolls: &Rolls,
 ) -> Result<OfficeView, TableFault>
-    ensures shows { Holds (state S.Store conn.old).now → HasCleanDisk (state S.Store conn.new) → IsTrue (state S.Store conn.old).is_open → IfOk result (λ v. v ≡ office_from (state S.Store conn.old).now.trees office.phase office.code catalogue.value.items rolls.now.lecturers.items rolls.now.projects.items rolls.now.students.items) }
+    ensures shows { Holds (state S.Store conn.old).now → HasCleanDisk (state S.Store conn.new)
+        → IsTrue (state S.Store conn.old).is_open
+        → IfOk result (λ v. v
+        ≡ office_from (state S.Store conn.old).now.trees office.phase office.code catalogue.value.items rolls.now.lecturers.items rolls.now.projects.items rolls.now.students.items) }
     ensures reads { Reads result (state S.Store conn.old) (state S.Store conn.new) }
     ensures mode { conn.old.in_transaction ≡ false → conn.new.in_transaction ≡ false }
 {
@@ -194,7 +221,12 @@ pub(super) fn office_view<S: Alter>(
     office: Office,
     catalogue: Rc<Vec<Listing>>,
 ) -> Result<OfficeView, TableFault>
-    ensures shows { Holds (state S.Store conn.old).now → HasCleanDisk (state S.Store conn.new) → IsTrue (state S.Store conn.old).is_open → (state S.Store conn.old).now.trees portal_tree ≡ portal_row (pos 1) (pos (number_of office.phase)) office.code ∷ [] → catalogue.value.items ≡ seen.catalogue (world_of (state S.Store conn.old).now.trees) → IfOk result (λ v. v ≡ seen.office_sees (world_of (state S.Store conn.old).now.trees)) }
+    ensures shows { Holds (state S.Store conn.old).now → HasCleanDisk (state S.Store conn.new)
+        → IsTrue (state S.Store conn.old).is_open
+        → (state S.Store conn.old).now.trees portal_tree
+        ≡ portal_row (pos 1) (pos (number_of office.phase)) office.code ∷ []
+        → catalogue.value.items ≡ seen.catalogue (world_of (state S.Store conn.old).now.trees)
+        → IfOk result (λ v. v ≡ seen.office_sees (world_of (state S.Store conn.old).now.trees)) }
     ensures reads { Reads result (state S.Store conn.old) (state S.Store conn.new) }
     ensures mode { conn.old.in_transaction ≡ false → conn.new.in_transaction ≡ false }
 {

@@ -24,7 +24,7 @@ returns-clause-shows g c holds clean good right =
     let b = state g.S.Store c.office_in.new.conn in
     let d = state g.S.Store c.person_sight.new.conn in
     let before = clean_before b d _ c.person_sight.ensures.reads.crash clean in
-    let m : IsUnchanged a b = c.in_ok-office.ensures.same holds.own before in
+    let m : IsUnchanged a b = c.in_ok-office.ensures.asks.same holds.own before in
     let code = c.args.code.now in
     let phase = c.in_ok-office.office.phase in
     let there = subst (λ (x : Database). Holds x → HasCleanDisk d → IsTrue b.is_open → phase ≡ (world_of x.trees).phase → is (world_of x.trees).office code ≡ false → Good (world_of x.trees) → Remembers c.args.remembered.now (world_of x.trees) → IfOk c.person_sight.result (λ v. v ≡ view (world_of x.trees) code)) m.0.now_is c.person_sight.ensures.shows in
@@ -37,7 +37,7 @@ returns-clause-mind g c holds clean on =
     let a = state g.S.Store c.args.conn.now in
     let b = state g.S.Store c.office_in.new.conn in
     let d = state g.S.Store c.person_sight.new.conn in
-    let m = c.in_ok-office.ensures.same holds.own (clean_before b d _ c.person_sight.ensures.reads.crash clean) in
+    let m = c.in_ok-office.ensures.asks.same holds.own (clean_before b d _ c.person_sight.ensures.reads.crash clean) in
     at_start a b d m (λ x. Remembers c.args.remembered.now (world_of x.trees) → Remembers c.person_sight.new.remembered (world_of x.trees)) c.person_sight.ensures.mind holds clean
 
 pub returns-then-eq-clause-shows : goal.returns-then-eq-clause-shows
@@ -46,7 +46,7 @@ returns-then-eq-clause-shows g c holds clean good right =
     let b = state g.S.Store c.office_in.new.conn in
     let d = state g.S.Store c.office_sight.new.conn in
     let before = clean_before b d _ c.office_sight.ensures.reads.crash clean in
-    let m : IsUnchanged a b = c.in_ok-office.ensures.same holds.own before in
+    let m : IsUnchanged a b = c.in_ok-office.ensures.asks.same holds.own before in
     let code = c.args.code.now in
     let office = c.in_ok-office.office in
     let row = c.in_ok-office.ensures.row holds.own holds.sound before in
@@ -62,7 +62,7 @@ returns-then-eq-clause-mind g c holds clean on =
     let b = state g.S.Store c.office_in.new.conn in
     let d = state g.S.Store c.office_sight.new.conn in
     let before = clean_before b d _ c.office_sight.ensures.reads.crash clean in
-    let m = c.in_ok-office.ensures.same holds.own before in
+    let m = c.in_ok-office.ensures.asks.same holds.own before in
     let office = c.in_ok-office.office in
     at_start a b d m (λ x. x.trees portal_tree ≡ portal_row (pos 1) (pos (number_of office.phase)) office.code ∷ [] → Remembers c.args.remembered.now (world_of x.trees) → Remembers c.office_sight.new.remembered (world_of x.trees))
     (λ holds clean on row. c.office_sight.ensures.mind row holds clean on) holds clean (c.in_ok-office.ensures.row holds.own holds.sound before)
@@ -74,7 +74,7 @@ returns-clause-same g c own clean =
     let a = state g.S.Store c.args.conn.now in
     let b = state g.S.Store c.office_in.new.conn in
     let d = state g.S.Store c.person_sight.new.conn in
-    let m : IsUnchanged a b = c.in_ok-office.ensures.same own (clean_before b d _ c.person_sight.ensures.reads.crash clean) in
+    let m : IsUnchanged a b = c.in_ok-office.ensures.asks.same own (clean_before b d _ c.person_sight.ensures.reads.crash clean) in
     on_ok_weaker c.person_sight.result (unchanged_then a b d m) (c.person_sight.ensures.reads.same (still_own a b m own) clean m.0.is_open)
 
 pub returns-clause-err : goal.returns-clause-err
@@ -82,7 +82,7 @@ returns-clause-err g c own clean =
     let a = state g.S.Store c.args.conn.now in
     let b = state g.S.Store c.office_in.new.conn in
     let d = state g.S.Store c.person_sight.new.conn in
-    let m : IsUnchanged a b = c.in_ok-office.ensures.same own (clean_before b d _ c.person_sight.ensures.reads.crash clean) in
+    let m : IsUnchanged a b = c.in_ok-office.ensures.asks.same own (clean_before b d _ c.person_sight.ensures.reads.crash clean) in
     on_err_weaker c.person_sight.result (then_leaves a b d m) (c.person_sight.ensures.reads.err (still_own a b m own) clean m.0.is_open)
 
 pub returns-then-eq-clause-same : goal.returns-then-eq-clause-same
@@ -90,7 +90,7 @@ returns-then-eq-clause-same g c own clean =
     let a = state g.S.Store c.args.conn.now in
     let b = state g.S.Store c.office_in.new.conn in
     let d = state g.S.Store c.office_sight.new.conn in
-    let m : IsUnchanged a b = c.in_ok-office.ensures.same own (clean_before b d _ c.office_sight.ensures.reads.crash clean) in
+    let m : IsUnchanged a b = c.in_ok-office.ensures.asks.same own (clean_before b d _ c.office_sight.ensures.reads.crash clean) in
     on_ok_weaker c.office_sight.result (unchanged_then a b d m) (c.office_sight.ensures.reads.same (still_own a b m own) clean m.0.is_open)
 
 pub returns-then-eq-clause-err : goal.returns-then-eq-clause-err
@@ -98,5 +98,5 @@ returns-then-eq-clause-err g c own clean =
     let a = state g.S.Store c.args.conn.now in
     let b = state g.S.Store c.office_in.new.conn in
     let d = state g.S.Store c.office_sight.new.conn in
-    let m : IsUnchanged a b = c.in_ok-office.ensures.same own (clean_before b d _ c.office_sight.ensures.reads.crash clean) in
+    let m : IsUnchanged a b = c.in_ok-office.ensures.asks.same own (clean_before b d _ c.office_sight.ensures.reads.crash clean) in
     on_err_weaker c.office_sight.result (then_leaves a b d m) (c.office_sight.ensures.reads.err (still_own a b m own) clean m.0.is_open)

@@ -11,8 +11,8 @@ returns-clause-found g c holds clean =
 
 pub returns-clause-reads : goal.returns-clause-reads
 returns-clause-reads g c =
-    reads_more {D = TableFault} c.in_ok-rows.rows c.only.result (state g.S.Store c.args.conn.now) (state g.S.Store c.student_by_code.new.conn) c.in_ok-rows.ensures.reads
+    reads_more {D = TableFault} c.in_ok-rows.rows c.only.result (state g.S.Store c.args.conn.now) (state g.S.Store c.read_rows.new.conn) c.in_ok-rows.ensures.reads
 
 pub returns-in_err-rows-clause-reads : goal.returns-in_err-rows-clause-reads
 returns-in_err-rows-clause-reads g c =
-    reads_handed c.in_err-rows.field-0.0 c.from_residual.result (state g.S.Store c.args.conn.now) (state g.S.Store c.student_by_code.new.conn) c.from_residual.ensures.0 c.in_err-rows.ensures.reads
+    reads_handed c.in_err-rows.field-0.0 c.from_residual.result (state g.S.Store c.args.conn.now) (state g.S.Store c.read_rows.new.conn) c.from_residual.ensures.0 c.in_err-rows.ensures.reads

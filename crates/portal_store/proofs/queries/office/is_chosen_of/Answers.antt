@@ -22,13 +22,13 @@ returns-clause-told g c holds clean =
     let db = (state g.S.Store c.args.conn.now).now in
     let project = shown_project c.args.project.now in
     let own : is project.lecturer (first c.args.lecturer.now) ≡ true = search rules in
-    let told = subst (λ (k : Key). FindsAny (ListsBy (1 ∷ []) (has_text 3 k) (columns (1 ∷ [])) (db.trees choice_tree)) c.in_ok-is_chosen.field-0) c.bytes_at-3.ensures (c.in_ok-is_chosen.ensures.told holds.own clean) in
+    let told = subst (λ (k : Key). FindsAny (ListsBy (1 ∷ []) (has_text 3 k) (columns (1 ∷ [])) (db.trees choice_tree)) c.in_ok-finds_any.field-0) c.bytes_at-3.ensures (c.in_ok-finds_any.ensures.told holds.own clean) in
     told.told ∙ some_chooser db holds project.key told.rows told.shown ∙ sym (ap (λ b. b && list_any (λ (s : Student). has s.choice project.key) (world_of db.trees).students) own)
 
 pub returns-clause-reads : goal.returns-clause-reads
 returns-clause-reads g c =
-    reads_more {D = Error} c.in_ok-is_chosen.field-0 _ (state g.S.Store c.args.conn.now) (state g.S.Store c.is_chosen.new.conn) c.in_ok-is_chosen.ensures.reads
+    reads_more {D = Error} c.in_ok-finds_any.field-0 _ (state g.S.Store c.args.conn.now) (state g.S.Store c.finds_any.new.conn) c.in_ok-finds_any.ensures.reads
 
-pub returns-in_err-is_chosen-clause-reads : goal.returns-in_err-is_chosen-clause-reads
-returns-in_err-is_chosen-clause-reads g c =
-    reads_failed c.in_err-is_chosen.field-0.0 c.from_residual.result (state g.S.Store c.args.conn.now) (state g.S.Store c.is_chosen.new.conn) c.from_residual.ensures.0 c.in_err-is_chosen.ensures.reads
+pub returns-in_err-finds_any-clause-reads : goal.returns-in_err-finds_any-clause-reads
+returns-in_err-finds_any-clause-reads g c =
+    reads_failed c.in_err-finds_any.field-0.0 c.from_residual.result (state g.S.Store c.args.conn.now) (state g.S.Store c.finds_any.new.conn) c.from_residual.ensures.0 c.in_err-finds_any.ensures.reads

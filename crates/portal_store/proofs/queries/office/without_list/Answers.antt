@@ -17,8 +17,8 @@ returns-clause-told g c holds clean =
 
 pub returns-clause-reads : goal.returns-clause-reads
 returns-clause-reads g c =
-    reads_more {D = TableFault} c.in_ok-listed.listed c.keys_without.result (state g.S.Store c.args.conn.now) (state g.S.Store c.listed_students.new.conn) c.in_ok-listed.ensures.reads
+    reads_more {D = TableFault} c.in_ok-listed.listed c.keys_without.result (state g.S.Store c.args.conn.now) (state g.S.Store c.read_rows.new.conn) c.in_ok-listed.ensures.reads
 
 pub returns-in_err-listed-clause-reads : goal.returns-in_err-listed-clause-reads
 returns-in_err-listed-clause-reads g c =
-    reads_handed c.in_err-listed.field-0.0 c.from_residual.result (state g.S.Store c.args.conn.now) (state g.S.Store c.listed_students.new.conn) c.from_residual.ensures.0 c.in_err-listed.ensures.reads
+    reads_handed c.in_err-listed.field-0.0 c.from_residual.result (state g.S.Store c.args.conn.now) (state g.S.Store c.read_rows.new.conn) c.from_residual.ensures.0 c.in_err-listed.ensures.reads

@@ -1,22 +1,6 @@
-use Rattle.std.proofs.Common.{pos, map, ap, subst, ◌∙◌}
-use Rattle.std.proofs.lemmas.Result.{on_ok_weaker}
-use Rattle.sqlite.specs.Held.{state}
-use Rattle.portal_core.specs.Change.{Lecturers}
-use Rattle.portal_tables.specs.declared.insert.rolls.NewLecturer.{NewLecturer}
-use Rattle.portal_tables.specs.Tables.{lecturer_tree}
-use Rattle.portal_tables.specs.Rows.{Adds, lecturer_cells}
-use Rattle.portal_tables.specs.Steps.{GoesOn}
-use Rattle.portal_tables.proofs.Runs.{goes_more}
-use Rattle.portal_store.specs.Kept.{Turns}
-use Rattle.portal_store.proofs.Adding.{lecturer_new, lecturers_turn}
+use Rattle.portal_tables.proofs.Runs.{does_more, goes_more}
+use Rattle.portal_store.proofs.Adding.{lecturers_turn}
 use Rattle.portal_store.proofs.rolls.AddLecturersStep.take.Goals as goal
 
-pub returns-clause-done : goal.returns-clause-done
-returns-clause-done g c clean =
-    let rows = c.args.self.rows.now in
-    let old = state g.S.Store c.args.tx.now.conn.now in
-    let now = state g.S.Store c.add_all.new.tx.conn.now in
-    let cells = ap (map (λ (r : NewLecturer). lecturer_cells r.key.now r.name.now r.code.now (pos r.capacity) (pos 0))) c.deref.ensures.value ∙ c.in_ok-new.ensures in
-    on_ok_weaker c.add_all.result
-    (λ added. goes_more (Adds lecturer_tree (map lecturer_new rows)) (Turns (Lecturers rows)) old now (subst (λ l. GoesOn (Adds lecturer_tree l) old now) cells added) (lecturers_turn rows old.now now.now))
-    (c.add_all.ensures.done clean)
+pub returns : goal.returns
+returns g c = does_more g.S.Store _ _ _ _ _ c.add_all.ensures (λ added. goes_more _ _ _ _ added (lecturers_turn c.args.self.rows.now _ _))
