@@ -1,11 +1,13 @@
 -- A decision whose sheet is written is the whole decision.
 use Rattle.std.proofs.Common.{◌≡◌, ℕ, Bool, true, false, List, [], refl, ◌∙◌, ap}
-use Rattle.std.specs.Prelude.{Option, Some, None, if◌then◌else◌}
+use Rattle.std.specs.Prelude.{Option, Some, None, is_none, if◌then◌else◌}
 use Rattle.serde_json.specs.Data.{Data}
 use Rattle.portal_core.specs.declared.phase.Phase.{Phase}
 use Rattle.portal_core.specs.declared.phase.Phase.TheVariants.{Setup, Choosing, Ranking, Published}
+use Rattle.portal_core.specs.declared.phase.Round.{Round}
+use Rattle.portal_core.specs.declared.phase.Round.TheVariants.{First, Second}
 use Rattle.portal_core.specs.Words.{is_empty}
-use Rattle.portal_core.specs.World.{is_choosing, is_ranking, is_published, is_from_ranking}
+use Rattle.portal_core.specs.World.{is_choosing, is_ranking, is_from_ranking, has_result}
 use Rattle.portal_core.specs.Change.{Change, Lecturers, Projects, Students, Fill}
 use Rattle.portal_core.specs.Sight.{StudentSees, LecturerSees, OfficeSees}
 use Rattle.portal_core.specs.declared.view.View.{View as Sight}
@@ -13,7 +15,7 @@ use Rattle.portal_core.specs.declared.view.View.TheVariants.{Nobody, Office, Lec
 use Rattle.portal_core.specs.Ask.{Ask}
 use Rattle.portal_core.specs.Faults.{ListFault, choice_fault, ranking_fault}
 use Rattle.portal_core.specs.Rolls.{Taken, Faulty, Took, take_rows, lecturer_roll, project_roll, student_roll}
-use Rattle.portal_core.specs.Answer.{Answer, Said, Json, Unavailable, Nothing, Apply, Decision, decision, emptied, only, unless, added, row_fault, moves, publishes, is_open_to_rolls, to_student, to_lecturer, to_office}
+use Rattle.portal_core.specs.Answer.{Answer, Said, Json, Unavailable, Nothing, Apply, Decision, decision, emptied, only, unless, added, row_fault, already_placed, moves_on, moves_in, moves, publishes, is_open_to_rolls, to_student, to_lecturer, to_office}
 use Rattle.portal_desk.specs.Play.{with_sheet}
 
 -- another body than that of 503
@@ -42,19 +44,26 @@ unless_filled (Student o) (Some fault) d e = (refl, tt)
 unless_filled (Lecturer o) (Some fault) d e = (refl, tt)
 unless_filled Nobody (Some fault) d e = (refl, tt)
 
+free_filled : (v : Sight) (b : Bool) (d : Decision) → IsFilled v d → IsFilled v (if b then d else already_placed)
+free_filled v true d e = e
+free_filled (Office o) false d e = (refl, tt)
+free_filled (Student o) false d e = (refl, tt)
+free_filled (Lecturer o) false d e = (refl, tt)
+free_filled Nobody false d e = (refl, tt)
+
 student_filled : (v : StudentSees) (ask : Ask) → IsFilled (Student v) (to_student v ask)
 student_filled v Ask.Me = (refl, tt)
 student_filled v Ask.Catalogue = (refl, tt)
 student_filled v Ask.ShowChoices = (refl, tt)
-student_filled v (Ask.SetChoices list) = only_filled (Student v) (is_choosing v.phase) _ (unless_filled (Student v) (choice_fault v.catalogue 1 [] list) _ (refl, tt))
-student_filled v Ask.Result = only_filled (Student v) (is_published v.phase) _ (refl, tt)
+student_filled v (Ask.SetChoices list) = only_filled (Student v) (is_choosing v.phase) _ (free_filled (Student v) (is_none v.result) _ (unless_filled (Student v) (choice_fault v.catalogue 1 [] list) _ (refl, tt)))
+student_filled v Ask.Result = only_filled (Student v) (has_result v.round v.phase) _ (refl, tt)
 student_filled v Ask.Applicants = (refl, tt)
 student_filled v Ask.ShowRanking = (refl, tt)
 student_filled v (Ask.SetRanking list) = (refl, tt)
 student_filled v (Ask.AddLecturers rows) = (refl, tt)
 student_filled v (Ask.AddProjects rows) = (refl, tt)
 student_filled v (Ask.AddStudents rows) = (refl, tt)
-student_filled v (Ask.Move phase) = (refl, tt)
+student_filled v (Ask.Move phase round) = (refl, tt)
 student_filled v Ask.Status = (refl, tt)
 student_filled v Ask.Allocation = (refl, tt)
 student_filled v Ask.AllocationCsv = (refl, tt)
@@ -67,13 +76,13 @@ lecturer_filled v Ask.Catalogue = (refl, tt)
 lecturer_filled v Ask.Applicants = only_filled (Lecturer v) (is_from_ranking v.phase) _ (refl, tt)
 lecturer_filled v Ask.ShowRanking = only_filled (Lecturer v) (is_from_ranking v.phase) _ (refl, tt)
 lecturer_filled v (Ask.SetRanking list) = only_filled (Lecturer v) (is_ranking v.phase) _ (unless_filled (Lecturer v) (ranking_fault v.applicants 1 [] list) _ (refl, tt))
-lecturer_filled v Ask.Result = only_filled (Lecturer v) (is_published v.phase) _ (refl, tt)
+lecturer_filled v Ask.Result = only_filled (Lecturer v) (has_result v.round v.phase) _ (refl, tt)
 lecturer_filled v Ask.ShowChoices = (refl, tt)
 lecturer_filled v (Ask.SetChoices list) = (refl, tt)
 lecturer_filled v (Ask.AddLecturers rows) = (refl, tt)
 lecturer_filled v (Ask.AddProjects rows) = (refl, tt)
 lecturer_filled v (Ask.AddStudents rows) = (refl, tt)
-lecturer_filled v (Ask.Move phase) = (refl, tt)
+lecturer_filled v (Ask.Move phase round) = (refl, tt)
 lecturer_filled v Ask.Status = (refl, tt)
 lecturer_filled v Ask.Allocation = (refl, tt)
 lecturer_filled v Ask.AllocationCsv = (refl, tt)
@@ -97,35 +106,45 @@ publishes_filled : (v : OfficeSees) (b : Bool) → is_empty v.still_to_rank ≡ 
 publishes_filled v true e = rw e (refl, tt)
 publishes_filled v false e = rw e (refl, tt)
 
-moves_filled : (v : OfficeSees) (old new : Phase) → IsFilled (Office v) (moves v old new)
-moves_filled v Setup Setup = (refl, tt)
-moves_filled v Setup Choosing = (refl, tt)
-moves_filled v Setup Ranking = (refl, tt)
-moves_filled v Setup Published = (refl, tt)
-moves_filled v Choosing Setup = (refl, tt)
-moves_filled v Choosing Choosing = (refl, tt)
-moves_filled v Choosing Ranking = (refl, tt)
-moves_filled v Choosing Published = (refl, tt)
-moves_filled v Ranking Setup = (refl, tt)
-moves_filled v Ranking Choosing = (refl, tt)
-moves_filled v Ranking Ranking = (refl, tt)
-moves_filled v Ranking Published = publishes_filled v (is_empty v.still_to_rank) refl
-moves_filled v Published Setup = (refl, tt)
-moves_filled v Published Choosing = (refl, tt)
-moves_filled v Published Ranking = (refl, tt)
-moves_filled v Published Published = (refl, tt)
+moved_filled : (v : OfficeSees) (old new : Phase) → IsFilled (Office v) (moves_on v old new)
+moved_filled v Setup Setup = (refl, tt)
+moved_filled v Setup Choosing = (refl, tt)
+moved_filled v Setup Ranking = (refl, tt)
+moved_filled v Setup Published = (refl, tt)
+moved_filled v Choosing Setup = (refl, tt)
+moved_filled v Choosing Choosing = (refl, tt)
+moved_filled v Choosing Ranking = (refl, tt)
+moved_filled v Choosing Published = (refl, tt)
+moved_filled v Ranking Setup = (refl, tt)
+moved_filled v Ranking Choosing = (refl, tt)
+moved_filled v Ranking Ranking = (refl, tt)
+moved_filled v Ranking Published = publishes_filled v (is_empty v.still_to_rank) refl
+moved_filled v Published Setup = (refl, tt)
+moved_filled v Published Choosing = (refl, tt)
+moved_filled v Published Ranking = (refl, tt)
+moved_filled v Published Published = (refl, tt)
+
+named_filled : (v : OfficeSees) (old new : Round) (phase : Phase) → IsFilled (Office v) (moves_in v old new phase)
+named_filled v First First phase = moved_filled v v.phase phase
+named_filled v Second Second phase = moved_filled v v.phase phase
+named_filled v First Second phase = (refl, tt)
+named_filled v Second First phase = (refl, tt)
+
+moves_filled : (v : OfficeSees) (phase : Phase) (round : Option Round) → IsFilled (Office v) (moves v phase round)
+moves_filled v phase None = moved_filled v v.phase phase
+moves_filled v phase (Some round) = named_filled v v.round round phase
 
 office_filled : (v : OfficeSees) (ask : Ask) → IsFilled (Office v) (to_office v ask)
 office_filled v Ask.Me = (refl, tt)
 office_filled v Ask.Catalogue = (refl, tt)
-office_filled v (Ask.AddLecturers rows) = only_filled (Office v) (is_open_to_rolls v.phase) _ (added_filled v Lecturers (take_rows (lecturer_roll v) 1 v.lecturers rows))
-office_filled v (Ask.AddProjects rows) = only_filled (Office v) (is_open_to_rolls v.phase) _ (added_filled v Projects (take_rows (project_roll v) 1 v.projects rows))
-office_filled v (Ask.AddStudents rows) = only_filled (Office v) (is_open_to_rolls v.phase) _ (added_filled v Students (take_rows (student_roll v) 1 v.students rows))
-office_filled v (Ask.Move phase) = moves_filled v v.phase phase
+office_filled v (Ask.AddLecturers rows) = only_filled (Office v) (is_open_to_rolls v.round v.phase) _ (added_filled v Lecturers (take_rows (lecturer_roll v) 1 v.lecturers rows))
+office_filled v (Ask.AddProjects rows) = only_filled (Office v) (is_open_to_rolls v.round v.phase) _ (added_filled v Projects (take_rows (project_roll v) 1 v.projects rows))
+office_filled v (Ask.AddStudents rows) = only_filled (Office v) (is_open_to_rolls v.round v.phase) _ (added_filled v Students (take_rows (student_roll v) 1 v.students rows))
+office_filled v (Ask.Move phase round) = moves_filled v phase round
 office_filled v Ask.Status = (refl, tt)
-office_filled v Ask.Allocation = only_filled (Office v) (is_published v.phase) _ (refl, tt)
-office_filled v Ask.AllocationCsv = only_filled (Office v) (is_published v.phase) _ (refl, tt)
-office_filled v Ask.Report = only_filled (Office v) (is_published v.phase) _ (refl, tt)
+office_filled v Ask.Allocation = only_filled (Office v) (has_result v.round v.phase) _ (refl, tt)
+office_filled v Ask.AllocationCsv = only_filled (Office v) (has_result v.round v.phase) _ (refl, tt)
+office_filled v Ask.Report = only_filled (Office v) (has_result v.round v.phase) _ (refl, tt)
 office_filled v Ask.FillRankings = only_filled (Office v) (is_ranking v.phase) _ (idle_or_applied v (is_empty v.still_to_rank) _ Fill)
 office_filled v Ask.ShowChoices = (refl, tt)
 office_filled v (Ask.SetChoices list) = (refl, tt)

@@ -77,7 +77,8 @@ impl<K: Keeper> Desk<K> {
     fn settle(&mut self, outcome: Result<Reply, KeepFault>) -> Reply
         ensures keeper { self.new.keeper ≡ self.old.keeper }
         ensures failed { self.new.failed ≡ (self.old.failed || is_store outcome) }
-        ensures reply { MatchResult outcome (λ reply. result ≡ reply) (λ _. told result ≡ unavailable) }
+        ensures reply { MatchResult outcome (λ reply. result ≡ reply)
+            (λ _. told result ≡ unavailable) }
     {
         match outcome {
             Ok(told) => told,
@@ -93,12 +94,16 @@ impl<K: Keeper> Desk<K> {
     /// and once the store has failed every later reply is.
     pub fn respond(&mut self, alloc: Global, request: &Request) -> Reply
         ensures clean { K.clean self.new.keeper → K.clean self.old.keeper }
-        ensures serves { K.clean self.new.keeper → Serves (K.world self.old.keeper) (request_of request.now.close (seen request.now)) (told result) (K.world self.new.keeper) }
+        ensures serves { K.clean self.new.keeper
+            → Serves (K.world self.old.keeper) (request_of request.now.close (seen request.now))
+            (told result) (K.world self.new.keeper) }
         ensures good { K.clean self.new.keeper → Good (K.world self.new.keeper) }
-        ensures same { K.clean self.new.keeper → told result ≡ unavailable → K.world self.new.keeper ≡ K.world self.old.keeper }
+        ensures same { K.clean self.new.keeper → told result ≡ unavailable
+            → K.world self.new.keeper ≡ K.world self.old.keeper }
         ensures stays { self.old.failed ≡ true → self.new ≡ self.old }
         ensures failed { self.new.failed ≡ true → told result ≡ unavailable }
-        ensures counts { FailsByCount self.old.failed self.new.failed (K.faults self.old.keeper) (K.faults self.new.keeper) }
+        ensures counts { FailsByCount self.old.failed self.new.failed (K.faults self.old.keeper)
+            (K.faults self.new.keeper) }
         ensures whole { IsWhole (said result.body) }
     {
         if self.failed {
@@ -122,14 +127,19 @@ impl<K: Keeper> Desk<K> {
         sink: &mut W,
     ) -> Result<(), Cause>
         ensures clean { K.clean self.new.keeper → K.clean self.old.keeper }
-        ensures ok { OnOk result (Replied (K.clean self.new.keeper) (K.world self.old.keeper) (K.world self.new.keeper) (request_of closes (seen request.now))
+        ensures ok { OnOk result (Replied (K.clean self.new.keeper) (K.world self.old.keeper)
+            (K.world self.new.keeper) (request_of closes (seen request.now))
             (λ reply. (self.new.failed ≡ false) × Appends (W.contents sink.old) (W.contents sink.new) (reply_text reply (is_head request.now.method.items) closes))) }
-        ensures err { IfErr result (λ cause. Replied (K.clean self.new.keeper) (K.world self.old.keeper) (K.world self.new.keeper) (request_of closes (seen request.now))
+        ensures err { IfErr result (λ cause. Replied (K.clean self.new.keeper)
+            (K.world self.old.keeper) (K.world self.new.keeper)
+            (request_of closes (seen request.now))
             (λ reply. Broke cause self.new.failed reply (is_head request.now.method.items) closes (W.contents sink.old) (W.contents sink.new))) }
         ensures stays { self.old.failed ≡ true → self.new ≡ self.old }
         ensures calm { OnOk result (W.failed sink.new ≡ W.failed sink.old) }
-        ensures blames { IfErr result (λ cause. cause ≡ WriteFailed → FailsAfter (W.failed sink.old) (W.failed sink.new)) }
-        ensures counts { FailsByCount self.old.failed self.new.failed (K.faults self.old.keeper) (K.faults self.new.keeper) }
+        ensures blames { IfErr result (λ cause. cause ≡ WriteFailed
+            → FailsAfter (W.failed sink.old) (W.failed sink.new)) }
+        ensures counts { FailsByCount self.old.failed self.new.failed (K.faults self.old.keeper)
+            (K.faults self.new.keeper) }
         ensures unread { IfErr result (λ cause. cause ≡ ReadFailed → ⊥) }
         ensures store { IfErr result (λ cause. cause ≡ StoreFailed → self.new.failed ≡ true) }
         ensures same_device { W.name sink.new ≡ W.name sink.old }
@@ -164,14 +174,19 @@ impl<K: Keeper> Desk<K> {
             Tells (K.clean self.new.keeper) (K.world self.old.keeper) (K.world self.new.keeper) (W.contents sink.old) (W.contents sink.new) bytes served.requests (last served.ending))) }
         ensures stopped { IfErr result (λ fault. IfSome (R.remaining source.old) (λ bytes.
             Stops fault.cause self.new.failed (K.clean self.new.keeper) (K.world self.old.keeper) (K.world self.new.keeper) (R.remaining source.new) (W.contents sink.old) (W.contents sink.new) bytes fault.requests)) }
-        ensures blames { IfErr result (λ fault. Blames fault.cause (R.failed source.old) (R.failed source.new) (W.failed sink.old) (W.failed sink.new)) }
-        ensures taken { TakesAtMost (256 * 1064960) (R.remaining source.old) (R.remaining source.new) }
+        ensures blames { IfErr result (λ fault. Blames fault.cause (R.failed source.old)
+            (R.failed source.new) (W.failed sink.old) (W.failed sink.new)) }
+        ensures taken { TakesAtMost (256 * 1064960) (R.remaining source.old)
+            (R.remaining source.new) }
         ensures stays { self.old.failed ≡ true → self.new ≡ self.old }
         ensures none { IfOk result (λ served. self.old.failed ≡ true → served.requests ≡ 0) }
-        ensures first { IfErr result (λ fault. self.old.failed ≡ true → AtFirst fault.cause fault.requests) }
-        ensures counts { FailsByCount self.old.failed self.new.failed (K.faults self.old.keeper) (K.faults self.new.keeper) }
+        ensures first { IfErr result (λ fault. self.old.failed ≡ true
+            → AtFirst fault.cause fault.requests) }
+        ensures counts { FailsByCount self.old.failed self.new.failed (K.faults self.old.keeper)
+            (K.faults self.new.keeper) }
         ensures calm { OnOk result (self.new.failed ≡ self.old.failed) }
-        ensures unread { IfErr result (λ fault. fault.cause ≡ ReadFailed → self.new.failed ≡ self.old.failed) }
+        ensures unread { IfErr result (λ fault. fault.cause ≡ ReadFailed
+            → self.new.failed ≡ self.old.failed) }
         ensures store { IfErr result (λ fault. fault.cause ≡ StoreFailed → self.new.failed ≡ true) }
         ensures same_source { R.name source.new ≡ R.name source.old }
         ensures same_sink { W.name sink.new ≡ W.name sink.old }

@@ -146,7 +146,8 @@ impl<T: Write> Sink for Counted<T> {
 /// Writes all the bytes, or some first part of them that lacks the last.
 pub(crate) fn write_whole<W: Sink>(sink: &mut W, bytes: &[u8]) -> Result<(), Failed>
     ensures whole { OnOk result (Appends (W.contents sink.old) (W.contents sink.new) bytes.now) }
-    ensures part { OnErr result ((k : ℕ) × (k < length bytes.now) × Appends (W.contents sink.old) (W.contents sink.new) (take k bytes.now)) }
+    ensures part { OnErr result ((k : ℕ) × (k < length bytes.now)
+        × Appends (W.contents sink.old) (W.contents sink.new) (take k bytes.now)) }
     ensures counts { OnErr result (FailsAfter (W.failed sink.old) (W.failed sink.new)) }
     ensures calm { OnOk result (W.failed sink.new ≡ W.failed sink.old) }
     ensures same_device { W.name sink.new ≡ W.name sink.old }

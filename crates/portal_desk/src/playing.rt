@@ -35,7 +35,8 @@ fn sheet_body(alloc: Global, view: &OfficeView, sheet: Sheet) -> Result<Body, Al
 /// The reply with its sheet written, where the office is given one.
 fn written(alloc: Global, view: &View, act: &Act, reply: Reply) -> Result<Reply, AllocError>
     requires { IsWhole (said reply.body) }
-    ensures told { IfOk result (λ whole. told whole ≡ with_sheet view.now (does act.now) (told reply)) }
+    ensures told { IfOk result (λ whole. told whole
+        ≡ with_sheet view.now (does act.now) (told reply)) }
     ensures whole { IfOk result (λ whole. IsWhole (said whole.body)) }
 {
     let View::Office(office) = view else {
@@ -70,7 +71,8 @@ fn ask<K: Keeper>(
     call: &Call,
 ) -> Result<Decision, KeepFault>
     ensures clean { K.clean keeper.new → K.clean keeper.old }
-    ensures decided { IfOk result (λ d. K.clean keeper.new → Good (K.world keeper.old) → decided d ≡ answer.decision (seen.view (K.world keeper.old) code.now) (asked call.now)) }
+    ensures decided { IfOk result (λ d. K.clean keeper.new → Good (K.world keeper.old)
+        → decided d ≡ answer.decision (seen.view (K.world keeper.old) code.now) (asked call.now)) }
     ensures whole { IfOk result (λ d. IsTold (decided d).reply.body) }
     ensures same { K.clean keeper.new → K.world keeper.new ≡ K.world keeper.old }
     ensures counts { CountsFaults result (K.faults keeper.old) (K.faults keeper.new) }
@@ -89,7 +91,8 @@ fn pairs_of(
     matching: &Matching,
 ) -> Result<Vec<(Key, Key)>, AllocError>
     requires { IsMatching instance.now matching.now }
-    ensures { IfOk result (λ pairs. pairs.items ≡ pairs_by instance.now.student_keys instance.now.project_keys matching.now) }
+    ensures { IfOk result (λ pairs. pairs.items
+        ≡ pairs_by instance.now.student_keys instance.now.project_keys matching.now) }
 {
     let mut pairs = Vec::new(alloc);
     for s in 0..instance.students() {
@@ -115,7 +118,8 @@ fn publish<K: Keeper>(alloc: Global, keeper: &mut K) -> Result<(), KeepFault>
     requires good { K.clean keeper.old → Good (K.world keeper.old) }
     requires ready { K.clean keeper.old → CanPublish (K.world keeper.old) }
     ensures clean { K.clean keeper.new → K.clean keeper.old }
-    ensures made { OnOk result (K.clean keeper.new → Leaves (K.world keeper.old) Publish (K.world keeper.new)) }
+    ensures made { OnOk result (K.clean keeper.new
+        → Leaves (K.world keeper.old) Publish (K.world keeper.new)) }
     ensures same { OnErr result (K.clean keeper.new → K.world keeper.new ≡ K.world keeper.old) }
     ensures counts { CountsFaults result (K.faults keeper.old) (K.faults keeper.new) }
 {
@@ -131,7 +135,8 @@ fn carry_out<K: Keeper>(alloc: Global, keeper: &mut K, act: Act) -> Result<(), K
     requires good { K.clean keeper.old → Good (K.world keeper.old) }
     requires can { K.clean keeper.old → CanDo (K.world keeper.old) (does act) }
     ensures clean { K.clean keeper.new → K.clean keeper.old }
-    ensures made { OnOk result (K.clean keeper.new → Leaves (K.world keeper.old) (does act) (K.world keeper.new)) }
+    ensures made { OnOk result (K.clean keeper.new
+        → Leaves (K.world keeper.old) (does act) (K.world keeper.new)) }
     ensures same { OnErr result (K.clean keeper.new → K.world keeper.new ≡ K.world keeper.old) }
     ensures counts { CountsFaults result (K.faults keeper.old) (K.faults keeper.new) }
 {
@@ -152,7 +157,8 @@ pub fn play<K: Keeper>(
     requires good { K.clean keeper.old → Good (K.world keeper.old) }
     requires form { HasForm (asked call.now) }
     ensures clean { K.clean keeper.new → K.clean keeper.old }
-    ensures step { IfOk result (λ r. K.clean keeper.new → Step (K.world keeper.old) code.now (asked call.now) (told r) (K.world keeper.new)) }
+    ensures step { IfOk result (λ r. K.clean keeper.new
+        → Step (K.world keeper.old) code.now (asked call.now) (told r) (K.world keeper.new)) }
     ensures same { OnErr result (K.clean keeper.new → K.world keeper.new ≡ K.world keeper.old) }
     ensures counts { CountsFaults result (K.faults keeper.old) (K.faults keeper.new) }
     ensures good { K.clean keeper.new → Good (K.world keeper.new) }

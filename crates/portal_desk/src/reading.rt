@@ -38,14 +38,20 @@ impl From<Failed> for Lack {
 /// Reads a piece into the buffer, and says whether the input has ended.
 fn read_piece<R: Source>(source: &mut R, buffer: &mut Vec<u8>) -> Result<bool, Lack>
     requires { length buffer.old.items < 1064960 }
-    ensures bytes { IfOk result (Reads (R.remaining source.old) (R.remaining source.new) buffer.old.items buffer.new.items) }
-    ensures more { IfOk result (λ ended. length buffer.old.items + (if ended then 0 else 1) ≤ length buffer.new.items) }
+    ensures bytes { IfOk result (Reads (R.remaining source.old)
+        (R.remaining source.new) buffer.old.items buffer.new.items) }
+    ensures more { IfOk result (λ ended. length buffer.old.items + (if ended then 0 else 1)
+        ≤ length buffer.new.items) }
     ensures held { length buffer.new.items ≤ 1064960 }
     ensures none_lost { OnErr result (buffer.new.items ≡ buffer.old.items) }
-    ensures left { IfErr result (λ lack. lack ≡ ReadFailed → Stays (R.remaining source.old) (R.remaining source.new) buffer.old.items buffer.new.items) }
-    ensures taken { OnErr result (TakesAtMost (1064960 - length buffer.old.items) (R.remaining source.old) (R.remaining source.new)) }
+    ensures left { IfErr result (λ lack. lack ≡ ReadFailed
+        → Stays (R.remaining source.old)
+        (R.remaining source.new) buffer.old.items buffer.new.items) }
+    ensures taken { OnErr result (TakesAtMost (1064960 - length buffer.old.items)
+        (R.remaining source.old) (R.remaining source.new)) }
     ensures calm { OnOk result (R.failed source.new ≡ R.failed source.old) }
-    ensures counts { IfErr result (λ lack. lack ≡ ReadFailed → FailsAfter (R.failed source.old) (R.failed source.new)) }
+    ensures counts { IfErr result (λ lack. lack ≡ ReadFailed
+        → FailsAfter (R.failed source.old) (R.failed source.new)) }
     ensures same_device { R.name source.new ≡ R.name source.old }
 {
     let mut piece = [0u8; 4096];
@@ -65,15 +71,20 @@ pub(crate) fn next_frame<R: Source>(
     buffer: &mut Vec<u8>,
 ) -> Result<Frame, Lack>
     requires { length buffer.old.items ≤ 1064960 }
-    ensures follows { IfOk result (Follows (R.remaining source.old) (R.remaining source.new) buffer.old.items buffer.new.items) }
+    ensures follows { IfOk result (Follows (R.remaining source.old)
+        (R.remaining source.new) buffer.old.items buffer.new.items) }
     ensures found { IfOk result (λ f. f ≢ Frame.Need) }
     ensures held { length buffer.new.items ≤ 1064960 }
     ensures within { IfOk result (IsWithin buffer.new.items) }
-    ensures stays { IfErr result (λ lack. lack ≡ ReadFailed → Stays (R.remaining source.old) (R.remaining source.new) buffer.old.items buffer.new.items) }
+    ensures stays { IfErr result (λ lack. lack ≡ ReadFailed
+        → Stays (R.remaining source.old)
+        (R.remaining source.new) buffer.old.items buffer.new.items) }
     ensures none { IfErr result (λ lack. HoldsNone lack buffer.new.items) }
-    ensures taken { OnErr result (TakesAtMost (1064960 - length buffer.old.items) (R.remaining source.old) (R.remaining source.new)) }
+    ensures taken { OnErr result (TakesAtMost (1064960 - length buffer.old.items)
+        (R.remaining source.old) (R.remaining source.new)) }
     ensures calm { OnOk result (R.failed source.new ≡ R.failed source.old) }
-    ensures counts { IfErr result (λ lack. lack ≡ ReadFailed → FailsAfter (R.failed source.old) (R.failed source.new)) }
+    ensures counts { IfErr result (λ lack. lack ≡ ReadFailed
+        → FailsAfter (R.failed source.old) (R.failed source.new)) }
     ensures same_device { R.name source.new ≡ R.name source.old }
 {
     let mut ended = false;

@@ -28,9 +28,11 @@ pub(crate) fn either(a: bool, b: bool) -> bool
 /// Writes bytes whole.
 fn send<W: Sink>(bytes: &[u8], sink: &mut W) -> Result<(), Cause>
     ensures ok { OnOk result (Appends (W.contents sink.old) (W.contents sink.new) bytes.now) }
-    ensures err { IfErr result (λ cause. Partly cause (W.contents sink.old) (W.contents sink.new) bytes.now) }
+    ensures err { IfErr result (λ cause. Partly cause (W.contents sink.old)
+        (W.contents sink.new) bytes.now) }
     ensures calm { OnOk result (W.failed sink.new ≡ W.failed sink.old) }
-    ensures counts { IfErr result (λ cause. cause ≡ WriteFailed → FailsAfter (W.failed sink.old) (W.failed sink.new)) }
+    ensures counts { IfErr result (λ cause. cause ≡ WriteFailed
+        → FailsAfter (W.failed sink.old) (W.failed sink.new)) }
     ensures same_device { W.name sink.new ≡ W.name sink.old }
 {
     match write_whole(sink, bytes) {
@@ -48,10 +50,13 @@ pub(crate) fn send_reply<W: Sink>(
     sink: &mut W,
 ) -> Result<(), Cause>
     requires { IsWhole (said reply.now.body) }
-    ensures ok { OnOk result (Appends (W.contents sink.old) (W.contents sink.new) (reply_text (told reply.now) head_only close)) }
-    ensures err { IfErr result (λ cause. Partly cause (W.contents sink.old) (W.contents sink.new) (reply_text (told reply.now) head_only close)) }
+    ensures ok { OnOk result (Appends (W.contents sink.old) (W.contents sink.new)
+        (reply_text (told reply.now) head_only close)) }
+    ensures err { IfErr result (λ cause. Partly cause (W.contents sink.old) (W.contents sink.new)
+        (reply_text (told reply.now) head_only close)) }
     ensures calm { OnOk result (W.failed sink.new ≡ W.failed sink.old) }
-    ensures counts { IfErr result (λ cause. cause ≡ WriteFailed → FailsAfter (W.failed sink.old) (W.failed sink.new)) }
+    ensures counts { IfErr result (λ cause. cause ≡ WriteFailed
+        → FailsAfter (W.failed sink.old) (W.failed sink.new)) }
     ensures same_device { W.name sink.new ≡ W.name sink.old }
 {
     match reply_bytes(alloc, reply, head_only, close) {
@@ -67,10 +72,13 @@ pub(crate) fn send_refusal<W: Sink>(
     head_only: bool,
     sink: &mut W,
 ) -> Result<(), Cause>
-    ensures ok { OnOk result (Appends (W.contents sink.old) (W.contents sink.new) (reply_text (answer_to (refused refusal.now)) head_only true)) }
-    ensures err { IfErr result (λ cause. Partly cause (W.contents sink.old) (W.contents sink.new) (reply_text (answer_to (refused refusal.now)) head_only true)) }
+    ensures ok { OnOk result (Appends (W.contents sink.old) (W.contents sink.new)
+        (reply_text (answer_to (refused refusal.now)) head_only true)) }
+    ensures err { IfErr result (λ cause. Partly cause (W.contents sink.old) (W.contents sink.new)
+        (reply_text (answer_to (refused refusal.now)) head_only true)) }
     ensures calm { OnOk result (W.failed sink.new ≡ W.failed sink.old) }
-    ensures counts { IfErr result (λ cause. cause ≡ WriteFailed → FailsAfter (W.failed sink.old) (W.failed sink.new)) }
+    ensures counts { IfErr result (λ cause. cause ≡ WriteFailed
+        → FailsAfter (W.failed sink.old) (W.failed sink.new)) }
     ensures same_device { W.name sink.new ≡ W.name sink.old }
 {
     match reply_of(alloc, refusal) {

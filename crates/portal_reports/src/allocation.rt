@@ -22,7 +22,8 @@ fn student_line(
     placings: &Placings,
     student: &StudentRow,
 ) -> Result<String, AllocError>
-    ensures { IfOk result (λ line. string_bytes line ≡ sheet.student_line placings.now student.now) }
+    ensures { IfOk result (λ line. string_bytes line
+        ≡ sheet.student_line placings.now student.now) }
 {
     match placings.project_of(student) {
         Some(project) => placed_line(alloc, &student.key, project),
@@ -32,7 +33,8 @@ fn student_line(
 
 /// Adds the lines of the students.
 fn put_students(text: &mut Vec<u8>, alloc: Global, view: &OfficeView) -> Result<(), AllocError>
-    ensures { OnOk result (text.new.items ≡ text.old.items ++ flat_map (sheet.student_line view.now) view.now.students) }
+    ensures { OnOk result (text.new.items ≡ text.old.items
+        ++ flat_map (sheet.student_line view.now) view.now.students) }
 {
     let placings = Placings::of(alloc, view)?;
     for student in view.students.iter() {
@@ -44,7 +46,8 @@ fn put_students(text: &mut Vec<u8>, alloc: Global, view: &OfficeView) -> Result<
 
 /// Adds the lines of the projects.
 fn put_projects(text: &mut Vec<u8>, alloc: Global, view: &OfficeView) -> Result<(), AllocError>
-    ensures { OnOk result (text.new.items ≡ text.old.items ++ flat_map (sheet.project_line view.now) view.now.projects) }
+    ensures { OnOk result (text.new.items ≡ text.old.items
+        ++ flat_map (sheet.project_line view.now) view.now.projects) }
 {
     for project in view.projects.iter() {
         let students = students_at(&view.pairs, &project.key);

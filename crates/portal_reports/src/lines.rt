@@ -38,7 +38,8 @@ pub(crate) fn placed_line(
     student: &Key,
     project: &ProjectRow,
 ) -> Result<String, AllocError>
-    ensures { IfOk result (λ line. string_bytes line ≡ sheet.padded_left 16 student.now ++ codes "  " ++ sheet.project_and_lecturer (Some project.now) ++ sheet.line_feed) }
+    ensures { IfOk result (λ line. string_bytes line ≡ sheet.padded_left 16 student.now
+        ++ codes "  " ++ sheet.project_and_lecturer (Some project.now) ++ sheet.line_feed) }
 {
     let key = short(student);
     let place = short(&project.key);
@@ -47,7 +48,8 @@ pub(crate) fn placed_line(
 
 /// The line of a student who has none.
 pub(crate) fn unplaced_line(alloc: Global, student: &Key) -> Result<String, AllocError>
-    ensures { IfOk result (λ line. string_bytes line ≡ sheet.padded_left 16 student.now ++ codes "  " ++ sheet.project_and_lecturer None ++ sheet.line_feed) }
+    ensures { IfOk result (λ line. string_bytes line ≡ sheet.padded_left 16 student.now
+        ++ codes "  " ++ sheet.project_and_lecturer None ++ sheet.line_feed) }
 {
     let key = short(student);
     format!(in alloc; "{key:<16}  (none)\n")
@@ -72,7 +74,8 @@ pub(crate) fn assigned_line(
     assigned: usize,
     students: usize,
 ) -> Result<String, AllocError>
-    ensures { IfOk result (λ line. string_bytes line ≡ codes "assigned " ++ decimal assigned ++ codes " of " ++ decimal students ++ sheet.line_feed) }
+    ensures { IfOk result (λ line. string_bytes line ≡ codes "assigned " ++ decimal assigned
+        ++ codes " of " ++ decimal students ++ sheet.line_feed) }
 {
     format!(in alloc; "assigned {assigned} of {students}\n")
 }

@@ -33,7 +33,8 @@ fn put_round(text: &mut Vec<u8>, alloc: Global, round: Round) -> Result<(), Allo
 
 /// Adds the sizes of the rolls.
 fn put_rolls(text: &mut Vec<u8>, alloc: Global, view: &OfficeView) -> Result<(), AllocError>
-    ensures { OnOk result (text.new.items ≡ text.old.items ++ spec.number_line (codes "lecturers") (length view.now.lecturers)
+    ensures { OnOk result (text.new.items ≡ text.old.items
+        ++ spec.number_line (codes "lecturers") (length view.now.lecturers)
         ++ spec.number_line (codes "projects") (length view.now.projects) ++ spec.number_line (codes "students") (length view.now.students)) }
 {
     put_number(text, alloc, "lecturers", view.lecturers.len())?;
@@ -43,7 +44,8 @@ fn put_rolls(text: &mut Vec<u8>, alloc: Global, view: &OfficeView) -> Result<(),
 
 /// Adds how many lists and rankings are missing.
 fn put_missing(text: &mut Vec<u8>, alloc: Global, view: &OfficeView) -> Result<(), AllocError>
-    ensures { OnOk result (text.new.items ≡ text.old.items ++ spec.number_line (codes "without list") (length view.now.without_list)
+    ensures { OnOk result (text.new.items ≡ text.old.items
+        ++ spec.number_line (codes "without list") (length view.now.without_list)
         ++ spec.number_line (codes "still to rank") (length view.now.still_to_rank)) }
 {
     put_number(text, alloc, "without list", view.without_list.len())?;

@@ -10,7 +10,8 @@ use std::alloc::{AllocError, Global};
 
 /// Writes one record of five fields.
 fn put_record(writer: &mut Writer<Vec<u8>>, fields: &[&[u8]; 5]) -> Result<(), AllocError>
-    ensures { OnOk result ((text : List ℕ) → Holds writer.old text → Holds writer.new (text ++ sheet.csv_record (map (λ f. f.now) fields.now))) }
+    ensures { OnOk result ((text : List ℕ) → Holds writer.old text
+        → Holds writer.new (text ++ sheet.csv_record (map (λ f. f.now) fields.now))) }
 {
     let Ok(()) = writer.write_fields(fields.as_slice()) else {
         return Err(AllocError);

@@ -43,7 +43,9 @@ fn line_at(
     number: u32,
     fields: FourFields<'_>,
 ) -> Result<Line, RollFault>
-    ensures { Gives view.same result (spec.line_at (Some mark) number fields.entry.second.now fields.entry.third.now fields.entry.fourth.now) }
+    ensures { Gives view.same result
+        (spec.line_at (Some mark) number
+        fields.entry.second.now fields.entry.third.now fields.entry.fourth.now) }
 {
     let key = Vec::from_slice(alloc, fields.second)?;
     match mark {

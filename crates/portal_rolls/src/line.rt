@@ -42,7 +42,9 @@ impl File {
 
     /// Adds a line at the end of its kind.
     pub(crate) fn put(&mut self, line: Line) -> Result<(), RollFault>
-        ensures ok { OnOk result ((lines : List declared.Line) → view.file self.old ≡ spec.file_of lines → view.file self.new ≡ spec.file_of (lines ++ line ∷ [])) }
+        ensures ok { OnOk result ((lines : List declared.Line)
+            → view.file self.old ≡ spec.file_of lines
+            → view.file self.new ≡ spec.file_of (lines ++ line ∷ [])) }
         ensures fault { IfErr result (λ e. e ≡ RollFault.Memory) }
     {
         match line {

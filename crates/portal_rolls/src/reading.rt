@@ -67,7 +67,8 @@ fn read_lines<K: Kind>(
     row: &mut ByteRecord,
 ) -> Result<Vec<K::Line>, RollFault>
     requires { IsSetUp rdr.old }
-    ensures { (rows : List Record) → Has rdr.old rows → Gives view.items result (lines_of K.format rows) }
+    ensures { (rows : List Record) → Has rdr.old rows
+        → Gives view.items result (lines_of K.format rows) }
 {
     if !take_record(rdr, row)? {
         return Err(RollFault::NoHeader);

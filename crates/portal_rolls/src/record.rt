@@ -11,7 +11,8 @@ use csv::{ByteRecord, ErrorKind, Reader};
 pub(crate) fn take_record(rdr: &mut Reader<&[u8]>, row: &mut ByteRecord) -> Result<bool, RollFault>
     requires { IsSetUp rdr.old }
     ensures kept { OnOk result (IsSetUp rdr.new) }
-    ensures took { (rows : List Record) → Has rdr.old rows → IfOk result (λ found. Takes rows found (fields_of row.new) rdr.new) }
+    ensures took { (rows : List Record) → Has rdr.old rows
+        → IfOk result (λ found. Takes rows found (fields_of row.new) rdr.new) }
     ensures fault { IfErr result (λ e. e ≡ RollFault.Memory) }
 {
     match rdr.read_byte_record(row) {

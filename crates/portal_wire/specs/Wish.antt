@@ -68,7 +68,7 @@ abbrev pub posted_at : Place → List ℕ → Wish
 posted_at place.Lecturers body = by_roll Ask.AddLecturers (lecturers body)
 posted_at place.Projects body = by_roll Ask.AddProjects (projects body)
 posted_at place.Students body = by_roll Ask.AddStudents (students body)
-posted_at place.Phase body = by_body Ask.Move (phase_in body)
+posted_at place.Phase body = by_body (λ phase. Ask.Move phase None) (phase_in body)
 posted_at place.Fill body = by_body (λ u. Ask.FillRankings) (nothing_in body)
 posted_at at body = wrong_method at
 

@@ -68,7 +68,8 @@ fn sole_member<'a>(value: &'a Value, name: &str) -> Option<&'a Value>
 
 /// A copy of the text of each value.
 fn texts_of(alloc: Global, values: &[Value]) -> Result<Vec<Vec<u8>>, BodyFault>
-    ensures { Gives (λ ts. map (λ t. t.items) ts.items) result (item_texts (items_view values.now)) }
+    ensures { Gives (λ ts. map (λ t. t.items) ts.items) result
+        (item_texts (items_view values.now)) }
 {
     let mut texts = Vec::new(alloc);
     for value in values {

@@ -1,6 +1,6 @@
 //! The call that a request makes.
 
-ghost use Rattle.std.specs.Prelude.{◌≡◌, ◌⊎◌, IfOk, IfErr};
+ghost use Rattle.std.specs.Prelude.{◌≡◌, ◌⊎◌, None, IfOk, IfErr};
 ghost use Rattle.portal_core.specs.Meaning.{asked};
 ghost use Rattle.portal_core.specs.Run.{HasForm, Calls};
 ghost use Rattle.portal_rolls.specs.Rolls as roll;
@@ -112,11 +112,11 @@ fn put(alloc: Global, place: Place, body: &[u8]) -> Result<Call, NoCall>
 
 /// A move to the phase that a body names.
 fn moved(alloc: Global, body: &[u8]) -> Result<Call, NoCall>
-    ensures wish { Wants (by_body Ask.Move (phase_in body.now)) result }
+    ensures wish { Wants (by_body (λ phase. Ask.Move phase None) (phase_in body.now)) result }
     ensures form { IfOk result (λ call. HasForm (asked call)) }
 {
     match named(alloc, body) {
-        Ok(phase) => Ok(Call::Move(phase)),
+        Ok(phase) => Ok(Call::Move { phase, round: None }),
         Err(BodyFault::Bad) => Err(NoCall::BadBody),
         Err(BodyFault::Memory) => Err(NoCall::Memory),
     }
@@ -260,7 +260,8 @@ pub fn call_of(alloc: Global, request: &Request) -> Result<(Vec<u8>, Call), Refu
     ensures code { IfOk result (λ found. found.0.items ≡ request.now.code.items) }
     ensures wish { IfOk result (λ found. wish_of (seen request.now) ≡ Calls (asked found.1)) }
     ensures form { IfOk result (λ found. HasForm (asked found.1)) }
-    ensures refused { IfErr result (λ refusal. (refused refusal ≡ no_memory) ⊎ (wish_of (seen request.now) ≡ turned_away (refused refusal))) }
+    ensures refused { IfErr result (λ refusal. (refused refusal ≡ no_memory)
+        ⊎ (wish_of (seen request.now) ≡ turned_away (refused refusal))) }
 {
     let Ok(code) = copied(alloc, request.code.as_slice()) else {
         return Err(refusal_of(NoCall::Memory));

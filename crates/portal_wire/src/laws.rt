@@ -8,13 +8,15 @@ use portal_frame::laws::opens_some;
 
 /// A stream has one list of requests, one ending and one text of its ending.
 pub fn stream_once()
-    ensures { (bytes : List ℕ) (asked others : List Request) (end last : Last) (closing text : List ℕ)
+    ensures { (bytes : List ℕ) (asked others : List Request) (end last : Last)
+        (closing text : List ℕ)
         → Requests bytes asked end closing → Requests bytes others last text → (asked ≡ others) × (end ≡ last) × (closing ≡ text) }
 {}
 
 /// Each stream has such a list, such an ending and such a text.
 pub fn stream_some(bytes: &[u8])
-    ensures { (asked : List Request) × (end : Last) × (closing : List ℕ) × Requests bytes.now asked end closing }
+    ensures { (asked : List Request) × (end : Last) × (closing : List ℕ)
+        × Requests bytes.now asked end closing }
 {
     for start in 0..bytes.len() {
         let (_, rest) = bytes.split_at(start);

@@ -65,7 +65,8 @@ fn copied(alloc: Global, bytes: &[u8]) -> Result<Vec<u8>, AllocError>
 
 /// The bytes of a body.
 fn bytes_of(alloc: Global, body: &Body) -> Result<Vec<u8>, AllocError>
-    ensures { IfOk result (λ bytes. IsWhole (said body.now) → bytes.items ≡ body_bytes (said body.now)) }
+    ensures { IfOk result (λ bytes. IsWhole (said body.now)
+        → bytes.items ≡ body_bytes (said body.now)) }
 {
     match body {
         Body::Json(value) => value.to_vec(alloc),
@@ -77,7 +78,8 @@ fn bytes_of(alloc: Global, body: &Body) -> Result<Vec<u8>, AllocError>
 
 /// The status line and the lines that each reply has.
 fn first_lines(alloc: Global, reply: &Reply, length: usize) -> Result<String, AllocError>
-    ensures { IfOk result (λ text. string_bytes text ≡ common_lines reply.now.status (said reply.now.body) length) }
+    ensures { IfOk result (λ text. string_bytes text
+        ≡ common_lines reply.now.status (said reply.now.body) length) }
 {
     let status = status_number(reply.status);
     let phrase = phrase(reply.status);
@@ -133,7 +135,8 @@ pub fn reply_bytes(
     head_only: bool,
     close: bool,
 ) -> Result<Vec<u8>, AllocError>
-    ensures { IfOk result (λ bytes. IsWhole (said reply.now.body) → bytes.items ≡ reply_text (told reply.now) head_only close) }
+    ensures { IfOk result (λ bytes. IsWhole (said reply.now.body)
+        → bytes.items ≡ reply_text (told reply.now) head_only close) }
 {
     let body = bytes_of(alloc, &reply.body)?;
     let mut bytes = head_text(alloc, reply, body.len(), close)?.into_bytes();
