@@ -1,15 +1,15 @@
 -- What the office is told of a year.
 use Rattle.std.specs.Prelude.{◌≡◌, ℕ, if◌then◌else◌, List, [], ◌++◌}
 use Rattle.portal_core.specs.Sight.{OfficeSees}
-use Rattle.portal_core.specs.World.{is_published}
+use Rattle.portal_core.specs.World.{has_result}
 use Rattle.portal_core.specs.Sheets.{report_text, line_feed}
 use Rattle.portal_core.specs.declared.view.View.{View as Sight}
 use Rattle.portal_core.specs.declared.view.View.TheVariants.{Nobody, Office, Lecturer, Student}
 use Rattle.portal_reports.specs.Status.{status_text}
 
--- the state of the round; in published an empty line and the result
+-- the state of the round; once a result is there an empty line and the result
 abbrev pub told_of : OfficeSees → List ℕ
-told_of v = status_text v ++ (if is_published v.phase then line_feed ++ report_text v else [])
+told_of v = status_text v ++ (if has_result v.round v.phase then line_feed ++ report_text v else [])
 
 -- it is the office that sees this, and the text is its report
 abbrev pub IsTold : Sight → List ℕ → Type 0

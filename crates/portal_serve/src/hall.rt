@@ -1,13 +1,13 @@
 //! Serves the connections of a socket, one after another.
 
-ghost use Rattle.std.specs.Prelude.{◌≡◌, ◌≢◌, ◌≤◌, true};
+ghost use Rattle.std.specs.Prelude.{◌≡◌, ◌≢◌, ◌+◌, ◌-◌, ◌^◌, ◌<◌, ◌≤◌, true, if◌then◌else◌};
 ghost use Rattle.portal_desk.specs.Outcome.{FailsByCount};
 ghost use Rattle.portal_serve.specs.Ends.{is_own_fault};
 
 use crate::line::{Ear, Line, Mouth};
 use portal_core::Keeper;
 use portal_desk::{Cause, Counted, Desk, ServeFault, Served};
-use std::net::{TcpListener, TcpStream};
+use std::net::TcpListener;
 use std::time::Clock;
 
 /// Why no more connections are taken.
@@ -44,22 +44,12 @@ fn is_fault(ended: &Result<Served, ServeFault>) -> bool
     }
 }
 
-/// Serves one connection, and tells whether it ended by a fault of its own. Otherwise its last reply stands whole, and the
-/// connection is ended so that the client has it.
-fn attend<T: Clock + AllocGlobal, K: Keeper>(rt: &T, stream: &TcpStream, desk: &mut Desk<K>) -> bool
-    ensures clean { K.clean desk.new.keeper → K.clean desk.old.keeper }
-    ensures counts { FailsByCount desk.old.failed desk.new.failed (K.faults desk.old.keeper) (K.faults desk.new.keeper) }
+/// How many connections ended by a fault of their own, where so many did before this one.
+fn faults_with(faults: u32, ended: &Result<Served, ServeFault>) -> u32
+    requires { faults < 2 ^ 32 - 1 }
+    ensures { result ≡ faults + (if is_own_fault ended.now then 1 else 0) }
 {
-    let _ = stream.set_nodelay(true);
-    let line = Line::new(rt, stream);
-    let mut ear = Counted::new(Ear { line: &line });
-    let mut mouth = Counted::new(Mouth { line: &line });
-    let ended = desk.serve(rt.alloc(), &mut ear, &mut mouth);
-    let fault = is_fault(&ended);
-    if !fault {
-        let _ = line.end();
-    }
-    fault
+    if is_fault(ended) { faults + 1 } else { faults }
 }
 
 /// Serves connections of a listener, one after another: so many, or until the desk fails or the listener does. A
@@ -79,15 +69,23 @@ pub fn serve_on<T: Clock + AllocGlobal, K: Keeper>(
     ensures store { result.ended ≡ Ended.StoreFault → desk.new.failed ≡ true }
     ensures calm { result.ended ≢ Ended.StoreFault → desk.new.failed ≡ desk.old.failed }
     ensures shut { result.ended ≢ Ended.StoreFault → desk.new.failed ≡ true → result.accepted ≡ 0 }
-    ensures counts { FailsByCount desk.old.failed desk.new.failed (K.faults desk.old.keeper) (K.faults desk.new.keeper) }
+    ensures counts { FailsByCount desk.old.failed desk.new.failed (K.faults desk.old.keeper)
+        (K.faults desk.new.keeper) }
 {
     let mut faults = 0u32;
     for accepted in 0..connections {
         let Ok((stream, _)) = listener.accept() else {
             return closed(accepted, faults, Ended::ListenFault);
         };
-        if attend(rt, &stream, desk) {
-            faults += 1;
+        let _ = stream.set_nodelay(true);
+        let line = Line::new(rt, &stream);
+        let mut ear = Counted::new(Ear { line: &line });
+        let mut mouth = Counted::new(Mouth { line: &line });
+        let ended = desk.serve(rt.alloc(), &mut ear, &mut mouth);
+        faults = faults_with(faults, &ended);
+        if !is_fault(&ended) {
+            // The last reply stands whole: the connection is ended so that the client has it.
+            let _ = line.end();
         }
         if desk.failed() {
             return closed(accepted + 1, faults, Ended::StoreFault);

@@ -32,10 +32,13 @@ pub fn pipe<K: Keeper, R: Read, W: Write>(
     ensures taken { TakesAtMost (256 * 1064960) (R.remaining reader.old) (R.remaining reader.new) }
     ensures stays { desk.old.failed ≡ true → desk.new ≡ desk.old }
     ensures none { IfOk result (λ served. desk.old.failed ≡ true → served.requests ≡ 0) }
-    ensures first { IfErr result (λ fault. desk.old.failed ≡ true → AtFirst fault.cause fault.requests) }
-    ensures counts { FailsByCount desk.old.failed desk.new.failed (K.faults desk.old.keeper) (K.faults desk.new.keeper) }
+    ensures first { IfErr result (λ fault. desk.old.failed ≡ true
+        → AtFirst fault.cause fault.requests) }
+    ensures counts { FailsByCount desk.old.failed desk.new.failed (K.faults desk.old.keeper)
+        (K.faults desk.new.keeper) }
     ensures calm { OnOk result (desk.new.failed ≡ desk.old.failed) }
-    ensures unread { IfErr result (λ fault. fault.cause ≡ ReadFailed → desk.new.failed ≡ desk.old.failed) }
+    ensures unread { IfErr result (λ fault. fault.cause ≡ ReadFailed
+        → desk.new.failed ≡ desk.old.failed) }
     ensures store { IfErr result (λ fault. fault.cause ≡ StoreFailed → desk.new.failed ≡ true) }
 {
     let mut source = Lent::new(reader);

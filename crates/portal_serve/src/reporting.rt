@@ -5,7 +5,7 @@ ghost use Rattle.portal_core.specs.Good.{Good};
 ghost use Rattle.portal_core.specs.View.{office_sees};
 ghost use Rattle.portal_serve.specs.Report.{told_of, IsTold};
 
-use portal_core::{Code, KeepFault, Keeper, OfficeView, Phase, View};
+use portal_core::{Code, KeepFault, Keeper, OfficeView, View};
 use portal_reports::{allocation_text, status_text};
 use std::alloc::{AllocError, Global};
 
@@ -18,14 +18,13 @@ pub enum Unreported {
     Memory,
 }
 
-/// The state of the round, and in published, after an empty line, the result.
+/// The state of the round, and, once a result is there, after an empty line, the result.
 fn text_of(alloc: Global, view: &OfficeView) -> Result<Vec<u8>, AllocError>
     ensures { IfOk result (λ text. text.items ≡ told_of view.now) }
 {
     let mut text = status_text(alloc, view)?;
-    match view.phase {
-        Phase::Published => {}
-        _ => return Ok(text),
+    if !view.round.has_result(view.phase) {
+        return Ok(text);
     }
     let allocation = allocation_text(alloc, view)?;
     text.extend_from_slice(b"\n")?;
@@ -55,7 +54,8 @@ pub fn report<K: Keeper>(
 ) -> Result<Vec<u8>, Unreported>
     ensures clean { K.clean keeper.new → K.clean keeper.old }
     ensures same { K.clean keeper.new → K.world keeper.new ≡ K.world keeper.old }
-    ensures text { IfOk result (λ text. K.clean keeper.new → Good (K.world keeper.old) → text.items ≡ told_of (office_sees (K.world keeper.old))) }
+    ensures text { IfOk result (λ text. K.clean keeper.new → Good (K.world keeper.old)
+        → text.items ≡ told_of (office_sees (K.world keeper.old))) }
 {
     match keeper.view(alloc, office.as_bytes()) {
         Ok(view) => told(alloc, &view),
