@@ -1,6 +1,8 @@
 //! The commands.
 
-ghost use Rattle.std.specs.Prelude.{◌≡◌, ◌*◌, ◌<◌, ◌≤◌, ◌⊎◌, ◌∷◌, [], codes, drop, map, None, IfSome, IfOk, IsErr};
+ghost use Rattle.std.specs.Prelude.{◌≡◌, ◌*◌, ◌<◌, ◌≤◌, ◌⊎◌, ◌∷◌, [], codes, drop, map, None, IfSome, IfOk, IsErr, IsTrue};
+ghost use Rattle.clap.specs.Words.{Text};
+ghost use Rattle.portal_words.specs.Line.{is_file_word};
 ghost use Rattle.portal_run.specs.Run.{Answers, AnswersSome, IsOfFile, task_of};
 ghost use Rattle.portal_desk.specs.Devices.{TakesAtMost as TakesFew};
 ghost use Rattle.portal_run.specs.Taken.{TakesAtMost};
@@ -23,8 +25,10 @@ const MOST: u8 = 2;
 fn answer<R: Read, W: Write>(alloc: Global, task: Task, reader: &mut R, writer: &mut W) -> u8
     ensures bound { result ≤ 3 }
     ensures takes { TakesAtMost 4194305 (R.remaining reader.old) (R.remaining reader.new) }
-    ensures answers { result < 3 → Answers task (R.remaining reader.old) result (W.contents writer.old) (W.contents writer.new) }
-    ensures some { result < 3 → AnswersSome task result (W.contents writer.old) (W.contents writer.new) }
+    ensures answers { result < 3 → Answers task (R.remaining reader.old) result
+        (W.contents writer.old) (W.contents writer.new) }
+    ensures some { result < 3 → AnswersSome task result (W.contents writer.old)
+        (W.contents writer.new) }
 {
     let bytes = match bytes_of(alloc, reader) {
         Ok(bytes) => bytes,
@@ -45,8 +49,10 @@ fn answer_opened<F: Read + Drop, W: Write>(
     writer: &mut W,
 ) -> u8
     ensures bound { result ≤ 3 }
-    ensures answers { IfOk opened (λ f. result < 3 → Answers task (F.remaining f) result (W.contents writer.old) (W.contents writer.new)) }
-    ensures some { result < 3 → AnswersSome task result (W.contents writer.old) (W.contents writer.new) }
+    ensures answers { IfOk opened (λ f. result < 3
+        → Answers task (F.remaining f) result (W.contents writer.old) (W.contents writer.new)) }
+    ensures some { result < 3 → AnswersSome task result (W.contents writer.old)
+        (W.contents writer.new) }
     ensures closed { IsErr opened → result ≡ 3 }
 {
     match opened {
@@ -65,8 +71,11 @@ fn answer_file<R: Read, W: Write>(
 ) -> u8
     ensures bound { result ≤ 3 }
     ensures takes { TakesAtMost 4194305 (R.remaining reader.old) (R.remaining reader.new) }
-    ensures answers { file.entry ≡ None → result < 3 → Answers task (R.remaining reader.old) result (W.contents writer.old) (W.contents writer.new) }
-    ensures some { result < 3 → AnswersSome task result (W.contents writer.old) (W.contents writer.new) }
+    ensures answers { file.entry ≡ None → result < 3
+        → Answers task (R.remaining reader.old) result (W.contents writer.old)
+        (W.contents writer.new) }
+    ensures some { result < 3 → AnswersSome task result (W.contents writer.old)
+        (W.contents writer.new) }
 {
     match file {
         None => answer(rt.alloc(), task, reader, writer),
@@ -85,10 +94,17 @@ pub fn perform<R: Read, W: Write>(
 ) -> u8
     ensures bound { result ≤ 3 }
     ensures takes { TakesFew (256 * 1064960) (R.remaining reader.old) (R.remaining reader.new) }
-    ensures files { IsOfFile command.entry → TakesAtMost 4194305 (R.remaining reader.old) (R.remaining reader.new) }
-    ensures check { command.entry ≡ Command.Check None → result < 3 → Answers Task.Check (R.remaining reader.old) result (W.contents writer.old) (W.contents writer.new) }
-    ensures own_task { IfSome (task_of command.entry) (λ task. result < 3 → AnswersSome task result (W.contents writer.old) (W.contents writer.new)) }
-    ensures solve { command.entry ≡ Command.Solve None → result < 3 → Answers Task.Solve (R.remaining reader.old) result (W.contents writer.old) (W.contents writer.new) }
+    ensures files { IsOfFile command.entry
+        → TakesAtMost 4194305 (R.remaining reader.old) (R.remaining reader.new) }
+    ensures check { command.entry ≡ Command.Check None → result < 3
+        → Answers Task.Check (R.remaining reader.old) result (W.contents writer.old)
+        (W.contents writer.new) }
+    ensures own_task { IfSome (task_of command.entry)
+        (λ task. result < 3
+        → AnswersSome task result (W.contents writer.old) (W.contents writer.new)) }
+    ensures solve { command.entry ≡ Command.Solve None → result < 3
+        → Answers Task.Solve (R.remaining reader.old) result (W.contents writer.old)
+        (W.contents writer.new) }
 {
     match command {
         Command::Check(file) => answer_file(rt, Task::Check, file, reader, writer),
@@ -105,7 +121,8 @@ pub fn perform<R: Read, W: Write>(
 }
 
 /// Does what the words ask for, and gives the exit status. At most 272,629,760 bytes are taken from a reader that tells its
-/// bytes, and for a command on instance files at most 4,194,305.
+/// bytes, and for a command on instance files at most 4,194,305. What `check FILE` and `solve FILE` write, where no `-` stands in
+/// front of the name, is an answer by that command's own task; 3 where the file could not be read or the answer not written.
 #[tactic(auto, using(crate::proofs::Taken::same_left))]
 pub fn run<S: AsStr, R: Read, W: Write>(
     rt: &HostRuntime,
@@ -115,9 +132,23 @@ pub fn run<S: AsStr, R: Read, W: Write>(
 ) -> u8
     ensures bound { result ≤ 3 }
     ensures takes { TakesFew (256 * 1064960) (R.remaining reader.old) (R.remaining reader.new) }
-    ensures files { (drop 1 (map S.text words.entry.now) ≡ codes "check" ∷ []) ⊎ (drop 1 (map S.text words.entry.now) ≡ codes "solve" ∷ []) → TakesAtMost 4194305 (R.remaining reader.old) (R.remaining reader.new) }
-    ensures check { drop 1 (map S.text words.entry.now) ≡ codes "check" ∷ [] → result < 3 → Answers Task.Check (R.remaining reader.old) result (W.contents writer.old) (W.contents writer.new) }
-    ensures solve { drop 1 (map S.text words.entry.now) ≡ codes "solve" ∷ [] → result < 3 → Answers Task.Solve (R.remaining reader.old) result (W.contents writer.old) (W.contents writer.new) }
+    ensures files { (drop 1 (map S.text words.entry.now) ≡ codes "check" ∷ [])
+        ⊎ (drop 1 (map S.text words.entry.now) ≡ codes "solve" ∷ [])
+        → TakesAtMost 4194305 (R.remaining reader.old) (R.remaining reader.new) }
+    ensures check { drop 1 (map S.text words.entry.now) ≡ codes "check" ∷ [] → result < 3
+        → Answers Task.Check (R.remaining reader.old) result (W.contents writer.old)
+        (W.contents writer.new) }
+    ensures solve { drop 1 (map S.text words.entry.now) ≡ codes "solve" ∷ [] → result < 3
+        → Answers Task.Solve (R.remaining reader.old) result (W.contents writer.old)
+        (W.contents writer.new) }
+    ensures check_file { (file : Text)
+        → drop 1 (map S.text words.entry.now) ≡ codes "check" ∷ file ∷ []
+        → IsTrue (is_file_word file)
+        → result < 3 → AnswersSome Task.Check result (W.contents writer.old) (W.contents writer.new) }
+    ensures solve_file { (file : Text)
+        → drop 1 (map S.text words.entry.now) ≡ codes "solve" ∷ file ∷ []
+        → IsTrue (is_file_word file)
+        → result < 3 → AnswersSome Task.Solve result (W.contents writer.old) (W.contents writer.new) }
 {
     match command_of(rt.alloc(), words) {
         Ok(Asked::Do(command)) => perform(rt, command, reader, writer),

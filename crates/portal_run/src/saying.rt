@@ -8,7 +8,8 @@ use std::io::Write;
 /// Writes a text, and gives its status, or 3 where the writer refused it.
 pub fn say<W: Write>(writer: &mut W, text: &[u8], status: u8) -> u8
     ensures status { (result ≡ status) ⊎ (result ≡ 3) }
-    ensures written { result ≢ 3 → Appends (W.contents writer.old) (W.contents writer.new) text.now }
+    ensures written { result ≢ 3 → Appends (W.contents writer.old)
+        (W.contents writer.new) text.now }
 {
     if writer.write_all(text).is_ok() && writer.flush().is_ok() {
         return status;

@@ -1,7 +1,7 @@
 -- The command line of the program, as a parser reads it.
-use Rattle.std.specs.Prelude.{◌≡◌, ◌⊎◌, ℕ, true, false, List, [], ◌∷◌, codes, drop, Some}
+use Rattle.std.specs.Prelude.{◌≡◌, ◌⊎◌, ◌==◌, ℕ, Bool, true, false, not, IsTrue, List, [], ◌∷◌, codes, drop, Option, Some, None}
 use Rattle.clap.specs.Simple.{on_top}
-use Rattle.clap.specs.Words.{App, Rule, Text, app_of, new_app, new_rule, with_rule, with_subcommand}
+use Rattle.clap.specs.Words.{App, Row, Rule, Text, app_of, first_of, new_app, new_rule, with_rule, with_subcommand}
 use Rattle.clap.specs.declared.builder.command.Command.{Command}
 use Rattle.clap.specs.declared.builder.command.Command.TheViews.{out-Command}
 use Rattle.clap.specs.declared.builder.value_parser.ValueParser.TheVariants.{Unsigned}
@@ -48,6 +48,20 @@ pub record Reads (c : Command) (a : App) : Type 0 where
   pub app : app_of c ≡ a
   pub local : (out-Command c).has_globals ≡ false
 
--- the words are the program's name and a command that takes a file
-abbrev pub AsksFile : List Text → Text → Type 0
-AsksFile words name = (drop 1 words ≡ name ∷ []) × ((name ≡ codes "check") ⊎ (name ≡ codes "solve"))
+-- the word names a file and is no option: no hyphen stands in front
+abbrev pub is_file_word : Text → Bool
+is_file_word [] = true
+is_file_word (b ∷ word) = not (b == 45)
+
+-- the commands that take a file
+abbrev pub TakesFile : Text → Type 0
+TakesFile name = (name ≡ codes "check") ⊎ (name ≡ codes "solve")
+
+-- the words are the program's name and such a command, with a file or none
+abbrev pub AsksFile : List Text → Text → Option Text → Type 0
+AsksFile words name None = TakesFile name × (drop 1 words ≡ name ∷ [])
+AsksFile words name (Some file) = TakesFile name × (drop 1 words ≡ name ∷ file ∷ []) × IsTrue (is_file_word file)
+
+-- a subcommand of this name was met, with this file
+abbrev pub MeetsFile : Option (Text × List Row) → Text → Option Text → Type 0
+MeetsFile met name file = (rows : List Row) × (met ≡ Some (name, rows)) × (first_of (codes "FILE") rows ≡ file)

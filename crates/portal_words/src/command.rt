@@ -1,8 +1,9 @@
 //! The commands, and the words that ask for each.
 
-ghost use Rattle.std.specs.Prelude.{◌≡◌, ◌∷◌, [], codes, drop, map, IfOk, IfErr, Some, None};
-ghost use Rattle.clap.specs.Words.{Text, found_of, kind_of, rows_of, subcommand_rows_of};
-ghost use Rattle.portal_words.specs.Line.{AsksFile};
+ghost use Rattle.std.specs.Prelude.{◌≡◌, ◌∷◌, [], codes, drop, map, IfOk, IfErr, IsTrue, IsSomeAnd, Option, Some, None};
+ghost use Rattle.clap.specs.Words.{Text, first_of, found_of, kind_of, rows_of, subcommand_rows_of};
+ghost use Rattle.portal_words.specs.Asks.{Asks, ChecksFile, SolvesFile};
+ghost use Rattle.portal_words.specs.Line.{AsksFile, MeetsFile, is_file_word};
 
 use crate::build::portal;
 use clap::error::ErrorKind;
@@ -49,8 +50,10 @@ fn listening<'a>(matches: &ArgMatches<'a>) -> Option<Command<'a>> {
 
 // The command of a subcommand's name and its own matches.
 fn named<'a>(name: &str, matches: &ArgMatches<'a>) -> Option<Command<'a>>
-    ensures check { name.now ≡ codes "check" → rows_of (found_of matches.now) ≡ [] → result ≡ Some (Command.Check None) }
-    ensures solve { name.now ≡ codes "solve" → rows_of (found_of matches.now) ≡ [] → result ≡ Some (Command.Solve None) }
+    ensures check { name.now ≡ codes "check"
+        → IsSomeAnd result (ChecksFile (first_of (codes "FILE") (rows_of (found_of matches.now)))) }
+    ensures solve { name.now ≡ codes "solve"
+        → IsSomeAnd result (SolvesFile (first_of (codes "FILE") (rows_of (found_of matches.now)))) }
 {
     match name {
         "check" => Some(Command::Check(matches.get_str("FILE"))),
@@ -65,8 +68,12 @@ fn named<'a>(name: &str, matches: &ArgMatches<'a>) -> Option<Command<'a>>
 
 // The command that was met.
 fn chosen<'a>(matches: &ArgMatches<'a>) -> Option<Command<'a>>
-    ensures check { subcommand_rows_of matches.now ≡ Some (codes "check", []) → result ≡ Some (Command.Check None) }
-    ensures solve { subcommand_rows_of matches.now ≡ Some (codes "solve", []) → result ≡ Some (Command.Solve None) }
+    ensures check { (file : Option Text)
+        → MeetsFile (subcommand_rows_of matches.now) (codes "check") file
+        → IsSomeAnd result (ChecksFile file) }
+    ensures solve { (file : Option Text)
+        → MeetsFile (subcommand_rows_of matches.now) (codes "solve") file
+        → IsSomeAnd result (SolvesFile file) }
 {
     match matches.subcommand() {
         Some((name, inner)) => named(name, inner),
@@ -76,16 +83,29 @@ fn chosen<'a>(matches: &ArgMatches<'a>) -> Option<Command<'a>>
 
 // The matches of the words.
 fn parsed<'a, S: AsStr>(alloc: Global, words: &'a [S]) -> Result<ArgMatches<'a>, Error>
-    ensures matches { (name : Text) → AsksFile (map S.text words.entry.now) name → IfOk result (λ m. subcommand_rows_of m ≡ Some (name, [])) }
-    ensures passes { (name : Text) → AsksFile (map S.text words.entry.now) name → IfErr result (λ e. kind_of e ≡ ErrorKind.OutOfMemory) }
+    ensures matches { (name : Text) (file : Option Text)
+        → AsksFile (map S.text words.entry.now) name file
+        → IfOk result (λ m. MeetsFile (subcommand_rows_of m) name file) }
+    ensures passes { (name : Text) (file : Option Text)
+        → AsksFile (map S.text words.entry.now) name file
+        → IfErr result (λ e. kind_of e ≡ ErrorKind.OutOfMemory) }
 {
     portal(alloc)?.try_get_matches_from(words)
 }
 
-/// What the words ask for. The first word is the program's name.
+/// What the words ask for. The first word is the program's name; behind `check` and `solve` a word with no `-` in front names
+/// the file.
 pub fn command_of<'a, S: AsStr>(alloc: Global, words: &'a [S]) -> Result<Asked<'a>, AllocError>
-    ensures check { drop 1 (map S.text words.entry.now) ≡ codes "check" ∷ [] → IfOk result (λ a. a ≡ Asked.Do (Command.Check None)) }
-    ensures solve { drop 1 (map S.text words.entry.now) ≡ codes "solve" ∷ [] → IfOk result (λ a. a ≡ Asked.Do (Command.Solve None)) }
+    ensures check { drop 1 (map S.text words.entry.now) ≡ codes "check" ∷ []
+        → IfOk result (λ a. a ≡ Asked.Do (Command.Check None)) }
+    ensures solve { drop 1 (map S.text words.entry.now) ≡ codes "solve" ∷ []
+        → IfOk result (λ a. a ≡ Asked.Do (Command.Solve None)) }
+    ensures check_file { (file : Text)
+        → drop 1 (map S.text words.entry.now) ≡ codes "check" ∷ file ∷ []
+        → IsTrue (is_file_word file) → IfOk result (Asks (ChecksFile (Some file))) }
+    ensures solve_file { (file : Text)
+        → drop 1 (map S.text words.entry.now) ≡ codes "solve" ∷ file ∷ []
+        → IsTrue (is_file_word file) → IfOk result (Asks (SolvesFile (Some file))) }
 {
     match parsed(alloc, words) {
         Ok(matches) => match chosen(&matches) {
