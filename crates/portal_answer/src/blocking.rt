@@ -33,7 +33,8 @@ fn put_block(
 
 /// The lines of these pairs, and their number.
 fn lines(alloc: Global, instance: &Instance, blocks: &[Block]) -> Result<Told, AllocError>
-    requires { All (λ b. (b.student < length instance.now.choices) × (b.project < length instance.now.lecturers)) blocks.now }
+    requires { All (λ b. (b.student < length instance.now.choices)
+        × (b.project < length instance.now.lecturers)) blocks.now }
     ensures { IfOk result (λ t. t ≡ blocking instance.now blocks.now) }
 {
     let mut text = Vec::new(alloc);

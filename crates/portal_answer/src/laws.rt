@@ -7,5 +7,6 @@ ghost use Rattle.portal_answer.specs.declared.answer.Task.{Task};
 
 /// To the bytes of a file each command tells one text alone, with one status.
 pub fn answer_is_one()
-    ensures { (task : Task) (bytes : Text) (t u : Told) → IsAnswer task bytes t → IsAnswer task bytes u → t ≡ u }
+    ensures { (task : Task) (bytes : Text) (t u : Told) → IsAnswer task bytes t
+        → IsAnswer task bytes u → t ≡ u }
 {}

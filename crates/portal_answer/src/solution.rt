@@ -18,7 +18,8 @@ fn put_student(
 ) -> Result<(), AllocError>
     requires student { student < length instance.now.choices }
     requires project { IfSome project (λ p. p < length instance.now.lecturers) }
-    ensures { OnOk result (text.new.items ≡ text.old.items ++ assign_line instance.now (slice_index_or instance.now.student_keys student []) project) }
+    ensures { OnOk result (text.new.items ≡ text.old.items
+        ++ assign_line instance.now (slice_index_or instance.now.student_keys student []) project) }
 {
     let key = instance.student_key(student).as_bytes();
     match project {

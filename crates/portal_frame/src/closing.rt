@@ -74,7 +74,8 @@ fn is_connection(name: &[u8]) -> bool
 /// Whether the Connection lines ask to close.
 fn asks_to_close(bytes: &[u8], headers: &[HeaderSpan]) -> bool
     requires { All (IsHeaderWithin (length bytes.now)) headers.now }
-    ensures { result ≡ asks_close (values_of (codes "connection") (map (header_bytes bytes.now) headers.now)) }
+    ensures { result ≡ asks_close
+        (values_of (codes "connection") (map (header_bytes bytes.now) headers.now)) }
 {
     for header in headers {
         if is_connection(header.name.of(bytes)) && has_close_part(header.value.of(bytes)) {

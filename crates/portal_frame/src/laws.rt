@@ -8,7 +8,8 @@ use httparse::spans::{EMPTY_HEADER_SPAN, parse_request};
 
 /// What stands at the front of the rest of a stream is one thing.
 pub fn opens_once()
-    ensures { (bytes : List ℕ) (one other : Item) → Opens bytes one → Opens bytes other → one ≡ other }
+    ensures { (bytes : List ℕ) (one other : Item) → Opens bytes one → Opens bytes other
+        → one ≡ other }
 {}
 
 /// Something stands at the front of each rest: a request, a fault or the end.

@@ -41,7 +41,8 @@ fn is_all_blank(bytes: &[u8]) -> bool
 fn frame_open(bytes: &[u8], ended: bool) -> Frame
     requires none { HasNoHead bytes.now }
     requires full { 16384 ≤ length bytes.now → (more : List ℕ) → HasNoHead (bytes.now ++ more) }
-    requires may { length bytes.now < 16384 → MayBecomeRequest bytes.now ⊎ RequestExceeds 32 bytes.now }
+    requires may { length bytes.now < 16384
+        → MayBecomeRequest bytes.now ⊎ RequestExceeds 32 bytes.now }
     ensures framed { Framed bytes.now ended result }
     ensures due { IsDue bytes.now ended result }
     ensures limits { IsWithinLimits bytes.now result }

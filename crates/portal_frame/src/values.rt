@@ -94,7 +94,8 @@ pub(crate) fn code_of(
     headers: &[HeaderSpan],
 ) -> Result<Vec<u8>, AllocError>
     requires { All (IsHeaderWithin (length bytes.now)) headers.now }
-    ensures { IfOk result (λ code. code.items ≡ only (values_of (codes "portal-code") (map (header_bytes bytes.now) headers.now))) }
+    ensures { IfOk result (λ code. code.items
+        ≡ only (values_of (codes "portal-code") (map (header_bytes bytes.now) headers.now))) }
 {
     match found_value(bytes, headers, b"portal-code") {
         Found::One(value) => Vec::from_slice(alloc, value),

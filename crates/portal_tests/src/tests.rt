@@ -4,6 +4,7 @@ mod instances;
 mod limits;
 mod portal;
 mod readers;
+mod rounds;
 mod rows;
 mod texts;
 mod words;

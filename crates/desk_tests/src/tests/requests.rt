@@ -225,7 +225,10 @@ fn calls_with_bodies(rt: HostRuntime) {
     assert!(rt;
         matches!(
             call(&rt, "POST", "/phase", b"{\"phase\":\"choosing\"}"),
-            Call::Move(Phase::Choosing)
+            Call::Move {
+                phase: Phase::Choosing,
+                round: None
+            }
         )
     );
     assert!(rt;

@@ -130,10 +130,34 @@ fn a_department_at_every_limit(rt: HostRuntime) {
         200,
         r#"{"added":2000,"same":0}"#,
     );
-    taken(&rt, &mut portal, OFFICE, &Call::Move(Phase::Choosing));
+    taken(
+        &rt,
+        &mut portal,
+        OFFICE,
+        &Call::Move {
+            phase: Phase::Choosing,
+            round: None,
+        },
+    );
     choose(&rt, &mut portal);
-    taken(&rt, &mut portal, OFFICE, &Call::Move(Phase::Ranking));
+    taken(
+        &rt,
+        &mut portal,
+        OFFICE,
+        &Call::Move {
+            phase: Phase::Ranking,
+            round: None,
+        },
+    );
     rank(&rt, &mut portal);
-    taken(&rt, &mut portal, OFFICE, &Call::Move(Phase::Published));
+    taken(
+        &rt,
+        &mut portal,
+        OFFICE,
+        &Call::Move {
+            phase: Phase::Published,
+            round: None,
+        },
+    );
     taken(&rt, &mut portal, OFFICE, &Call::Status);
 }

@@ -5,7 +5,7 @@ ghost use Rattle.portal_core.specs.Run.{HasForm};
 
 use portal_core::{Body, Call, Code};
 use portal_desk::play;
-use portal_list::ListKeeper;
+use portal_list::{ListKeeper, WorldRows};
 use portal_rolls::{read_lecturers, read_projects, read_students};
 use std::marker::Model;
 use std::process::Abort;
@@ -38,12 +38,36 @@ impl Portal {
         }
     }
 
+    /// The world of these rows, which is good.
+    pub(crate) fn of(rt: &(impl Abort + AllocGlobal), rows: WorldRows) -> Portal {
+        let Ok(keeper) = ListKeeper::from_rows(rt.alloc(), rows) else {
+            panic!(rt; "rows of no sound world");
+        };
+        let good = keeper.is_good(rt.alloc()).expect(rt, "memory");
+        assert!(rt; good);
+        Portal { keeper }
+    }
+
     /// The office is answered with this status and body.
     fn asks(&mut self, rt: &(impl Abort + AllocGlobal), call: &Call, status: u16, body: &str)
         requires { HasForm (asked call.now) }
     {
+        self.answers(rt, OFFICE, call, status, body);
+    }
+
+    /// The caller with this code is answered with this status and body.
+    pub(crate) fn answers(
+        &mut self,
+        rt: &(impl Abort + AllocGlobal),
+        code: &str,
+        call: &Call,
+        status: u16,
+        body: &str,
+    )
+        requires { HasForm (asked call.now) }
+    {
         let alloc = rt.alloc();
-        let reply = play(alloc, &mut self.keeper, OFFICE.as_bytes(), call).expect(rt, "memory");
+        let reply = play(alloc, &mut self.keeper, code.as_bytes(), call).expect(rt, "memory");
         assert_eq!(rt; reply.status, status);
         match &reply.body {
             Body::Json(value) => {

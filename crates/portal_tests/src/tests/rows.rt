@@ -1,6 +1,6 @@
 //! Rows of a file, good and bad.
 
-use portal_core::{Code, LecturerRow, Name, Phase, ProjectRow, StudentRow};
+use portal_core::{Code, LecturerRow, Name, Phase, ProjectRow, Round, StudentRow};
 use portal_list::{ListKeeper, RowsFault, WorldRows};
 use spa_rows::Key;
 use std::alloc::Global;
@@ -10,52 +10,59 @@ fn key(alloc: Global, text: &str) -> Result<Key, Fail> {
     Ok(Key::parse(alloc, text.as_bytes())?)
 }
 
-fn lecturer(alloc: Global, text: &str, code: &str, capacity: u32) -> Result<LecturerRow, Fail> {
+fn lecturer(
+    alloc: Global,
+    text: &str,
+    name: &str,
+    code: &str,
+    capacity: u32,
+) -> Result<LecturerRow, Fail> {
     Ok(LecturerRow {
         key: key(alloc, text)?,
-        name: Name::parse(alloc, b"Lee")?,
+        name: Name::parse(alloc, name.as_bytes())?,
         code: Code::parse(alloc, code.as_bytes())?,
         capacity,
     })
 }
 
-fn project(alloc: Global, text: &str, lecturer: &str) -> Result<ProjectRow, Fail> {
+fn project(alloc: Global, text: &str, lecturer: &str, title: &str) -> Result<ProjectRow, Fail> {
     Ok(ProjectRow {
         key: key(alloc, text)?,
         lecturer: key(alloc, lecturer)?,
-        title: Name::parse(alloc, b"Tides")?,
+        title: Name::parse(alloc, title.as_bytes())?,
         capacity: 1,
     })
 }
 
-fn student(alloc: Global, text: &str, code: &str) -> Result<StudentRow, Fail> {
+fn student(alloc: Global, text: &str, name: &str, code: &str) -> Result<StudentRow, Fail> {
     Ok(StudentRow {
         key: key(alloc, text)?,
-        name: Name::parse(alloc, b"Ann")?,
+        name: Name::parse(alloc, name.as_bytes())?,
         code: Code::parse(alloc, code.as_bytes())?,
     })
 }
 
 fn lecturers(alloc: Global, capacity: u32) -> Result<Vec<LecturerRow>, Fail> {
     let mut rows = Vec::new(alloc);
-    rows.push(lecturer(alloc, "L1", "lee-code-01", 2)?)?;
-    rows.push(lecturer(alloc, "L2", "moe-code-02", capacity)?)?;
+    rows.push(lecturer(alloc, "L1", "Lee", "lee-code-01", 2)?)?;
+    rows.push(lecturer(alloc, "L2", "Moe", "moe-code-02", capacity)?)?;
     Ok(rows)
 }
 
 fn projects(alloc: Global, keys: &[&str]) -> Result<Vec<ProjectRow>, Fail> {
     let mut rows = Vec::new(alloc);
     for text in keys {
-        rows.push(project(alloc, *text, "L1")?)?;
+        rows.push(project(alloc, *text, "L1", "Tides")?)?;
     }
-    rows.push(project(alloc, "P3", "L2")?)?;
+    rows.push(project(alloc, "P3", "L2", "Bells")?)?;
     Ok(rows)
 }
 
 fn students(alloc: Global, code: &str) -> Result<Vec<StudentRow>, Fail> {
     let mut rows = Vec::new(alloc);
-    rows.push(student(alloc, "S1", code)?)?;
-    rows.push(student(alloc, "S2", "bea-code-2")?)?;
+    rows.push(student(alloc, "S1", "Ann", code)?)?;
+    rows.push(student(alloc, "S2", "Roe, Bea", "bea-code-2")?)?;
+    rows.push(student(alloc, "S3", "Cyr", "cyr-code-3")?)?;
     Ok(rows)
 }
 
@@ -78,7 +85,7 @@ fn lists(alloc: Global, owners: Lists) -> Result<Vec<(Key, Vec<Key>)>, Fail> {
     Ok(lists)
 }
 
-fn pairs(alloc: Global, places: &[(&str, &str)]) -> Result<Vec<(Key, Key)>, Fail> {
+fn pairs(alloc: Global, places: Pairs) -> Result<Vec<(Key, Key)>, Fail> {
     let mut pairs = Vec::new(alloc);
     for (student, project) in places {
         pairs.push((key(alloc, *student)?, key(alloc, *project)?))?;
@@ -86,32 +93,57 @@ fn pairs(alloc: Global, places: &[(&str, &str)]) -> Result<Vec<(Key, Key)>, Fail
     Ok(pairs)
 }
 
-/// A world of two lecturers and two students, and what may be wrong with it.
+type Pairs<'a> = &'a [(&'a str, &'a str)];
+
+/// A world of two lecturers and three students, and what may be wrong with it.
 #[derive(Clone, Copy)]
-struct Sketch {
-    phase: Phase,
-    capacity: u32,
-    code: &'static str,
-    projects: &'static [&'static str],
-    choices: Lists<'static>,
-    rankings: Lists<'static>,
-    pairs: &'static [(&'static str, &'static str)],
+pub(crate) struct Sketch {
+    pub round: Round,
+    pub phase: Phase,
+    pub capacity: u32,
+    pub code: &'static str,
+    pub projects: &'static [&'static str],
+    pub choices: Lists<'static>,
+    pub rankings: Lists<'static>,
+    pub pairs: Pairs<'static>,
+    pub earlier_choices: Lists<'static>,
+    pub earlier_rankings: Lists<'static>,
+    pub earlier_pairs: Pairs<'static>,
 }
 
-fn in_published() -> Sketch {
+/// The first round, published.
+pub(crate) fn after_first() -> Sketch {
     Sketch {
+        round: Round::First,
         phase: Phase::Published,
         capacity: 1,
         code: "ann-code-1",
         projects: &["P1", "P2"],
-        choices: &[("S1", &["P1", "P2"]), ("S2", &["P1", "P3"])],
+        choices: &[("S1", &["P1", "P2"]), ("S2", &["P1", "P3"]), ("S3", &[])],
         rankings: &[("L1", &["S2", "S1"]), ("L2", &["S2"])],
         pairs: &[("S1", "P2"), ("S2", "P1")],
+        earlier_choices: &[],
+        earlier_rankings: &[],
+        earlier_pairs: &[],
     }
 }
 
+/// The second round, in choosing.
+pub(crate) fn opened() -> Sketch {
+    let mut sketch = after_first();
+    sketch.earlier_choices = sketch.choices;
+    sketch.earlier_rankings = sketch.rankings;
+    sketch.earlier_pairs = sketch.pairs;
+    sketch.round = Round::Second;
+    sketch.phase = Phase::Choosing;
+    sketch.choices = &[("S1", &[]), ("S2", &[]), ("S3", &[])];
+    sketch.rankings = &[];
+    sketch.pairs = &[];
+    sketch
+}
+
 fn in_ranking() -> Sketch {
-    let mut sketch = in_published();
+    let mut sketch = after_first();
     sketch.phase = Phase::Ranking;
     sketch.pairs = &[];
     sketch
@@ -127,13 +159,14 @@ fn in_choosing() -> Sketch {
 fn in_setup() -> Sketch {
     let mut sketch = in_choosing();
     sketch.phase = Phase::Setup;
-    sketch.choices = &[("S1", &[]), ("S2", &[])];
+    sketch.choices = &[("S1", &[]), ("S2", &[]), ("S3", &[])];
     sketch
 }
 
-/// Why the rows give no keeper, if they give none.
-fn fault_of(alloc: Global, sketch: Sketch) -> Result<Option<RowsFault>, Fail> {
-    let rows = WorldRows {
+/// The rows of the sketch.
+pub(crate) fn rows_of(alloc: Global, sketch: Sketch) -> Result<WorldRows, Fail> {
+    Ok(WorldRows {
+        round: sketch.round,
         phase: sketch.phase,
         office: Code::parse(alloc, b"office-code-0")?,
         lecturers: lecturers(alloc, sketch.capacity)?,
@@ -142,14 +175,21 @@ fn fault_of(alloc: Global, sketch: Sketch) -> Result<Option<RowsFault>, Fail> {
         choices: lists(alloc, sketch.choices)?,
         rankings: lists(alloc, sketch.rankings)?,
         pairs: pairs(alloc, sketch.pairs)?,
-    };
-    Ok(ListKeeper::from_rows(alloc, rows).err())
+        earlier_choices: lists(alloc, sketch.earlier_choices)?,
+        earlier_rankings: lists(alloc, sketch.earlier_rankings)?,
+        earlier_pairs: pairs(alloc, sketch.earlier_pairs)?,
+    })
+}
+
+/// Why the rows give no keeper, if they give none.
+pub(crate) fn fault_of(alloc: Global, sketch: Sketch) -> Result<Option<RowsFault>, Fail> {
+    Ok(ListKeeper::from_rows(alloc, rows_of(alloc, sketch)?).err())
 }
 
 #[test]
 fn each_phase_is_taken(rt: HostRuntime) -> Result<(), Fail> {
     let alloc = rt.alloc();
-    for sketch in [in_setup(), in_choosing(), in_ranking(), in_published()] {
+    for sketch in [in_setup(), in_choosing(), in_ranking(), after_first()] {
         assert_eq!(rt; fault_of(alloc, sketch)?, None);
     }
     Ok(())
@@ -162,7 +202,7 @@ fn too_early_is_refused(rt: HostRuntime) -> Result<(), Fail> {
     listed.phase = Phase::Setup;
     let mut ranked = in_ranking();
     ranked.phase = Phase::Choosing;
-    let mut placed = in_published();
+    let mut placed = after_first();
     placed.phase = Phase::Ranking;
     for sketch in [listed, ranked, placed] {
         assert_eq!(rt; fault_of(alloc, sketch)?, Some(RowsFault::NotGood));
@@ -174,13 +214,13 @@ fn too_early_is_refused(rt: HostRuntime) -> Result<(), Fail> {
 fn bad_lists_are_refused(rt: HostRuntime) -> Result<(), Fail> {
     let alloc = rt.alloc();
     let mut unknown = in_choosing();
-    unknown.choices = &[("S1", &["P1", "P9x"]), ("S2", &[])];
+    unknown.choices = &[("S1", &["P1", "P9x"]), ("S2", &[]), ("S3", &[])];
     let mut repeated = in_choosing();
-    repeated.choices = &[("S1", &["P1", "P1"]), ("S2", &[])];
+    repeated.choices = &[("S1", &["P1", "P1"]), ("S2", &[]), ("S3", &[])];
     let mut left_out = in_choosing();
-    left_out.choices = &[("S1", &["P1"])];
+    left_out.choices = &[("S1", &["P1"]), ("S2", &[])];
     let mut nobody = in_choosing();
-    nobody.choices = &[("S1", &[]), ("S2", &[]), ("S9", &[])];
+    nobody.choices = &[("S1", &[]), ("S2", &[]), ("S3", &[]), ("S9", &[])];
     for sketch in [unknown, repeated, left_out, nobody] {
         assert_eq!(rt; fault_of(alloc, sketch)?, Some(RowsFault::NotGood));
     }
@@ -194,7 +234,7 @@ fn bad_rankings_are_refused(rt: HostRuntime) -> Result<(), Fail> {
     missing.rankings = &[("L1", &["S2"])];
     let mut stranger = in_ranking();
     stranger.rankings = &[("L2", &["S1"])];
-    let mut still_to_rank = in_published();
+    let mut still_to_rank = after_first();
     still_to_rank.rankings = &[("L1", &["S2", "S1"])];
     for sketch in [missing, stranger, still_to_rank] {
         assert_eq!(rt; fault_of(alloc, sketch)?, Some(RowsFault::NotGood));

@@ -1,6 +1,6 @@
 //! The state of the worked world as a text.
 
-use portal_core::{Code, OfficeView, Phase};
+use portal_core::{Code, OfficeView, Phase, Round};
 use portal_reports::status_text;
 use portal_rolls::{read_lecturers, read_projects, read_students};
 use spa_rows::Key;
@@ -28,8 +28,8 @@ fn shared<X: Drop>(rt: &(impl Abort + AllocGlobal), rows: Vec<X>) -> Rc<Vec<X>> 
     Rc::new(rt.alloc(), rows).expect(rt, "memory")
 }
 
-/// What the office sees of the worked world in published.
-fn worked(rt: &(impl Abort + AllocGlobal)) -> OfficeView {
+/// What the office sees of the worked world in published, were it of this round.
+fn worked(rt: &(impl Abort + AllocGlobal), round: Round) -> OfficeView {
     let alloc = rt.alloc();
     let lecturers = b"id,name,code,capacity\nL1,Lee,lee-code-01,2\nL2,Moe,moe-code-02,1\n";
     let projects = b"id,lecturer,title,capacity\nP1,L1,Tides,1\nP2,L1,Kites,1\nP3,L2,Bells,1\n";
@@ -38,6 +38,7 @@ fn worked(rt: &(impl Abort + AllocGlobal)) -> OfficeView {
     let mut without_list = Vec::new(alloc);
     without_list.push(key(rt, "S3")).expect(rt, "memory");
     OfficeView {
+        round,
         phase: Phase::Published,
         office_code: Code::parse(alloc, b"office-code-0").expect(rt, "a code"),
         lecturers: shared(rt, read_lecturers(alloc, lecturers).expect(rt, "a roll")),
@@ -52,9 +53,18 @@ fn worked(rt: &(impl Abort + AllocGlobal)) -> OfficeView {
 
 #[test]
 fn the_state_as_text(rt: HostRuntime) {
-    let view = worked(&rt);
+    let view = worked(&rt, Round::First);
     let text = status_text(rt.alloc(), &view).expect(&rt, "memory");
     let wanted =
         "phase           published\nlecturers            2\nprojects             3\nstudents             3\nwithout list         1\nstill to rank        0\nassigned             2\n";
+    assert!(rt; text.as_slice() == wanted.as_bytes());
+}
+
+#[test]
+fn the_state_of_the_second_round_as_text(rt: HostRuntime) {
+    let view = worked(&rt, Round::Second);
+    let text = status_text(rt.alloc(), &view).expect(&rt, "memory");
+    let wanted =
+        "phase           published\nround                2\nlecturers            2\nprojects             3\nstudents             3\nwithout list         1\nstill to rank        0\nassigned             2\n";
     assert!(rt; text.as_slice() == wanted.as_bytes());
 }
