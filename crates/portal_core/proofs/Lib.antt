@@ -8,6 +8,7 @@ pub mod InPlay
 pub mod Fills
 pub mod Numbers
 pub mod InRound
+mod Cases
 pub mod Acts
 pub mod Hearing
 pub mod Unseen
@@ -18,6 +19,7 @@ pub mod Adds
 pub mod Enrol
 pub mod Steps
 mod Runs
+mod Lasting
 pub mod Once
 pub mod Whole
 pub mod Renewed

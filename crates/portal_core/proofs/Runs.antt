@@ -11,7 +11,7 @@ answered_good : (w v : World) (r : Request) (a : Answer) (wish : Wish) → Good 
 answered_good w v r a (Calls ask) g s = step_good w v r.code ask a g s
 answered_good w v r a (Refused refusal) g s = subst Good (sym s.1) g
 
-served_good : (w v : World) (r : Request) (a : Answer) → Good w → Serves w r a v → Good v
+pub served_good : (w v : World) (r : Request) (a : Answer) → Good w → Serves w r a v → Good v
 served_good w v r a g (inl s) = answered_good w v r a r.wish g s
 served_good w v r a g (inr s) = subst Good (sym s.1) g
 

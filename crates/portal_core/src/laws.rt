@@ -21,6 +21,7 @@ ghost use Rattle.portal_core.specs.declared.rows.Listing.{Listing};
 ghost use Rattle.portal_core.specs.declared.rows.ProjectRow.{ProjectRow};
 ghost use Rattle.portal_core.specs.Run.{Request, Step, Serves, Calls, Run, AllAnswered, end_of};
 ghost use Rattle.portal_core.specs.Heard.{IsMember, IsIdle, is_move_or_add, Item, Heard, replies_to};
+ghost use Rattle.portal_core.specs.Results.{ShowsStill};
 ghost use Rattle.portal_core.specs.Places.{SameButPlaces, SameRequest, AlikeUntilPublished};
 ghost use Rattle.std.specs.List.{AllZip, AllByRecursion};
 ghost use Rattle.portal_core.specs.Worked.{worked, again, again_ranking, again_published, TellsWho, TellsApplicants, TellsLists, TellsMoves, TellsResult, TellsSheets, TellsFill, TellsOpening, TellsSecond};
@@ -80,6 +81,19 @@ pub fn step_good()
 pub fn run_good()
     ensures { (w : World) (asked : List Request) (told : List Answer) (after : List World)
         → Good w → Run w asked told after → AllByRecursion Good after }
+{}
+
+/// What was shown of a result is shown from then on: to a student the project, to a lecturer each
+/// student at each own project, to the office each pair. So in each world that a step or a run
+/// reaches from a good one; and each phase of the second round shows the first one's result whole.
+/// It is not said that nothing is added: who is shown no project may be shown one later.
+pub fn results_stay()
+    ensures step { (w v : World) (c code : Key) (ask : Ask) (reply : Answer) → Good w
+        → Step w code ask reply v → ShowsStill (view w c) (view v c) }
+    ensures run { (w : World) (c : Key) (asked : List Request) (told : List Answer)
+        (after : List World) → Good w → Run w asked told after
+        → AllByRecursion (λ v. ShowsStill (view w c) (view v c)) after }
+    ensures first { (w : World) (c : Key) → Good w → ShowsStill (view (first w) c) (view w c) }
 {}
 
 /// A step has one reply and leaves one world.
