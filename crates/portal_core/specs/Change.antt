@@ -47,7 +47,6 @@ with_place pairs s = if is_left s then record s { placed = place_in pairs s.row.
 abbrev pub with_fill : World → Lecturer → Lecturer
 with_fill w l = if is_still_to_rank w l then record l { ranking = Some (map student_key (applicants_of w l.row.key)) } else l
 
--- the world with one change
 -- new rows of the rolls
 abbrev pub with_lecturers : World → List LecturerRow → World
 with_lecturers w rows = record w { lecturers = put_all lecturer_key (map new_lecturer rows) w.lecturers }
@@ -63,6 +62,7 @@ abbrev pub in_first : Round → World → World → World
 in_first First new old = new
 in_first Second new old = old
 
+-- the world with one change
 abbrev pub changed : World → Change → World
 changed w (Choices k list) = record w { students = map (with_choice k list) w.students }
 changed w (Ranks k list) = record w { lecturers = map (with_ranking k list) w.lecturers }
