@@ -35,7 +35,8 @@ pub fn same_replies()
         → Run w asked told after → AllAnswered told → Heard c w asked after items
         → Run v others said later → AllAnswered said → Heard c v others later items
         → view w c ≡ view v c
-        → (replies_to c asked told ≡ replies_to c others said) × (view (end_of w after) c ≡ view (end_of v later) c) }
+        → (replies_to c asked told ≡ replies_to c others said)
+        × (view (end_of w after) c ≡ view (end_of v later) c) }
 {}
 
 /// No call of a student or lecturer changes what another student or lecturer, or a stranger, sees.
@@ -43,17 +44,19 @@ pub fn same_replies()
 /// struck out.
 pub fn others_unseen()
     ensures others { (w v : World) (c d : Key) (ask : Ask) (reply : Answer)
-        → Good w → Step w d ask reply v → IsMember (view w d) → is d c ≡ false → is w.office c ≡ false
-        → view v c ≡ view w c }
+        → Good w → Step w d ask reply v → IsMember (view w d)
+        → is d c ≡ false → is w.office c ≡ false → view v c ≡ view w c }
     ensures own_list { (w v : World) (c : Key) (ask : Ask) (reply : Answer)
-        → Step w c ask reply v → is_move_or_add (Calls ask) ≡ false → view v c ≡ own (view w c) ask }
+        → Step w c ask reply v → is_move_or_add (Calls ask) ≡ false
+        → view v c ≡ own (view w c) ask }
     ensures struck { (c : Key) (w v : World) (before : List Request) (r : Request)
         (rest : List Request) (told : List Answer) (a : Answer) (said : List Answer)
         (after later : List World)
         → Run w before told after → Serves (end_of w after) r a v → Run v rest said later
         → is r.code c ≡ false → IsIdle (end_of w after) r
         → Run w (before ++ rest) (told ++ said) (after ++ later)
-        × (replies_to c (before ++ rest) (told ++ said) ≡ replies_to c (before ++ r ∷ rest) (told ++ a ∷ said)) }
+        × (replies_to c (before ++ rest) (told ++ said)
+        ≡ replies_to c (before ++ r ∷ rest) (told ++ a ∷ said)) }
 {}
 
 /// Each run has exactly one list of what a caller hears.
@@ -115,16 +118,21 @@ pub fn one_run()
 /// applicant once, and no other; new rows that are not bad, within the limit.
 pub fn legal_is_taken()
     ensures choices { (catalogue : List Listing) (list : List Key)
-        → IsChoice (map (λ (l : Listing). l.key) catalogue) list → choice_fault catalogue 1 [] list ≡ None }
+        → IsChoice (map (λ (l : Listing). l.key) catalogue) list
+        → choice_fault catalogue 1 [] list ≡ None }
     ensures rankings { (w : World) (l : Lecturer) (list : List Key)
-        → is_from_ranking w.phase ≡ true → IsRanking (map student_key (applicants_of w l.row.key)) list
+        → is_from_ranking w.phase ≡ true
+        → IsRanking (map student_key (applicants_of w l.row.key)) list
         → ranking_fault (lecturer_sees w l).applicants 1 [] list ≡ None }
     ensures lecturers { (v : OfficeSees) (rows : List LecturerRow)
-        → AreFresh (lecturer_roll v) v.lecturers rows → take_rows (lecturer_roll v) 1 v.lecturers rows ≡ Took rows 0 }
+        → AreFresh (lecturer_roll v) v.lecturers rows
+        → take_rows (lecturer_roll v) 1 v.lecturers rows ≡ Took rows 0 }
     ensures projects { (v : OfficeSees) (rows : List ProjectRow)
-        → AreFresh (project_roll v) v.projects rows → take_rows (project_roll v) 1 v.projects rows ≡ Took rows 0 }
+        → AreFresh (project_roll v) v.projects rows
+        → take_rows (project_roll v) 1 v.projects rows ≡ Took rows 0 }
     ensures students { (v : OfficeSees) (rows : List StudentRow)
-        → AreFresh (student_roll v) v.students rows → take_rows (student_roll v) 1 v.students rows ≡ Took rows 0 }
+        → AreFresh (student_roll v) v.students rows
+        → take_rows (student_roll v) 1 v.students rows ≡ Took rows 0 }
 {}
 
 /// A fault is told where it is first: of a student's list, of a ranking and of a roll. That an applicant is
@@ -132,17 +140,22 @@ pub fn legal_is_taken()
 /// without a row.
 pub fn least_is_told()
     ensures choices { (catalogue : List Listing) (list : List Key) (fault : ListFault)
-        → choice_fault catalogue 1 [] list ≡ Some fault → IsFirstBad (IsBadChoice catalogue) list fault.at }
+        → choice_fault catalogue 1 [] list ≡ Some fault
+        → IsFirstBad (IsBadChoice catalogue) list fault.at }
     ensures rankings { (applicants : List (Key × List Person)) (list : List Key) (fault : ListFault)
         → ranking_fault applicants 1 [] list ≡ Some fault
         → IsFirstBad (IsBadRank applicants) list fault.at
-        ⊎ ((fault.at ≡ 0) × NoneBad (IsBadRank applicants) list × (lacks_one applicants list ≡ true)) }
+        ⊎ ((fault.at ≡ 0) × NoneBad (IsBadRank applicants) list
+        × (lacks_one applicants list ≡ true)) }
     ensures lecturers { (v : OfficeSees) (rows : List LecturerRow) (fault : RollFault)
-        → take_rows (lecturer_roll v) 1 v.lecturers rows ≡ Faulty fault → IsFirstRefused (lecturer_roll v) v.lecturers rows fault }
+        → take_rows (lecturer_roll v) 1 v.lecturers rows ≡ Faulty fault
+        → IsFirstRefused (lecturer_roll v) v.lecturers rows fault }
     ensures projects { (v : OfficeSees) (rows : List ProjectRow) (fault : RollFault)
-        → take_rows (project_roll v) 1 v.projects rows ≡ Faulty fault → IsFirstRefused (project_roll v) v.projects rows fault }
+        → take_rows (project_roll v) 1 v.projects rows ≡ Faulty fault
+        → IsFirstRefused (project_roll v) v.projects rows fault }
     ensures students { (v : OfficeSees) (rows : List StudentRow) (fault : RollFault)
-        → take_rows (student_roll v) 1 v.students rows ≡ Faulty fault → IsFirstRefused (student_roll v) v.students rows fault }
+        → take_rows (student_roll v) 1 v.students rows ≡ Faulty fault
+        → IsFirstRefused (student_roll v) v.students rows fault }
 {}
 
 /// In a good world the catalogue shows each project that takes part in the round.

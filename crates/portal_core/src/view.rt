@@ -26,7 +26,14 @@ impl Model for StudentView {
 
     ghost Value = { StudentSees };
 
-    ghost view = { λ v. record { round = v.round; phase = v.phase; me = v.me; catalogue = v.catalogue.value.items; choices = v.choices.items; result = v.result } };
+    ghost view = { λ v. record {
+      round = v.round;
+      phase = v.phase;
+      me = v.me;
+      catalogue = v.catalogue.value.items;
+      choices = v.choices.items;
+      result = v.result;
+    } };
 }
 
 #[derive(Drop)]

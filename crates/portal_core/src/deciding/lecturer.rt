@@ -55,7 +55,8 @@ fn applicants_value(
     applicants: &[Person],
 ) -> Result<Value, AllocError>
     ensures { IfOk result (λ value. json.view value ≡ dictionary (
-        (codes "applicants", several (map shown.person applicants.now)) ∷ (codes "id", string project.now) ∷ [])) }
+        (codes "applicants", several (map shown.person applicants.now))
+        ∷ (codes "id", string project.now) ∷ [])) }
 {
     let applicants = persons_value(alloc, applicants)?;
     json!(in alloc; {"applicants": applicants, "id": project.as_str()})
@@ -77,7 +78,8 @@ fn applicants_body(alloc: Global, projects: &[(Key, Vec<Person>)]) -> Result<Val
 /// A project and the students whom the result places there.
 fn placed_value(alloc: Global, project: &Key, students: &[Person]) -> Result<Value, AllocError>
     ensures { IfOk result (λ value. json.view value ≡ dictionary (
-        (codes "id", string project.now) ∷ (codes "students", several (map shown.person students.now)) ∷ [])) }
+        (codes "id", string project.now)
+        ∷ (codes "students", several (map shown.person students.now)) ∷ [])) }
 {
     let students = persons_value(alloc, students)?;
     json!(in alloc; {"id": project.as_str(), "students": students})
@@ -154,7 +156,8 @@ fn replace_ranking(
     students: Vec<Key>,
 ) -> Result<Decision, AllocError>
     ensures { IfOk result (λ decision. decided decision
-        ≡ answer.applies (shown.students_body (Some students.items)) (change.Ranks view.now.me.key students.items)) }
+        ≡ answer.applies (shown.students_body (Some students.items))
+        (change.Ranks view.now.me.key students.items)) }
 {
     let ranking = texts(alloc, &students)?;
     let body = ranking_body(alloc, ranking)?;
@@ -169,7 +172,8 @@ fn take_ranking(
     list: &[Vec<u8>],
 ) -> Result<Decision, AllocError>
     ensures { let texts = texts_of list.now in
-        IfOk result (λ decision. decided decision ≡ unless (ranking_fault view.now.applicants 1 [] texts)
+        IfOk result (λ decision. decided decision
+        ≡ unless (ranking_fault view.now.applicants 1 [] texts)
         (answer.applies (shown.students_body (Some texts)) (change.Ranks view.now.me.key texts))) }
 {
     match checked_ranking(alloc, &view.applicants, list)? {

@@ -80,8 +80,12 @@ fn unassigned_values(alloc: Global, view: &OfficeView) -> Result<Vec<Value>, All
 /// What the status has in each phase.
 fn status_members(alloc: Global, view: &OfficeView) -> Result<Map<String, Value>, AllocError>
     ensures { IfOk result (λ status. json.members_view status.entries ≡ members (
-        (codes "lecturers", count (length view.now.lecturers)) ∷ (codes "phase", string (phase_word view.now.phase)) ∷ (codes "projects", count (length view.now.projects))
-        ∷ (codes "still_to_rank", form.texts view.now.still_to_rank) ∷ (codes "students", count (length view.now.students)) ∷ (codes "without_list", form.texts view.now.without_list) ∷ [])) }
+        (codes "lecturers", count (length view.now.lecturers))
+        ∷ (codes "phase", string (phase_word view.now.phase))
+        ∷ (codes "projects", count (length view.now.projects))
+        ∷ (codes "still_to_rank", form.texts view.now.still_to_rank)
+        ∷ (codes "students", count (length view.now.students))
+        ∷ (codes "without_list", form.texts view.now.without_list) ∷ [])) }
 {
     let mut status = Map::new(alloc);
     put(
@@ -126,9 +130,14 @@ fn status_members(alloc: Global, view: &OfficeView) -> Result<Map<String, Value>
 /// The status once a result is there.
 fn status_with_result(alloc: Global, view: &OfficeView) -> Result<Map<String, Value>, AllocError>
     ensures { IfOk result (λ status. json.members_view status.entries ≡ members (
-        (codes "assigned", count (length view.now.pairs)) ∷ (codes "lecturers", count (length view.now.lecturers)) ∷ (codes "phase", string (phase_word view.now.phase))
-        ∷ (codes "projects", count (length view.now.projects)) ∷ (codes "still_to_rank", form.texts view.now.still_to_rank) ∷ (codes "students", count (length view.now.students))
-        ∷ (codes "unassigned", form.texts (shown.unassigned view.now)) ∷ (codes "without_list", form.texts view.now.without_list) ∷ [])) }
+        (codes "assigned", count (length view.now.pairs))
+        ∷ (codes "lecturers", count (length view.now.lecturers))
+        ∷ (codes "phase", string (phase_word view.now.phase))
+        ∷ (codes "projects", count (length view.now.projects))
+        ∷ (codes "still_to_rank", form.texts view.now.still_to_rank)
+        ∷ (codes "students", count (length view.now.students))
+        ∷ (codes "unassigned", form.texts (shown.unassigned view.now))
+        ∷ (codes "without_list", form.texts view.now.without_list) ∷ [])) }
 {
     let mut status = status_members(alloc, view)?;
     let unassigned = Value::Array(unassigned_values(alloc, view)?);

@@ -76,7 +76,8 @@ fn replace_choices(
     projects: Vec<Key>,
 ) -> Result<Decision, AllocError>
     ensures { IfOk result (λ decision. decided decision
-        ≡ answer.applies (shown.projects_body projects.items) (change.Choices view.now.me.key projects.items)) }
+        ≡ answer.applies (shown.projects_body projects.items)
+        (change.Choices view.now.me.key projects.items)) }
 {
     let body = choices_body(alloc, &projects)?;
     let student = view.me.key.copy(alloc)?;
@@ -86,7 +87,8 @@ fn replace_choices(
 /// The list is taken where it has no fault.
 fn take_choices(alloc: Global, view: &StudentView, list: &[Vec<u8>]) -> Result<Decision, AllocError>
     ensures { let texts = texts_of list.now in
-        IfOk result (λ decision. decided decision ≡ unless (choice_fault view.now.catalogue 1 [] texts)
+        IfOk result (λ decision. decided decision
+        ≡ unless (choice_fault view.now.catalogue 1 [] texts)
         (answer.applies (shown.projects_body texts) (change.Choices view.now.me.key texts))) }
 {
     match checked_choices(alloc, &view.catalogue, list)? {
