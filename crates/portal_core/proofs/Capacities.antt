@@ -23,7 +23,7 @@ use Rattle.portal_core.proofs.InRound.{all_filter, choices_in}
 
 -- counts
 
--- a count is the length of a filter
+-- what passes a test passes a weaker one
 sizes : {X : Type 0} (a b : X → Bool) (xs : List X) → AllByRecursion (λ x. a x ≡ true → b x ≡ true) xs → length (filter a xs) ≤ length (filter b xs)
 sizes a b [] all = omega arith
 sizes {X} a b (x ∷ xs) all =
@@ -33,6 +33,7 @@ sizes {X} a b (x ∷ xs) all =
       | false ↦ λ e. elim (b x) as (λ t. length (filter a xs) ≤ length (cond t (x ∷ filter b xs) (filter b xs))) [ true ↦ omega arith | false ↦ rest ]
     ]) refl
 
+-- a count is the length of a filter
 count_mono : {X : Type 0} (a b : X → Bool) (xs : List X) → AllByRecursion (λ x. a x ≡ true → b x ≡ true) xs → count_by a xs ≤ count_by b xs
 count_mono a b xs all =
     let s : length (filter a xs) ≤ length (filter b xs) = sizes a b xs all in

@@ -1,29 +1,23 @@
 -- Replies do not tell the order within students' lists before the result is open.
-use Rattle.std.proofs.Common.{◌≡◌, Bool, true, false, cond, List, [], ◌∷◌, refl, sym, ◌∙◌, ap, subst, inl, inr}
-use Rattle.std.specs.Prelude.{◌⊎◌, Option, Some, None, is_none, if◌then◌else◌}
+use Rattle.std.proofs.Common.{◌≡◌, Bool, true, false, cond, List, [], ◌∷◌, refl, sym, ◌∙◌, subst, inl, inr}
+use Rattle.std.specs.Prelude.{◌⊎◌, Option, Some, None, is_none}
 use Rattle.std.specs.List.{AllZip}
 use Rattle.serde_json.specs.Data.{Data}
-use Rattle.portal_core.specs.Words.{Key, is_empty}
-use Rattle.portal_core.specs.World.{World, is_choosing, is_ranking, is_from_ranking, has_result}
-use Rattle.portal_core.specs.Change.{Change, Choices, Ranks, Lecturers, Projects, Students, Fill, changed}
-use Rattle.portal_core.specs.declared.decision.Sheet.{Sheet}
-use Rattle.portal_core.specs.declared.phase.Phase.{Phase}
-use Rattle.portal_core.specs.declared.phase.Phase.TheVariants.{Setup, Choosing, Ranking, Published}
-use Rattle.portal_core.specs.declared.phase.Round.{Round}
-use Rattle.portal_core.specs.declared.phase.Round.TheVariants.{First, Second}
+use Rattle.portal_core.specs.Words.{Key}
+use Rattle.portal_core.specs.World.{World, is_choosing}
+use Rattle.portal_core.specs.Change.{Choices, changed}
 use Rattle.portal_core.specs.declared.rows.Listing.{Listing}
-use Rattle.portal_core.specs.Sight.{StudentSees, OfficeSees}
+use Rattle.portal_core.specs.Sight.{StudentSees}
 use Rattle.portal_core.specs.declared.view.View.{View as Sight}
 use Rattle.portal_core.specs.declared.view.View.TheVariants.{Nobody, Office, Lecturer, Student}
 use Rattle.portal_core.specs.View.{view}
 use Rattle.portal_core.specs.Ask.{Ask}
-use Rattle.portal_core.specs.Bodies.{projects_body, students_body}
-use Rattle.portal_core.specs.Faults.{ListFault, choice_fault, ranking_fault}
-use Rattle.portal_core.specs.Rolls.{Taken, Faulty, Took, take_rows, lecturer_roll, project_roll, student_roll}
-use Rattle.portal_core.specs.Answer.{Answer, Said, Act, Nothing, Apply, Publish, Render, renders, fills, only, unless, applies, already_placed, is_open_to_rolls, moves_on, moves_in, answered, refuses, added, decision, answer, to_student}
+use Rattle.portal_core.specs.Bodies.{projects_body}
+use Rattle.portal_core.specs.Faults.{ListFault, choice_fault}
+use Rattle.portal_core.specs.Answer.{Answer, Act, Decision, Nothing, Apply, Publish, Render, only, unless, applies, already_placed, decision, answer, to_student}
 use Rattle.portal_core.specs.Run.{Leaves, Step, Wish, Calls, Refused, Request, Answers, Run, AllAnswered}
 use Rattle.portal_core.specs.Places.{Reordered, SameButPlaces, SameWish, equal, sets, SameRequest, has_places, opens_result, Unless, AlikeUntilPublished}
-use Rattle.portal_core.proofs.Acts.{only_quiet}
+use Rattle.portal_core.proofs.Cases.{by_student, by_lecturer, by_office}
 use Rattle.portal_core.proofs.Hearing.{really}
 use Rattle.portal_core.proofs.Reorder.{accepted_reordered, reordered_back}
 use Rattle.portal_core.proofs.Similar.{SameSight, same_view, both_choose, both_changed}
@@ -82,78 +76,29 @@ same_sets (Student v) (Lecturer u) s ks ls r = cc
 
 -- what publishes is an accepted move to published
 
-abbrev pub is_publish : Act → Bool
+abbrev is_publish : Act → Bool
 is_publish Publish = true
 is_publish _ = false
 
-pub quiet_set : (b : Bool) (fault : Option ListFault) (body : Data) (change : Change) → is_publish (only b (unless fault (applies body change))).act ≡ false
-quiet_set true None body change = refl
-quiet_set true (Some f) body change = refl
-quiet_set false fault body change = refl
+abbrev Opens : Ask → Decision → Type 0
+Opens ask d = is_publish d.act ≡ true → opens_result (Calls ask) d.reply ≡ true
 
-pub quiet_free : (b free : Bool) (fault : Option ListFault) (body : Data) (change : Change) → is_publish (only b (cond free (unless fault (applies body change)) already_placed)).act ≡ false
-quiet_free true true None body change = refl
-quiet_free true true (Some f) body change = refl
-quiet_free true false fault body change = refl
-quiet_free false free fault body change = refl
-
-pub quiet_added : {X : Type 0} (b : Bool) (change : List X → Change) (t : Taken X) → is_publish (only b (added change t)).act ≡ false
-quiet_added false change t = refl
-quiet_added true change (Faulty f) = refl
-quiet_added true change (Took new n) = elim (is_empty new) as (λ b. is_publish (if b then Nothing else Apply (change new)) ≡ false) [ true ↦ refl | false ↦ refl ]
-
-pub quiet_sheet : (b : Bool) (text : Said) (sheet : Sheet) → is_publish (only b (renders text sheet)).act ≡ false
-quiet_sheet true text sheet = refl
-quiet_sheet false text sheet = refl
-
-pub quiet_fill : (b : Bool) (v : OfficeSees) → is_publish (only b (fills v)).act ≡ false
-quiet_fill false v = refl
-quiet_fill true v = elim (is_empty v.still_to_rank) as (λ b. is_publish (if b then Nothing else Apply Fill) ≡ false) [ true ↦ refl | false ↦ refl ]
-
-never : (x : Sight) (ask : Ask) → is_publish (decision x ask).act ≡ false → is_publish (decision x ask).act ≡ true → opens_result (Calls ask) (answer x ask) ≡ true
-never x ask e f = let e' : true ≡ false = sym f ∙ e in cc
-
-opens_if : (b : Bool) (body : Data) (refusal : Answer) → is_publish (if b then record { reply = answered 200 body; act = Publish } else refuses refusal).act ≡ true
-    → (named : Option Round) → opens_result (Calls (Ask.Move Published named)) (if b then record { reply = answered 200 body; act = Publish } else refuses refusal).reply ≡ true
-opens_if true body refusal e named = refl
-opens_if false body refusal e named = cc
-
-moves_open : (v : OfficeSees) (named : Option Round) (p q : Phase) → is_publish (moves_on v p q).act ≡ true → opens_result (Calls (Ask.Move q named)) (moves_on v p q).reply ≡ true
-moves_open v named Ranking Published e = opens_if (is_empty v.still_to_rank) _ _ e named
-moves_open v named Setup Setup e = cc
-moves_open v named Setup Choosing e = cc
-moves_open v named Choosing Choosing e = cc
-moves_open v named Choosing Ranking e = cc
-moves_open v named Ranking Ranking e = cc
-moves_open v named Published Published e = cc
-moves_open v named _ _ e = cc
-
-named_open : (v : OfficeSees) (q : Phase) (r s : Round) → is_publish (moves_in v r s q).act ≡ true → opens_result (Calls (Ask.Move q (Some s))) (moves_in v r s q).reply ≡ true
-named_open v q First First e = moves_open v (Some First) v.phase q e
-named_open v q Second Second e = moves_open v (Some Second) v.phase q e
-named_open v q First Second e = cc
-named_open v q Second First e = cc
-
-publishes_opens : (x : Sight) (ask : Ask) → is_publish (decision x ask).act ≡ true → opens_result (Calls ask) (answer x ask) ≡ true
-publishes_opens Nobody ask e = cc
-publishes_opens (Student v) (Ask.SetChoices list) e = never (Student v) (Ask.SetChoices list) (quiet_free (is_choosing v.phase) (is_none v.result) (choice_fault v.catalogue 1 [] list) (projects_body list) (Choices v.me.key list)) e
-publishes_opens (Student v) Ask.Result e = never (Student v) Ask.Result (ap is_publish (only_quiet (has_result v.round v.phase) _ refl)) e
-publishes_opens (Student v) _ e = cc
-publishes_opens (Lecturer v) (Ask.SetRanking list) e = never (Lecturer v) (Ask.SetRanking list) (quiet_set (is_ranking v.phase) (ranking_fault v.applicants 1 [] list) (students_body (Some list)) (Ranks v.me.key list)) e
-publishes_opens (Lecturer v) Ask.Applicants e = never (Lecturer v) Ask.Applicants (ap is_publish (only_quiet (is_from_ranking v.phase) _ refl)) e
-publishes_opens (Lecturer v) Ask.ShowRanking e = never (Lecturer v) Ask.ShowRanking (ap is_publish (only_quiet (is_from_ranking v.phase) _ refl)) e
-publishes_opens (Lecturer v) Ask.Result e = never (Lecturer v) Ask.Result (ap is_publish (only_quiet (has_result v.round v.phase) _ refl)) e
-publishes_opens (Lecturer v) _ e = cc
-publishes_opens (Office v) (Ask.Move phase None) e = moves_open v None v.phase phase e
-publishes_opens (Office v) (Ask.Move phase (Some round)) e = named_open v phase v.round round e
-publishes_opens (Office v) (Ask.AddLecturers rs) e = never (Office v) (Ask.AddLecturers rs) (quiet_added (is_open_to_rolls v.round v.phase) Lecturers (take_rows (lecturer_roll v) 1 v.lecturers rs)) e
-publishes_opens (Office v) (Ask.AddProjects rs) e = never (Office v) (Ask.AddProjects rs) (quiet_added (is_open_to_rolls v.round v.phase) Projects (take_rows (project_roll v) 1 v.projects rs)) e
-publishes_opens (Office v) (Ask.AddStudents rs) e = never (Office v) (Ask.AddStudents rs) (quiet_added (is_open_to_rolls v.round v.phase) Students (take_rows (student_roll v) 1 v.students rs)) e
-publishes_opens (Office v) Ask.Allocation e = never (Office v) Ask.Allocation (ap is_publish (only_quiet (has_result v.round v.phase) _ refl)) e
-publishes_opens (Office v) Ask.AllocationCsv e = never (Office v) Ask.AllocationCsv (quiet_sheet (has_result v.round v.phase) _ _) e
-publishes_opens (Office v) Ask.Report e = never (Office v) Ask.Report (quiet_sheet (has_result v.round v.phase) _ _) e
-publishes_opens (Office v) Ask.FillRankings e = never (Office v) Ask.FillRankings (quiet_fill (is_ranking v.phase) v) e
-publishes_opens (Office v) _ e = cc
+publishes_opens : (x : Sight) (ask : Ask) → Opens ask (decision x ask)
+publishes_opens Nobody ask = λ e. cc
+publishes_opens (Student v) ask = by_student Opens (λ ask reply e. cc) v (λ list now left none e. cc) ask
+publishes_opens (Lecturer v) ask = by_lecturer Opens (λ ask reply e. cc) v (λ list now none e. cc) ask
+publishes_opens (Office v) ask =
+    by_office Opens (λ ask reply e. cc) v
+    (record {
+      lecturers = λ rs new n now took e. cc;
+      projects = λ rs new n now took e. cc;
+      students = λ rs new n now took e. cc;
+      choosing = λ named at e. cc;
+      ranking = λ named at e. cc;
+      published = λ named at none e. refl;
+      filled = λ now some e. cc;
+      sheets = λ ask text sheet calm e. cc;
+    }) ask
 
 -- one request
 

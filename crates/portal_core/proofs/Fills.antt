@@ -1,63 +1,29 @@
 -- What the office's fill leaves of each caller, and that it keeps the rows sound.
-use Rattle.std.proofs.Common.{◌≡◌, Bool, true, false, cond, List, [], ◌∷◌, ◌++◌, length, refl, sym, ◌∙◌, ap, subst, arith}
-use Rattle.std.specs.Prelude.{map, filter, Option, Some, None, option_map, IfSome, not, ◌||◌}
-use Rattle.std.specs.List.{find, filter_map, AllByRecursion}
+use Rattle.std.proofs.Common.{◌≡◌, Bool, true, false, cond, List, [], ◌∷◌, refl, sym, ◌∙◌, ap, subst}
+use Rattle.std.specs.Prelude.{map, filter, Some, option_map, IfSome, not, ◌||◌}
+use Rattle.std.specs.List.{filter_map, AllByRecursion}
 use Rattle.std.proofs.Math.Bool.{or-true, and-false}
-use Rattle.std.proofs.lemmas.List.{length-map}
 use Rattle.portal_core.specs.Words.{Key, is, has, is_before, is_empty, Rise, AreDistinct}
 use Rattle.portal_core.specs.World as rows
 use Rattle.portal_core.specs.World.{World, in_play, lecturer_key, student_key, applicants_of, is_still_to_rank, is_ranking, is_published, is_from_ranking}
 use Rattle.portal_core.specs.Change.{Fill, changed, with_fill}
-use Rattle.portal_core.specs.declared.phase.Phase.{Phase}
-use Rattle.portal_core.specs.declared.phase.Phase.TheVariants.{Setup, Choosing, Ranking, Published}
 use Rattle.portal_core.specs.declared.view.View.TheVariants.{Office}
-use Rattle.portal_core.specs.View.{Caller, OfficeCaller, LecturerCaller, caller_among, lecturer_with, student_with, caller, sight_of, view, name_in, listing_with, listings, catalogue, office_sees}
-use Rattle.portal_core.specs.Good.{Sound, IsChoice, IsRanking, IsLecturer}
+use Rattle.portal_core.specs.View.{OfficeCaller, caller, sight_of, view, listing_with, listings, catalogue, office_sees}
+use Rattle.portal_core.specs.Good.{Sound, IsRanking}
 use Rattle.portal_core.specs.Instance.{project_keys}
-use Rattle.portal_core.proofs.Keys.{is_same, is_own, find_map, not_before_itself}
+use Rattle.portal_core.proofs.Keys.{is_same, is_own, not_before_itself}
 use Rattle.portal_core.proofs.InPlay.{fill_row, play_filled}
-use Rattle.portal_core.proofs.AllLaws.{all_map, all_weaker, map_same}
-
--- the rows stay, and so do whom a code names and what the catalogue shows
+use Rattle.portal_core.proofs.AllLaws.{map_same}
+use Rattle.portal_core.proofs.Reranked.{re_called, caller_kept, names_kept, sound_kept}
 
 module _ (w : World) where
   abbrev pub given : rows.Lecturer → rows.Lecturer
   given l = record l { ranking = Some (map student_key (applicants_of w l.row.key)) }
 
-  abbrev pub re_filled : Caller → Caller
-  re_filled (LecturerCaller l) = LecturerCaller (with_fill w l)
-  re_filled x = x
-
-  among_filled : (l : Option rows.Lecturer) (s : Option rows.Student) → caller_among (option_map (with_fill w) l) s ≡ re_filled (caller_among l s)
-  among_filled (Some l) s = refl
-  among_filled None (Some s) = refl
-  among_filled None None = refl
-
-  if_filled : (b : Bool) (x : Caller) → cond b OfficeCaller (re_filled x) ≡ re_filled (cond b OfficeCaller x)
-  if_filled true x = refl
-  if_filled false x = refl
-
-  pub caller_filled : (c : Key) → caller (changed w Fill) c ≡ re_filled (caller w c)
-  caller_filled c =
-      let found : find (λ (l : rows.Lecturer). is l.row.code c) (map (with_fill w) w.lecturers) ≡ option_map (with_fill w) (lecturer_with w c)
-      = find_map (with_fill w) (λ l. is l.row.code c) (λ l. is l.row.code c) (λ l. ap (λ r. is r.code c) (fill_row w l)) w.lecturers in
-      ap (λ o. cond (is w.office c) OfficeCaller (caller_among o (student_with w c))) found
-      ∙ ap (cond (is w.office c) OfficeCaller) (among_filled (lecturer_with w c) (student_with w c))
-      ∙ if_filled (is w.office c) _
-
-  name_filled : (o : Option rows.Lecturer) → option_map (λ (l : rows.Lecturer). l.row.name) (option_map (with_fill w) o) ≡ option_map (λ (l : rows.Lecturer). l.row.name) o
-  name_filled None = refl
-  name_filled (Some l) = ap (λ r. Some r.name) (fill_row w l)
-
-  names_filled : (ls : List rows.Lecturer) (q : Key) → name_in (map (with_fill w) ls) q ≡ name_in ls q
-  names_filled ls q =
-      ap (option_map (λ (l : rows.Lecturer). l.row.name)) (find_map (with_fill w) (λ l. is l.row.key q) (λ l. is l.row.key q) (λ l. ap (λ r. is r.key q) (fill_row w l)) ls)
-      ∙ name_filled (find (λ l. is l.row.key q) ls)
-
   pub catalogue_filled : catalogue (changed w Fill) ≡ catalogue w
   catalogue_filled =
       (λ i. listings (play_filled w i).lecturers (play_filled w i).projects)
-      ∙ λ i. filter_map (λ p. option_map (listing_with p) (names_filled (in_play w).lecturers p.lecturer i)) (in_play w).projects
+      ∙ λ i. filter_map (λ p. option_map (listing_with p) (names_kept (with_fill w) (fill_row w) (in_play w).lecturers p.lecturer i)) (in_play w).projects
 
   -- nobody is still to rank
 
@@ -84,7 +50,7 @@ module _ (w : World) where
       left false = refl
 
   pub view_filled : (c : Key) → caller w c ≡ OfficeCaller → view (changed w Fill) c ≡ Office (record (office_sees w) { still_to_rank = [] })
-  view_filled c e = ap (sight_of (changed w Fill)) (caller_filled c ∙ ap re_filled e) ∙ ap Office office_filled
+  view_filled c e = ap (sight_of (changed w Fill)) (caller_kept (with_fill w) (fill_row w) w c ∙ ap (re_called (with_fill w)) e) ∙ ap Office office_filled
 
 -- the applicants by key are a ranking
 
@@ -146,38 +112,4 @@ pub fill_first : (w : World) (l : rows.Lecturer) → (with_fill w l).earlier_ran
 fill_first w l = elim (is_still_to_rank w l) as (λ b. (cond b (given w l) l).earlier_ranking ≡ l.earlier_ranking) [ true ↦ refl | false ↦ refl ]
 
 pub filling : (w : World) → Sound w → is_ranking w.phase ≡ true → Sound (changed w Fill)
-filling w g e =
-    let keys : map lecturer_key (map (with_fill w) w.lecturers) ≡ map lecturer_key w.lecturers = map_same lecturer_key (with_fill w) (λ l. ap (λ r. r.key) (fill_row w l)) w.lecturers in
-    let codes : map (λ (l : rows.Lecturer). l.row.code) (map (with_fill w) w.lecturers) ≡ map (λ l. l.row.code) w.lecturers = map_same _ (with_fill w) (λ l. ap (λ r. r.code) (fill_row w l)) w.lecturers in
-    let long : length (map (with_fill w) w.lecturers) ≡ length w.lecturers = length-map w.lecturers (with_fill w) in
-    let now : (is_from_ranking w.phase ≡ true) × (is_published w.phase ≡ false) = only_ranking w.phase e in
-    record {
-      lecturers_rise = subst Rise (sym keys) g.lecturers_rise;
-      projects_rise = g.projects_rise;
-      students_rise = g.students_rise;
-      lecturer_forms = all_map _ (with_fill w) w.lecturers (all_weaker _ _ (λ l h. subst IsLecturer (sym (fill_row w l)) h) w.lecturers g.lecturer_forms);
-      project_forms = g.project_forms;
-      student_forms = g.student_forms;
-      office_form = g.office_form;
-      few_lecturers = let few = g.few_lecturers in omega arith;
-      few_projects = g.few_projects;
-      few_students = g.few_students;
-      codes = subst (λ cs. AreDistinct (w.office ∷ cs ++ map (λ (s : rows.Student). s.row.code) w.students)) (sym codes) g.codes;
-      lecturers_known = subst (λ ks. AllByRecursion (λ p. has ks p.lecturer ≡ true) w.projects) (sym keys) g.lecturers_known;
-      choices = subst (λ ks. AllByRecursion (λ s. IsChoice ks s.choice) w.students) (sym (ap project_keys (play_filled w))) g.choices;
-      no_choices_yet = g.no_choices_yet;
-      no_rankings_yet = λ h. cc;
-      rankings = rankings_filled w g.students_rise w.lecturers g.rankings;
-      no_result_yet = g.no_result_yet;
-      all_ranked = λ h. cc;
-      no_earlier_lists = g.no_earlier_lists;
-      no_earlier_rankings = λ h. all_map _ (with_fill w) w.lecturers (all_weaker _ _ (λ l e. fill_first w l ∙ e) w.lecturers (g.no_earlier_rankings h));
-      no_second_setup = g.no_second_setup;
-      only_left = g.only_left;
-    }
-  where
-    only_ranking : (phase : Phase) → is_ranking phase ≡ true → (is_from_ranking phase ≡ true) × (is_published phase ≡ false)
-    only_ranking Setup e = cc
-    only_ranking Choosing e = cc
-    only_ranking Ranking e = (refl, refl)
-    only_ranking Published e = cc
+filling w g e = sound_kept (with_fill w) (fill_row w) w (fill_first w) (ap project_keys (play_filled w)) g e (rankings_filled w g.students_rise w.lecturers g.rankings)

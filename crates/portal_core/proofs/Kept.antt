@@ -18,8 +18,9 @@ use Rattle.portal_core.specs.declared.rows.Person.{Person}
 use Rattle.portal_core.specs.declared.rows.ProjectRow.{ProjectRow}
 use Rattle.portal_core.specs.View.{catalogue, listings, office_sees, persons, name_in, listing_with}
 use Rattle.portal_core.specs.Faults.{ListFault, choice_fault, ranking_fault, in_catalogue, is_applicant, lacks_one}
-use Rattle.portal_core.specs.Good.{Good, IsRound, Sound, IsChoice, IsRanking, IsStudent, IsLecturer}
+use Rattle.portal_core.specs.Good.{Good, IsRound, Sound, IsChoice, IsRanking, IsStudent}
 use Rattle.portal_core.proofs.Keys.{is_same}
+use Rattle.portal_core.proofs.Reranked.{sound_kept}
 use Rattle.portal_core.proofs.Acts.{choice_row, ranking_row}
 use Rattle.portal_core.proofs.InPlay.{play_chosen, play_ranked, play_placed}
 use Rattle.portal_core.proofs.AllLaws.{kept_filtered, all_map, all_both, all_weaker, map_same, is_sym, none_is, split_append, any_map, any_shown, any_alike, any_or, any_nowhere, filtered_any, none_passes}
@@ -30,8 +31,10 @@ not_published w g shut before = record { sound = g; stable = λ h. cc; before = 
 
 -- phases
 
-pub to_choosing : (w : World) → Sound w → w.phase ≡ Setup → Sound (changed w (To Choosing))
-to_choosing w g e =
+-- to a phase after setup in which, as before, nothing is published
+to_phase : (w : World) (phase : Phase) → Sound w → is_setup phase ≡ false → is_published phase ≡ false → is_published w.phase ≡ false → (is_from_ranking phase ≡ false → is_from_ranking w.phase ≡ false)
+    → Sound (changed w (To phase))
+to_phase w phase g begun shut before early =
     record {
       lecturers_rise = g.lecturers_rise;
       projects_rise = g.projects_rise;
@@ -47,42 +50,21 @@ to_choosing w g e =
       lecturers_known = g.lecturers_known;
       choices = g.choices;
       no_choices_yet = λ h. cc;
-      no_rankings_yet = λ h. g.no_rankings_yet (ap is_from_ranking e);
+      no_rankings_yet = λ h. g.no_rankings_yet (early h);
       rankings = g.rankings;
-      no_result_yet = λ h. g.no_result_yet (ap is_published e);
+      no_result_yet = λ h. g.no_result_yet before;
       all_ranked = λ h. cc;
       no_earlier_lists = g.no_earlier_lists;
       no_earlier_rankings = g.no_earlier_rankings;
-      no_second_setup = λ h. refl;
+      no_second_setup = λ h. begun;
       only_left = g.only_left;
     }
 
+pub to_choosing : (w : World) → Sound w → w.phase ≡ Setup → Sound (changed w (To Choosing))
+to_choosing w g e = to_phase w Choosing g refl refl (ap is_published e) (λ h. ap is_from_ranking e)
+
 pub to_ranking : (w : World) → Sound w → w.phase ≡ Choosing → Sound (changed w (To Ranking))
-to_ranking w g e =
-    record {
-      lecturers_rise = g.lecturers_rise;
-      projects_rise = g.projects_rise;
-      students_rise = g.students_rise;
-      lecturer_forms = g.lecturer_forms;
-      project_forms = g.project_forms;
-      student_forms = g.student_forms;
-      office_form = g.office_form;
-      few_lecturers = g.few_lecturers;
-      few_projects = g.few_projects;
-      few_students = g.few_students;
-      codes = g.codes;
-      lecturers_known = g.lecturers_known;
-      choices = g.choices;
-      no_choices_yet = λ h. cc;
-      no_rankings_yet = λ h. cc;
-      rankings = g.rankings;
-      no_result_yet = λ h. g.no_result_yet (ap is_published e);
-      all_ranked = λ h. cc;
-      no_earlier_lists = g.no_earlier_lists;
-      no_earlier_rankings = g.no_earlier_rankings;
-      no_second_setup = λ h. refl;
-      only_left = g.only_left;
-    }
+to_ranking w g e = to_phase w Ranking g refl refl (ap is_published e) (λ h. ap is_from_ranking e)
 
 -- the result
 
@@ -408,38 +390,12 @@ ranking_first k list l = elim (is l.row.key k) as (λ b. first_published (cond b
 
 pub ranking : (w : World) (k : Key) (list : List Key) → Sound w → is_ranking w.phase ≡ true → ranking_fault (shown_sets w k (is_from_ranking w.phase)) 1 [] list ≡ None → Sound (changed w (Ranks k list))
 ranking w k list g e none =
-    let keys : map lecturer_key (map (with_ranking k list) w.lecturers) ≡ map lecturer_key w.lecturers = map_same lecturer_key (with_ranking k list) (λ l. ap (λ r. r.key) (ranking_row k list l)) w.lecturers in
-    let codes : map (λ (l : rows.Lecturer). l.row.code) (map (with_ranking k list) w.lecturers) ≡ map (λ l. l.row.code) w.lecturers = map_same _ (with_ranking k list) (λ l. ap (λ r. r.code) (ranking_row k list l)) w.lecturers in
-    let long : length (map (with_ranking k list) w.lecturers) ≡ length w.lecturers = length-map w.lecturers (with_ranking k list) in
-    let now : (is_setup w.phase ≡ false) × (is_from_ranking w.phase ≡ true) × (is_published w.phase ≡ false) = only_ranking w.phase e in
-    record {
-      lecturers_rise = subst Rise (sym keys) g.lecturers_rise;
-      projects_rise = g.projects_rise;
-      students_rise = g.students_rise;
-      lecturer_forms = all_map _ (with_ranking k list) w.lecturers (all_weaker _ _ (λ l h. subst IsLecturer (sym (ranking_row k list l)) h) w.lecturers g.lecturer_forms);
-      project_forms = g.project_forms;
-      student_forms = g.student_forms;
-      office_form = g.office_form;
-      few_lecturers = let few = g.few_lecturers in omega arith;
-      few_projects = g.few_projects;
-      few_students = g.few_students;
-      codes = subst (λ cs. AreDistinct (w.office ∷ cs ++ map (λ (s : rows.Student). s.row.code) w.students)) (sym codes) g.codes;
-      lecturers_known = subst (λ ks. AllByRecursion (λ p. has ks p.lecturer ≡ true) w.projects) (sym keys) g.lecturers_known;
-      choices = subst (λ ks. AllByRecursion (λ s. IsChoice ks s.choice) w.students) (λ i. map project_key (sym (play_ranked w k list) i).projects) g.choices;
-      no_choices_yet = g.no_choices_yet;
-      no_rankings_yet = λ h. cc;
-      rankings = ranking_with (λ q. IsRanking (map student_key (applicants_of w q))) k list (ranks_all w k list (subst (λ b. ranking_fault (shown_sets w k b) 1 [] list ≡ None) now.1 none)) w.lecturers g.rankings;
-      no_result_yet = g.no_result_yet;
-      all_ranked = λ h. cc;
-      no_earlier_lists = g.no_earlier_lists;
-      no_earlier_rankings = λ h. all_map (λ (l : rows.Lecturer). l.earlier_ranking ≡ None) (with_ranking k list) w.lecturers
-          (all_weaker _ _ (λ l e. ap (λ x. x.ranking) (ranking_first k list l) ∙ e) w.lecturers (g.no_earlier_rankings h));
-      no_second_setup = g.no_second_setup;
-      only_left = g.only_left;
-    }
+    sound_kept (with_ranking k list) (ranking_row k list) w (λ l. ap (λ x. x.ranking) (ranking_first k list l)) (ap project_keys (play_ranked w k list)) g e
+    (ranking_with (λ q. IsRanking (map student_key (applicants_of w q))) k list
+    (ranks_all w k list (subst (λ b. ranking_fault (shown_sets w k b) 1 [] list ≡ None) (closed w.phase e) none)) w.lecturers g.rankings)
   where
-    only_ranking : (phase : Phase) → is_ranking phase ≡ true → (is_setup phase ≡ false) × (is_from_ranking phase ≡ true) × (is_published phase ≡ false)
-    only_ranking Setup e = cc
-    only_ranking Choosing e = cc
-    only_ranking Ranking e = (refl, refl, refl)
-    only_ranking Published e = cc
+    closed : (phase : Phase) → is_ranking phase ≡ true → is_from_ranking phase ≡ true
+    closed Setup h = cc
+    closed Choosing h = cc
+    closed Ranking h = refl
+    closed Published h = cc

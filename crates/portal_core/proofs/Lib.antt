@@ -5,6 +5,7 @@ pub mod Adjacent
 pub mod Persons
 pub mod Puts
 pub mod InPlay
+mod Reranked
 pub mod Fills
 pub mod Numbers
 pub mod InRound

@@ -111,7 +111,7 @@ rows_with {X} key p (x ∷ xs) a rise e =
           (λ same. absurd (not_before_itself (key x) (subst (λ l. is_before (key x) l ≡ true) (sym same) (found_all _ p xs a later f))), rows_with key p xs a rise.1 f)
     ]) e
 
--- a student who is shown no project has none of the first round, and no other student has this key
+-- a student who is shown no project has none of the first round
 unplaced_left : (phase : Phase) (s : rows.Student) → is_none (shown_place phase s) ≡ true → is_left s ≡ true
 unplaced_left phase s e = go s.earlier_place refl e
   where
@@ -119,6 +119,7 @@ unplaced_left phase s e = go s.earlier_place refl e
     go None f h = ap is_none f
     go (Some p) f h = cc
 
+-- and no other student has this key
 pub alone_left : (w : World) (p : rows.Student → Bool) (s : rows.Student) → Sound w → find p w.students ≡ Some s → is_none (shown_place w.phase s) ≡ true → AllByRecursion (λ t. is t.row.key s.row.key ≡ true → is_left t ≡ true) w.students
 alone_left w p s g found free =
     all_weaker _ _ (λ t one same. ap is_left (one (is_same t.row.key s.row.key same)) ∙ unplaced_left w.phase s free) w.students (rows_with student_key p w.students s g.students_rise found)

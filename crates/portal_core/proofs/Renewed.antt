@@ -8,10 +8,28 @@ use Rattle.portal_core.specs.World.{World, in_play, shown_place, is_still_to_ran
 use Rattle.portal_core.specs.Change.{Choices, Ranks, changed, with_choice, with_ranking}
 use Rattle.portal_core.specs.declared.phase.Phase.TheVariants.{Choosing, Ranking}
 use Rattle.portal_core.specs.declared.rows.LecturerRow.{LecturerRow}
+use Rattle.portal_core.specs.declared.view.OfficeView.TheInside.{Inside}
+use Rattle.portal_core.specs.Sight.{OfficeSees}
 use Rattle.portal_core.specs.View.{office_sees}
 use Rattle.portal_core.proofs.Acts.{choice_row, ranking_row, catalogue_chosen, catalogue_ranked}
 use Rattle.portal_core.proofs.InPlay.{play_chosen}
 use Rattle.portal_core.proofs.AllLaws.{map_same}
+
+-- what the office's view of the code shows, with other keys where keys are taken out
+abbrev pub seen_with : Inside → List Key → List Key → OfficeSees
+seen_with v without still =
+    record {
+      round = v.round;
+      phase = v.phase;
+      office_code = v.office_code;
+      lecturers = v.lecturers.value.items;
+      projects = v.projects.value.items;
+      students = v.students.value.items;
+      catalogue = v.catalogue.value.items;
+      without_list = without;
+      still_to_rank = still;
+      pairs = v.pairs.items;
+    }
 
 -- Where a change keeps the keys, and takes those from the chosen whose key has not the mark: their keys, without these.
 module _ {X : Type 0} (key : X → Key) (chosen : X → Bool) (change : X → X) (keeps : Key → Bool) (same : (x : X) → key (change x) ≡ key x)

@@ -1,8 +1,8 @@
 -- What others do is not seen.
 use Rattle.std.proofs.Common.{◌≡◌, Bool, true, false, cond, List, [], ◌∷◌, ◌++◌, refl, sym, ◌∙◌, ap, subst, inl, inr}
-use Rattle.std.specs.Prelude.{map, Option, Some, None, is_none}
-use Rattle.serde_json.specs.Data.{Data}
-use Rattle.portal_core.specs.Words.{Key, is}
+use Rattle.std.specs.Prelude.{map, Option, Some, None}
+use Rattle.std.specs.List.{find}
+use Rattle.portal_core.specs.Words.{Key, is, Rise}
 use Rattle.portal_core.specs.World as rows
 use Rattle.portal_core.specs.Change.{Choices, Ranks, changed, with_choice, with_ranking}
 use Rattle.portal_core.specs.World.{World, is_choosing, is_ranking, is_published, is_from_ranking, has_result, shown_place, is_at, lecturer_key, student_key, applicants_to, placed_at, projects_of}
@@ -11,16 +11,16 @@ use Rattle.portal_core.specs.declared.phase.Phase.TheVariants.{Setup, Choosing, 
 use Rattle.portal_core.specs.declared.rows.Person.{Person}
 use Rattle.portal_core.specs.Sight.{LecturerSees}
 use Rattle.portal_core.specs.declared.view.View.TheVariants.{Lecturer, Student}
-use Rattle.portal_core.specs.View.{Caller, NoCaller, OfficeCaller, LecturerCaller, StudentCaller, caller_among, lecturer_with, student_with, caller, sight_of, view, catalogue, student_sees, lecturer_sees, persons}
+use Rattle.portal_core.specs.View.{Caller, NoCaller, OfficeCaller, LecturerCaller, StudentCaller, caller_among, lecturer_with, student_with, caller, sight_of, view, student_sees, lecturer_sees, persons}
 use Rattle.portal_core.specs.Ask.{Ask}
-use Rattle.portal_core.specs.Answer.{Answer, Act, Nothing, Apply, Publish, Render, only, unless, applies, already_placed, decision}
-use Rattle.portal_core.specs.Faults.{ListFault, choice_fault, ranking_fault}
-use Rattle.portal_core.specs.Bodies.{projects_body, students_body}
+use Rattle.portal_core.specs.Answer.{Answer, Act, Decision, Nothing, Apply, Publish, Render, refuses, decision}
 use Rattle.portal_core.specs.Good.{Good}
 use Rattle.portal_core.specs.Run.{Leaves, Step, Serves, Answers, Run, Request, Wish, Calls, Refused, end_of}
 use Rattle.portal_core.specs.Heard.{IsMember, IsIdle, IsIdleAct, IsIdleWish, replies_to}
 use Rattle.portal_core.proofs.Keys.{is_same, is_own, found_passes, one_row}
-use Rattle.portal_core.proofs.Acts.{caller_chosen, caller_ranked, re_chosen, re_ranked, choice_row, catalogue_chosen, catalogue_ranked, only_quiet}
+use Rattle.portal_core.proofs.Cases.{by_student, by_lecturer}
+use Rattle.portal_core.proofs.Reranked.{re_called}
+use Rattle.portal_core.proofs.Acts.{caller_chosen, caller_ranked, re_chosen, choice_row, catalogue_chosen, catalogue_ranked}
 use Rattle.portal_core.proofs.AllLaws.{kept_filtered}
 
 -- whom a code names was found by that code
@@ -44,29 +44,24 @@ pub student_found : (w : World) (c : Key) (s : rows.Student) → caller w c ≡ 
 student_found w c s e = among_student w c s (is w.office c) (lecturer_with w c) (student_with w c) e
 
 -- two codes name two rows
-pub apart_lecturers : (w : World) (c d : Key) (l m : rows.Lecturer) → Good w → caller w d ≡ LecturerCaller l → caller w c ≡ LecturerCaller m → is d c ≡ false → is m.row.key l.row.key ≡ false
-apart_lecturers w c d l m good el em other =
-    (elim (is m.row.key l.row.key) as (λ b. is m.row.key l.row.key ≡ b → b ≡ false) [
+apart : {X : Type 0} (key code : X → Key) (xs : List X) (c d : Key) (x y : X) → Rise (map key xs)
+    → find (λ z. is (code z) d) xs ≡ Some x → find (λ z. is (code z) c) xs ≡ Some y → is d c ≡ false → is (key y) (key x) ≡ false
+apart key code xs c d x y rise ex ey other =
+    (elim (is (key y) (key x)) as (λ b. is (key y) (key x) ≡ b → b ≡ false) [
       | true ↦ λ e.
-          let one : m ≡ l = one_row lecturer_key _ _ w.lecturers m l good.sound.lecturers_rise (lecturer_found w c m em) (lecturer_found w d l el) (is_same _ _ e) in
-          let of_c : m.row.code ≡ c = is_same _ _ (found_passes _ w.lecturers m (lecturer_found w c m em)) in
-          let of_d : l.row.code ≡ d = is_same _ _ (found_passes _ w.lecturers l (lecturer_found w d l el)) in
-          let same : d ≡ c = sym of_d ∙ sym (ap (λ x. x.row.code) one) ∙ of_c in
+          let one : y ≡ x = one_row key _ _ xs y x rise ey ex (is_same _ _ e) in
+          let of_c : code y ≡ c = is_same _ _ (found_passes _ xs y ey) in
+          let of_d : code x ≡ d = is_same _ _ (found_passes _ xs x ex) in
+          let same : d ≡ c = sym of_d ∙ sym (ap code one) ∙ of_c in
           let yes' : is d c ≡ true = subst (λ k. is d k ≡ true) same (is_own d) in cc
       | false ↦ λ e. refl
     ]) refl
 
-pub apart_students : (w : World) (c d : Key) (s t : rows.Student) → Good w → caller w d ≡ StudentCaller s → caller w c ≡ StudentCaller t → is d c ≡ false → is t.row.key s.row.key ≡ false
-apart_students w c d s t good es et other =
-    (elim (is t.row.key s.row.key) as (λ b. is t.row.key s.row.key ≡ b → b ≡ false) [
-      | true ↦ λ e.
-          let one : t ≡ s = one_row student_key _ _ w.students t s good.sound.students_rise (student_found w c t et) (student_found w d s es) (is_same _ _ e) in
-          let of_c : t.row.code ≡ c = is_same _ _ (found_passes _ w.students t (student_found w c t et)) in
-          let of_d : s.row.code ≡ d = is_same _ _ (found_passes _ w.students s (student_found w d s es)) in
-          let same : d ≡ c = sym of_d ∙ sym (ap (λ x. x.row.code) one) ∙ of_c in
-          let yes' : is d c ≡ true = subst (λ k. is d k ≡ true) same (is_own d) in cc
-      | false ↦ λ e. refl
-    ]) refl
+apart_lecturers : (w : World) (c d : Key) (l m : rows.Lecturer) → Good w → caller w d ≡ LecturerCaller l → caller w c ≡ LecturerCaller m → is d c ≡ false → is m.row.key l.row.key ≡ false
+apart_lecturers w c d l m good el em other = apart lecturer_key (λ l. l.row.code) w.lecturers c d l m good.sound.lecturers_rise (lecturer_found w d l el) (lecturer_found w c m em) other
+
+apart_students : (w : World) (c d : Key) (s t : rows.Student) → Good w → caller w d ≡ StudentCaller s → caller w c ≡ StudentCaller t → is d c ≡ false → is t.row.key s.row.key ≡ false
+apart_students w c d s t good es et other = apart student_key (λ s. s.row.code) w.students c d s t good.sound.students_rise (student_found w d s es) (student_found w c t et) other
 
 -- while the lists are open a lecturer sees nothing of them
 
@@ -131,9 +126,9 @@ chosen_unseen w c d s list good es other office open' x e =
 ranked_unseen : (w : World) (c d : Key) (l : rows.Lecturer) (list : List Key) → Good w → caller w d ≡ LecturerCaller l → is d c ≡ false → is w.office c ≡ false
     → (x : Caller) → caller w c ≡ x → view (changed w (Ranks l.row.key list)) c ≡ sight_of w x
 ranked_unseen w c d l list good el other office x e =
-    ap (sight_of (changed w (Ranks l.row.key list))) (caller_ranked w l.row.key list c ∙ ap (re_ranked l.row.key list) e) ∙ seen x e
+    ap (sight_of (changed w (Ranks l.row.key list))) (caller_ranked w l.row.key list c ∙ ap (re_called (with_ranking l.row.key list)) e) ∙ seen x e
   where
-    seen : (x : Caller) → caller w c ≡ x → sight_of (changed w (Ranks l.row.key list)) (re_ranked l.row.key list x) ≡ sight_of w x
+    seen : (x : Caller) → caller w c ≡ x → sight_of (changed w (Ranks l.row.key list)) (re_called (with_ranking l.row.key list) x) ≡ sight_of w x
     seen NoCaller e = refl
     seen OfficeCaller e = absurd (office_not w c office e)
     seen (LecturerCaller m) e =
@@ -143,31 +138,19 @@ ranked_unseen w c d l list good el other office x e =
 
 -- the call of a student or a lecturer
 module _ (w v : World) (c d : Key) (good : Good w) (other : is d c ≡ false) (office : is w.office c ≡ false) where
-  chosen_case : (s : rows.Student) → caller w d ≡ StudentCaller s → (body : Data) (list : List Key) (b : Bool) → is_choosing w.phase ≡ b → (free : Bool) (fault : Option ListFault) → Leaves w (only b (cond free (unless fault (applies body (Choices s.row.key list))) already_placed)).act v → view v c ≡ view w c
-  chosen_case s e body list false at free fault left = ap (λ u. view u c) left
-  chosen_case s e body list true at false fault left = ap (λ u. view u c) left
-  chosen_case s e body list true at true (Some fault) left = ap (λ u. view u c) left
-  chosen_case s e body list true at true None left = ap (λ u. view u c) left ∙ chosen_unseen w c d s list good e other office at (caller w c) refl
+  abbrev Hides : Ask → Decision → Type 0
+  Hides ask done = Leaves w done.act v → view v c ≡ view w c
 
-  ranked_case : (l : rows.Lecturer) → caller w d ≡ LecturerCaller l → (body : Data) (list : List Key) (b : Bool) (fault : Option ListFault) → Leaves w (only b (unless fault (applies body (Ranks l.row.key list)))).act v → view v c ≡ view w c
-  ranked_case l e body list false fault left = ap (λ u. view u c) left
-  ranked_case l e body list true (Some fault) left = ap (λ u. view u c) left
-  ranked_case l e body list true None left = ap (λ u. view u c) left ∙ ranked_unseen w c d l list good e other office (caller w c) refl
+  idle_case : (ask : Ask) (reply : Answer) → Hides ask (refuses reply)
+  idle_case ask reply left = ap (λ u. view u c) left
 
-  idle_case : (a : Act) → a ≡ Nothing → Leaves w a v → view v c ≡ view w c
-  idle_case a e left = ap (λ u. view u c) (subst (λ x. Leaves w x v) e left)
-
-  member_case : (x : Caller) → caller w d ≡ x → IsMember (sight_of w x) → (ask : Ask) → Leaves w (decision (sight_of w x) ask).act v → view v c ≡ view w c
-  member_case NoCaller e m ask left = absurd m
-  member_case OfficeCaller e m ask left = absurd m
-  member_case (LecturerCaller l) e m (Ask.SetRanking list) left = ranked_case l e (students_body (Some list)) list (is_ranking w.phase) (ranking_fault (lecturer_sees w l).applicants 1 [] list) left
-  member_case (LecturerCaller l) e m Ask.Applicants left = idle_case _ (only_quiet (is_from_ranking w.phase) _ refl) left
-  member_case (LecturerCaller l) e m Ask.ShowRanking left = idle_case _ (only_quiet (is_from_ranking w.phase) _ refl) left
-  member_case (LecturerCaller l) e m Ask.Result left = idle_case _ (only_quiet (has_result w.round w.phase) _ refl) left
-  member_case (LecturerCaller l) e m ask left = ap (λ u. view u c) left
-  member_case (StudentCaller s) e m (Ask.SetChoices list) left = chosen_case s e (projects_body list) list (is_choosing w.phase) refl (is_none (shown_place w.phase s)) (choice_fault (catalogue w) 1 [] list) left
-  member_case (StudentCaller s) e m Ask.Result left = idle_case _ (only_quiet (has_result w.round w.phase) _ refl) left
-  member_case (StudentCaller s) e m ask left = ap (λ u. view u c) left
+  member_case : (x : Caller) → caller w d ≡ x → IsMember (sight_of w x) → (ask : Ask) → Hides ask (decision (sight_of w x) ask)
+  member_case NoCaller e m ask = absurd m
+  member_case OfficeCaller e m ask = absurd m
+  member_case (LecturerCaller l) e m ask =
+      by_lecturer Hides idle_case (lecturer_sees w l) (λ list now none left. ap (λ u. view u c) left ∙ ranked_unseen w c d l list good e other office (caller w c) refl) ask
+  member_case (StudentCaller s) e m ask =
+      by_student Hides idle_case (student_sees w s) (λ list now free none left. ap (λ u. view u c) left ∙ chosen_unseen w c d s list good e other office now (caller w c) refl) ask
 
 pub others : (w v : World) (c d : Key) (ask : Ask) (reply : Answer) → Good w → Step w d ask reply v → IsMember (view w d) → is d c ≡ false → is w.office c ≡ false → view v c ≡ view w c
 others w v c d ask reply good step member other office = member_case w v c d good other office (caller w d) refl member ask step.left

@@ -3,7 +3,7 @@ use Rattle.std.specs.Bool.{◌==◌}
 use Rattle.portal_core.specs.Words.{Key, is, is_empty}
 use Rattle.portal_core.specs.Sight.{OfficeSees}
 use Rattle.portal_core.specs.declared.phase.Phase.TheVariants.{Choosing}
-use Rattle.portal_core.proofs.Renewed.{choosing_seen}
+use Rattle.portal_core.proofs.Renewed.{choosing_seen, seen_with}
 use Rattle.portal_core.proofs.remembered.after_list.Goals as goal
 
 not_empty : (list : List Key) → false ≡ (length list == 0) → is_empty list ≡ false
@@ -16,15 +16,4 @@ returns c w told =
     let renewed : OfficeSees → OfficeSees = λ v. record v { without_list = filter (λ x. not (is x k)) v.without_list } in
     let phase : c.view.inside.phase ≡ Choosing = search rules in
     let some : is_empty c.args.projects.now ≡ false = not_empty c.args.projects.now c.if-is_empty.ensures in
-    (λ i. record {
-      round = c.view.inside.round;
-      phase = c.view.inside.phase;
-      office_code = c.view.inside.office_code;
-      lecturers = c.view.inside.lecturers.value.items;
-      projects = c.view.inside.projects.value.items;
-      students = c.view.inside.students.value.items;
-      catalogue = c.view.inside.catalogue.value.items;
-      without_list = c.but_for.ensures i;
-      still_to_rank = c.view.inside.still_to_rank.items;
-      pairs = c.view.inside.pairs.items;
-    }) ∙ ap renewed (c.view.view_is ∙ told) ∙ sym (choosing_seen w k c.args.projects.now (sym (ap (λ v. v.phase) (c.view.view_is ∙ told)) ∙ phase) some)
+    ap (λ ks. seen_with c.view.inside ks c.view.inside.still_to_rank.items) c.but_for.ensures ∙ ap renewed (c.view.view_is ∙ told) ∙ sym (choosing_seen w k c.args.projects.now (sym (ap (λ v. v.phase) (c.view.view_is ∙ told)) ∙ phase) some)
