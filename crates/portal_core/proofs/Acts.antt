@@ -1,10 +1,10 @@
--- What each decision does, and what one change leaves of a caller.
+-- What a list or a ranking that is put leaves of a caller, and what is seen after a call of one's own.
 use Rattle.std.proofs.Common.{◌≡◌, Bool, true, false, cond, List, refl, ◌∙◌, ap}
 use Rattle.std.specs.Prelude.{map, Option, Some, None, option_map}
 use Rattle.std.specs.List.{find, filter_map}
 use Rattle.portal_core.specs.Words.{Key, is}
 use Rattle.portal_core.specs.World as rows
-use Rattle.portal_core.specs.World.{World, is_choosing, is_ranking, is_from_ranking, has_result, in_play, shown_place}
+use Rattle.portal_core.specs.World.{World, in_play}
 use Rattle.portal_core.specs.Change.{Choices, Ranks, Students, Places, changed, in_first, with_students, with_choice, with_ranking}
 use Rattle.portal_core.specs.declared.phase.Round.TheVariants.{First, Second}
 use Rattle.portal_core.specs.declared.rows.StudentRow.{StudentRow}

@@ -32,7 +32,7 @@ open_phase Choosing e = refl
 open_phase Ranking e = cc
 open_phase Published e = cc
 
--- codes that differ do so in any order
+-- a key stands in either order or in none
 has_swap : (xs ys : List Key) (k : Key) → has (xs ++ ys) k ≡ has (ys ++ xs) k
 has_swap xs ys k = any_append (is k) xs ys ∙ or_comm (has xs k) (has ys k) ∙ sym (any_append (is k) ys xs)
 
@@ -45,6 +45,7 @@ distinct_between (y ∷ ys) zs x d new =
       distinct_between ys zs x d.1 parts.1,
     )
 
+-- codes that differ do so in any order
 distinct_swap : (xs ys : List Key) → AreDistinct (xs ++ ys) → AreDistinct (ys ++ xs)
 distinct_swap [] ys d = rw append-nil d
 distinct_swap (x ∷ xs) ys d = distinct_between ys xs x (distinct_swap xs ys d.1) (sym (has_swap xs ys x) ∙ d.0)

@@ -17,7 +17,7 @@ use Rattle.portal_core.specs.declared.rows.StudentRow.{StudentRow}
 use Rattle.portal_core.specs.declared.view.View.{View as Sight}
 use Rattle.portal_core.specs.declared.view.View.TheVariants.{Nobody, Office, Lecturer, Student}
 use Rattle.portal_core.specs.Change.{Choices, To, Places, changed, with_choice, with_ranking, with_place, with_fill, new_lecturer, new_student, with_lecturers, with_students, in_first}
-use Rattle.portal_core.specs.View.{Caller, NoCaller, OfficeCaller, LecturerCaller, StudentCaller, caller, sight_of, view, office_sees, lecturer_sees, student_sees, persons, lecturer_with, student_with, caller_among}
+use Rattle.portal_core.specs.View.{Caller, NoCaller, OfficeCaller, LecturerCaller, StudentCaller, caller, sight_of, view, office_sees, lecturer_sees, student_sees, persons, lecturer_with, student_with}
 use Rattle.portal_core.specs.Ask.{Ask}
 use Rattle.portal_core.specs.Answer.{Answer, Decision, decision}
 use Rattle.portal_core.specs.Good.{Good}
@@ -27,7 +27,7 @@ use Rattle.portal_core.proofs.Keys.{is_same, found_passes, found_all, all_unmap}
 use Rattle.portal_core.proofs.AllLaws.{all_map, all_weaker}
 use Rattle.portal_core.proofs.Acts.{choice_row, ranking_row}
 use Rattle.portal_core.proofs.InPlay.{fill_row}
-use Rattle.portal_core.proofs.Unseen.{choosing_open, lecturer_found, student_found}
+use Rattle.portal_core.proofs.Unseen.{choosing_open, lecturer_found, student_found, office_not, person_of}
 use Rattle.portal_core.proofs.Kept.{choice_first, place_row, place_first}
 use Rattle.portal_core.proofs.Named.{office_named, lecturers_named, students_named}
 use Rattle.portal_core.proofs.Steps.{step_good}
@@ -104,9 +104,6 @@ record Grows (w v : World) : Type 0 where
   projects : AllByRecursion (Contains v.projects) w.projects
   students : AllByRecursion (Mate (KeepsPlace w.phase v.phase) v.students) w.students
 
-abbrev person_of : rows.Student → Person
-person_of s = record { key = s.row.key; name = s.row.name }
-
 module _ (w v : World) (g : Grows w v) (good : Good v) where
   -- a student who was shown at a project is so still
   at_project : (p : Key) → AllByRecursion (Contains (persons (placed_at v p))) (persons (placed_at w p))
@@ -153,17 +150,12 @@ module _ (w v : World) (g : Grows w v) (good : Good v) where
   still : (c : Key) (x : Caller) → caller w c ≡ x → ShowsStill (sight_of w x) (view v c)
   still c NoCaller e = tt
   still c OfficeCaller e =
-      subst (ShowsStill (Office (office_sees w))) (sym (office_named v good.sound) ∙ ap (view v) (g.office ∙ code (is w.office c) refl e))
+      subst (ShowsStill (Office (office_sees w))) (sym (office_named v good.sound) ∙ ap (view v) (g.office ∙ code (is w.office c) refl))
       (λ x there. one_of _ (pairs_of w) x pairs_stay there)
     where
-      code : (b : Bool) → is w.office c ≡ b → cond b OfficeCaller (caller_among (lecturer_with w c) (student_with w c)) ≡ OfficeCaller → w.office ≡ c
-      code true f h = is_same w.office c f
-      code false f h = absurd (none (lecturer_with w c) (student_with w c) h)
-        where
-          none : (o : Option rows.Lecturer) (s : Option rows.Student) → caller_among o s ≡ OfficeCaller → ⊥
-          none (Some l) s e = cc
-          none None (Some s) e = cc
-          none None None e = cc
+      code : (b : Bool) → is w.office c ≡ b → w.office ≡ c
+      code true f = is_same w.office c f
+      code false f = absurd (office_not w c f e)
   still c (LecturerCaller l) e =
       let found : lecturer_with w c ≡ Some l = lecturer_found w c l e in
       let mate : Mate SameLecturer v.lecturers l = found_all _ _ w.lecturers l g.lecturers found in
@@ -199,12 +191,6 @@ module _ {X : Type 0} (key : X → Key) where
   all_beside : (xs ys : List X) → AllByRecursion (Contains (put_all key xs ys)) ys
   all_beside [] ys = contained ys
   all_beside (x ∷ xs) ys = all_weaker _ _ (λ y there. one_of _ (put key x ys) y (all_beside xs (put key x ys)) there) ys (beside x ys)
-
-the_same : (l : rows.Lecturer) → SameLecturer l l
-the_same l = refl
-
-in_place : (phase : Phase) (s : rows.Student) → KeepsPlace phase phase s s
-in_place phase s = (refl, λ p e. e)
 
 -- where nothing was published a student is shown the project of the earlier round, if any
 lasts : (before after : Phase) → is_published before ≡ false → (s t : rows.Student) → t.earlier_place ≡ s.earlier_place → (p : Key) → shown_place before s ≡ Some p → shown_place after t ≡ Some p

@@ -71,7 +71,7 @@ choosing_open Choosing e = (refl, refl)
 choosing_open Ranking e = cc
 choosing_open Published e = cc
 
-abbrev person_of : rows.Student → Person
+abbrev pub person_of : rows.Student → Person
 person_of s = record { key = s.row.key; name = s.row.name }
 
 -- a new list keeps the person and the place that is shown

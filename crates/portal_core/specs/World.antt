@@ -169,22 +169,22 @@ in_play w =
       students = students_in w.round w.students;
     }
 
--- In the second round: the world in which the first was published.
 abbrev pub first_published : Lecturer → Lecturer
 first_published l = record { row = l.row; ranking = l.earlier_ranking; earlier_ranking = None }
 
 abbrev pub first_placed : Student → Student
 first_placed s = record { row = s.row; choice = s.earlier_choice; placed = s.earlier_place; earlier_choice = []; earlier_place = None }
 
+-- In the second round: the world in which the first was published.
 abbrev pub first : World → World
 first w = record w { round = First; phase = Published; lecturers = map first_published w.lecturers; students = map first_placed w.students }
 
--- These rows as a world of one round, with nothing before it. What a round is played in is a good world so.
 abbrev pub alone_lecturer : Lecturer → Lecturer
 alone_lecturer l = record l { earlier_ranking = None }
 
 abbrev pub alone_student : Student → Student
 alone_student s = record s { earlier_choice = []; earlier_place = None }
 
+-- These rows as a world of one round, with nothing before it. What a round is played in is a good world so.
 abbrev pub alone : World → World
 alone w = record w { round = First; lecturers = map alone_lecturer w.lecturers; students = map alone_student w.students }
