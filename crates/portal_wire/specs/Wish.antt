@@ -1,6 +1,8 @@
 -- What a request wants, by its route, its method and its body.
 use Rattle.std.specs.Prelude.{ℕ, List, codes, Option, Some, None, Result, Ok, Err}
 use Rattle.portal_core.specs.Ask.{Ask}
+use Rattle.portal_core.specs.declared.phase.Phase.{Phase}
+use Rattle.portal_core.specs.declared.phase.Round.{Round}
 use Rattle.portal_core.specs.Run.{Wish, Calls, Refused}
 use Rattle.portal_rolls.specs.declared.fault.RollFault.{RollFault}
 use Rattle.portal_rolls.specs.declared.fault.RollFault.TheVariants as fault
@@ -12,7 +14,7 @@ use Rattle.portal_wire.specs.declared.verbs.Verb.{Verb}
 use Rattle.portal_wire.specs.declared.verbs.Verb.TheVariants.{Get, Head, Put, Post, Other}
 use Rattle.portal_wire.specs.Verb.{verb_of}
 use Rattle.portal_wire.specs.Routes.{place_at, allow_of}
-use Rattle.portal_wire.specs.Bodies.{listed_in, phase_in, nothing_in}
+use Rattle.portal_wire.specs.Bodies.{listed_in, move_in, nothing_in}
 use Rattle.portal_wire.specs.Refusals.{no_route, bad_method, bad_body, bad_row, roll_full, no_memory, answer_to}
 
 -- no call: the request is refused
@@ -63,12 +65,15 @@ put_at place.Choices body = by_body Ask.SetChoices (listed_in (codes "projects")
 put_at place.Ranking body = by_body Ask.SetRanking (listed_in (codes "students") body)
 put_at at body = wrong_method at
 
+abbrev pub to_move : Phase × Option Round → Ask
+to_move m = Ask.Move m.0 m.1
+
 -- what POST asks
 abbrev pub posted_at : Place → List ℕ → Wish
 posted_at place.Lecturers body = by_roll Ask.AddLecturers (lecturers body)
 posted_at place.Projects body = by_roll Ask.AddProjects (projects body)
 posted_at place.Students body = by_roll Ask.AddStudents (students body)
-posted_at place.Phase body = by_body (λ phase. Ask.Move phase None) (phase_in body)
+posted_at place.Phase body = by_body to_move (move_in body)
 posted_at place.Fill body = by_body (λ u. Ask.FillRankings) (nothing_in body)
 posted_at at body = wrong_method at
 

@@ -2,10 +2,10 @@
 
 ghost use Rattle.std.specs.Prelude.{◌≡◌, map, option_map};
 ghost use Rattle.serde_json.specs.View.{view, items_view};
-ghost use Rattle.portal_wire.specs.Bodies.{json_in, only_member, item_texts, texts_in, phase_of, phase_named, empty_object, listed_in, phase_in, nothing_in, Gives};
+ghost use Rattle.portal_wire.specs.Bodies.{json_in, member_among, item_texts, texts_in, phase_of, phase_named, round_named, phase_among, phase_and_round, move_named, empty_object, listed_in, move_in, nothing_in, Gives};
 ghost use Rattle.portal_wire.specs.declared.bodies.BodyFault.TheVariants.{Memory as OutOfMemory};
 
-use portal_core::Phase;
+use portal_core::{Phase, Round};
 use serde_json::Value;
 use serde_json::error::Category;
 use std::alloc::{AllocError, AllocFailed, Global};
@@ -53,14 +53,15 @@ fn json_of(alloc: Global, body: &[u8]) -> Result<Value, BodyFault>
     }
 }
 
-/// The value of this member, where it is the only one of an object.
-fn sole_member<'a>(value: &'a Value, name: &str) -> Option<&'a Value>
-    ensures { option_map (λ v. view v.now) result ≡ only_member name.now (view value.now) }
+/// The value of this member, of an object that has so many.
+fn member_among<'a>(value: &'a Value, count: usize, name: &str) -> Option<&'a Value>
+    ensures { option_map (λ v. view v.now) result
+        ≡ member_among count name.now (view value.now) }
 {
     let Value::Object(members) = value else {
         return None;
     };
-    if members.len() != 1 {
+    if members.len() != count {
         return None;
     }
     value.get(name)
@@ -96,7 +97,7 @@ pub(crate) fn listed(alloc: Global, body: &[u8], name: &str) -> Result<Vec<Vec<u
     ensures { Gives (λ ts. map (λ t. t.items) ts.items) result (listed_in name.now body.now) }
 {
     let value = json_of(alloc, body)?;
-    match sole_member(&value, name) {
+    match member_among(&value, 1, name) {
         Some(list) => array_texts(alloc, list),
         None => Err(BodyFault::Bad),
     }
@@ -110,25 +111,59 @@ fn phase_in_word(word: &[u8]) -> Option<Phase>
 }
 
 /// The phase whose word a value is.
-fn named_phase(value: &Value) -> Result<Phase, BodyFault>
-    ensures { Gives (λ phase. phase) result (phase_named (view value.now)) }
+fn named_phase(value: &Value) -> Option<Phase>
+    ensures { result ≡ phase_named (view value.now) }
 {
     let Value::String(word) = value else {
-        return Err(BodyFault::Bad);
+        return None;
     };
-    match phase_in_word(word.as_bytes()) {
-        Some(phase) => Ok(phase),
-        None => Err(BodyFault::Bad),
+    phase_in_word(word.as_bytes())
+}
+
+/// The round whose number a value is.
+fn named_round(value: &Value) -> Option<Round>
+    ensures { result ≡ round_named (view value.now) }
+{
+    match value.as_u64()? {
+        1 => Some(Round::First),
+        2 => Some(Round::Second),
+        _ => None,
     }
 }
 
-/// The phase that a body names, and nothing else.
-pub(crate) fn named(alloc: Global, body: &[u8]) -> Result<Phase, BodyFault>
-    ensures { Gives (λ phase. phase) result (phase_in body.now) }
+/// The phase, of an object with so many members.
+fn phase_among(value: &Value, count: usize) -> Option<Phase>
+    ensures { result ≡ phase_among count (view value.now) }
+{
+    named_phase(member_among(value, count, "phase")?)
+}
+
+/// The phase and the round, of an object with these two members.
+fn phase_and_round(value: &Value) -> Option<(Phase, Option<Round>)>
+    ensures { result ≡ phase_and_round (view value.now) }
+{
+    let phase = phase_among(value, 2)?;
+    let round = named_round(member_among(value, 2, "round")?)?;
+    Some((phase, Some(round)))
+}
+
+/// The phase to move to and the round, if it is named, and nothing else.
+fn named_move(value: &Value) -> Option<(Phase, Option<Round>)>
+    ensures { result ≡ move_named (view value.now) }
+{
+    match phase_among(value, 1) {
+        Some(phase) => Some((phase, None)),
+        None => phase_and_round(value),
+    }
+}
+
+/// The move that a body names: a phase, and perhaps a round, and nothing else.
+pub(crate) fn named(alloc: Global, body: &[u8]) -> Result<(Phase, Option<Round>), BodyFault>
+    ensures { Gives (λ m. m) result (move_in body.now) }
 {
     let value = json_of(alloc, body)?;
-    match sole_member(&value, "phase") {
-        Some(word) => named_phase(word),
+    match named_move(&value) {
+        Some(named) => Ok(named),
         None => Err(BodyFault::Bad),
     }
 }

@@ -9,8 +9,8 @@ ghost use Rattle.portal_frame.specs.Stream.{seen, refused};
 ghost use Rattle.portal_core.specs.Ask.{Ask};
 ghost use Rattle.portal_wire.specs.declared.calls.NoCall.TheVariants as why;
 ghost use Rattle.portal_wire.specs.Refusals.{no_memory};
-ghost use Rattle.portal_wire.specs.Wish.{turned_away, shown_at, put_at, posted_at, wish_at, wish_of, by_body, by_roll};
-ghost use Rattle.portal_wire.specs.Bodies.{phase_in, nothing_in};
+ghost use Rattle.portal_wire.specs.Wish.{turned_away, shown_at, put_at, posted_at, to_move, wish_at, wish_of, by_body, by_roll};
+ghost use Rattle.portal_wire.specs.Bodies.{move_in, nothing_in};
 ghost use Rattle.portal_wire.specs.Calls.{Wants, told_by, of_roll};
 
 use crate::bodies::{BodyFault, listed, named, nothing};
@@ -110,13 +110,13 @@ fn put(alloc: Global, place: Place, body: &[u8]) -> Result<Call, NoCall>
     }
 }
 
-/// A move to the phase that a body names.
+/// A move to the phase that a body names, of the round that it names or of the current one.
 fn moved(alloc: Global, body: &[u8]) -> Result<Call, NoCall>
-    ensures wish { Wants (by_body (λ phase. Ask.Move phase None) (phase_in body.now)) result }
+    ensures wish { Wants (by_body to_move (move_in body.now)) result }
     ensures form { IfOk result (λ call. HasForm (asked call)) }
 {
     match named(alloc, body) {
-        Ok(phase) => Ok(Call::Move { phase, round: None }),
+        Ok((phase, round)) => Ok(Call::Move { phase, round }),
         Err(BodyFault::Bad) => Err(NoCall::BadBody),
         Err(BodyFault::Memory) => Err(NoCall::Memory),
     }

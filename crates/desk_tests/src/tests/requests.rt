@@ -1,6 +1,6 @@
 //! Requests as the wire brings them, the calls that they make, and the bytes of replies.
 
-use portal_core::{Body, Call, Phase, Reply};
+use portal_core::{Body, Call, Phase, Reply, Round};
 use portal_wire::{Frame, Refusal, Request, call_of, frame, reply_bytes, reply_of};
 use serde_json::{Value, json};
 use std::process::Abort;
@@ -233,6 +233,34 @@ fn calls_with_bodies(rt: HostRuntime) {
     );
     assert!(rt;
         matches!(
+            call(
+                &rt,
+                "POST",
+                "/phase",
+                b"{\"phase\":\"choosing\",\"round\":2}"
+            ),
+            Call::Move {
+                phase: Phase::Choosing,
+                round: Some(Round::Second)
+            }
+        )
+    );
+    assert!(rt;
+        matches!(
+            call(
+                &rt,
+                "POST",
+                "/phase",
+                b"{\"round\":1,\"phase\":\"ranking\"}"
+            ),
+            Call::Move {
+                phase: Phase::Ranking,
+                round: Some(Round::First)
+            }
+        )
+    );
+    assert!(rt;
+        matches!(
             call(&rt, "POST", "/ranking/fill", b"{}"),
             Call::FillRankings
         )
@@ -310,6 +338,26 @@ fn bodies_that_are_refused(rt: HostRuntime) {
         400,
         "bad_body",
     );
+}
+
+#[test]
+fn moves_that_are_refused(rt: HostRuntime) {
+    for body in [
+        b"{\"phase\":\"choosing\",\"round\":0}".as_slice(),
+        b"{\"phase\":\"choosing\",\"round\":3}".as_slice(),
+        b"{\"phase\":\"choosing\",\"round\":-1}".as_slice(),
+        b"{\"phase\":\"choosing\",\"round\":2.0}".as_slice(),
+        b"{\"phase\":\"choosing\",\"round\":\"2\"}".as_slice(),
+        b"{\"phase\":\"choosing\",\"round\":null}".as_slice(),
+        b"{\"phase\":\"choosing\",\"round\":2,\"x\":1}".as_slice(),
+        b"{\"phase\":\"choosing\",\"x\":2}".as_slice(),
+        b"{\"phase\":\"closed\",\"round\":2}".as_slice(),
+        b"{\"phase\":1}".as_slice(),
+        b"{\"round\":2}".as_slice(),
+        b"{}".as_slice(),
+    ] {
+        is_refused(&rt, &no_call(&rt, "POST", "/phase", body), 400, "bad_body");
+    }
 }
 
 #[test]
