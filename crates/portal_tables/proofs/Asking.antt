@@ -1,9 +1,7 @@
 -- A query before a change: what the change is, begun where the query began.
-use Rattle.std.proofs.Common.{◌≡◌, IsTrue, sym, subst, ◌∙◌, arith}
-use Rattle.sqlite.specs.Effect.{Database}
-use Rattle.sqlite.specs.State.{State, HasCleanDisk, IsUnchanged, Survives}
-use Rattle.sqlite.proofs.StateLemmas.{survives_then}
-use Rattle.portal_tables.specs.Steps.{Commits, IsAfter}
+use Rattle.std.specs.Prelude.{◌≡◌}
+use Rattle.portal_tables.proofs.Base.{IsTrue, sym, subst, ◌∙◌, Database, State, HasCleanDisk, IsUnchanged, Survives, survives_then, Commits, IsAfter}
+use Rattle.std.proofs.Common.{arith}
 
 -- all was committed
 abbrev pub IsSettled : State → Type 0

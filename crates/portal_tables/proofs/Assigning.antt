@@ -1,33 +1,10 @@
 -- The UPDATEs of the projects of students.
-use Rattle.std.proofs.Common.{◌≡◌, ℕ, ℤ, ◌+◌, Bool, true, false, not, cond, List, [], ◌∷◌, ◌++◌, map, filter, length, take, get_or, ◌<◌, codes, Option, Some, None, ◌==◌, refl, sym, ap, ap₂, subst, subst₂, ◌∙◌}
-use Rattle.std.specs.List.{AllByRecursion, flat_map, filter_map}
-use Rattle.std.specs.List.Sorted.{IsPermutation}
-use Rattle.std.proofs.lemmas.List.{map-append, take_more}
-use Rattle.std.proofs.lemmas.List.Sorted.{IsPermutation-refl, IsPermutation-trans, IsPermutation-map, IsPermutation-filter_both}
-use Rattle.sqlite.specs.declared.types.Value.{Value}
-use Rattle.sqlite.specs.declared.types.Value.TheVariants.{Int, Text}
-use Rattle.sqlite.specs.Order.{Row, column}
-use Rattle.sqlite.specs.Cast.{cast_row}
-use Rattle.sqlite.specs.Table.{Table}
-use Rattle.sqlite.specs.Term.{Term, col}
-use Rattle.sqlite.specs.State.{State}
-use Rattle.sqlite.specs.Effect.{Database}
-use Rattle.sqlite_tied.specs.Compute.{everything}
-use Rattle.sqlite.specs.Listing.{understood}
-use Rattle.sqlite_rules.specs.Action.{works, work_by, deed_for, pairs}
-use Rattle.sqlite_schema.specs.Rules.{parent_key}
-use Rattle.sqlite_schema.specs.declared.schema.Keys.TheVariants.{Enforced}
-use Rattle.sqlite.specs.Values.{bound_value}
-use Rattle.sqlite_trees.proofs.ListLemmas.{all-filter}
-use Rattle.portal_core.proofs.AllLaws.{all_map, all_weaker}
-use Rattle.portal_tables.specs.Tables.{student, student_tree}
-use Rattle.portal_tables.specs.Changes.{has_text}
-use Rattle.portal_tables.specs.Own.{IsOwn}
-use Rattle.portal_tables.specs.Rows.{Assigned, text_or_null, student_shown, assigned_by, with_assigned, Assigns}
-use Rattle.portal_tables.specs.Steps.{Ran, Made}
+use Rattle.std.specs.Prelude.{◌≡◌, ◌+◌, ◌∷◌, ◌++◌, ◌<◌, ◌==◌}
+use Rattle.portal_tables.proofs.Base.{ℕ, ℤ, Bool, true, false, not, cond, List, [], map, filter, length, take, get_or, codes, Option, Some, None, refl, sym, ap, ap₂, subst, subst₂, ◌∙◌, AllByRecursion, flat_map, filter_map, IsPermutation, map-append, take_more, IsPermutation-refl, IsPermutation-trans, IsPermutation-map, IsPermutation-filter_both, Value, Int, Text, Row, column, cast_row, Table, Term, col, State, Database, everything, understood, works, work_by, deed_for, pairs, parent_key, Enforced, bound_value, all-filter, all_map, all_weaker, student, student_tree, has_text, Second, IsCurrent, Assigned, text_or_null, student_shown, assigned_by, with_assigned, Assigns, Ran, Made}
 use Rattle.portal_tables.proofs.Keeping.{keeps_then, keeps_all}
 use Rattle.portal_tables.proofs.Listed.{all_map_on}
 use Rattle.portal_tables.proofs.Lists.{not_true}
+use Rattle.portal_tables.proofs.Owned.{current_own}
 use Rattle.portal_tables.proofs.Query.{passes, shown_as}
 use Rattle.portal_tables.proofs.Shapes.{IsStudentRow, student_rows_formed}
 use Rattle.portal_tables.proofs.Sorted.{map_twice, map_alike}
@@ -118,14 +95,14 @@ module _ (key : List ℕ) (project : Option (List ℕ)) where
   one_assigned old new h = record {
     shown = h.shown;
     changed = λ own sound apart.
-        let w = own_is old.now.schema own in
-        let s = portal_with w.checks w.terms in
+        let w = own_is Second old.now.schema own in
+        let s = portal_with w.o.checks w.o.terms in
         let rows = old.now.trees 6 in
-        let formed = student_rows_formed old.now own sound apart in
+        let formed = student_rows_formed old.now (current_own old.now.schema own) sound apart in
         let p = passes (has_key 1) params in
         let numbers = all_map HasNumber written (filter p rows) (all_weaker IsStudentRow (λ r. HasNumber (written r)) numbered (filter p rows) (all-filter IsStudentRow p rows formed)) in
         let a = subst (λ q. AltersIn s 6 q written old.now new.now) (same_key_of 1 key (text_or_null project ∷ []))
-        (altered s update_one 3 _ 6 _ _ _ _ _ _ _ _ refl (has_key 1) with_last (update_one_is.command w.checks w.terms) (update_one_is.plain w.checks w.terms) (no_acts w.checks w.terms)
+        (altered s update_one 3 _ 6 _ _ _ _ _ _ _ _ refl (has_key 1) with_last (update_one_is.command w.o.checks w.o.terms) (update_one_is.plain w.o.checks w.o.terms) (no_acts w.o.checks w.o.terms)
         params old new h.count w.is apart numbers h.runs) in
         record {
           schema_is = a.schema_is ∙ sym w.is;
@@ -150,7 +127,7 @@ assigns_none db own sound apart = record { schema_is = refl; apart = apart; rows
 assigns_then : (all : List Assigned) (x : Assigned) (a b c : Database) → Assigns all a b → Assigns (x ∷ []) b c → Assigns (all ++ x ∷ []) a c
 assigns_then all x a b c first later own sound apart =
     let p = first own sound apart in
-    let q = later (subst IsOwn (sym p.schema_is) own) p.sound p.apart in
+    let q = later (subst IsCurrent (sym p.schema_is) own) p.sound p.apart in
     let last : Row → Row = with_assigned (x ∷ []) in
     let old = a.trees student_tree in
     let both : map last (map (with_assigned all) old) ≡ map (with_assigned (all ++ x ∷ [])) old =

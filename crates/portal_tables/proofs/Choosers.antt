@@ -1,20 +1,7 @@
 -- Who names a project, of the keys that a query of the lists shows.
-use Rattle.std.proofs.Common.{◌≡◌, Bool, true, ◌&&◌, ◌||◌, List, [], ◌∷◌, map, filter, refl, sym, ap, ap₂, ◌∙◌}
-use Rattle.std.specs.List.{AllByRecursion, list_any}
-use Rattle.std.proofs.Math.Bool.{and_comm}
-use Rattle.std.proofs.lemmas.List.Sorted.{list_any-IsPermutation}
-use Rattle.sqlite.specs.Order.{Row, column, bytes}
-use Rattle.sqlite.specs.Effect.{Database}
-use Rattle.sqlite_trees.proofs.ListLemmas.{map-map, all-filter}
-use Rattle.portal_core.specs.Words.{Key, is, has}
-use Rattle.portal_core.proofs.AllLaws.{all_weaker, all_map, any_map, filtered_any, is_sym}
+use Rattle.std.specs.Prelude.{◌≡◌, ◌&&◌, ◌||◌, ◌∷◌}
+use Rattle.portal_tables.proofs.Base.{Bool, true, List, [], map, filter, refl, sym, ap, ap₂, ◌∙◌, AllByRecursion, list_any, and_comm, list_any-IsPermutation, Row, column, bytes, Database, map-map, all-filter, Key, is, has, all_weaker, all_map, any_map, filtered_any, is_sym, student_tree, choice_tree, ListsBy, columns, has_text, of_key, named_by, place_key, by_place, chosen, row_key, by_key, roll_columns, students_shown, first, HasTables}
 use Rattle.portal_tables.specs.declared.list_table.Lists.TheVariants as which
-use Rattle.portal_tables.specs.Tables.{student_tree, choice_tree}
-use Rattle.portal_tables.specs.Changes.{ListsBy, columns, has_text}
-use Rattle.portal_tables.specs.Lists.{of_key, named_by, place_key, by_place, chosen}
-use Rattle.portal_tables.specs.Rolls.{row_key, by_key, roll_columns, students_shown}
-use Rattle.portal_tables.specs.Shown.{first}
-use Rattle.portal_tables.specs.Lines.{HasTables}
 use Rattle.portal_tables.proofs.Listed.{permuted}
 use Rattle.portal_tables.proofs.Owners.{shown_there}
 use Rattle.portal_tables.proofs.Parents.{place_parents}
@@ -53,14 +40,14 @@ module _ (db : Database) (tables : HasTables db) (p : Key) (shown : List Row) (l
       any_map (is p) named_by (by_place (of_key k table))
       ∙ sym (list_any-IsPermutation (λ r. is p (named_by r)) (of_key k table) (by_place (of_key k table)) (permutes place_key (of_key k table)))
       ∙ filtered_any (λ r. is p (named_by r)) (has_text 1 k) table in
-      named_where (has_text 3 p) table shown lists k ∙ any_alike _ _ table (all_weaker IsPlace _ (alike k) table (place_rows_formed db tables.own tables.sound which.Choices tables.apart.1.1.1.1.0)) ∙ sym right
+      named_where (has_text 3 p) table shown lists k ∙ any_alike _ _ table (all_weaker IsPlace _ (alike k) table (place_rows_formed db which.Choices tables.own tables.sound tables.apart.1.1.1.1.0)) ∙ sym right
 
   -- who names the project is on the roll
   pub choosers_known : AllByRecursion (λ k. has (map first (students_shown db.trees)) k ≡ true) (map first shown)
   choosers_known =
       let Known : Key → Type 0 = λ k. has (map first (students_shown db.trees)) k ≡ true in
       let rows : AllByRecursion (λ r. Known (row_key r)) table =
-      all_weaker _ (λ r. Known (row_key r)) (λ r known. shown_there (2 ∷ 3 ∷ 4 ∷ []) (db.trees student_tree) (row_key r) known.0) table (place_parents db tables.own tables.sound which.Choices tables.apart.1.1.1.1.0) in
+      all_weaker _ (λ r. Known (row_key r)) (λ r known. shown_there (2 ∷ 3 ∷ 4 ∷ []) (db.trees student_tree) (row_key r) known.0) table (place_parents db which.Choices tables.own tables.sound tables.apart.1.1.1.1.0) in
       let mapped : AllByRecursion (λ c. Known (first c)) (map (columns (1 ∷ [])) (filter (has_text 3 p) table)) =
       all_map (λ c. Known (first c)) (columns (1 ∷ [])) (filter (has_text 3 p) table) (all-filter (λ r. Known (row_key r)) (has_text 3 p) table rows) in
       all_map Known first shown (all_permuted (λ c. Known (first c)) _ shown (permuted _ _ _ table shown lists) mapped)

@@ -1,20 +1,8 @@
 -- Rows that are decoded one at a time, as they are read.
-use Rattle.std.proofs.Common.{◌≡◌, ℕ, Bool, true, false, refl, List, [], ◌∷◌, ◌++◌, None, Some, Option, sym, ap, subst, ◌∙◌}
-use Rattle.std.proofs.lemmas.List.{map-append, map-id}
-use Rattle.sqlite.specs.Clock.{timed}
-use Rattle.sqlite.specs.declared.error.Error.{Error}
-use Rattle.sqlite.proofs.Callers.{EndsIn, begins_shown}
-use Rattle.sqlite_resolve.specs.declared.compiled.Compiled.{Compiled}
-use Rattle.sqlite.specs.Effect.{Database}
-use Rattle.sqlite.specs.Given.{HasGiven, Advances, IsPlain}
-use Rattle.sqlite.specs.Held.{Held, state}
-use Rattle.sqlite.specs.Listing.{understood, reads_listing, IsSourceOf}
-use Rattle.sqlite.specs.Order.{Row}
-use Rattle.sqlite.specs.State.{State, Begins, Shown, ShowsRows, IsUnchanged}
+use Rattle.std.specs.Prelude.{◌≡◌, ◌∷◌, ◌++◌}
+use Rattle.portal_tables.proofs.Base.{ℕ, Bool, true, false, refl, List, [], None, Some, Option, sym, ap, subst, ◌∙◌, map-append, map-id, timed, Error, EndsIn, begins_shown, Compiled, Database, HasGiven, Advances, Held, state, understood, reads_listing, IsSourceOf, Row, State, Begins, Shown, ShowsRows, IsUnchanged, Ok, Err, Result, IfOk, OnOk, OnErr, option_copied, Bor, ShowsAs, FindsAny}
+use Rattle.sqlite.specs.Given.{IsPlain}
 use Rattle.sqlite_trees.specs.declared.store.Store.{Ghosts}
-use Rattle.std.specs.Prelude.{Ok, Err, Result, IfOk, OnOk, OnErr, option_copied}
-use Rattle.std.specs.Borrow.{Bor}
-use Rattle.portal_tables.specs.Decoding.{ShowsAs, FindsAny}
 use Rattle.portal_tables.proofs.InTurn.{unchanged_then, unchanged_self}
 
 -- what a connection shows that is as it was before is what it showed then

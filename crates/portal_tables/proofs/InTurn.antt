@@ -1,13 +1,7 @@
 -- Several readings in turn.
-use Rattle.std.specs.Result.{IsErr}
-use Rattle.std.proofs.Common.{List, IfOk, ◌≡◌, inl, inr, IsTrue, Ok, Err, Result, OnOk, refl, sym, subst, ◌∙◌, arith}
-use Rattle.sqlite.specs.Effect.{Database}
-use Rattle.sqlite.specs.State.{State, HasCleanDisk, IsUnchanged, Survives}
-use Rattle.sqlite.proofs.StateLemmas.{survives_then, survives_weaker}
-use Rattle.portal_tables.specs.Own.{IsOwn}
-use Rattle.portal_tables.specs.Steps.{Leaves}
-use Rattle.std.proofs.lemmas.Result.{on_ok_weaker, on_err_weaker}
-use Rattle.portal_tables.specs.Reading.{Asks, Reads}
+use Rattle.std.specs.Prelude.{◌≡◌}
+use Rattle.portal_tables.proofs.Base.{IsErr, List, IfOk, inl, inr, IsTrue, Ok, Err, Result, OnOk, refl, sym, subst, ◌∙◌, Database, State, HasCleanDisk, IsUnchanged, Survives, survives_then, survives_weaker, Round, First, IsOwn, HasRound, Leaves, on_ok_weaker, on_err_weaker, AsksIn, ReadsIn}
+use Rattle.std.proofs.Common.{arith}
 
 pub unchanged_then : (a b c : State) → IsUnchanged a b → IsUnchanged b c → IsUnchanged a c
 unchanged_then a b c p q = (
@@ -29,17 +23,13 @@ then_leaves a b c p (inr q) = inr (record {
   counts = record { changes = q.counts.changes ∙ p.1.changes; last_rowid = q.counts.last_rowid ∙ p.1.last_rowid };
 })
 
--- what is known in the middle
-pub still : {V E : Type 0} (v : V) (a b : State) → Reads {V = V} {E = E} (Ok v) a b → IsOwn a.now.schema → HasCleanDisk b → IsTrue a.is_open → IsUnchanged a b
-still v a b h own clean on = h.same own clean on
-
 pub still_own : (a b : State) → IsUnchanged a b → IsOwn a.now.schema → IsOwn b.now.schema
 still_own a b h own = subst (λ (d : Database). IsOwn d.schema) (sym h.0.now_is) own
 
 pub clean_before : (b c : State) (P : _) → Survives b c P → HasCleanDisk c → HasCleanDisk b
 clean_before b c P h clean = omega (arith, h.clean, clean)
 
-pub reads_self : {V E : Type 0} (v : V) (s : State) → Reads {V = V} {E = E} (Ok v) s s
+pub reads_self : {round : Round} {V E : Type 0} (v : V) (s : State) → ReadsIn round {V = V} {E = E} (Ok v) s s
 reads_self v s = record {
   same = λ own clean on. unchanged_self s on;
   err = λ own clean on. tt;
@@ -49,30 +39,31 @@ reads_self v s = record {
 }
 
 -- another reading after one that answered
-pub reads_then : {U V D E : Type 0} (u : U) (r : Result V E) (a b c : State) → Reads {V = U} {E = D} (Ok u) a b → Reads r b c → Reads r a c
-reads_then u r a b c p q =
+pub reads_then : {round : Round} {U V D E : Type 0} (u : U) (r : Result V E) (a b c : State) → ReadsIn round {V = U} {E = D} (Ok u) a b → ReadsIn round r b c → ReadsIn round r a c
+reads_then {round} u r a b c p q =
+    let still : (a b : State) → IsUnchanged a b → HasRound round a.now.schema → HasRound round b.now.schema = λ a b h own. subst (λ (d : Database). HasRound round d.schema) (sym h.0.now_is) own in
     let before : HasCleanDisk c → HasCleanDisk b = clean_before b c _ q.crash in
-    let middle : IsOwn a.now.schema → HasCleanDisk c → IsTrue a.is_open → IsUnchanged a b = λ own clean on. p.same own (before clean) on in
+    let middle : HasRound round a.now.schema → HasCleanDisk c → IsTrue a.is_open → IsUnchanged a b = λ own clean on. p.same own (before clean) on in
     record {
-      same = λ own clean on. let m = middle own clean on in on_ok_weaker r (unchanged_then a b c m) (q.same (still_own a b m own) clean m.0.is_open);
-      err = λ own clean on. let m = middle own clean on in on_err_weaker r (then_leaves a b c m) (q.err (still_own a b m own) clean m.0.is_open);
+      same = λ own clean on. let m = middle own clean on in on_ok_weaker r (unchanged_then a b c m) (q.same (still a b m own) clean m.0.is_open);
+      err = λ own clean on. let m = middle own clean on in on_err_weaker r (then_leaves a b c m) (q.err (still a b m own) clean m.0.is_open);
       now = λ own clean.
           let m : b.now ≡ a.now = p.now own (before clean) in
-          on_ok_weaker r (λ e. e ∙ m) (q.now (subst (λ (d : Database). IsOwn d.schema) (sym m) own) clean);
+          on_ok_weaker r (λ e. e ∙ m) (q.now (subst (λ (d : Database). HasRound round d.schema) (sym m) own) clean);
       mode = λ idle. q.mode (p.mode idle);
-      crash = survives_then a b c _ _ _ (λ clean db no. no) (λ clean db no own on. let m = middle own clean on in no (still_own a b m own) m.0.is_open) p.crash q.crash;
+      crash = survives_then a b c _ _ _ (λ clean db no. no) (λ clean db no own on. let m = middle own clean on in no (still a b m own) m.0.is_open) p.crash q.crash;
     }
 
 -- the same reading, whatever is answered then
-pub reads_more : {U V D E : Type 0} (u : U) (r : Result V E) (a b : State) → Reads {V = U} {E = D} (Ok u) a b → Reads r a b
+pub reads_more : {round : Round} {U V D E : Type 0} (u : U) (r : Result V E) (a b : State) → ReadsIn round {V = U} {E = D} (Ok u) a b → ReadsIn round r a b
 reads_more u (Ok v) a b h = record { same = h.same; err = λ own clean on. tt; now = h.now; mode = h.mode; crash = h.crash }
 reads_more u (Err e) a b h = record { same = λ own clean on. tt; err = λ own clean on. inl (h.same own clean on); now = λ own clean. tt; mode = h.mode; crash = h.crash }
 
-pub reads_fail : {U V D E : Type 0} (d : D) (e : E) (a b : State) → Reads {V = U} {E = D} (Err d) a b → Reads {V = V} {E = E} (Err e) a b
+pub reads_fail : {round : Round} {U V D E : Type 0} (d : D) (e : E) (a b : State) → ReadsIn round {V = U} {E = D} (Err d) a b → ReadsIn round {V = V} {E = E} (Err e) a b
 reads_fail d e a b h = record { same = λ own clean on. tt; err = h.err; now = λ own clean. tt; mode = h.mode; crash = h.crash }
 
 -- one query
-pub reads_of : {V E : Type 0} (r : Result V E) (a b : State) → Asks r a b → Reads r a b
+pub reads_of : {round : Round} {V E : Type 0} (r : Result V E) (a b : State) → AsksIn round r a b → ReadsIn round r a b
 reads_of r a b h = record {
   same = λ own clean on. h.same own clean;
   err = λ own clean on. h.err own clean;
@@ -96,10 +87,10 @@ wholly (Ok v) A B more h = more h
 wholly (Err e) A B more h = tt
 
 -- an error that is handed on
-pub reads_handed : {V E : Type 0} {U : Type 0} (e : E) (r : Result V E) (a b : State) → IsErr r → Reads {V = U} {E = E} (Err e) a b → Reads r a b
+pub reads_handed : {round : Round} {V E : Type 0} {U : Type 0} (e : E) (r : Result V E) (a b : State) → IsErr r → ReadsIn round {V = U} {E = E} (Err e) a b → ReadsIn round r a b
 reads_handed e (Ok v) a b is h = absurd (cc)
 reads_handed e (Err f) a b is h = reads_fail e f a b h
 
-pub reads_failed : {V U D E : Type 0} (d : D) (r : Result V E) (a b : State) → IsErr r → Reads {V = U} {E = D} (Err d) a b → Reads r a b
+pub reads_failed : {round : Round} {V U D E : Type 0} (d : D) (r : Result V E) (a b : State) → IsErr r → ReadsIn round {V = U} {E = D} (Err d) a b → ReadsIn round r a b
 reads_failed d (Ok v) a b is h = absurd (cc)
 reads_failed d (Err f) a b is h = reads_fail d f a b h

@@ -1,28 +1,7 @@
 -- What each change leaves of what a store knows between two calls: the tables are its own, and rows have numbers of their own.
-use Rattle.std.proofs.Common.{◌≡◌, ◌≢◌, ℕ, ℤ, List, [], ◌∷◌, ◌++◌, map, length, Result, Ok, Bool, true, false, not, refl, sym, ap, ap₂, subst, subst₂, ◌∙◌}
-use Rattle.std.specs.List.{AllByRecursion, flat_map}
-use Rattle.std.specs.Ordering.{is_eq, match_ordering}
-use Rattle.std.specs.declared.cmp.Ordering.{Ordering}
-use Rattle.std.specs.declared.cmp.Ordering.TheVariants.{Less, Equal, Greater}
-use Rattle.std.proofs.lemmas.Bool.{and_parts, or_parts}
-use Rattle.std.specs.List.Sorted.{IsPermutation}
-use Rattle.std.proofs.lemmas.List.Sorted.{IsPermutation-refl, IsPermutation-trans, IsPermutation-sym, IsPermutation-middle, IsPermutation-append_right}
-use Rattle.std.proofs.lemmas.List.{map-append}
-use Rattle.sqlite.specs.declared.types.Value.TheVariants.{Int}
-use Rattle.sqlite.specs.Order.{Row, value_cmp}
-use Rattle.sqlite.specs.Edit.{next_rowid, is_taken, id_in, are_fresh, put_all}
-use Rattle.sqlite.specs.Tree.{put_row, rowid}
-use Rattle.sqlite.specs.Effect.{Database}
-use Rattle.sqlite.specs.Store.{Ghosts}
-use Rattle.sqlite.specs.Held.{state}
-use Rattle.sqlite.specs.declared.error.Error.{Error}
-use Rattle.sqlite.specs.declared.transaction.Transaction.{Transaction}
-use Rattle.sqlite_trees.proofs.TreeLemmas.{all-put_row}
-use Rattle.portal_tables.specs.Changes.{Puts, Drops, Sets, IsApart, Keeps, with_rows, AreNew}
-use Rattle.portal_tables.specs.Tables.{own_trees}
-use Rattle.portal_tables.specs.Own.{IsOwn}
-use Rattle.portal_tables.specs.Rows.{Adds, AddsBy}
-use Rattle.portal_tables.specs.Steps.{Ran, GoesOn, Does}
+use Rattle.std.specs.Prelude.{◌≡◌, ◌≢◌, ◌∷◌, ◌++◌}
+use Rattle.portal_tables.proofs.Base.{ℕ, ℤ, List, [], map, length, Result, Ok, Bool, true, false, not, eqb, refl, sym, ap, ap₂, subst, subst₂, ◌∙◌, AllByRecursion, flat_map, list_all, is_eq, match_ordering, Ordering, Less, Equal, Greater, and_parts, or_parts, eqb-false, IsPermutation, IsPermutation-refl, IsPermutation-trans, IsPermutation-sym, IsPermutation-middle, IsPermutation-append_right, map-append, Int, Row, value_cmp, next_rowid, is_taken, id_in, are_fresh, put_all, put_row, rowid, Database, Ghosts, state, Error, Transaction, all-put_row, Puts, Drops, Sets, IsApart, with_rows, AreNew, own_trees, IsCurrent, Adds, AddsBy, Ran, GoesOn, Does}
+use Rattle.portal_tables.specs.Changes.{Keeps}
 use Rattle.portal_tables.proofs.Runs.{does_then, goes_then}
 use Rattle.portal_tables.proofs.Lists.{apart_filter, eq_flips, put_splits, not_true}
 
@@ -50,6 +29,11 @@ rows_apart table (c ∷ cells) new apart =
 pub puts_apart : (tree : ℕ) (cells : List Row) (old new : Database) → Puts tree cells old new → IsApart (old.trees tree) → IsApart (new.trees tree)
 puts_apart tree cells old new h apart = subst IsApart (sym h.rows) (rows_apart (old.trees tree) cells h.free apart)
 
+pub put_permutes : (x : Row) (rows : List Row) → is_taken rows x ≡ false → IsPermutation (x ∷ rows) (put_row x rows)
+put_permutes x rows free =
+    let split = put_splits x rows free in
+    subst₂ IsPermutation (ap (λ l. x ∷ l) (sym split.2)) (sym split.3) (IsPermutation-sym _ _ (IsPermutation-middle split.0 x split.1))
+
 -- rows are put, each with a number that no other row has
 pub rows_put : (rows news : List Row) → are_fresh rows news ≡ true → AllByRecursion (λ r. rowid r ≡ Int (id_in (rowid r))) news → IsApart rows
     → IsPermutation (news ++ rows) (put_all rows news) × IsApart (put_all rows news)
@@ -57,10 +41,8 @@ rows_put rows [] fresh numbers apart = (IsPermutation-refl rows, apart)
 rows_put rows (x ∷ news) fresh numbers apart =
     let two = and_parts (not (is_taken rows x)) (are_fresh (put_row x rows) news) fresh in
     let free : is_taken rows x ≡ false = not_true (is_taken rows x) two.0 in
-    let split = put_splits x rows free in
-    let one : IsPermutation (x ∷ rows) (put_row x rows) = subst₂ IsPermutation (ap (λ l. x ∷ l) (sym split.2)) (sym split.3) (IsPermutation-sym _ _ (IsPermutation-middle split.0 x split.1)) in
     let rest = rows_put (put_row x rows) news two.1 numbers.1 (apart_put x rows _ numbers.0 apart free) in (
-      IsPermutation-trans _ _ _ (IsPermutation-sym _ _ (IsPermutation-middle news x rows)) (IsPermutation-trans _ _ _ (IsPermutation-append_right news _ _ one) rest.0),
+      IsPermutation-trans _ _ _ (IsPermutation-sym _ _ (IsPermutation-middle news x rows)) (IsPermutation-trans _ _ _ (IsPermutation-append_right news _ _ (put_permutes x rows free)) rest.0),
       rest.1,
     )
 
@@ -72,6 +54,13 @@ keeps_then tree a b c p q = each own_trees p q
         → AllByRecursion (λ t. t ≢ tree → c.trees t ≡ a.trees t) trees
     each [] p q = tt
     each (t ∷ trees) p q = (λ other. q.0 other ∙ p.0 other, each trees p.1 q.1)
+
+-- what is so of each tree but one is so of trees among which that is not
+pub others_are : (P : ℕ → Type 0) (tree : ℕ) (trees : List ℕ) → list_all (λ t. not (eqb t tree)) trees ≡ true → AllByRecursion (λ t. t ≢ tree → P t) trees → AllByRecursion P trees
+others_are P tree [] apart all = tt
+others_are P tree (t ∷ trees) apart all =
+    let two = and_parts (not (eqb t tree)) (list_all (λ s. not (eqb s tree)) trees) apart in
+    (all.0 (eqb-false t tree (not_true (eqb t tree) two.0)), others_are P tree trees two.1 all.1)
 
 -- every table is as it was
 pub keeps_all : {tree : ℕ} (db : Database) → Keeps tree db db
@@ -100,7 +89,7 @@ new_then table (c ∷ cells) more p q = (p.0, new_then (put_row (Int (next_rowid
 pub adds_then : (tree : ℕ) (cells more : List Row) (a b c : Database) → Adds tree cells a b → Adds tree more b c → Adds tree (cells ++ more) a c
 adds_then tree cells more a b c adds later own =
     let p = adds own in
-    let q = later (subst IsOwn (sym p.schema_is) own) in
+    let q = later (subst IsCurrent (sym p.schema_is) own) in
     record {
       schema_is = q.schema_is ∙ p.schema_is;
       free = new_then (a.trees tree) cells more p.free (subst (λ t. AreNew t more) p.rows q.free);

@@ -1,3 +1,4 @@
+pub mod Base
 pub mod Lists
 pub mod Zip
 pub mod Query
@@ -9,7 +10,6 @@ pub mod Making
 pub mod Queries
 pub mod Rises
 pub mod Statements
-pub mod Eights
 pub mod Shows
 pub mod Keeping
 pub mod Owned
@@ -32,3 +32,4 @@ pub mod Choosers
 pub mod OneKey
 pub mod LineRows
 pub mod Assigning
+pub mod SecondRound

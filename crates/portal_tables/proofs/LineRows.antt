@@ -1,26 +1,8 @@
 -- The lines that are found by the keys of who names a project are those of its applicants.
-use Rattle.std.proofs.Common.{◌≡◌, inl, inr, Bool, true, false, cond, ◌||◌, Some, option_map, List, [], ◌∷◌, map, filter, refl, sym, ap, subst, ◌∙◌}
-use Rattle.std.specs.List.{AllByRecursion, find, filter_map}
-use Rattle.std.proofs.lemmas.Bool.{cases_Bool}
-use Rattle.std.proofs.lemmas.List.{map-id}
-use Rattle.sqlite.specs.Order.{Row}
-use Rattle.sqlite.specs.Effect.{Database}
-use Rattle.sqlite_rules.specs.Lists.{Has}
-use Rattle.portal_core.specs.Words.{Key, is, has, is_before, Rise}
-use Rattle.portal_core.proofs.AllLaws.{all_map, all_weaker}
-use Rattle.portal_core.proofs.Fills.{before_other, rise_kept}
-use Rattle.portal_core.proofs.Keys.{is_same, is_own, all_unmap}
-use Rattle.portal_tables.specs.Rolls.{row_key, by_key, roll_columns, students_shown}
-use Rattle.portal_tables.specs.Tables.{student_tree, choice_tree}
-use Rattle.portal_tables.specs.Changes.{ListsBy, columns, has_text}
-use Rattle.portal_tables.specs.Lists.{chosen}
-use Rattle.portal_tables.specs.Decoding.{ShowsAs}
-use Rattle.portal_tables.specs.Shown.{first}
-use Rattle.portal_tables.specs.Lines.{HasTables, shown_line, told_line, line_at, applicant_lines}
-use Rattle.portal_tables.specs.declared.lines.Line.{Line}
+use Rattle.std.specs.Prelude.{◌≡◌, ◌||◌, ◌∷◌}
+use Rattle.portal_tables.proofs.Base.{inl, inr, Bool, true, false, cond, Some, option_map, List, [], map, filter, refl, sym, ap, subst, ◌∙◌, AllByRecursion, find, filter_map, cases_Bool, map-id, Row, Database, Has, Key, is, has, is_before, Rise, all_map, all_weaker, before_other, rise_kept, is_same, is_own, all_unmap, row_key, by_key, roll_columns, students_shown, student_tree, choice_tree, ListsBy, columns, has_text, chosen, ShowsAs, first, HasTables, shown_line, told_line, line_at, applicant_lines, Line, all_of}
 use Rattle.portal_tables.proofs.Choosers.{chooser, choosers_known}
 use Rattle.portal_tables.proofs.Owners.{keys_shown}
-use Rattle.sqlite_trees.proofs.ListLemmas.{all_of}
 use Rattle.portal_tables.proofs.OneFound.{found}
 use Rattle.portal_tables.proofs.OneKey.{student_keys_rise}
 use Rattle.portal_tables.proofs.Shapes.{IsStudentRow, student_test, student_rows_formed}

@@ -1,34 +1,12 @@
 -- What a query of one table shows, and the one order of its rows.
-use Rattle.std.proofs.Common.{◌≡◌, inl, inr, ℕ, pos, negsuc, ◌+◌, ◌<◌, ◌≤◌, Bool, true, false, List, [], ◌∷◌, length, map, filter, refl, sym, ap, subst, subst₂, ◌∙◌, arith}
-use Rattle.std.specs.List.{AllByRecursion}
-use Rattle.std.specs.List.Sorted.{IsPermutation, IsSorted}
-use Rattle.std.proofs.lemmas.List.{nil_from_length, length-map}
-use Rattle.std.proofs.lemmas.List.Sorted.{IsPermutation-map, IsPermutation-sym, length_permutation}
-use Rattle.std.specs.declared.cmp.Ordering.{Ordering}
-use Rattle.std.specs.declared.cmp.Ordering.TheVariants.{Less, Equal, Greater}
-use Rattle.std.specs.Ordering.{is_lt, is_gt, nat_cmp, int_cmp, ordering_then, ordering_reverse}
+use Rattle.std.specs.Prelude.{◌≡◌, ◌+◌, ◌<◌, ◌≤◌, ◌∷◌}
 use Rattle.std.specs.Prelude.{◌<ℤ◌}
-use lib.Dec.{lt→ltb}
-use Rattle.std.specs.Cmp.{nat_cmp_is, int_cmp_is}
-use Rattle.std.proofs.lemmas.Bool.{cases_lt}
-use Rattle.std.specs.Cmp.Lexicographic.{slice_cmp, nat_list_cmp_total}
-use Rattle.sqlite.specs.declared.types.Value.{Value}
-use Rattle.sqlite.specs.declared.types.Value.TheVariants.{Null, Int, Real, Blob, Text as Words}
-use Rattle.sqlite.specs.Order.{Row, column, bytes, value_cmp}
-use Rattle.sqlite_trees.specs.Objects.{number_in}
-use Rattle.sqlite_trees.specs.Tree.{IsAscending}
-use Rattle.sqlite_trees.proofs.ListLemmas.{map-map, all_of}
-use Rattle.sqlite_value.proofs.OrderLemmas.{value_cmp_total, value_cmp-Int, value_cmp-Text, then-Equal}
-use Rattle.sqlite_exec.proofs.PartitionLemmas.{ascending_from_sorted}
-use Rattle.sqlite_exec.proofs.RowsLemmas.{IsSorted-map}
-use Rattle.portal_core.specs.Words.{Key, is_before, Rise, put_all}
-use Rattle.portal_core.proofs.AllLaws.{all_weaker, all_map}
-use Rattle.portal_core.proofs.Keys.{all_unmap}
-use Rattle.portal_tables.specs.Changes.{ListsBy, every, columns, has_text}
+use Rattle.portal_tables.proofs.Base.{inl, inr, ℕ, pos, negsuc, Bool, true, false, List, [], length, map, filter, refl, sym, ap, subst, subst₂, ◌∙◌, AllByRecursion, IsPermutation, IsSorted, nil_from_length, length-map, IsPermutation-map, IsPermutation-sym, length_permutation, Ordering, Less, Equal, Greater, is_lt, is_gt, nat_cmp, ordering_then, ordering_reverse, lt→ltb, nat_cmp_is, int_cmp_is, cases_lt, slice_cmp, Value, Null, Int, Real, Blob, Words, Row, column, bytes, value_cmp, number_in, IsAscending, map-map, all_of, value_cmp_total, value_cmp-Int, value_cmp-Text, then-Equal, ascending_from_sorted, IsSorted-map, Key, is_before, Rise, all_weaker, all_map, all_unmap, ListsBy, every, columns, has_text, row_key, by_key, of_key, place_of, place_key, by_place, named_by, chosen, CountUp, IsWhole, first, shown_place, shown_name}
+use Rattle.std.proofs.Common.{arith}
+use Rattle.std.specs.Ordering.{int_cmp}
+use Rattle.std.specs.Cmp.Lexicographic.{nat_list_cmp_total}
+use Rattle.portal_core.specs.Words.{put_all}
 use Rattle.portal_tables.proofs.Lists.{filter_all}
-use Rattle.portal_tables.specs.Rolls.{row_key, by_key}
-use Rattle.portal_tables.specs.Lists.{of_key, place_of, place_key, by_place, named_by, chosen, CountUp, IsWhole}
-use Rattle.portal_tables.specs.Shown.{first, shown_place, shown_name}
 use Rattle.portal_tables.proofs.Sorted.{NeverFall, all_permuted, in_order, sorted_order, put_all_map, permutes}
 
 -- what a map gives, where its elements are known

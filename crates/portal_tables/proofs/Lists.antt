@@ -1,20 +1,6 @@
 -- Lists of rows.
-use Rattle.std.proofs.Common.{◌≡◌, inl, inr, ℤ, List, [], ◌∷◌, ◌++◌, map, filter, Bool, true, false, not, ◌&&◌, ◌||◌, cond, refl, sym, ap, subst, ◌∙◌}
-use Rattle.std.specs.List.{AllByRecursion, list_any, flat_map}
-use Rattle.std.specs.Ordering.{is_eq, ordering_reverse, match_ordering}
-use Rattle.std.specs.declared.cmp.Ordering.{Ordering}
-use Rattle.std.specs.declared.cmp.Ordering.TheVariants.{Less, Equal, Greater}
-use Rattle.std.proofs.lemmas.Bool.{or_parts}
-use Rattle.sqlite.specs.declared.types.Value.{Value}
-use Rattle.sqlite.specs.declared.types.Value.TheVariants.{Int}
-use Rattle.sqlite.specs.Order.{Row, value_cmp}
-use Rattle.sqlite.specs.Tree.{put_row, rowid, has_rowid, without_rowid}
-use Rattle.sqlite.specs.Edit.{id_in, is_taken, without_all}
-use Rattle.sqlite_rules.specs.Lists.{Has}
-use Rattle.sqlite_rules.proofs.ListLemmas.{all_has}
-use Rattle.sqlite_trees.proofs.ListLemmas.{all-filter}
-use Rattle.sqlite_value.proofs.OrderLemmas.{value_cmp_total}
-use Rattle.portal_tables.specs.Changes.{IsApart}
+use Rattle.std.specs.Prelude.{◌≡◌, ◌∷◌, ◌++◌, ◌&&◌, ◌||◌}
+use Rattle.portal_tables.proofs.Base.{inl, inr, ℤ, List, [], map, filter, Bool, true, false, not, cond, refl, sym, ap, subst, ◌∙◌, AllByRecursion, list_any, flat_map, is_eq, ordering_reverse, match_ordering, Ordering, Less, Equal, Greater, or_parts, Value, Int, Row, value_cmp, put_row, rowid, has_rowid, without_rowid, id_in, is_taken, without_all, Has, all_has, all-filter, value_cmp_total, IsApart}
 
 -- a loop that shows each element which passes
 pub looped : {X Y : Type 0} (p : X → Bool) (f : X → Y) (xs : List X) → flat_map (λ x. cond (p x) (f x ∷ []) []) xs ≡ map f (filter p xs)

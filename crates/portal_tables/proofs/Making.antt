@@ -1,74 +1,77 @@
-use Rattle.std.proofs.Common.{◌≡◌, ℕ, List, [], ◌∷◌, ◌++◌, false, None, Result, Ok, refl, sym, ap, subst, ◌∙◌}
-use Rattle.std.specs.List.{AllByRecursion}
-use Rattle.sqlite.specs.Table.{Table}
-use Rattle.sqlite.specs.Schema.{Schema}
-use Rattle.sqlite.specs.Tree.{Trees}
-use Rattle.sqlite.specs.Change.{created, next_tree}
-use Rattle.sqlite.specs.Compile.{table_defined_by}
-use Rattle.sqlite.specs.Command.TheVariants.{CreateTable}
-use Rattle.sqlite.specs.Does.{Tally, lacks_sequence}
-use Rattle.sqlite.specs.Store.{Ghosts}
-use Rattle.sqlite.specs.Held.{state}
-use Rattle.sqlite.specs.declared.error.Error.{Error}
-use Rattle.sqlite.specs.declared.transaction.Transaction.{Transaction}
-use Rattle.sqlite.specs.Effect.{Database}
-use Rattle.sqlite.specs.Listing.{understood}
-use Rattle.sqlite.specs.State.{State, Writes}
-use Rattle.sqlite.proofs.Callers.{IsPlain, command_of, statement_of, runs_as}
-use Rattle.sqlite_tied.specs.Compute.{everything}
-use Rattle.portal_tables.specs.Tables.{no_schema, portal_schema, portal, portal_text, lecturer, lecturer_text, project, project_text, student, student_text, choice, ranking, choice_names, ranking_names, list_table_text}
-use Rattle.portal_tables.specs.Making.{Grows, Has, Makes, are_empty, full_schema}
-use Rattle.portal_tables.specs.Steps.{Ran, Made, Does}
+-- The tables made, one after another.
+use Rattle.std.specs.Prelude.{◌≡◌, ◌∷◌, ◌++◌}
+use Rattle.portal_tables.proofs.Base.{drop, ℕ, List, [], map, false, None, Result, Ok, refl, sym, ap, subst, subst₂, ◌∙◌, ⊤, AllByRecursion, AllZip, Table, Term, Schema, created, next_tree, table_defined_by, CreateTable, Tally, lacks_sequence, Ghosts, state, Error, Transaction, Database, understood, State, Writes, IsPlain, command_of, statement_of, runs_as, everything, zip-append, all-append, all-map, no_schema, first_schema, portal_schema, portal, portal_text, lecturer, lecturer_text, project, project_text, student, student_text, choice, ranking, choice_names, ranking_names, list_table_text, second, second_text, choice2, choice2_names, ranked2, ranked2_text, ranking2, ranking2_names, assigned2, assigned2_text, first_trees, second_trees, own_trees, SameTable, IsCurrent, IsFirst, Grows, Grown, MakesFirst, MakesSecond, Makes, with_second, Ran, Made, Does}
+use Rattle.portal_tables.proofs.Owned.{same_tables, first_self}
 use Rattle.portal_tables.proofs.Runs.{made_then, does_more, does_then}
+use Rattle.portal_tables.proofs.Sorted.{all_two}
+use Rattle.portal_tables.proofs.Weak.{with_checks, first_with, first_is}
 use Rattle.portal_tables.proofs.Writes.{went, same_value}
 
--- what has to be computed of a text that makes a table
-pub record Defines (schema : Schema) (sql : List ℕ) (table : Table) : Type 0 where
+abbrev trees_of : Schema → List ℕ
+trees_of s = map (λ (t : Table). t.tree) s.tables
+
+-- what has to be computed of a text that makes a table, in the tree after those that are there
+pub record Defines (schema : Schema) (sql : List ℕ) (table : Table) (kept : List ℕ) (next : ℕ) : Type 0 where
   pub defined : table_defined_by sql ≡ Ok table
   pub command : command_of (understood schema sql) ≡ CreateTable
   pub statement : statement_of sql (understood schema sql) ≡ sql
   pub plain : IsPlain (understood schema sql)
   pub uncounted : lacks_sequence (created schema table) ≡ false
+  pub trees : trees_of schema ≡ kept
+  pub tree : next_tree schema ≡ next
 
-all_append : {X : Type 0} (P : X → Type 0) (xs : List X) (x : X) → AllByRecursion P xs → P x → AllByRecursion P (xs ++ x ∷ [])
-all_append P [] x all one = (one, tt)
-all_append P (y ∷ xs) x all one = (all.0, all_append P xs x all.1 one)
+-- the same of schemas by what is left open in them
+abbrev GrowsBy : {I : Type 0} → (I → Schema) → (I → Schema) → List ℕ → List ℕ → Database → Database → Type 0
+GrowsBy {I} before after kept more old new = (i : I) → Grows (before i) (after i) kept more old new
 
-all_then : (f g : Trees) (tables : List Table) → AllByRecursion (λ t. g t.tree ≡ f t.tree) tables → AllByRecursion (λ t. f t.tree ≡ []) tables → AllByRecursion (λ t. g t.tree ≡ []) tables
-all_then f g [] same none = tt
-all_then f g (t ∷ tables) same none = (same.0 ∙ none.0, all_then f g tables same.1 none.1)
+grows : (schema : Schema) (sql : List ℕ) (table : Table) (kept : List ℕ) (next : ℕ) → Defines schema sql table kept next → (old new : State) → Ran sql [] old new
+    → Grows schema (created schema table) kept (next ∷ []) old.now new.now
+grows schema sql table kept next defines old new ran has =
+    let w = subst (λ t. Writes old new None CreateTable t [] ran.count) defines.statement (runs_as sql [] old new schema has CreateTable defines.command defines.plain ran.count ran.runs) in
+    let all = went w.changed in
+    let first = went all.1 in
+    let made = first.1 in
+    let both : Ok made.table ≡ Ok table = sym made.defined ∙ defines.defined in
+    let same : made.table ≡ table = same_value both in
+    let is : first.0.schema ≡ created schema table = made.is ∙ ap (λ s. created s made.table) has ∙ ap (created schema) same in
+    let plain : lacks_sequence first.0.schema ≡ false = ap lacks_sequence is ∙ defines.uncounted in
+    let now : new.now ≡ first.0 = ap (λ (p : Tally × Database). p.1) (same_value all.2) ∙ same_value (rw plain at first.2) in
+    let Same : Database → ℕ → Type 0 = λ db t. db.trees t ≡ old.now.trees t in
+    record {
+      schema_is = ap (λ (d : Database). d.schema) now ∙ is;
+      same = subst₂ (λ d trees. AllByRecursion (Same d) trees) (sym now) defines.trees
+          (all-map (Same first.0) (λ (t : Table). t.tree) schema.tables (subst (λ s. AllByRecursion (λ t. Same first.0 t.tree) s.tables) has made.others));
+      empty = (ap (λ (d : Database). d.trees next) now ∙ subst (λ t. first.0.trees t ≡ []) defines.tree (subst (λ s. first.0.trees (next_tree s) ≡ []) has made.empty), tt);
+      sound = w.sound;
+    }
 
-pub grows : (schema : Schema) (sql : List ℕ) (table : Table) → Defines schema sql table → (old new : State) → Ran sql [] old new → Made (Grows schema (created schema table)) old new
-grows schema sql table defines old new ran = record {
-  shown = ran.shown;
-  changed = λ has none.
-      let w = subst (λ t. Writes old new None CreateTable t [] ran.count) defines.statement (runs_as sql [] old new schema has CreateTable defines.command defines.plain ran.count ran.runs) in
-      let all = went w.changed in
-      let first = went all.1 in
-      let made = first.1 in
-      let both : Ok made.table ≡ Ok table = sym made.defined ∙ defines.defined in
-      let same : made.table ≡ table = same_value both in
-      let is : first.0.schema ≡ created schema table = made.is ∙ ap (λ s. created s made.table) has ∙ ap (created schema) same in
-      let plain : lacks_sequence first.0.schema ≡ false = ap lacks_sequence is ∙ defines.uncounted in
-      let now : new.now ≡ first.0 = ap (λ (p : Tally × Database). p.1) (same_value all.2) ∙ same_value (rw plain at first.2) in
-      let empty : first.0.trees (next_tree schema) ≡ [] = subst (λ s. first.0.trees (next_tree s) ≡ []) has made.empty in
-      let others = all_then old.now.trees first.0.trees schema.tables (subst (λ s. AllByRecursion (λ t. first.0.trees t.tree ≡ old.now.trees t.tree) s.tables) has made.others) none in
-      record {
-        schema_is = ap (λ (d : Database). d.schema) now ∙ is;
-        empty = subst (λ (d : Database). are_empty (created schema table) d.trees) (sym now) (all_append (λ t. first.0.trees t.tree ≡ []) schema.tables _ others empty);
-        sound = w.sound;
-      };
-}
+-- a text makes a table
+pub grown : {S A I : Type 0} (g : Ghosts S) (schema : I → Schema) (sql : List ℕ) (table : Table) (kept : List ℕ) (next : ℕ) → ((i : I) → Defines (schema i) sql table kept next)
+    → (r : Result A Error) (old new : Transaction S) → Does g (Ran sql []) r old new → Does g (Made (GrowsBy schema (λ i. created (schema i) table) kept (next ∷ []))) r old new
+grown g schema sql table kept next defines r old new does =
+    does_more g _ _ r old new does (λ ran. record { shown = ran.shown; changed = λ i. grows (schema i) sql table kept next (defines i) _ _ ran })
 
--- a text makes a table, and then more are made
-pub grown : {S A : Type 0} (g : Ghosts S) (schema : Schema) (sql : List ℕ) (table : Table) → Defines schema sql table → (r : Result A Error) (old new : Transaction S) → Does g (Ran sql []) r old new
-    → Does g (Made (Grows schema (created schema table))) r old new
-grown g schema sql table defines r old new does = does_more g _ _ r old new does (grows schema sql table defines _ _)
+pub parts_of : (P : ℕ → Type 0) (xs ys : List ℕ) → AllByRecursion P (xs ++ ys) → AllByRecursion P xs × AllByRecursion P ys
+parts_of P [] ys h = (tt, h)
+parts_of P (x ∷ xs) ys h = let rest = parts_of P xs ys h.1 in ((h.0, rest.0), rest.1)
 
-pub grown_then : {S A B : Type 0} (g : Ghosts S) (a b c : Schema) (x : A) (r : Result B Error) (old mid new : Transaction S) → Does g (Made (Grows a b)) (Ok x) old mid → Does g (Made (Grows b c)) r mid new
-    → Does g (Made (Grows a c)) r old new
-grown_then g a b c x r old mid new p q =
-    does_then g _ _ _ x r old mid new p q (λ p q. made_then (Grows a b) (Grows b c) (Grows a c) _ _ _ p q (λ f g has none. let mid = f has none in g mid.schema_is mid.empty))
+grows_then : (a b c : Schema) (kept x y : List ℕ) (old mid new : Database) → Grows a b kept x old mid → Grows b c (kept ++ x) y mid new → Grows a c kept (x ++ y) old new
+grows_then a b c kept x y old mid new p q has =
+    let first = p has in
+    let later = q first.schema_is in
+    let two = parts_of (λ t. new.trees t ≡ mid.trees t) kept x later.same in
+    record {
+      schema_is = later.schema_is;
+      same = all_two _ _ (λ t. new.trees t ≡ old.trees t) (λ t e d. e ∙ d) kept two.0 first.same;
+      empty = all-append (λ t. new.trees t ≡ []) x y (all_two _ _ (λ t. new.trees t ≡ []) (λ t e d. e ∙ d) x two.1 first.empty) later.empty;
+      sound = later.sound;
+    }
+
+-- and then more are made
+pub grown_then : {S A B I : Type 0} (g : Ghosts S) (a b c : I → Schema) (kept x y : List ℕ) (u : A) (r : Result B Error) (old mid new : Transaction S) → Does g (Made (GrowsBy a b kept x)) (Ok u) old mid
+    → Does g (Made (GrowsBy b c (kept ++ x) y)) r mid new → Does g (Made (GrowsBy a c kept (x ++ y))) r old new
+grown_then g a b c kept x y u r old mid new p q =
+    does_then g _ _ _ u r old mid new p q (λ p q. made_then (GrowsBy a b kept x) (GrowsBy b c (kept ++ x) y) (GrowsBy a c kept (x ++ y)) _ _ _ p q (λ f h i. grows_then (a i) (b i) (c i) kept x y _ _ _ (f i) (h i)))
 
 abbrev one : Schema
 one = created no_schema (portal 0)
@@ -85,33 +88,119 @@ four = created three (student 0)
 abbrev five : Schema
 five = created four (choice 0)
 
-pub portal_made : Defines no_schema portal_text (portal 0)
+pub portal_made : Defines no_schema portal_text (portal 0) [] 0
 unfolding understood everything
-portal_made = record { defined = refl; command = refl; statement = refl; plain = (refl, refl); uncounted = refl }
+portal_made = record { defined = refl; command = refl; statement = refl; plain = (refl, refl); uncounted = refl; trees = refl; tree = refl }
 
-pub lecturer_made : Defines one lecturer_text (lecturer 0)
+pub lecturer_made : Defines one lecturer_text (lecturer 0) (0 ∷ []) 1
 unfolding understood everything
-lecturer_made = record { defined = refl; command = refl; statement = refl; plain = (refl, refl); uncounted = refl }
+lecturer_made = record { defined = refl; command = refl; statement = refl; plain = (refl, refl); uncounted = refl; trees = refl; tree = refl }
 
-pub project_made : Defines two project_text (project 0)
+pub project_made : Defines two project_text (project 0) (0 ∷ 1 ∷ []) 4
 unfolding understood everything
-project_made = record { defined = refl; command = refl; statement = refl; plain = (refl, refl); uncounted = refl }
+project_made = record { defined = refl; command = refl; statement = refl; plain = (refl, refl); uncounted = refl; trees = refl; tree = refl }
 
-pub student_made : Defines three student_text (student 0)
+pub student_made : Defines three student_text (student 0) (0 ∷ 1 ∷ 4 ∷ []) 6
 unfolding understood everything
-student_made = record { defined = refl; command = refl; statement = refl; plain = (refl, refl); uncounted = refl }
+student_made = record { defined = refl; command = refl; statement = refl; plain = (refl, refl); uncounted = refl; trees = refl; tree = refl }
 
-pub choice_made : Defines four (list_table_text choice_names) (choice 0)
+pub choice_made : Defines four (list_table_text choice_names) (choice 0) (0 ∷ 1 ∷ 4 ∷ 6 ∷ []) 9
 unfolding understood everything
-choice_made = record { defined = refl; command = refl; statement = refl; plain = (refl, refl); uncounted = refl }
+choice_made = record { defined = refl; command = refl; statement = refl; plain = (refl, refl); uncounted = refl; trees = refl; tree = refl }
 
-pub ranking_made : Defines five (list_table_text ranking_names) (ranking 0)
+pub ranking_made : Defines five (list_table_text ranking_names) (ranking 0) (0 ∷ 1 ∷ 4 ∷ 6 ∷ 9 ∷ []) 12
 unfolding understood everything
-ranking_made = record { defined = refl; command = refl; statement = refl; plain = (refl, refl); uncounted = refl }
+ranking_made = record { defined = refl; command = refl; statement = refl; plain = (refl, refl); uncounted = refl; trees = refl; tree = refl }
 
-full_is : full_schema ≡ portal_schema
+first_full : created five (ranking 0) ≡ first_schema
+unfolding understood everything
+first_full = refl
+
+pub first_made : {S A : Type 0} (g : Ghosts S) (r : Result A Error) (old new : Transaction S)
+    → Does g (Made (GrowsBy {I = ⊤} (λ _. no_schema) (λ _. created five (ranking 0)) [] first_trees)) r old new → Does g (Made MakesFirst) r old new
+first_made g r old new does =
+    does_more g _ _ r old new does (λ made. record { shown = made.shown; changed = subst (λ s. Grows no_schema s [] first_trees (state g old.conn.now).now (state g new.conn.now).now) first_full (made.changed tt) })
+
+-- behind the six the five, whatever the terms of the six
+abbrev Terms : Type 0
+Terms = (ℕ → List Term) × (ℕ → List Term)
+
+module _ (terms : Terms) where
+  abbrev pub six : Schema
+  six = first_with terms.0 terms.1
+
+  abbrev pub seven : Schema
+  seven = created six (second 0)
+
+  abbrev pub eight : Schema
+  eight = created seven (choice2 0)
+
+  abbrev pub nine : Schema
+  nine = created eight (ranked2 0)
+
+  abbrev pub ten : Schema
+  ten = created nine (ranking2 0)
+
+  pub second_made : Defines six second_text (second 0) first_trees 15
+  unfolding understood everything
+  second_made = record { defined = refl; command = refl; statement = refl; plain = (refl, refl); uncounted = refl; trees = refl; tree = refl }
+
+  pub choice2_made : Defines seven (list_table_text choice2_names) (choice2 0) (first_trees ++ (15 ∷ [])) 16
+  unfolding understood everything
+  choice2_made = record { defined = refl; command = refl; statement = refl; plain = (refl, refl); uncounted = refl; trees = refl; tree = refl }
+
+  pub ranked2_made : Defines eight ranked2_text (ranked2 0) (first_trees ++ (15 ∷ 16 ∷ [])) 19
+  unfolding understood everything
+  ranked2_made = record { defined = refl; command = refl; statement = refl; plain = (refl, refl); uncounted = refl; trees = refl; tree = refl }
+
+  pub ranking2_made : Defines nine (list_table_text ranking2_names) (ranking2 0) (first_trees ++ (15 ∷ 16 ∷ 19 ∷ [])) 21
+  unfolding understood everything
+  ranking2_made = record { defined = refl; command = refl; statement = refl; plain = (refl, refl); uncounted = refl; trees = refl; tree = refl }
+
+  pub assigned2_made : Defines ten assigned2_text (assigned2 0) (first_trees ++ (15 ∷ 16 ∷ 19 ∷ 21 ∷ [])) 24
+  unfolding understood everything
+  assigned2_made = record { defined = refl; command = refl; statement = refl; plain = (refl, refl); uncounted = refl; trees = refl; tree = refl }
+
+  same_with : (ts : List Table) → AllZip SameTable (map (with_checks terms.0 terms.1) ts) ts
+  same_with [] = tt
+  same_with (t ∷ ts) = (
+    record {
+      name = refl;
+      tree = refl;
+      columns = refl;
+      key = refl;
+      is_counted = refl;
+      rules = record { primary = refl; uniques = refl; orders = refl; references = refl };
+      defaults = record { computed = refl; places = refl; formats = refl };
+    },
+    same_with ts,
+  )
+
+  is_current : IsCurrent (with_second six)
+  unfolding understood everything
+  is_current = record { tables = zip-append SameTable (map (with_checks terms.0 terms.1) first_schema.tables) (drop 6 portal_schema.tables) first_schema.tables (drop 6 portal_schema.tables) (same_with first_schema.tables) (same_tables (drop 6 portal_schema.tables)); indexes = refl; no_views = refl; no_views_there = refl }
+
+-- beside the six of version 1 they make all
+pub second_current : (s : Schema) → IsFirst s → IsCurrent (with_second s)
+second_current s own = let w = first_is s own in subst (λ x. IsCurrent (with_second x)) (sym w.is) (is_current (w.checks, w.terms))
+
+pub five_made : {S A : Type 0} (g : Ghosts S) (r : Result A Error) (old new : Transaction S)
+    → Does g (Made (GrowsBy six (λ terms. with_second (six terms)) first_trees second_trees)) r old new → Does g (Made MakesSecond) r old new
+five_made g r old new does = does_more g _ _ r old new does (λ made. record {
+  shown = made.shown;
+  changed = λ own.
+      let w = first_is (state g old.conn.now).now.schema own in
+      subst (λ s. Grown (with_second s) first_trees second_trees (state g old.conn.now).now (state g new.conn.now).now) (sym w.is) (made.changed (w.checks, w.terms) w.is);
+})
+
+full_is : with_second first_schema ≡ portal_schema
 unfolding understood everything
 full_is = refl
 
-pub all_made : {S A : Type 0} (g : Ghosts S) (r : Result A Error) (old new : Transaction S) → Does g (Made (Grows no_schema full_schema)) r old new → Does g (Made Makes) r old new
-all_made g r old new does = does_more g _ _ r old new does (λ made. record { shown = made.shown; changed = λ has. subst (λ s. Has s (state g new.conn.now).now) full_is (made.changed has tt) })
+-- over no table all
+pub all_made : {S A : Type 0} (g : Ghosts S) (r : Result A Error) (old mid new : Transaction S) → Does g (Made MakesFirst) (Ok (tt {0})) old mid → Does g (Made MakesSecond) r mid new
+    → Does g (Made Makes) r old new
+all_made g r old mid new first second = does_then g _ _ _ _ r old mid new first second (λ p q. made_then MakesFirst MakesSecond Makes _ _ _ p q (λ first second has.
+    let was = first has in
+    let is = second (subst IsFirst (sym was.schema_is) first_self) in
+    grows_then no_schema first_schema portal_schema [] first_trees second_trees _ _ _ first (λ _. record { schema_is = is.schema_is ∙ ap with_second was.schema_is ∙ full_is; same = is.same; empty = is.empty; sound = is.sound }) has))

@@ -1,15 +1,7 @@
 -- A key that is looked for among rows whose keys rise.
-use Rattle.std.proofs.Common.{◌≡◌, ◌<◌, ◌≤◌, ◌||◌, inl, inr, zero, suc, ℕ, true, false, List, [], ◌∷◌, map, length, get_or, Less, Equal, Greater, refl, sym, subst, ◌∙◌, ap, arith}
-use Rattle.std.specs.Ordering.{nat_cmp}
-use Rattle.std.specs.Cmp.Lexicographic.{slice_cmp}
-use Rattle.std.proofs.Math.Bool.{or-true}
-use Rattle.std.proofs.lemmas.Bool.{cases_Bool, cases_lt}
-use Rattle.std.proofs.lemmas.Cmp.{nat_list_cmp_total, tied_itself}
-use Rattle.std.proofs.lemmas.Map.Lookups.{exact_bytes}
-use Rattle.sqlite.specs.Order.{Row}
-use Rattle.portal_core.specs.Words.{Key, is, has}
-use Rattle.portal_core.proofs.Keys.{is_same, is_own}
-use Rattle.portal_tables.specs.Shown.{first}
+use Rattle.std.specs.Prelude.{◌≡◌, ◌<◌, ◌≤◌, ◌||◌, ◌∷◌}
+use Rattle.portal_tables.proofs.Base.{inl, inr, zero, suc, ℕ, true, false, List, [], map, length, get_or, refl, sym, subst, ◌∙◌, ap, nat_cmp, slice_cmp, or-true, cases_Bool, cases_lt, nat_list_cmp_total, tied_itself, exact_bytes, Row, Key, is, has, is_same, is_own, first}
+use Rattle.std.proofs.Common.{Less, Equal, Greater, arith}
 
 -- a key that is found at a place is there
 there : (rows : List Row) (k : Key) (n : ℕ) (d : Row) → n < length rows → slice_cmp nat_cmp (first (get_or rows n d)) k ≡ Equal → has (map first rows) k ≡ true

@@ -1,27 +1,12 @@
--- The row of the office, as its query shows it.
-use Rattle.std.proofs.Common.{◌≡◌, ℕ, ℤ, pos, Bool, true, false, ◌&&◌, drop, length, Some, List, [], ◌∷◌, map, arith, refl, sym, ap, subst, ◌∙◌}
-use Rattle.std.specs.List.{AllByRecursion}
-use Rattle.std.specs.List.Sorted.{IsPermutation}
-use Rattle.std.proofs.lemmas.List.Sorted.{length_permutation}
-use Rattle.std.proofs.lemmas.Bool.{and_parts}
-use Rattle.sqlite.specs.declared.types.Value.{Value}
-use Rattle.sqlite.specs.declared.types.Value.TheVariants.{Null, Int, Real, Blob, Text as Words}
-use Rattle.sqlite.specs.Order.{Row, column}
-use Rattle.sqlite.specs.Effect.{Database, IsDatabase}
-use Rattle.sqlite_schema.specs.declared.schema.Constraint.TheVariants.{Datatype}
-use Rattle.sqlite_schema.specs.Rules.{Keeps, are_typed, is_of}
-use Rattle.sqlite.specs.Kind.TheVariants.{Integer, Text}
-use Rattle.sqlite_sql.specs.Ops.{is_null}
-use Rattle.portal_core.specs.declared.phase.Phase.{Phase}
-use Rattle.portal_core.specs.Words.{Key}
-use Rattle.portal_tables.specs.Tables.{portal_tree, portal}
-use Rattle.portal_tables.specs.Own.{IsOwn}
-use Rattle.portal_tables.specs.Rows.{portal_row}
-use Rattle.portal_tables.specs.Changes.{ListsBy, every, columns}
+-- The rows of the office and of the second round, as their queries show them.
+use Rattle.std.specs.Prelude.{◌≡◌, ◌&&◌, ◌∷◌}
+use Rattle.portal_tables.proofs.Base.{ℕ, ℤ, pos, Bool, true, false, drop, length, Some, List, [], map, refl, sym, ap, subst, ◌∙◌, AllByRecursion, IsPermutation, length_permutation, and_parts, Value, Null, Int, Real, Blob, Words, Row, column, Database, IsDatabase, Datatype, are_typed, is_of, Integer, is_null, Phase, Key, First, Second, portal_tree, portal, second_tree, second, IsOwn, IsCurrent, portal_row, second_row, ListsBy, every, columns, number_of, HasOffice, IsOffice, IsSecond}
+use Rattle.std.proofs.Common.{arith}
+use Rattle.sqlite.specs.Kind.TheVariants.{Text}
 use Rattle.portal_tables.proofs.Lists.{filter_all}
-use Rattle.portal_tables.proofs.Weak.{portal_with, own_is}
-use Rattle.portal_tables.specs.Office.{number_of, HasOffice, IsOffice}
+use Rattle.portal_tables.proofs.Weak.{own_is}
 use Rattle.portal_tables.proofs.Listed.{permuted}
+use Rattle.portal_tables.proofs.Shapes.{kept}
 use Rattle.portal_tables.proofs.Sorted.{all_permuted}
 
 abbrev office_columns : Row → Row
@@ -40,13 +25,6 @@ is_nothing (Real x) e = absurd (cc)
 is_nothing (Words t) e = absurd (cc)
 is_nothing (Blob b) e = absurd (cc)
 
-ends : (a b c d : Bool) → (a && (b && (c && (d && false)))) ≡ false
-ends false b c d = refl
-ends true false c d = refl
-ends true true false d = refl
-ends true true true false = refl
-ends true true true true = refl
-
 office_form : (v p : ℤ) (code : Key) (r : Row) → column r 0 ≡ Int (pos 1) → column r 2 ≡ Int v → column r 3 ≡ Int p → column r 4 ≡ Words code → are_typed (Some 0) 0 (portal 0).columns (drop 1 r) ≡ true → r ≡ portal_row v p code
 office_form v p code [] a b c d t = absurd (let e : Null ≡ Words code = d in cc)
 office_form v p code (x ∷ []) a b c d t = absurd (let e : Null ≡ Words code = d in cc)
@@ -55,34 +33,56 @@ office_form v p code (x ∷ y ∷ z ∷ []) a b c d t = absurd (let e : Null ≡
 office_form v p code (x ∷ y ∷ z ∷ w ∷ []) a b c d t = absurd (let e : Null ≡ Words code = d in cc)
 office_form v p code (x ∷ y ∷ z ∷ w ∷ u ∷ []) a b c d t = λ i. a i ∷ is_nothing y (and_parts (is_null y) _ t).0 i ∷ b i ∷ c i ∷ d i ∷ []
 office_form v p code (x ∷ y ∷ z ∷ w ∷ u ∷ q ∷ more) a b c d t =
-    absurd (let e : false ≡ true = sym (ends (is_null y) (is_of Integer z) (is_of Integer w) (is_of Text u)) ∙ t in cc)
+    let last = and_parts (is_of Text u) false (and_parts (is_of Integer w) _ (and_parts (is_of Integer z) _ (and_parts (is_null y) _ t).1).1).1 in absurd (let e = last.1 in cc)
 
-shown_alone : (phase : Phase) (code : Key) (table shown : List Row) (row : Row) → IsPermutation (map office_columns table) shown → shown ≡ row ∷ [] → IsOffice phase code row
-    → AllByRecursion (λ r. (are_typed (Some 0) 0 (portal 0).columns (drop 1 r) && true) ≡ true) table → table ≡ portal_row (pos 1) (pos (number_of phase)) code ∷ []
-shown_alone phase code [] shown row same is at typed = absurd (let e : 0 ≡ 1 = sym (length_permutation [] shown same) ∙ ap length is in omega (arith, e))
-shown_alone phase code (r ∷ []) shown row same is at typed =
-    let here : row ≡ office_columns r = (all_permuted (λ z. z ≡ office_columns r) (office_columns r ∷ []) (row ∷ []) (subst (IsPermutation (office_columns r ∷ [])) is same) (refl, tt)).0 in
-    let cell : (n : ℕ) → column row n ≡ column (office_columns r) n = λ n. ap (λ x. column x n) here in
-    ap (λ x. x ∷ []) (office_form (pos 1) (pos (number_of phase)) code r (sym (cell 0) ∙ at.id) (sym (cell 1) ∙ at.version) (sym (cell 2) ∙ at.phase_is) (sym (cell 3) ∙ at.code_is) (and_parts _ true typed.0).0)
-shown_alone phase code (r ∷ s ∷ more) shown row same is at typed = absurd (let e = sym (length_permutation (map office_columns (r ∷ s ∷ more)) shown same) ∙ ap length is in omega (arith, e))
+second_form : (p : ℤ) (r : Row) → column r 0 ≡ Int (pos 1) → column r 2 ≡ Int p → are_typed (Some 0) 0 (second 0).columns (drop 1 r) ≡ true → r ≡ second_row p
+second_form p [] a b t = absurd (let e : Null ≡ Int p = b in cc)
+second_form p (x ∷ []) a b t = absurd (let e : Null ≡ Int p = b in cc)
+second_form p (x ∷ y ∷ []) a b t = absurd (let e : Null ≡ Int p = b in cc)
+second_form p (x ∷ y ∷ z ∷ []) a b t = λ i. a i ∷ is_nothing y (and_parts (is_null y) _ t).0 i ∷ b i ∷ []
+second_form p (x ∷ y ∷ z ∷ w ∷ more) a b t = let last = and_parts (is_of Integer z) false (and_parts (is_null y) _ t).1 in absurd (let e = last.1 in cc)
 
-whole_table : (table shown : List Row) → ListsBy (0 ∷ []) every office_columns table shown → IsPermutation (map office_columns table) shown
-whole_table table shown h = subst (λ rows. IsPermutation (map office_columns rows) shown) (filter_all table) (permuted _ _ _ table shown h)
+whole_table : (cs : List ℕ) (table shown : List Row) → ListsBy (0 ∷ []) every (columns cs) table shown → IsPermutation (map (columns cs) table) shown
+whole_table cs table shown h = subst (λ rows. IsPermutation (map (columns cs) rows) shown) (filter_all table) (permuted _ _ _ table shown h)
 
-abbrev Found : Phase → Key → List Row → Type 0
-Found phase code shown = (row : Row) × (shown ≡ row ∷ []) × IsOffice phase code row
+-- where a table shows one row, that is its only one
+one_shown : (cs : List ℕ) (table shown : List Row) (row : Row) → ListsBy (0 ∷ []) every (columns cs) table shown → shown ≡ row ∷ [] → (r : Row) × (table ≡ r ∷ []) × (row ≡ columns cs r)
+one_shown cs table shown row lists is = go table (subst (IsPermutation (map (columns cs) table)) is (whole_table cs table shown lists))
+  where
+    go : (table : List Row) → IsPermutation (map (columns cs) table) (row ∷ []) → (r : Row) × (table ≡ r ∷ []) × (row ≡ columns cs r)
+    go [] same = absurd (let e = length_permutation [] (row ∷ []) same in cc)
+    go (r ∷ []) same = (r, refl, (all_permuted (λ z. z ≡ columns cs r) (columns cs r ∷ []) (row ∷ []) same (refl, tt)).0)
+    go (r ∷ s ∷ more) same = absurd (let e = length_permutation (map (columns cs) (r ∷ s ∷ more)) (row ∷ []) same in omega (arith, e))
 
-module _ (db : Database) (own : IsOwn db.schema) (sound : IsDatabase db) where
-  pub office_found : (shown : List Row) → ListsBy (0 ∷ []) every office_columns (db.trees portal_tree) shown → (phase : Phase) (code : Key) → Found phase code shown → db.trees portal_tree ≡ portal_row (pos 1) (pos (number_of phase)) code ∷ []
-  office_found shown h phase code found =
-      let w = own_is db.schema own in
-      let typed : Keeps Datatype (portal_with w.checks w.terms) db.trees = subst (λ s. Keeps Datatype s db.trees) w.is (sound.obeys.rules Datatype) in
-      shown_alone phase code (db.trees portal_tree) shown found.0 (whole_table (db.trees portal_tree) shown h) found.1 found.2 typed.0
+-- and the only row of a table is shown
+shown_one : (cs : List ℕ) (table shown : List Row) (r : Row) → ListsBy (0 ∷ []) every (columns cs) table shown → table ≡ r ∷ [] → shown ≡ columns cs r ∷ []
+shown_one cs table shown r lists is = single (columns cs r) shown (subst (λ rows. IsPermutation (map (columns cs) rows) shown) is (whole_table cs table shown lists))
+
+abbrev Found : ℕ → Phase → Key → List Row → Type 0
+Found version phase code shown = (row : Row) × (shown ≡ row ∷ []) × IsOffice version phase code row
+
+pub office_found : (db : Database) → IsOwn db.schema → IsDatabase db → (shown : List Row) → ListsBy (0 ∷ []) every office_columns (db.trees portal_tree) shown
+    → (version : ℕ) (phase : Phase) (code : Key) → Found version phase code shown → db.trees portal_tree ≡ portal_row (pos version) (pos (number_of phase)) code ∷ []
+office_found db own sound shown h version phase code found =
+    let one = one_shown (0 ∷ 2 ∷ 3 ∷ 4 ∷ []) (db.trees portal_tree) shown found.0 h found.1 in
+    let at = found.2 in
+    let cell : (n : ℕ) → column found.0 n ≡ column (office_columns one.0) n = λ n. ap (λ x. column x n) one.2 in
+    let typed = subst (AllByRecursion (λ r. (are_typed (Some 0) 0 (portal 0).columns (drop 1 r) && true) ≡ true)) one.1 (kept First db sound Datatype (own_is First db.schema own)).0 in
+    one.1 ∙ ap (λ x. x ∷ []) (office_form (pos version) (pos (number_of phase)) code one.0 (sym (cell 0) ∙ at.id) (sym (cell 1) ∙ at.version_is) (sym (cell 2) ∙ at.phase_is) (sym (cell 3) ∙ at.code_is) (and_parts _ true typed.0).0)
 
 -- what is shown of the row that is meant
-pub office_there : (table shown : List Row) → ListsBy (0 ∷ []) every office_columns table shown → (h : HasOffice table) → Found h.phase h.office shown
-office_there table shown lists h = (
-  office_columns (portal_row (pos 1) (pos (number_of h.phase)) h.office),
-  single _ shown (subst (λ rows. IsPermutation (map office_columns rows) shown) h.is (whole_table table shown lists)),
-  record { id = refl; version = refl; phase_is = refl; code_is = refl },
-)
+pub office_there : (version : ℕ) (table shown : List Row) → ListsBy (0 ∷ []) every office_columns table shown → (h : HasOffice version table) → Found version h.phase h.office shown
+office_there version table shown lists h =
+    (office_columns (portal_row (pos version) (pos (number_of h.phase)) h.office), shown_one (0 ∷ 2 ∷ 3 ∷ 4 ∷ []) table shown (portal_row (pos version) (pos (number_of h.phase)) h.office) lists h.is, record { id = refl; version_is = refl; phase_is = refl; code_is = refl })
+
+-- the same of the row of `second`
+pub second_found : (db : Database) → IsCurrent db.schema → IsDatabase db → (shown : List Row) → ListsBy (0 ∷ []) every (columns (0 ∷ 2 ∷ [])) (db.trees second_tree) shown
+    → (phase : Phase) → IsSecond phase shown → db.trees second_tree ≡ second_row (pos (number_of phase)) ∷ []
+second_found db own sound shown h phase at =
+    let one = one_shown (0 ∷ 2 ∷ []) (db.trees second_tree) shown at.row h at.is in
+    let cell : (n : ℕ) → column at.row n ≡ column (columns (0 ∷ 2 ∷ []) one.0) n = λ n. ap (λ x. column x n) one.2 in
+    let typed = subst (AllByRecursion (λ r. (are_typed (Some 0) 0 (second 0).columns (drop 1 r) && true) ≡ true)) one.1 (kept Second db sound Datatype (own_is Second db.schema own)).1.1.1.1.1.1.0 in
+    one.1 ∙ ap (λ x. x ∷ []) (second_form (pos (number_of phase)) one.0 (sym (cell 0) ∙ at.id) (sym (cell 1) ∙ at.phase_is) (and_parts _ true typed.0).0)
+
+pub second_there : (table shown : List Row) → ListsBy (0 ∷ []) every (columns (0 ∷ 2 ∷ [])) table shown → (phase : Phase) → table ≡ second_row (pos (number_of phase)) ∷ [] → IsSecond phase shown
+second_there table shown lists phase is = record { row = columns (0 ∷ 2 ∷ []) (second_row (pos (number_of phase))); is = shown_one (0 ∷ 2 ∷ []) table shown (second_row (pos (number_of phase))) lists is; id = refl; phase_is = refl }

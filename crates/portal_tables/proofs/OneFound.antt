@@ -1,14 +1,6 @@
 -- The only row that a query shows is what a search of the roll finds.
-use Rattle.std.proofs.Common.{◌≡◌, ℕ, Bool, true, false, cond, Option, Some, None, option_map, List, [], ◌∷◌, map, filter, refl, sym, ap, ap₂, subst, subst₂, ◌∙◌}
-use Rattle.std.specs.List.{AllByRecursion, find}
-use Rattle.std.specs.List.Sorted.{IsPermutation}
-use Rattle.std.proofs.lemmas.List.Sorted.{IsPermutation-map, IsPermutation-sym, IsPermutation-trans, length_permutation}
-use Rattle.sqlite.specs.Order.{Row}
-use Rattle.sqlite.proofs.Callers.{one_permutation}
-use Rattle.sqlite_trees.proofs.ListLemmas.{IsPermutation-filter, filter-map}
-use Rattle.portal_tables.specs.Changes.{ListsBy}
-use Rattle.portal_tables.specs.Rolls.{row_key, by_key}
-use Rattle.portal_tables.specs.Shown.{as_list}
+use Rattle.std.specs.Prelude.{◌≡◌, ◌∷◌}
+use Rattle.portal_tables.proofs.Base.{ℕ, Bool, true, false, cond, Option, Some, None, option_map, List, [], map, filter, refl, sym, ap, ap₂, subst, subst₂, ◌∙◌, AllByRecursion, find, IsPermutation, IsPermutation-map, IsPermutation-sym, IsPermutation-trans, length_permutation, Row, one_permutation, IsPermutation-filter, filter-map, ListsBy, row_key, by_key, as_list}
 use Rattle.portal_tables.proofs.Listed.{permuted}
 use Rattle.portal_tables.proofs.Sorted.{permutes, map_alike, map_twice}
 

@@ -1,30 +1,9 @@
 -- Each student's key is of one row, by the unique index of the table.
-use Rattle.std.proofs.Common.{◌≡◌, ℤ, Bool, true, false, not, ◌&&◌, List, [], ◌∷◌, map, refl, sym, ap₂, subst, subst₂, ◌∙◌}
-use Rattle.std.proofs.lemmas.Bool.{and_parts, or_parts}
-use Rattle.std.proofs.lemmas.List.{append-nil}
-use Rattle.std.specs.List.{AllByRecursion, IsDistinct, list_any}
-use Rattle.std.specs.Ordering.{is_eq, is_ne}
-use Rattle.std.specs.declared.cmp.Ordering.{Ordering}
-use Rattle.std.specs.declared.cmp.Ordering.TheVariants.{Less, Equal, Greater}
-use Rattle.std.specs.Prelude.{Some}
-use Rattle.sqlite.specs.declared.types.Value.TheVariants.{Int, Text as Words}
-use Rattle.sqlite.specs.Collation.TheVariants.{Binary}
-use Rattle.sqlite.specs.Order.{Row, column, value_cmp}
-use Rattle.sqlite.specs.Ops.{binary, is_true, from_truth}
-use Rattle.sqlite.specs.Tree.{Trees, rowid}
-use Rattle.sqlite.specs.Effect.{Database}
-use Rattle.sqlite_schema.specs.declared.schema.Constraint.TheVariants.{Unique}
-use Rattle.sqlite_schema.specs.Rules.{Keeps, passes, equal, differ}
-use Rattle.sqlite_tied.specs.Compute.{everything}
-use Rattle.portal_core.specs.Words.{Key, is, Rise}
-use Rattle.portal_core.proofs.AllLaws.{all_weaker}
-use Rattle.portal_tables.specs.Tables.{student_tree, student}
-use Rattle.portal_tables.specs.Changes.{IsApart}
-use Rattle.portal_tables.proofs.Weak.{portal_with, with_checks, own_is}
-use Rattle.portal_tables.specs.Lines.{HasTables}
-use Rattle.portal_tables.specs.Rolls.{row_key, by_key}
+use Rattle.std.specs.Prelude.{◌≡◌, ◌&&◌, ◌∷◌}
+use Rattle.portal_tables.proofs.Base.{Second, ℤ, Bool, true, false, not, List, [], map, refl, sym, ap₂, subst, subst₂, ◌∙◌, and_parts, or_parts, append-nil, AllByRecursion, IsDistinct, list_any, is_eq, is_ne, Ordering, Less, Equal, Greater, Some, Int, Words, Binary, Row, column, value_cmp, binary, is_true, from_truth, Trees, rowid, Database, Unique, passes, equal, differ, everything, Key, is, Rise, all_weaker, student_tree, student, IsApart, HasTables, row_key, by_key}
+use Rattle.portal_tables.proofs.Weak.{Open, schema_with, with_checks, own_is}
 use Rattle.portal_tables.proofs.Lists.{not_true}
-use Rattle.portal_tables.proofs.Shapes.{IsStudentRow, student_rows_formed, text_equals}
+use Rattle.portal_tables.proofs.Shapes.{IsStudentRow, student_rows_formed, kept, text_equals}
 use Rattle.portal_tables.proofs.Sorted.{rise_put_all}
 use Rattle.portal_tables.proofs.Tests.{equals_text}
 
@@ -67,15 +46,14 @@ distinct (r ∷ rows) apart all none = (
   distinct rows apart.2 all.1 (all_weaker _ _ (λ s h. (or_parts (is_twin r s) (list_any (λ q. is_twin q s) rows) h).1) rows none.1),
 )
 
-no_twin : (checks terms : _) (db : Trees) (r : Row) → passes Unique (portal_with checks terms) db (with_checks checks terms (student 6)) r ≡ true → list_any (λ other. is_twin other r) (db 6) ≡ false
+no_twin : (o : Open) (db : Trees) (r : Row) → passes Unique (schema_with Second o) db (with_checks o.checks o.terms (student 6)) r ≡ true → list_any (λ other. is_twin other r) (db 6) ≡ false
 unfolding everything
-no_twin checks terms db r h = not_true (list_any (λ other. is_twin other r) (db 6)) (and_parts (not (list_any (λ other. is_twin other r) (db 6))) _ h).0
+no_twin o db r h = not_true (list_any (λ other. is_twin other r) (db 6)) (and_parts (not (list_any (λ other. is_twin other r) (db 6))) _ h).0
 
 pub student_keys_rise : (db : Database) → HasTables db → Rise (map row_key (by_key (db.trees student_tree)))
 student_keys_rise db tables =
-    let w = own_is db.schema tables.own in
+    let w = own_is Second db.schema tables.current in
     let table = db.trees student_tree in
     let apart : IsApart table = tables.apart.1.1.1.0 in
-    let kept : Keeps Unique (portal_with w.checks w.terms) db.trees = subst (λ s. Keeps Unique s db.trees) w.is (tables.sound.obeys.rules Unique) in
-    let once : IsDistinct is (map row_key table) = distinct table apart (student_rows_formed db tables.own tables.sound apart) (all_weaker _ (λ r. list_any (λ other. is_twin other r) table ≡ false) (no_twin w.checks w.terms db.trees) table kept.1.1.1.0) in
+    let once : IsDistinct is (map row_key table) = distinct table apart (student_rows_formed db tables.own tables.sound apart) (all_weaker _ (λ r. list_any (λ other. is_twin other r) table ≡ false) (no_twin w.o db.trees) table (kept Second db tables.sound Unique w).1.1.1.0) in
     rise_put_all row_key table [] (subst (λ l. IsDistinct is (map row_key l)) (sym (append-nil table)) once) tt

@@ -1,13 +1,6 @@
--- Which schema is the portal's own: that of the tables as they are made, and any over the same trees.
-use Rattle.std.proofs.Common.{◌≡◌, subst, sym, refl}
-use Rattle.sqlite.specs.Effect.{Database, IsDatabase}
-use Rattle.sqlite.specs.Tree.{Trees}
-use Rattle.sqlite.specs.Schema.{Schema}
-use Rattle.sqlite.specs.Table.{Table}
-use Rattle.sqlite_catalog.specs.Listing.{IsSound}
-use Rattle.sqlite_catalog.proofs.ReadLemmas.{lists_once}
-use Rattle.portal_tables.specs.Tables.{portal_schema}
-use Rattle.portal_tables.specs.Own.{SameTable, IsOwn}
+-- Which schema is the portal's own: those of the tables as they are made, and any over the same trees.
+use Rattle.std.specs.Prelude.{◌≡◌, ◌∷◌, ◌++◌}
+use Rattle.portal_tables.proofs.Base.{List, [], take, length, subst, sym, refl, AllZip, Database, IsDatabase, Trees, Schema, Table, IsSound, lists_once, zip_itself, Round, First, Second, first_schema, portal_schema, SameTable, IsOwn, IsCurrent, IsFirst, HasRound}
 
 same_table : (t : Table) → SameTable t t
 same_table t = record {
@@ -20,20 +13,35 @@ same_table t = record {
   defaults = record { computed = refl; places = refl; formats = refl };
 }
 
-pub own_self : IsOwn portal_schema
-own_self = record {
-  tables = (same_table _, (same_table _, (same_table _, (same_table _, (same_table _, (same_table _, tt))))));
-  indexes = refl;
-  no_views = refl;
-  no_views_there = refl;
-}
+pub same_tables : (ts : List Table) → AllZip SameTable ts ts
+same_tables = zip_itself SameTable same_table
 
-pub own_made : (s : Schema) → s ≡ portal_schema → IsOwn s
-own_made s is = subst IsOwn (sym is) own_self
+pub own_made : (s : Schema) → s ≡ portal_schema → IsCurrent s
+own_made s is = subst IsCurrent (sym is) (record { tables = same_tables portal_schema.tables; indexes = refl; no_views = refl; no_views_there = refl })
+
+pub first_self : IsFirst first_schema
+first_self = record { tables = same_tables first_schema.tables; indexes = refl; no_views = refl; no_views_there = refl }
+
+-- what is like all tables of a list, and perhaps more, is like the first of them
+first_of : (ts us vs : List Table) → AllZip SameTable ts (us ++ vs) → AllZip SameTable (take (length us) ts) us
+first_of ts [] vs h = tt
+first_of [] (u ∷ us) vs h = absurd h
+first_of (t ∷ ts) (u ∷ us) vs h = (h.0, first_of ts us vs h.1)
+
+-- all tables, and those of the first round alone, are read as those of the first round
+pub current_own : (s : Schema) → IsCurrent s → IsOwn s
+current_own s h = record { tables = first_of s.tables first_schema.tables _ h.tables; no_views = h.no_views }
+
+pub first_own : (s : Schema) → IsFirst s → IsOwn s
+first_own s h = record { tables = first_of s.tables first_schema.tables [] h.tables; no_views = h.no_views }
+
+pub has_round : (round : Round) (s : Schema) → IsCurrent s → HasRound round s
+has_round First s h = current_own s h
+has_round Second s h = h
 
 -- what a crash leaves has one schema, whoever opens it
 pub one_schema : (left found : Database) → IsDatabase left → IsDatabase found → found.trees ≡ left.trees → found.schema ≡ left.schema
 one_schema left found was is same = lists_once _ found.schema left.schema is.lists (subst (λ (t : Trees). IsSound left.schema t) (sym same) was).lists
 
-pub own_again : (left found : Database) → IsDatabase left → IsDatabase found → found.trees ≡ left.trees → IsOwn left.schema → IsOwn found.schema
-own_again left found was is same own = subst IsOwn (sym (one_schema left found was is same)) own
+pub own_again : (P : Schema → Type 0) (left found : Database) → IsDatabase left → IsDatabase found → found.trees ≡ left.trees → P left.schema → P found.schema
+own_again P left found was is same own = subst P (sym (one_schema left found was is same)) own

@@ -1,31 +1,10 @@
 -- Each row of a list is of an owner on the roll, and a roll shows the keys of its rows.
-use Rattle.std.proofs.Common.{◌≡◌, true, List, [], ◌∷◌, ℕ, map, sym, ap, subst, ◌∙◌}
-use Rattle.std.specs.List.{AllByRecursion}
-use Rattle.std.proofs.lemmas.Bool.{and_parts}
-use Rattle.std.proofs.lemmas.List.Sorted.{list_any-IsPermutation}
-use Rattle.sqlite.specs.declared.types.Value.TheVariants.{Null, Text as Words}
-use Rattle.sqlite.specs.Effect.{Database, IsDatabase}
-use Rattle.sqlite.specs.Order.{Row, column, bytes}
-use Rattle.sqlite.specs.Tree.{Trees}
-use Rattle.sqlite_schema.specs.declared.schema.Constraint.TheVariants.{ForeignKey}
-use Rattle.sqlite_schema.specs.Rules.{passes}
-use Rattle.sqlite_tied.specs.Compute.{everything}
-use Rattle.sqlite_trees.proofs.ListLemmas.{map-map}
-use Rattle.portal_core.specs.Words.{Key, is, has, Rise}
-use Rattle.portal_core.proofs.AllLaws.{all_weaker, any_map}
-use Rattle.portal_tables.specs.Tables.{list_table, choice_names, ranking_names}
-use Rattle.portal_tables.specs.ListTables.{names, tree_of}
-use Rattle.portal_tables.specs.declared.list_table.Lists.{Lists}
-use Rattle.portal_tables.specs.declared.list_table.Lists.TheVariants.{Choices, Rankings}
-use Rattle.portal_tables.specs.Own.{IsOwn}
-use Rattle.portal_tables.specs.Changes.{columns}
-use Rattle.portal_tables.specs.Rolls.{row_key, by_key}
-use Rattle.portal_tables.specs.Owners.{AreOwned}
-use Rattle.portal_tables.specs.Shown.{first}
-use Rattle.portal_tables.proofs.Weak.{portal_with, with_checks, own_is}
+use Rattle.std.specs.Prelude.{◌≡◌, ◌&&◌, ◌∷◌}
+use Rattle.portal_tables.proofs.Base.{refl, Bool, true, List, [], ℕ, map, sym, ap, subst, ◌∙◌, AllByRecursion, and_parts, list_any-IsPermutation, Value, Null, Words, Database, IsDatabase, Row, column, bytes, Trees, ForeignKey, everything, map-map, Key, is, has, Rise, all_weaker, any_map, round_of, tree_of, Lists, Choices, Rankings, SecondChoices, SecondRankings, HasRound, columns, row_key, by_key, AreOwned, first}
+use Rattle.portal_tables.proofs.Weak.{Open, own_is}
 use Rattle.portal_tables.proofs.Listed.{IsText}
-use Rattle.portal_tables.proofs.Parents.{OnRoll, Found, on_roll, foreign, owners_of}
-use Rattle.portal_tables.proofs.Shapes.{at_list}
+use Rattle.portal_tables.proofs.Parents.{OnRoll, Found, Follows, on_roll, owners_of}
+use Rattle.portal_tables.proofs.Shapes.{kept, at_list}
 use Rattle.portal_tables.proofs.Sorted.{all_two, permutes}
 use Rattle.portal_tables.proofs.Texts.{owner_texts}
 
@@ -43,27 +22,30 @@ no_text : (t : Key) → Null ≡ Words t → ⊥
 no_text t e = cc
 
 -- by the first foreign key of the table
-place_owner : (l : Lists) (checks terms : _) (db : Trees) (r : Row) → IsText (column r 1)
-    → passes ForeignKey (portal_with checks terms) db (with_checks checks terms (list_table (names l) (tree_of l))) r ≡ true → OnRoll (db (owners_of l)) (row_key r)
+owner_found : (l : Lists) (o : Open) (db : Trees) (n : Value) (t : Key) (vs : Row) → (rest : Bool) × (Follows l o db (n ∷ Words t ∷ vs) ≡ (Found (db (owners_of l)) t && rest))
 unfolding everything
-place_owner l checks terms db [] text h = absurd (no_text text.0 text.1)
-place_owner l checks terms db (n ∷ []) text h = absurd (no_text text.0 text.1)
-place_owner Choices checks terms db (n ∷ v ∷ vs) text h =
-    let parts = and_parts (Found (db 6) text.0) _ (subst (λ x. passes ForeignKey (portal_with checks terms) db (with_checks checks terms (list_table choice_names 9)) (n ∷ x ∷ vs) ≡ true) text.1 h) in
-    subst (OnRoll (db 6)) (sym (ap bytes text.1)) (on_roll (db 6) text.0 parts.0)
-place_owner Rankings checks terms db (n ∷ v ∷ vs) text h =
-    let parts = and_parts (Found (db 1) text.0) _ (subst (λ x. passes ForeignKey (portal_with checks terms) db (with_checks checks terms (list_table ranking_names 12)) (n ∷ x ∷ vs) ≡ true) text.1 h) in
-    subst (OnRoll (db 1)) (sym (ap bytes text.1)) (on_roll (db 1) text.0 parts.0)
+owner_found Choices o db n t vs = (_, refl)
+owner_found Rankings o db n t vs = (_, refl)
+owner_found SecondChoices o db n t vs = (_, refl)
+owner_found SecondRankings o db n t vs = (_, refl)
+
+place_owner : (l : Lists) (o : Open) (db : Trees) (r : Row) → IsText (column r 1) → Follows l o db r ≡ true → OnRoll (db (owners_of l)) (row_key r)
+place_owner l o db [] text h = absurd (no_text text.0 text.1)
+place_owner l o db (n ∷ []) text h = absurd (no_text text.0 text.1)
+place_owner l o db (n ∷ v ∷ vs) text h =
+    let rule = owner_found l o db n text.0 vs in
+    let parts = and_parts (Found (db (owners_of l)) text.0) rule.0 (sym rule.1 ∙ subst (λ x. Follows l o db (n ∷ x ∷ vs) ≡ true) text.1 h) in
+    subst (OnRoll (db (owners_of l))) (sym (ap bytes text.1)) (on_roll (db (owners_of l)) text.0 parts.0)
 
 -- the roll as it is shown has the owners of the lists
-pub owned : (db : Database) → IsOwn db.schema → IsDatabase db → (l : Lists) (cs : List ℕ) → Rise (map row_key (by_key (db.trees (owners_of l))))
+pub owned : (db : Database) (l : Lists) → HasRound (round_of l) db.schema → IsDatabase db → (cs : List ℕ) → Rise (map row_key (by_key (db.trees (owners_of l))))
     → AreOwned l db.trees (map (columns (1 ∷ cs)) (by_key (db.trees (owners_of l))))
-owned db own sound l cs up =
-    let w = own_is db.schema own in
+owned db l own sound cs up =
+    let w = own_is (round_of l) db.schema own in
     let roll = db.trees (owners_of l) in
     record {
       rise = subst Rise (sym (keys_shown cs roll)) up;
       known = all_weaker (λ r. OnRoll roll (row_key r)) (λ r. has (map first (map (columns (1 ∷ cs)) (by_key roll))) (row_key r) ≡ true) (λ r h. shown_there cs roll (row_key r) h) (db.trees (tree_of l))
-          (all_two (λ r. IsText (column r 1)) (λ r. passes ForeignKey (portal_with w.checks w.terms) db.trees (with_checks w.checks w.terms (list_table (names l) (tree_of l))) r ≡ true)
-          (λ r. OnRoll roll (row_key r)) (place_owner l w.checks w.terms db.trees) (db.trees (tree_of l)) (owner_texts db own sound l) (at_list l w.checks w.terms ForeignKey db.trees (foreign db own sound w)));
+          (all_two (λ r. IsText (column r 1)) (λ r. Follows l w.o db.trees r ≡ true)
+          (λ r. OnRoll roll (row_key r)) (place_owner l w.o db.trees) (db.trees (tree_of l)) (owner_texts db l own sound) (at_list l w.o ForeignKey db.trees (kept (round_of l) db sound ForeignKey w)));
     }

@@ -1,31 +1,8 @@
 -- Whom a row names is on the roll, by the foreign keys of the tables.
-use Rattle.std.proofs.Common.{◌≡◌, inl, inr, ℕ, Bool, true, false, ◌&&◌, ◌||◌, cond, map, List, [], ◌∷◌, refl, sym, ap, subst, ◌∙◌}
-use Rattle.std.proofs.lemmas.Bool.{and_parts, cases_Bool}
-use Rattle.std.specs.List.{AllByRecursion, list_any}
-use Rattle.std.specs.Ordering.{is_eq}
-use Rattle.std.proofs.Math.Bool.{or-true}
-use Rattle.sqlite.specs.declared.types.Value.{Value}
-use Rattle.sqlite.specs.declared.types.Value.TheVariants.{Null, Int, Real, Blob, Text as Words}
-use Rattle.sqlite.specs.Collation.TheVariants.{Binary}
-use Rattle.sqlite.specs.Order.{Row, column, bytes, value_cmp}
-use Rattle.sqlite.specs.Effect.{Database, IsDatabase}
-use Rattle.sqlite.specs.Tree.{Trees}
-use Rattle.sqlite_schema.specs.declared.schema.Constraint.TheVariants.{ForeignKey}
-use Rattle.sqlite_schema.specs.Rules.{Keeps, passes, equal}
-use Rattle.portal_core.specs.Words.{Key, is, has}
-use Rattle.portal_core.proofs.Keys.{is_same, is_own}
-use Rattle.portal_tables.specs.Tables.{list_table, choice_names, ranking_names, lecturer_tree, project_tree, student_tree}
-use Rattle.portal_tables.specs.ListTables.{names, tree_of}
-use Rattle.portal_tables.specs.declared.list_table.Lists.{Lists}
-use Rattle.portal_tables.specs.declared.list_table.Lists.TheVariants.{Choices, Rankings}
-use Rattle.portal_tables.specs.Own.{IsOwn}
-use Rattle.portal_tables.specs.Changes.{IsApart, has_text}
-use Rattle.sqlite_tied.specs.Compute.{everything}
-use Rattle.portal_tables.specs.Rows.{place_cells}
-use Rattle.portal_tables.proofs.Weak.{portal_with, with_checks, IsWith, own_is}
-use Rattle.portal_tables.specs.Rolls.{row_key}
-use Rattle.portal_tables.specs.Lists.{of_key, named_by}
-use Rattle.portal_tables.proofs.Shapes.{IsPlace, place_rows_formed, at_list, text_equals}
+use Rattle.std.specs.Prelude.{◌≡◌, ◌&&◌, ◌||◌, ◌∷◌}
+use Rattle.portal_tables.proofs.Base.{ℤ, inl, inr, ℕ, Bool, true, false, cond, map, List, [], refl, sym, ap, subst, ◌∙◌, and_parts, cases_Bool, AllByRecursion, list_any, is_eq, or-true, Value, Null, Int, Real, Blob, Words, Binary, Row, column, bytes, value_cmp, Database, IsDatabase, Trees, ForeignKey, passes, equal, Key, is, has, is_same, is_own, list_table, lecturer_tree, project_tree, student_tree, round_of, names, tree_of, Lists, Choices, Rankings, SecondChoices, SecondRankings, HasRound, IsApart, has_text, everything, place_cells, row_key, of_key, named_by}
+use Rattle.portal_tables.proofs.Weak.{Open, schema_with, with_checks, own_is}
+use Rattle.portal_tables.proofs.Shapes.{IsPlace, place_rows_formed, kept, at_list, text_equals}
 use Rattle.portal_tables.proofs.Sorted.{all_two}
 use Rattle.portal_tables.proofs.Tests.{equals_text}
 
@@ -52,20 +29,25 @@ Found roll k = list_any (λ parent. equal Binary (column parent 1) (Words k) && 
 abbrev pub owners_of : Lists → ℕ
 owners_of Choices = student_tree
 owners_of Rankings = lecturer_tree
+owners_of SecondChoices = student_tree
+owners_of SecondRankings = lecturer_tree
 
 abbrev pub items_of : Lists → ℕ
 items_of Choices = project_tree
 items_of Rankings = student_tree
+items_of SecondChoices = project_tree
+items_of SecondRankings = student_tree
 
-place_found : (l : Lists) (checks terms : _) (db : Trees) (r : Row) (n : _) (k : Key) (p : _) (m : Key) → r ≡ Int n ∷ place_cells k p m
-    → passes ForeignKey (portal_with checks terms) db (with_checks checks terms (list_table (names l) (tree_of l))) r ≡ true → (Found (db (owners_of l)) k ≡ true) × (Found (db (items_of l)) m ≡ true)
+-- the rule, of a row of a list
+abbrev pub Follows : (l : Lists) → Open → Trees → Row → Bool
+Follows l o db r = passes ForeignKey (schema_with (round_of l) o) db (with_checks o.checks o.terms (list_table (names l) (tree_of l))) r
+
+both_found : (l : Lists) (o : Open) (db : Trees) (n : ℤ) (k : Key) (p : ℤ) (m : Key) → Follows l o db (Int n ∷ place_cells k p m) ≡ (Found (db (owners_of l)) k && (Found (db (items_of l)) m && true))
 unfolding everything
-place_found Choices checks terms db r n k p m is h =
-    let parts = and_parts (Found (db 6) k) (Found (db 4) m && true) (subst (λ x. passes ForeignKey (portal_with checks terms) db (with_checks checks terms (list_table choice_names 9)) x ≡ true) is h) in
-    (parts.0, (and_parts (Found (db 4) m) true parts.1).0)
-place_found Rankings checks terms db r n k p m is h =
-    let parts = and_parts (Found (db 1) k) (Found (db 6) m && true) (subst (λ x. passes ForeignKey (portal_with checks terms) db (with_checks checks terms (list_table ranking_names 12)) x ≡ true) is h) in
-    (parts.0, (and_parts (Found (db 6) m) true parts.1).0)
+both_found Choices o db n k p m = refl
+both_found Rankings o db n k p m = refl
+both_found SecondChoices o db n k p m = refl
+both_found SecondRankings o db n k p m = refl
 
 pub on_roll : (roll : List Row) (k : Key) → Found roll k ≡ true → OnRoll roll k
 on_roll [] k h = absurd (cc)
@@ -74,21 +56,20 @@ on_roll (r ∷ roll) k h = elim (cases_Bool (has_text 1 k r)) [
   | inr is_not ↦ ap (λ b. is k (row_key r) || b) (on_roll roll k (ap (λ b. b || Found roll k) (sym (equals_text (column r 1) k ∙ is_not)) ∙ h)) ∙ or-true (is k (row_key r))
 ]
 
-module _ (db : Database) (own : IsOwn db.schema) (sound : IsDatabase db) where
-  pub foreign : (w : IsWith db.schema) → Keeps ForeignKey (portal_with w.checks w.terms) db.trees
-  foreign w = subst (λ s. Keeps ForeignKey s db.trees) w.is (sound.obeys.rules ForeignKey)
-
-  -- each row of a list has its owner on a roll, and its item
-  pub place_parents : (l : Lists) → IsApart (db.trees (tree_of l)) → AllByRecursion (λ r. OnRoll (db.trees (owners_of l)) (row_key r) × OnRoll (db.trees (items_of l)) (named_by r)) (db.trees (tree_of l))
-  place_parents l apart =
-      let w = own_is db.schema own in
-      all_two IsPlace (λ r. passes ForeignKey (portal_with w.checks w.terms) db.trees (with_checks w.checks w.terms (list_table (names l) (tree_of l))) r ≡ true) (λ r. OnRoll (db.trees (owners_of l)) (row_key r) × OnRoll (db.trees (items_of l)) (named_by r))
-      (λ r f pass.
-      let two = place_found l w.checks w.terms db.trees r f.number f.owner f.place f.item f.is pass in (
-        subst (λ x. OnRoll (db.trees (owners_of l)) (row_key x)) (sym f.is) (on_roll (db.trees (owners_of l)) f.owner two.0),
-        subst (λ x. OnRoll (db.trees (items_of l)) (named_by x)) (sym f.is) (on_roll (db.trees (items_of l)) f.item two.1),
-      ))
-      (db.trees (tree_of l)) (place_rows_formed db own sound l apart) (at_list l w.checks w.terms ForeignKey db.trees (foreign w))
+-- each row of a list has its owner on a roll, and its item
+pub place_parents : (db : Database) (l : Lists) → HasRound (round_of l) db.schema → IsDatabase db → IsApart (db.trees (tree_of l))
+    → AllByRecursion (λ r. OnRoll (db.trees (owners_of l)) (row_key r) × OnRoll (db.trees (items_of l)) (named_by r)) (db.trees (tree_of l))
+place_parents db l own sound apart =
+    let w = own_is (round_of l) db.schema own in
+    let owners = db.trees (owners_of l) in
+    let items = db.trees (items_of l) in
+    all_two IsPlace (λ r. Follows l w.o db.trees r ≡ true) (λ r. OnRoll owners (row_key r) × OnRoll items (named_by r))
+    (λ r f pass.
+    let two = and_parts (Found owners f.owner) (Found items f.item && true) (sym (both_found l w.o db.trees f.number f.owner f.place f.item) ∙ subst (λ x. Follows l w.o db.trees x ≡ true) f.is pass) in (
+      subst (λ x. OnRoll owners (row_key x)) (sym f.is) (on_roll owners f.owner two.0),
+      subst (λ x. OnRoll items (named_by x)) (sym f.is) (on_roll items f.item (and_parts (Found items f.item) true two.1).0),
+    ))
+    (db.trees (tree_of l)) (place_rows_formed db l own sound apart) (at_list l w.o ForeignKey db.trees (kept (round_of l) db sound ForeignKey w))
 
 -- who is not on the roll has no row
 pub none_of : (Q : Row → Type 0) (roll : List Row) (k : Key) (rows : List Row) → AllByRecursion (λ r. OnRoll roll (row_key r) × Q r) rows → has (map row_key roll) k ≡ false → of_key k rows ≡ []

@@ -1,33 +1,10 @@
 -- A list that is put, whole, in place of another.
-use Rattle.std.proofs.Common.{◌≡◌, ℕ, ◌+◌, ◌<◌, pos, List, [], ◌∷◌, ◌++◌, Bool, true, false, not, ◌&&◌, cond, map, filter, length, refl, sym, ap, ap₂, subst, ◌∙◌, arith, get_or, take, suc, zero-add}
-use Rattle.std.specs.List.{AllByRecursion}
-use Rattle.std.specs.List.Sorted.{IsPermutation}
-use Rattle.std.proofs.lemmas.List.{map-append, append-nil, append_assoc, length_push, take_more, length-take-le}
-use Rattle.sqlite.specs.State.{State}
-use Rattle.portal_tables.specs.Steps.{Made, GoesOn}
+use Rattle.std.specs.Prelude.{◌≡◌, ◌+◌, ◌<◌, ◌∷◌, ◌++◌, ◌&&◌}
+use Rattle.portal_tables.proofs.Base.{ℕ, pos, List, [], Bool, true, false, not, cond, map, filter, length, refl, sym, ap, ap₂, subst, ◌∙◌, get_or, take, suc, zero-add, AllByRecursion, IsPermutation, map-append, append-nil, append_assoc, length_push, take_more, length-take-le, State, Made, GoesOn, and-false, filter-append, IsPermutation-refl, IsPermutation-trans, IsPermutation-sym, IsPermutation-cons, IsPermutation-middle, IsPermutation-to_front, is_eq, Ordering, Less, Equal, Greater, Value, Int, Words, Row, value_cmp, column, next_rowid, is_taken, put_row, Database, value_cmp_total, Key, is, is_before, Rise, is_sym, IsCurrent, has_text, with_rows, AreNew, Adds, Clears, place_cells, of_key, place_key, by_place, list_of, CountUp, IsWhole, numbered, placed, list_cells, PutsList}
+use Rattle.std.proofs.Common.{arith}
 use Rattle.portal_tables.proofs.Runs.{made_goes, goes_both}
-use Rattle.std.proofs.Math.Bool.{and-false}
-use Rattle.std.proofs.lemmas.List.Elements.{filter-append}
-use Rattle.std.proofs.lemmas.List.Sorted.{IsPermutation-refl, IsPermutation-trans, IsPermutation-sym, IsPermutation-cons, IsPermutation-middle, IsPermutation-to_front}
-use Rattle.std.specs.Ordering.{is_eq}
-use Rattle.std.specs.declared.cmp.Ordering.{Ordering}
-use Rattle.std.specs.declared.cmp.Ordering.TheVariants.{Less, Equal, Greater}
-use Rattle.sqlite.specs.declared.types.Value.{Value}
-use Rattle.sqlite.specs.declared.types.Value.TheVariants.{Int, Text as Words}
-use Rattle.sqlite.specs.Order.{Row, value_cmp, column}
-use Rattle.sqlite.specs.Edit.{next_rowid, is_taken}
-use Rattle.sqlite.specs.Tree.{put_row}
-use Rattle.sqlite.specs.Effect.{Database}
-use Rattle.sqlite_value.proofs.OrderLemmas.{value_cmp_total}
-use Rattle.portal_core.specs.Words.{Key, is, is_before, Rise}
-use Rattle.portal_core.proofs.AllLaws.{is_sym}
-use Rattle.portal_tables.specs.Own.{IsOwn}
-use Rattle.portal_tables.specs.Changes.{has_text, with_rows, AreNew}
-use Rattle.portal_tables.specs.Rows.{Adds, Clears, place_cells}
 use Rattle.portal_tables.proofs.Keeping.{puts_apart, drops_apart, keeps_then}
 use Rattle.portal_tables.proofs.Lists.{filter_same, filter-filter, put_splits, eq_self}
-use Rattle.portal_tables.specs.Lists.{of_key, place_key, by_place, list_of, CountUp, IsWhole}
-use Rattle.portal_tables.specs.Putting.{numbered, placed, list_cells, PutsList}
 use Rattle.portal_tables.proofs.Listed.{less_is}
 use Rattle.portal_tables.proofs.Sorted.{in_order, put_all_map, map_twice}
 use Rattle.portal_tables.proofs.Shapes.{text_equals}
@@ -138,7 +115,7 @@ put_whole : (tree : ℕ) (owner : Key) (list : List Key) (first mid now : Databa
     → PutsList tree owner list first now
 put_whole tree owner list first mid now puts adds own apart =
     let was = puts own apart in
-    let put = adds (subst IsOwn (sym was.schema_is) own) in
+    let put = adds (subst IsCurrent (sym was.schema_is) own) in
     let listed = listed_all owner [] list 1 (first.trees tree) (mid.trees tree) refl (record { others = was.others; places = was.places }) put.free in
     record {
       schema_is = put.schema_is ∙ was.schema_is;

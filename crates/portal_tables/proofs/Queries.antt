@@ -1,27 +1,9 @@
 -- What a query of one table shows, in the order of a column.
-use Rattle.std.proofs.Common.{inl, inr, Ok, Err, Result, IfOk, IfErr, OnOk, OnErr, ◌≡◌, ℕ, List, [], ◌∷◌, map, filter, refl, ap, subst, ◌∙◌}
-use Rattle.std.specs.List.Sorted.{IsPermutation, IsSorted}
-use Rattle.sqlite.specs.declared.types.Value.TheVariants.{Null}
-use Rattle.sqlite.specs.Collation.TheVariants.{Binary}
-use Rattle.sqlite_value.specs.Keys.{ascending}
+use Rattle.std.specs.Prelude.{◌≡◌, ◌∷◌}
+use Rattle.portal_tables.proofs.Base.{inl, inr, Ok, Err, Result, IfOk, IfErr, OnOk, OnErr, ℕ, List, [], map, filter, refl, ap, subst, ◌∙◌, IsPermutation, IsSorted, Null, Binary, ascending, Row, column, Term, col, eval_all, Trees, Query, IsAnswer, output, Output, IsProgramAnswer, answer_alone, State, Shown, ShowsRows, IsUnchanged, FailsToQuery, FailsToShow, IsNotRun, Error, Leaves, timed, understood, IsPlain, ListsBy, columns, key_cmp, map-map}
 use Rattle.sqlite_value.specs.declared.keys.Key.{Key}
-use Rattle.sqlite.specs.Order.{Row, column}
-use Rattle.sqlite.specs.Term.{Term, col, eval_all}
-use Rattle.sqlite.specs.Tree.{Trees}
-use Rattle.sqlite.specs.Query.{Query, IsAnswer, output, Output}
-use Rattle.sqlite.specs.Program.{IsProgramAnswer}
-use Rattle.sqlite_exec.proofs.RunLemmas.{answer_alone}
-use Rattle.sqlite.specs.State.{State, Shown, ShowsRows, IsUnchanged, FailsToQuery, FailsToShow, IsNotRun}
-use Rattle.sqlite.specs.declared.error.Error.{Error}
-use Rattle.portal_tables.specs.Steps.{Leaves}
-use Rattle.sqlite.specs.Clock.{timed}
-use Rattle.sqlite.specs.Listing.{understood}
-use Rattle.sqlite.proofs.Callers.{IsPlain}
-use Rattle.portal_tables.specs.Changes.{ListsBy, columns}
 use Rattle.portal_tables.proofs.Query.{one_table, passes, shown_as}
-use Rattle.sqlite_sql.specs.Query.{key_cmp}
 use Rattle.portal_tables.proofs.Lists.{looped}
-use Rattle.sqlite_trees.proofs.ListLemmas.{map-map}
 
 abbrev pub by_columns : ℕ → List Term → List Term → List ℕ → Query
 by_columns tree tests project keys = record (one_table tree tests project) { order = map (λ at. (col 1 at, ascending Binary)) keys }

@@ -1,10 +1,6 @@
 -- A query of one table, where each term of the filter holds.
-use Rattle.std.specs.Prelude.{ℕ, pos, negsuc, Bool, false, List, [], ◌∷◌, None}
-use Rattle.std.specs.List.{list_all}
-use Rattle.sqlite.specs.declared.types.Value.TheVariants.{Int}
-use Rattle.sqlite.specs.Order.{Row}
-use Rattle.sqlite.specs.Term.{Term, lit, holds, eval_all}
-use Rattle.sqlite.specs.Query.{Query, inner, end}
+use Rattle.std.specs.Prelude.{◌∷◌}
+use Rattle.portal_tables.proofs.Base.{ℕ, pos, negsuc, Bool, false, List, [], None, list_all, Int, Row, Term, lit, holds, eval_all, Query, inner, end}
 
 abbrev pub one_table : ℕ → List Term → List Term → Query
 one_table tree tests project = record {

@@ -1,23 +1,7 @@
 -- Rows whose numbers rise in some order have numbers of their own.
-use Rattle.std.proofs.Common.{◌≡◌, ℤ, List, [], ◌∷◌, map, filter, Bool, true, false, ◌||◌, Option, Some, None, int_cmp, refl, sym, ap, subst, subst₂, ◌∙◌}
-use Rattle.std.specs.declared.cmp.Ordering.{Ordering}
-use Rattle.std.specs.declared.cmp.Ordering.TheVariants.{Less, Equal, Greater}
-use Rattle.std.specs.Ordering.{is_lt, is_eq}
-use Rattle.std.specs.List.{AllByRecursion, IsDistinct, list_any}
-use Rattle.std.specs.List.Sorted.{IsPermutation}
-use Rattle.std.proofs.lemmas.List.Sorted.{IsPermutation-map, IsPermutation-sym, list_any-IsPermutation}
-use Rattle.std.proofs.lemmas.Map.Keys.{IsDistinct-IsPermutation}
-use Rattle.std.proofs.lemmas.Bool.{and_parts, or_parts}
-use Rattle.sqlite.specs.declared.types.Value.{Value}
-use Rattle.sqlite.specs.declared.types.Value.TheVariants.{Null, Int, Real, Blob, Text}
-use Rattle.sqlite.specs.Order.{Row, column, value_cmp}
-use Rattle.sqlite.specs.Edit.{id_in}
-use Rattle.sqlite.specs.Tree.{rowid}
-use Rattle.sqlite_value.proofs.OrderLemmas.{value_cmp_total, value_cmp-Int}
-use Rattle.portal_tables.specs.Changes.{IsApart, ListsBy, every, columns}
+use Rattle.std.specs.Prelude.{◌≡◌, ◌∷◌, ◌||◌}
+use Rattle.portal_tables.proofs.Base.{ℤ, List, [], map, filter, Bool, true, false, Option, Some, None, int_cmp, refl, sym, ap, subst, subst₂, ◌∙◌, Ordering, Less, Equal, Greater, is_lt, is_eq, AllByRecursion, IsDistinct, list_any, IsPermutation, IsPermutation-map, IsPermutation-sym, list_any-IsPermutation, IsDistinct-IsPermutation, and_parts, or_parts, Value, Null, Int, Real, Blob, Text, Row, column, value_cmp, id_in, rowid, value_cmp_total, value_cmp-Int, IsApart, ListsBy, every, columns, is_above, rises, map-map}
 use Rattle.portal_tables.proofs.Lists.{eq_flips}
-use Rattle.portal_tables.specs.Rising.{is_above, rises}
-use Rattle.sqlite_trees.proofs.ListLemmas.{map-map}
 
 abbrev same : Value → Value → Bool
 same a b = is_eq (value_cmp a b)

@@ -1,13 +1,6 @@
 -- A roll, as its query shows it.
-use Rattle.std.proofs.Common.{◌≡◌, ℕ, Ok, Err, Result, IfOk, Vec, List, [], ◌∷◌, map, ap, ◌∙◌}
-use Rattle.std.specs.List.{AllByRecursion}
-use Rattle.std.specs.declared.alloc.Global.{Global}
-use Rattle.sqlite.specs.Order.{Row, column}
-use Rattle.portal_core.specs.Words.{Rise}
-use Rattle.portal_tables.specs.Changes.{ListsBy, every, columns}
-use Rattle.portal_tables.specs.Rolls.{row_key, by_key}
-use Rattle.portal_tables.specs.Shown.{first}
-use Rattle.portal_tables.specs.declared.fault.TableFault.{TableFault}
+use Rattle.std.specs.Prelude.{◌≡◌, ◌∷◌}
+use Rattle.portal_tables.proofs.Base.{ℕ, Ok, Err, Result, IfOk, Vec, List, [], map, ap, ◌∙◌, AllByRecursion, Global, Row, column, Rise, ListsBy, every, columns, row_key, by_key, first, TableFault}
 use Rattle.portal_tables.proofs.Listed.{IsText, roll_shown, roll_rises}
 
 pub rolled : (rest : List ℕ) (table : List Row) (rows : Vec Row Global) → ListsBy (1 ∷ []) every (columns (1 ∷ rest)) table rows.items → (r : Result (Vec Row Global) TableFault) → IfOk r (λ v. (v ≡ rows) × Rise (map first rows.items))

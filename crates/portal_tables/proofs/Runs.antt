@@ -1,19 +1,7 @@
 -- Steps of a transaction in turn, whatever the change.
-use Rattle.std.proofs.Common.{inl, inr, Bool, true, false, IsTrue, ◌≡◌, Result, Ok, refl, sym, ap, subst, ◌∙◌, arith}
-use Rattle.std.proofs.lemmas.Result.{on_ok_weaker}
-use Rattle.sqlite.specs.declared.error.Error.{Error}
-use Rattle.sqlite.specs.declared.transaction.Transaction.{Transaction}
-use Rattle.std.proofs.lemmas.Bool.{cases_Bool}
-use Rattle.sqlite.specs.Effect.{Database}
-use Rattle.sqlite.specs.State.{State, HasCleanDisk, Survives, KeepsCommit, Shows, IsRolledBack}
-use Rattle.sqlite.specs.Steps.{FailsToCommit}
-use Rattle.sqlite.specs.Store.{Ghosts}
-use Rattle.sqlite.specs.Held.{Held, state}
-use Rattle.sqlite.specs.View.{doubt}
-use Rattle.sqlite_trees.proofs.Doubt.{no_doubt}
-use Rattle.sqlite.proofs.StateLemmas.{survives_then}
-use Rattle.sqlite.proofs.Callers.{survives_begin}
-use Rattle.portal_tables.specs.Steps.{Made, GoesOn, Does, Commits, IsAfter, Stays}
+use Rattle.std.specs.Prelude.{◌≡◌}
+use Rattle.portal_tables.proofs.Base.{inl, inr, Bool, true, false, IsTrue, Result, Ok, refl, sym, ap, subst, ◌∙◌, on_ok_weaker, Error, Transaction, cases_Bool, Database, State, HasCleanDisk, Survives, KeepsCommit, Shows, IsRolledBack, FailsToCommit, Ghosts, Held, state, doubt, no_doubt, survives_then, survives_begin, Made, GoesOn, Does, Commits, IsAfter, Stays}
+use Rattle.std.proofs.Common.{arith}
 
 -- a step after another
 pub made_then : (A B C : Database → Database → Type 0) (old mid new : State) → Made A old mid → Made B mid new → (A old.now mid.now → B mid.now new.now → C old.now new.now) → Made C old new
@@ -65,6 +53,17 @@ does_then g P Q R a r old mid new before after joined = record {
   kept = λ clean. kept_then _ _ _ (before.kept (omega (arith, clean, after.survives.clean))) (after.kept clean);
   survives = survives_then _ _ _ _ _ (λ _. ⊥) (λ _ db none. none) (λ _ db none. none) before.survives after.survives;
 }
+
+-- three calls in turn
+pub does_three : {S T U V : Type 0} (g : Ghosts S) (A B C D : Database → Database → Type 0) (x : T) (y : U) (r : Result V Error) (a b c d : Transaction S)
+    → Does g (Made A) (Ok x) a b → Does g (Made B) (Ok y) b c → Does g (Made C) r c d
+    → (A (state g a.conn.now).now (state g b.conn.now).now → B (state g b.conn.now).now (state g c.conn.now).now → C (state g c.conn.now).now (state g d.conn.now).now → D (state g a.conn.now).now (state g d.conn.now).now)
+    → Does g (GoesOn D) r a d
+does_three g A B C D x y r a b c d p q s joined =
+    let middle = (state g b.conn.now).now in
+    let Both : Database → Database → Type 0 = λ old new. A old middle × B middle new in
+    let first = does_then g (Made A) (Made B) (Made Both) x (Ok y) a b c p q (λ p q. made_then A B Both _ _ _ p q (λ i j. (i, j))) in
+    does_then g (Made Both) (Made C) (GoesOn D) y r a c d first s (λ p q. made_goes D _ _ (made_then Both C D _ _ _ p q (λ both. joined both.0 both.1)))
 
 -- what was done is so much more
 pub does_more : {S A : Type 0} (g : Ghosts S) (P Q : State → State → Type 0) (r : Result A Error) (old new : Transaction S) → Does g P r old new

@@ -1,33 +1,8 @@
 -- The shapes of the rows of the portal's own tables, by the rules that a database obeys.
-use Rattle.std.proofs.Common.{◌≡◌, ◌⊎◌, inl, inr, ℕ, ℤ, Bool, true, false, not, codes, ◌&&◌, drop, None, List, [], ◌∷◌, refl, sym, ap, subst, ◌∙◌}
-use Rattle.std.specs.List.{AllByRecursion}
-use Rattle.std.proofs.lemmas.Bool.{and_parts}
-use Rattle.std.specs.Prelude.{◌+◌}
-use Rattle.std.specs.Ordering.{is_eq}
-use Rattle.std.specs.Cmp.Lexicographic.{texts_ties}
-use Rattle.sqlite.specs.declared.types.Value.{Value}
-use Rattle.sqlite.specs.declared.types.Value.TheVariants.{Null, Int, Real, Blob, Text as Words}
-use Rattle.sqlite.specs.Order.{Row, column, value_cmp}
-use Rattle.sqlite.specs.Tree.{Trees, rowid}
-use Rattle.sqlite.specs.Term.{Term}
-use Rattle.sqlite.specs.Edit.{id_in}
-use Rattle.sqlite.specs.Effect.{Database, IsDatabase}
-use Rattle.sqlite_schema.specs.declared.schema.Column.{Column}
-use Rattle.sqlite_schema.specs.declared.schema.Constraint.{Constraint}
-use Rattle.sqlite_schema.specs.declared.schema.Constraint.TheVariants.{Datatype, NotNull}
-use Rattle.sqlite_schema.specs.Rules.{Keeps, passes, are_typed, are_present, is_of}
-use Rattle.sqlite_sql.specs.Ops.{is_null}
-use Rattle.sqlite.specs.Kind.TheVariants.{Integer, Text}
-use Rattle.portal_core.specs.Words.{Key, is}
-use Rattle.portal_tables.specs.Tables.{column_of, list_table, lecturer_tree, student_tree, lecturer, student}
-use Rattle.portal_tables.specs.ListTables.{names, tree_of}
-use Rattle.portal_tables.specs.declared.list_table.Lists.{Lists}
-use Rattle.portal_tables.specs.declared.list_table.Lists.TheVariants.{Choices, Rankings}
-use Rattle.portal_tables.specs.Own.{IsOwn}
-use Rattle.portal_tables.specs.Changes.{IsApart, has_text}
-use Rattle.portal_tables.specs.Rows.{lecturer_cells, place_cells}
-use Rattle.portal_tables.proofs.Weak.{portal_with, with_checks, IsWith, own_is}
-use Rattle.portal_tables.specs.Rolls.{row_key}
+use Rattle.std.specs.Prelude.{◌≡◌, ◌⊎◌, ◌&&◌, ◌∷◌, ◌+◌}
+use Rattle.portal_tables.proofs.Base.{inl, inr, ℕ, ℤ, Bool, true, false, not, codes, drop, None, List, [], refl, sym, ap, subst, ◌∙◌, AllByRecursion, and_parts, is_eq, texts_ties, Value, Null, Int, Real, Blob, Words, Row, column, value_cmp, Trees, rowid, id_in, Database, IsDatabase, Column, Constraint, Datatype, NotNull, Keeps, passes, are_typed, are_present, is_of, is_null, Integer, Key, is, column_of, list_table, lecturer_tree, student_tree, lecturer, student, round_of, names, tree_of, Lists, Choices, Rankings, SecondChoices, SecondRankings, Round, First, IsOwn, HasRound, IsApart, has_text, lecturer_cells, place_cells, row_key}
+use Rattle.sqlite.specs.Kind.TheVariants.{Text}
+use Rattle.portal_tables.proofs.Weak.{Open, schema_with, with_checks, IsWith, own_is}
 
 -- a test of a text
 pub text_equals : (s t : Key) → is_eq (value_cmp (Words s) (Words t)) ≡ is s t
@@ -86,7 +61,7 @@ pub record IsStudentRow (r : Row) : Type 0 where
 pub student_test : (k : Key) (r : Row) → IsStudentRow r → has_text 1 k r ≡ is (row_key r) k
 student_test k r f = has_text_of 1 k r f.key (ap (λ x. column x 1) f.is) ∙ ap (λ x. is (row_key x) k) (sym f.is)
 
--- a place of a list, in either table
+-- a place of a list, in whichever table
 pub record IsPlace (r : Row) : Type 0 where
   pub number : ℤ
   pub owner : List ℕ
@@ -174,27 +149,32 @@ formed P typed present form (r ∷ rows) apart t p =
     (with_number P typed present form r apart.0 (and_parts _ _ t.0).0 p.0, formed P typed present form rows apart.2 t.1 p.1)
 
 -- a rule of all tables is one of a table of lists
-pub at_list : (l : Lists) (checks more : ℕ → List Term) (rule : Constraint) (db : Trees) → Keeps rule (portal_with checks more) db
-    → AllByRecursion (λ row. passes rule (portal_with checks more) db (with_checks checks more (list_table (names l) (tree_of l))) row ≡ true) (db (tree_of l))
-at_list Choices checks more rule db all = all.1.1.1.1.0
-at_list Rankings checks more rule db all = all.1.1.1.1.1.0
+pub at_list : (l : Lists) (o : Open) (rule : Constraint) (db : Trees) → Keeps rule (schema_with (round_of l) o) db
+    → AllByRecursion (λ row. passes rule (schema_with (round_of l) o) db (with_checks o.checks o.terms (list_table (names l) (tree_of l))) row ≡ true) (db (tree_of l))
+at_list Choices o rule db all = all.1.1.1.1.0
+at_list Rankings o rule db all = all.1.1.1.1.1.0
+at_list SecondChoices o rule db all = all.1.1.1.1.1.1.1.0
+at_list SecondRankings o rule db all = all.1.1.1.1.1.1.1.1.1.0
+
+-- what the rules say of tables that are read as those of a round
+pub kept : (round : Round) (db : Database) → IsDatabase db → (rule : Constraint) (w : IsWith round db.schema) → Keeps rule (schema_with round w.o) db.trees
+kept round db sound rule w = subst (λ s. Keeps rule s db.trees) w.is (sound.obeys.rules rule)
 
 module _ (db : Database) (own : IsOwn db.schema) (sound : IsDatabase db) where
-  kept : (rule : Constraint) (w : IsWith db.schema) → Keeps rule (portal_with w.checks w.terms) db.trees
-  kept rule w = subst (λ s. Keeps rule s db.trees) w.is (sound.obeys.rules rule)
+  w : IsWith First db.schema
+  w = own_is First db.schema own
 
   pub lecturer_rows_formed : IsApart (db.trees lecturer_tree) → AllByRecursion IsLecturerRow (db.trees lecturer_tree)
   lecturer_rows_formed apart =
-      let w = own_is db.schema own in
-      formed IsLecturerRow (are_typed None 0 (lecturer 1).columns) (are_present None 0 (lecturer 1).columns) lecturer_form (db.trees lecturer_tree) apart (kept Datatype w).1.0 (kept NotNull w).1.0
+      formed IsLecturerRow (are_typed None 0 (lecturer 1).columns) (are_present None 0 (lecturer 1).columns) lecturer_form (db.trees lecturer_tree) apart (kept First db sound Datatype w).1.0 (kept First db sound NotNull w).1.0
 
   pub student_rows_formed : IsApart (db.trees student_tree) → AllByRecursion IsStudentRow (db.trees student_tree)
   student_rows_formed apart =
-      let w = own_is db.schema own in
-      formed IsStudentRow (are_typed None 0 (student 6).columns) (are_present None 0 (student 6).columns) student_form (db.trees student_tree) apart (kept Datatype w).1.1.1.0 (kept NotNull w).1.1.1.0
+      formed IsStudentRow (are_typed None 0 (student 6).columns) (are_present None 0 (student 6).columns) student_form (db.trees student_tree) apart (kept First db sound Datatype w).1.1.1.0 (kept First db sound NotNull w).1.1.1.0
 
-  pub place_rows_formed : (l : Lists) → IsApart (db.trees (tree_of l)) → AllByRecursion IsPlace (db.trees (tree_of l))
-  place_rows_formed l apart =
-      let w = own_is db.schema own in
-      let cs = (list_table (names l) (tree_of l)).columns in
-      formed IsPlace (are_typed None 0 cs) (are_present None 0 cs) (λ n cells t p. place_form n (names l).owner (codes "place") (names l).item cells t p) (db.trees (tree_of l)) apart (at_list l w.checks w.terms Datatype db.trees (kept Datatype w)) (at_list l w.checks w.terms NotNull db.trees (kept NotNull w))
+pub place_rows_formed : (db : Database) (l : Lists) → HasRound (round_of l) db.schema → IsDatabase db → IsApart (db.trees (tree_of l)) → AllByRecursion IsPlace (db.trees (tree_of l))
+place_rows_formed db l own sound apart =
+    let w = own_is (round_of l) db.schema own in
+    let cs = (list_table (names l) (tree_of l)).columns in
+    formed IsPlace (are_typed None 0 cs) (are_present None 0 cs) (λ n cells t p. place_form n (names l).owner (codes "place") (names l).item cells t p) (db.trees (tree_of l)) apart
+    (at_list l w.o Datatype db.trees (kept (round_of l) db sound Datatype w)) (at_list l w.o NotNull db.trees (kept (round_of l) db sound NotNull w))

@@ -1,31 +1,10 @@
 -- What each query's text is understood as, whatever the checks are, and so what the query shows and leaves.
-use Rattle.std.proofs.Common.{◌≡◌, ℕ, List, [], ◌∷◌, false, map, Option, Some, None, refl, sym, ap, subst, subst₂, ◌∙◌, Ok, Result, OnOk, OnErr}
-use Rattle.sqlite.specs.Order.{Row, column}
-use Rattle.sqlite.specs.Term.{Term, col}
-use Rattle.sqlite.specs.Schema.{Schema}
-use Rattle.sqlite.specs.Effect.{Database, Reads, Answers}
-use Rattle.sqlite_schema.specs.declared.command.Command.{Command}
-use Rattle.sqlite_schema.specs.declared.program.Program.{Program}
-use Rattle.sqlite_resolve.specs.declared.compiled.Compiled.{Compiled}
-use Rattle.sqlite.specs.State.{State, Shown, HasCleanDisk, IsUnchanged, Survives}
-use Rattle.sqlite.specs.Command.TheVariants.{Select}
-use Rattle.sqlite_tied.specs.Compute.{everything}
-use Rattle.sqlite.specs.Listing.{understood, reads_listing}
-use Rattle.sqlite_schema.specs.Program.{lets_of}
-use Rattle.sqlite_sql.specs.Program.{Ends}
-use Rattle.sqlite.proofs.Callers.{IsPlain, EndsIn, command_of, reads_as}
-use Rattle.sqlite.proofs.StateLemmas.{survives_weaker}
-use Rattle.portal_tables.specs.declared.list_table.Lists.TheVariants.{Choices}
+use Rattle.std.specs.Prelude.{◌≡◌, ◌∷◌}
+use Rattle.portal_tables.proofs.Base.{ℕ, List, [], false, map, Option, Some, None, refl, sym, ap, subst, subst₂, ◌∙◌, Ok, Result, OnOk, OnErr, Row, column, Term, col, Schema, Database, Answers, Command, Program, Compiled, State, Shown, HasCleanDisk, IsUnchanged, Survives, Select, everything, understood, reads_listing, lets_of, Ends, IsPlain, EndsIn, command_of, reads_as, survives_weaker, Choices, Whole, LecturerByCode, StudentByCode, LecturerByKey, StudentTold, AllLists, ListOf, Choosers, Listed, SecondPlaceOf, Numbers, Lecturers, OfRoll, OfLists, ListsBy, columns, HasRound, selection, round_asked, text_of, given, AsksIn, Leaves}
+use Rattle.sqlite.specs.Effect.{Reads}
 use Rattle.portal_tables.specs.declared.select.Query.{Query}
-use Rattle.portal_tables.specs.declared.select.Query.TheVariants.{Whole, LecturerByCode, StudentByCode, LecturerByKey, StudentTold, AllLists, ListOf, Choosers, Listed, Numbers}
-use Rattle.portal_tables.specs.declared.select.Roll.TheVariants.{Lecturers}
-use Rattle.portal_tables.specs.declared.select.Table.TheVariants.{OfRoll, OfLists}
-use Rattle.portal_tables.specs.Changes.{ListsBy, columns}
-use Rattle.portal_tables.specs.Own.{IsOwn}
-use Rattle.portal_tables.specs.Queries.{selection, text_of, given, Shows}
-use Rattle.portal_tables.specs.Reading.{Asks}
-use Rattle.portal_tables.specs.Steps.{Leaves}
-use Rattle.portal_tables.proofs.Weak.{portal_with, own_is}
+use Rattle.portal_tables.specs.Queries.{Shows}
+use Rattle.portal_tables.proofs.Weak.{Open, schema_with, own_is}
 use Rattle.portal_tables.proofs.Query.{passes, shown_as}
 use Rattle.portal_tables.proofs.Tests.{has_key, same_key, is_number, same_number}
 use Rattle.portal_tables.proofs.Queries.{by_columns, listed}
@@ -39,6 +18,7 @@ tests (StudentTold key) = has_key 1
 tests (ListOf lists owner) = has_key 1
 tests (Choosers project) = has_key 3
 tests Listed = is_number 2 1
+tests (SecondPlaceOf student) = has_key 1
 tests _ = []
 
 tested : (q : Query) → passes (tests q) (given q) ≡ (selection q).passes
@@ -49,6 +29,7 @@ tested (StudentTold key) = same_key 1 key.now
 tested (ListOf lists owner) = same_key 1 owner.now
 tested (Choosers project) = same_key 3 project.now
 tested Listed = same_number 2 1 []
+tested (SecondPlaceOf student) = same_key 1 student.now
 tested _ = refl
 
 abbrev program_of : Command → Option Program
@@ -67,17 +48,17 @@ abbrev IsUnderstood : Query → Schema → Type 0
 IsUnderstood q s = (program_of (command_of (understood s (text_of q))) ≡ Some (asked q)) × IsPlain (understood s (text_of q)) × (reads_listing s (text_of q) ≡ false)
 
 -- each case computes; the last clause is checked for every query that has none of its own
-is : (q : Query) (checks more : ℕ → List Term) → IsUnderstood q (portal_with checks more)
+is : (q : Query) (o : Open) → IsUnderstood q (schema_with (round_asked q) o)
 unfolding understood everything
-is (Whole Lecturers) checks more = (refl, (refl, refl), refl)
-is (AllLists Choices) checks more = (refl, (refl, refl), refl)
-is (ListOf Choices owner) checks more = (refl, (refl, refl), refl)
-is (Numbers (OfRoll Lecturers)) checks more = (refl, (refl, refl), refl)
-is (Numbers (OfLists Choices)) checks more = (refl, (refl, refl), refl)
-is _ checks more = (refl, (refl, refl), refl)
+is (Whole Lecturers) o = (refl, (refl, refl), refl)
+is (AllLists Choices) o = (refl, (refl, refl), refl)
+is (ListOf Choices owner) o = (refl, (refl, refl), refl)
+is (Numbers (OfRoll Lecturers)) o = (refl, (refl, refl), refl)
+is (Numbers (OfLists Choices)) o = (refl, (refl, refl), refl)
+is _ o = (refl, (refl, refl), refl)
 
-own_is_understood : (q : Query) (s : Schema) → IsOwn s → IsUnderstood q s
-own_is_understood q s own = let w = own_is s own in subst (IsUnderstood q) (sym w.is) (is q w.checks w.terms)
+own_is_understood : (q : Query) (s : Schema) → HasRound (round_asked q) s → IsUnderstood q s
+own_is_understood q s own = let w = own_is (round_asked q) s own in subst (IsUnderstood q) (sym w.is) (is q w.o)
 
 -- a command that is a query is that one
 program_is : (c : Command) (p : Program) (db : Database) (params : Row) (rows : List Row) → program_of c ≡ Some p → Reads c db params rows → Answers db p params rows
@@ -91,14 +72,14 @@ program_ends _ q db params is h = tt
 
 -- what a query comes to that was asked with this text and these values
 module _ (q : Query) (sql : List ℕ) (params : Row) (text : sql ≡ text_of q) (values : params ≡ given q) where
-  pub plain : (s : Schema) → IsOwn s → IsPlain (understood s sql)
+  pub plain : (s : Schema) → HasRound (round_asked q) s → IsPlain (understood s sql)
   plain s own = subst (λ t. IsPlain (understood s t)) (sym text) (own_is_understood q s own).1
 
-  pub ends : (s : Schema) → IsOwn s → (c : Compiled) → understood s sql ≡ Ok c → (db : Database) (full : Row) → EndsIn c.command db full
+  pub ends : (s : Schema) → HasRound (round_asked q) s → (c : Compiled) → understood s sql ≡ Ok c → (db : Database) (full : Row) → EndsIn c.command db full
   ends s own c known db full =
       program_ends c.command (asked q) db full (ap (λ x. program_of (command_of x)) (sym known ∙ ap (understood s) text) ∙ (own_is_understood q s own).0) tt
 
-  pub shows : (old new : State) (rows : List Row) → IsOwn old.now.schema → Shown sql params old new rows → Shows q old.now.trees rows
+  pub shows : (old new : State) (rows : List Row) → HasRound (round_asked q) old.now.schema → Shown sql params old new rows → Shows q old.now.trees rows
   shows old new rows own h =
       let it = own_is_understood q old.now.schema own in
       let here : Shown (text_of q) (given q) old new rows = subst₂ (λ t v. Shown t v old new rows) text values h in
@@ -108,7 +89,7 @@ module _ (q : Query) (sql : List ℕ) (params : Row) (text : sql ≡ text_of q) 
 
   pub asks : {V E : Type 0} (r : Result V E) (old new : State) → (IsPlain (understood old.now.schema sql) → HasCleanDisk new → OnOk r (IsUnchanged old new))
       → (IsPlain (understood old.now.schema sql) → HasCleanDisk new → OnErr r (Leaves old new)) → (old.in_transaction ≡ false → new.in_transaction ≡ false)
-      → Survives old new (λ _. IsPlain (understood old.now.schema sql) → ⊥) → Asks r old new
+      → Survives old new (λ _. IsPlain (understood old.now.schema sql) → ⊥) → AsksIn (round_asked q) r old new
   asks r old new same err mode survives = record {
     same = λ own. same (plain old.now.schema own);
     err = λ own. err (plain old.now.schema own);

@@ -1,18 +1,9 @@
 -- Rows put by their keys are the one order of them in which the keys rise.
-use Rattle.std.proofs.Common.{◌≡◌, inl, inr, true, false, ◌||◌, cond, List, [], ◌∷◌, ◌++◌, map, refl, sym, ap, ap₂, subst, ◌∙◌}
-use Rattle.std.proofs.lemmas.List.{append-nil}
-use Rattle.std.specs.List.{AllByRecursion, IsDistinct}
-use Rattle.std.specs.List.Sorted.{IsPermutation}
-use Rattle.std.proofs.lemmas.List.Sorted.{IsPermutation-refl, IsPermutation-trans, IsPermutation-sym, IsPermutation-cons, IsPermutation-middle, IsPermutation-map, IsPermutation-append_right}
-use Rattle.std.proofs.lemmas.Map.Keys.{IsDistinct-IsPermutation}
-use Rattle.sqlite_rules.specs.Lists.{Has}
+use Rattle.std.specs.Prelude.{◌≡◌, ◌||◌, ◌∷◌, ◌++◌}
+use Rattle.portal_tables.proofs.Base.{inl, inr, true, false, cond, List, [], map, refl, sym, ap, ap₂, subst, ◌∙◌, append-nil, AllByRecursion, IsDistinct, IsPermutation, IsPermutation-refl, IsPermutation-trans, IsPermutation-sym, IsPermutation-cons, IsPermutation-middle, IsPermutation-map, IsPermutation-append_right, IsDistinct-IsPermutation, Has, Key, is, has, is_before, Rise, put, is_own, not_before_itself, is_sym, before_trans, after_other, before_other}
 pub use Rattle.sqlite_rules.proofs.ListLemmas.{all_has as at, all_from as all_has}
 pub use Rattle.sqlite_trees.proofs.ListLemmas.{all-permutation as all_permuted, all_both as all_two}
-use Rattle.portal_core.specs.Words.{Key, is, has, is_before, Rise, put, put_all}
-use Rattle.portal_core.proofs.Keys.{is_own, not_before_itself}
-use Rattle.portal_core.proofs.AllLaws.{is_sym}
-use Rattle.portal_core.proofs.Puts.{before_trans, after_other}
-use Rattle.portal_core.proofs.Fills.{before_other}
+use Rattle.portal_core.specs.Words.{put_all}
 
 all_apart : (k : Key) (ks : List Key) → AllByRecursion (λ l. is_before k l ≡ true) ks → AllByRecursion (λ l. is k l ≡ false) ks
 all_apart k [] h = tt

@@ -1,42 +1,7 @@
 -- The texts that write, and what each does to its table, whatever the checks are.
-use Rattle.std.proofs.Common.{◌≡◌, ℕ, ◌+◌, ◌/◌, pos, Option, Some, slice_get, List, [], ◌∷◌, ◌++◌, map, filter, codes, length, ◌==◌, true, false, not, refl, sym, ap, subst, subst₂, ◌∙◌}
-use Rattle.std.specs.List.{AllByRecursion, flat_map, filter_map}
-use Rattle.std.specs.Ordering.{is_eq}
-use Rattle.sqlite.specs.declared.types.Value.TheVariants.{Null, Int, Text}
-use Rattle.sqlite.specs.Collation.TheVariants.{Binary}
-use Rattle.sqlite.specs.Order.{Row, column, value_cmp}
-use Rattle.sqlite.specs.Table.{Table}
-use Rattle.sqlite.specs.Tree.{put_row}
-use Rattle.sqlite.specs.Effect.{value_rows}
-use Rattle.sqlite.specs.Cast.{cast_row}
-use Rattle.sqlite.specs.Term.{Term, lit, col, op2}
-use Rattle.sqlite_sql.specs.declared.ops.BinaryOp.TheVariants.{Compare}
-use Rattle.sqlite_sql.specs.declared.ops.CompareOp.TheVariants.{Eq}
-use Rattle.sqlite.specs.State.{State}
-use Rattle.sqlite.specs.Store.{Ghosts}
-use Rattle.sqlite.specs.Held.{state}
-use Rattle.sqlite.specs.Command.TheVariants.{Insert, Delete, Update}
-use Rattle.sqlite.specs.Source.TheVariants.{Values}
-use Rattle.sqlite_tied.specs.Compute.{everything}
-use Rattle.sqlite.specs.Listing.{understood}
-use Rattle.sqlite.proofs.Callers.{IsPlain, command_of}
-use Rattle.sqlite_rules.specs.Action.{works, work_by, deed_for, pairs}
-use Rattle.sqlite_schema.specs.Rules.{parent_key}
-use Rattle.sqlite_schema.specs.declared.schema.Keys.TheVariants.{Enforced}
-use Rattle.sqlite_schema.specs.declared.schema.Column.{Column}
-use Rattle.sqlite_schema.specs.declared.schema.Reference.{Reference}
-use Rattle.sqlite_value.specs.declared.keys.Order.{Order}
-use Rattle.portal_core.specs.declared.rows.LecturerRow.{LecturerRow}
-use Rattle.portal_core.specs.declared.rows.ProjectRow.{ProjectRow}
-use Rattle.portal_core.specs.declared.rows.StudentRow.{StudentRow}
-use Rattle.portal_tables.specs.declared.list_table.Lists.{Lists}
-use Rattle.portal_tables.specs.declared.list_table.Lists.TheVariants.{Choices, Rankings}
-use Rattle.portal_tables.specs.declared.insert.lists.NewPlace.{NewPlace}
-use Rattle.portal_tables.specs.Tables.{table_of, list_table, portal, lecturer, project, student, portal_tree, lecturer_tree, project_tree, student_tree}
-use Rattle.portal_tables.specs.ListTables.{names, place_among, tree_of, clear_text, add_text, add_eight_text}
-use Rattle.portal_tables.specs.Changes.{IsApart, Drops, Sets, has_text}
-use Rattle.portal_tables.specs.Steps.{Ran, Made}
-use Rattle.portal_tables.specs.Rows.{portal_cells, lecturer_cells, lecturer_new, lecturer_values, project_new, student_new, student_values, place_new, Adds, AddsBy, Clears, MovesTo, Ranks, portal_row}
+use Rattle.std.specs.Prelude.{◌≡◌, ◌+◌, ◌∷◌, ◌++◌, ◌==◌}
+use Rattle.std.proofs.Common.{◌/◌}
+use Rattle.portal_tables.proofs.Base.{ℕ, pos, Option, Some, slice_get, List, [], map, filter, codes, length, true, false, not, refl, sym, ap, subst, subst₂, ◌∙◌, ⊤, AllByRecursion, flat_map, filter_map, is_eq, Null, Int, Text, Binary, Row, column, value_cmp, Table, put_row, rowid, id_in, value_rows, cast_row, Term, lit, col, op2, Compare, Eq, State, Ghosts, state, Insert, Delete, Update, Values, everything, understood, IsPlain, command_of, works, work_by, deed_for, pairs, parent_key, Enforced, Column, Reference, Order, LecturerRow, ProjectRow, StudentRow, Lists, Second, Choices, Rankings, SecondChoices, SecondRankings, NewPlace, table_of, list_table, portal, lecturer, project, student, second, portal_tree, second_tree, ranked2_tree, assigned2_tree, lecturer_tree, project_tree, student_tree, names, place_among, tree_of, clear_text, add_text, add_eight_text, IsApart, Drops, Sets, Becomes, every, has_text, IsCurrent, Ran, Made, portal_cells, lecturer_cells, lecturer_new, lecturer_values, project_new, student_new, student_values, place_new, pair_new, Adds, AddsBy, Clears, MovesTo, IsOfVersion, MovesSecond, Ranks, portal_row, second_cells, second_row}
 use Rattle.portal_tables.proofs.Weak.{portal_with, with_checks, own_is}
 use Rattle.portal_tables.proofs.Query.{one_table, passes, shown_as}
 use Rattle.portal_tables.proofs.Tests.{param, has_key, same_key, equals_int}
@@ -115,24 +80,27 @@ module _ (at : ℕ) (name : List ℕ) (tree : ℕ) (columns : List Column) (key 
   rows_added g values cells fit count sql terms width inserts given rows are old new ran = record {
     shown = ran.shown;
     changed = λ own.
-        let w = own_is (state g old).now.schema own in
-        inserted (portal_with w.checks w.terms) sql at name tree columns key primary uniques orders (w.checks tree) references (w.terms tree) (stands w.checks w.terms) (λ P all. all)
-        terms width (inserts.command w.checks w.terms) (inserts.plain w.checks w.terms) (no_works w.checks w.terms tree)
-        (flat_map values rows) (map cells rows) (given.is rows are) (all_fit w.checks w.terms cells (fit w.checks w.terms) rows) (state g old) (state g new) ran.count w.is ran.runs;
+        let w = own_is Second (state g old).now.schema own in
+        inserted (portal_with w.o.checks w.o.terms) sql at name tree columns key primary uniques orders (w.o.checks tree) references (w.o.terms tree) (stands w.o.checks w.o.terms) (λ P all. all)
+        terms width (inserts.command w.o.checks w.o.terms) (inserts.plain w.o.checks w.o.terms) (no_works w.o.checks w.o.terms tree)
+        (flat_map values rows) (map cells rows) (given.is rows are) (all_fit w.o.checks w.o.terms cells (fit w.o.checks w.o.terms) rows) (state g old) (state g new) ran.count w.is ran.runs;
   }
 
-abbrev insert_portal : List ℕ
-insert_portal = codes "INSERT INTO portal (version, phase, office) VALUES (1, 0, ?1)"
-
-portal_one : Inserts insert_portal 0 (lit Null ∷ lit Null ∷ lit (Int (pos 1)) ∷ lit (Int (pos 0)) ∷ param 0 ∷ []) 5
+-- the row of `portal` with a version, and that of `second`
+portal_one : Inserts (codes "INSERT INTO portal (version, phase, office) VALUES (?1, 0, ?2)") 0 (lit Null ∷ lit Null ∷ param 0 ∷ lit (Int (pos 0)) ∷ param 1 ∷ []) 5
 unfolding understood everything
 portal_one = record { command = λ checks more. refl; plain = λ checks more. (refl, refl) }
 
-portal_fits : (checks more : ℕ → List Term) (office : List ℕ) → cast_row (with_checks checks more (portal 0)) (unnumbered (portal_cells (pos 1) (pos 0) office)) ≡ unnumbered (portal_cells (pos 1) (pos 0) office)
-portal_fits checks more office = rw (cast_null, cast_int (pos 1), cast_int (pos 0)) refl
+pub portal_added : {S : Type 0} (g : Ghosts S) (version : ℕ) → AddsBy g (codes "INSERT INTO portal (version, phase, office) VALUES (?1, 0, ?2)") 1 portal_tree (λ office. Int (pos version) ∷ Text office ∷ []) (portal_cells (pos version) (pos 0))
+portal_added g version = rows_added 0 _ 0 _ _ _ _ _ _ (λ checks more. refl) g (λ office. Int (pos version) ∷ Text office ∷ []) (portal_cells (pos version) (pos 0))
+    (λ checks more office. rw (cast_null, cast_int (pos version), cast_int (pos 0)) refl) 1 _ _ 5 portal_one (by_one (λ office more. refl))
 
-pub portal_added : {S : Type 0} (g : Ghosts S) → AddsBy g insert_portal 1 portal_tree (λ office. Text office ∷ []) (portal_cells (pos 1) (pos 0))
-portal_added g = rows_added 0 _ 0 _ _ _ _ _ _ (λ checks more. refl) g (λ office. Text office ∷ []) (portal_cells (pos 1) (pos 0)) portal_fits 1 _ _ 5 portal_one (by_one (λ office more. refl))
+second_one : Inserts (codes "INSERT INTO second (phase) VALUES (0)") 6 (lit Null ∷ lit Null ∷ lit (Int (pos 0)) ∷ []) 3
+unfolding understood everything
+second_one = record { command = λ checks more. refl; plain = λ checks more. (refl, refl) }
+
+pub second_added : {S : Type 0} (g : Ghosts S) → AddsBy {R = ⊤} g (codes "INSERT INTO second (phase) VALUES (0)") 1 second_tree (λ _. []) (λ _. second_cells (pos 0))
+second_added g = rows_added 6 _ 15 _ _ _ _ _ _ (λ checks more. refl) g (λ _. []) (λ _. second_cells (pos 0)) (λ checks more none. rw (cast_null, cast_int (pos 0)) refl) 1 _ _ 3 second_one (by_one (λ none more. refl))
 
 abbrev lecturer_terms : ℕ → List Term
 lecturer_terms n = lit Null ∷ param n ∷ param (n + 1) ∷ param (n + 2) ∷ param (n + 3) ∷ lit (Int (pos 0)) ∷ []
@@ -189,6 +157,8 @@ students_added g count sql terms = rows_added 3 _ 6 _ _ _ _ _ _ (λ checks more.
 stands : (l : Lists) → StandsAt (place_among l) (list_table (names l) (tree_of l))
 stands Choices checks more = refl
 stands Rankings checks more = refl
+stands SecondChoices checks more = refl
+stands SecondRankings checks more = refl
 
 abbrev place_terms : ℕ → List Term
 place_terms n = lit Null ∷ param n ∷ param (n + 1) ∷ param (n + 2) ∷ []
@@ -197,11 +167,15 @@ pub add_is : (l : Lists) → Inserts (add_text (names l)) (place_among l) (place
 unfolding understood everything
 add_is Choices = record { command = λ checks more. refl; plain = λ checks more. (refl, refl) }
 add_is Rankings = record { command = λ checks more. refl; plain = λ checks more. (refl, refl) }
+add_is SecondChoices = record { command = λ checks more. refl; plain = λ checks more. (refl, refl) }
+add_is SecondRankings = record { command = λ checks more. refl; plain = λ checks more. (refl, refl) }
 
 pub add_eight_is : (l : Lists) → Inserts (add_eight_text (names l)) (place_among l) (flat_map place_terms (0 ∷ 3 ∷ 6 ∷ 9 ∷ 12 ∷ 15 ∷ 18 ∷ 21 ∷ [])) 4
 unfolding understood everything
 add_eight_is Choices = record { command = λ checks more. refl; plain = λ checks more. (refl, refl) }
 add_eight_is Rankings = record { command = λ checks more. refl; plain = λ checks more. (refl, refl) }
+add_eight_is SecondChoices = record { command = λ checks more. refl; plain = λ checks more. (refl, refl) }
+add_eight_is SecondRankings = record { command = λ checks more. refl; plain = λ checks more. (refl, refl) }
 
 place_fits : (l : Lists) (checks more : ℕ → List Term) (r : NewPlace) → cast_row (with_checks checks more (list_table (names l) (tree_of l))) (unnumbered (place_new r)) ≡ unnumbered (place_new r)
 place_fits l checks more r = rw (cast_null, cast_int (pos r.place)) refl
@@ -214,17 +188,64 @@ clear_is : (l : Lists) → Deletes (clear_text (names l)) (place_among l) (tree_
 unfolding understood everything
 clear_is Choices = record { command = λ checks more. refl; plain = λ checks more. (refl, refl) }
 clear_is Rankings = record { command = λ checks more. refl; plain = λ checks more. (refl, refl) }
+clear_is SecondChoices = record { command = λ checks more. refl; plain = λ checks more. (refl, refl) }
+clear_is SecondRankings = record { command = λ checks more. refl; plain = λ checks more. (refl, refl) }
 
-pub list_cleared : (l : Lists) (old new : State) (key : List ℕ) → Ran (clear_text (names l)) (Text key ∷ []) old new → Made (Clears (tree_of l) key) old new
-list_cleared l old new key ran = record {
-  shown = ran.shown;
-  changed = λ own apart.
-      let w = own_is old.now.schema own in
-      let s = portal_with w.checks w.terms in
-      subst (λ p. Drops (tree_of l) p old.now new.now) (same_key 1 key)
-      (deleted s (clear_text (names l)) (place_among l) _ (tree_of l) _ _ _ _ _ _ _ _ (stands l w.checks w.terms) (λ P all. all) (has_key 1) ((clear_is l).command w.checks w.terms) ((clear_is l).plain w.checks w.terms)
-      (λ olds. refl) (Text key ∷ []) old new ran.count w.is apart ran.runs);
-}
+module _ (at : ℕ) (name : List ℕ) (tree : ℕ) (columns : List Column) (key : Option ℕ) (primary : List ℕ) (uniques : List (List ℕ)) (orders : List Order) (references : List Reference)
+    (stands : StandsAt at (table_of name tree columns key primary uniques orders [] references)) where
+  dropped : (sql : List ℕ) (tests : List Term) → Deletes sql at tree tests → ((checks terms : ℕ → List Term) (olds : List Row) → works (portal_with checks terms) Enforced 0 tree olds [] ≡ [])
+      → (params : Row) (old new : State) → Ran sql params old new → IsCurrent old.now.schema → IsApart (old.now.trees tree) → Drops tree (passes tests params) old.now new.now
+  dropped sql tests deletes idle params old new ran own apart =
+      let w = own_is Second old.now.schema own in
+      deleted (portal_with w.o.checks w.o.terms) sql at name tree columns key primary uniques orders (w.o.checks tree) references (w.o.terms tree) (stands w.o.checks w.o.terms) (λ P all. all) tests
+      (deletes.command w.o.checks w.o.terms) (deletes.plain w.o.checks w.o.terms) (idle w.o.checks w.o.terms) params old new ran.count w.is apart ran.runs
+
+  cleared : (sql : List ℕ) → Deletes sql at tree (has_key 1) → ((checks terms : ℕ → List Term) (olds : List Row) → works (portal_with checks terms) Enforced 0 tree olds [] ≡ [])
+      → (old new : State) (owner : List ℕ) → Ran sql (Text owner ∷ []) old new → Made (Clears tree owner) old new
+  cleared sql deletes idle old new owner ran = record {
+    shown = ran.shown;
+    changed = λ own apart. subst (λ p. Drops tree p old.now new.now) (same_key 1 owner) (dropped sql (has_key 1) deletes idle (Text owner ∷ []) old new ran own apart);
+  }
+
+pub list_cleared : (l : Lists) (old new : State) (owner : List ℕ) → Ran (clear_text (names l)) (Text owner ∷ []) old new → Made (Clears (tree_of l) owner) old new
+list_cleared l = cleared (place_among l) _ (tree_of l) _ _ _ _ _ _ (stands l) (clear_text (names l)) (clear_is l) (λ checks terms olds. refl)
+
+-- who has a ranking in the second round
+unrank_is : Deletes (codes "DELETE FROM ranked2 WHERE lecturer = ?1") 8 19 (has_key 1)
+unfolding understood everything
+unrank_is = record { command = λ checks more. refl; plain = λ checks more. (refl, refl) }
+
+pub rank_cleared : (old new : State) (owner : List ℕ) → Ran (codes "DELETE FROM ranked2 WHERE lecturer = ?1") (Text owner ∷ []) old new → Made (Clears ranked2_tree owner) old new
+rank_cleared = cleared 8 _ 19 _ _ _ _ _ _ (λ checks more. refl) (codes "DELETE FROM ranked2 WHERE lecturer = ?1") unrank_is (λ checks terms olds. refl)
+
+rank_one : Inserts (codes "INSERT INTO ranked2 (lecturer) VALUES (?1)") 8 (lit Null ∷ param 0 ∷ []) 2
+unfolding understood everything
+rank_one = record { command = λ checks more. refl; plain = λ checks more. (refl, refl) }
+
+pub rank_added : {S : Type 0} (g : Ghosts S) → AddsBy g (codes "INSERT INTO ranked2 (lecturer) VALUES (?1)") 1 ranked2_tree (λ k. Text k ∷ []) (λ k. Text k ∷ [])
+rank_added g = rows_added 8 _ 19 _ _ _ _ _ _ (λ checks more. refl) g (λ k. Text k ∷ []) (λ k. Text k ∷ []) (λ checks more k. rw (cast_null) refl) 1 _ _ 2 rank_one (by_one (λ k more. refl))
+
+-- the result of the second round
+empty_is : Deletes (codes "DELETE FROM assigned2") 10 24 []
+unfolding understood everything
+empty_is = record { command = λ checks more. refl; plain = λ checks more. (refl, refl) }
+
+pub places_dropped : (old new : State) → Ran (codes "DELETE FROM assigned2") [] old new → IsCurrent old.now.schema → IsApart (old.now.trees assigned2_tree) → Drops assigned2_tree every old.now new.now
+places_dropped = dropped 10 _ 24 _ _ _ _ _ _ (λ checks more. refl) (codes "DELETE FROM assigned2") [] empty_is (λ checks terms olds. refl) []
+
+abbrev pair_terms : ℕ → List Term
+pair_terms n = lit Null ∷ param n ∷ param (n + 1) ∷ []
+
+pub pair_one : Inserts (codes "INSERT INTO assigned2 (student, project) VALUES (?1, ?2)") 10 (pair_terms 0) 3
+unfolding understood everything
+pair_one = record { command = λ checks more. refl; plain = λ checks more. (refl, refl) }
+
+pub pair_eight : Inserts (codes "INSERT INTO assigned2 (student, project) VALUES (?1, ?2), (?3, ?4), (?5, ?6), (?7, ?8), (?9, ?10), (?11, ?12), (?13, ?14), (?15, ?16)") 10 (flat_map pair_terms (0 ∷ 2 ∷ 4 ∷ 6 ∷ 8 ∷ 10 ∷ 12 ∷ 14 ∷ [])) 3
+unfolding understood everything
+pair_eight = record { command = λ checks more. refl; plain = λ checks more. (refl, refl) }
+
+pub pairs_added : {S : Type 0} (g : Ghosts S) (count : ℕ) (sql : List ℕ) (terms : List Term) → Inserts sql 10 terms 3 → Gives pair_new pair_new count 3 terms → AddsBy g sql count assigned2_tree pair_new pair_new
+pairs_added g count sql terms = rows_added 10 _ 24 _ _ _ _ _ _ (λ checks more. refl) g pair_new pair_new (λ checks more p. rw (cast_null) refl) count sql terms 3
 
 abbrev pub update_ranked : List ℕ
 update_ranked = codes "UPDATE lecturer SET ranked = 1 WHERE key = ?1"
@@ -240,44 +261,68 @@ pub lecturer_ranked : (old new : State) (key : List ℕ) → Ran update_ranked (
 lecturer_ranked old new key h = record {
   shown = h.shown;
   changed = λ own apart number name code capacity ranked one.
-      let w = own_is old.now.schema own in
-      let s = portal_with w.checks w.terms in
+      let w = own_is Second old.now.schema own in
+      let s = portal_with w.o.checks w.o.terms in
       let r = Int number ∷ lecturer_cells key name code capacity ranked in
-      let set = updated s update_ranked 1 _ 1 _ _ _ _ _ _ _ _ refl (λ P all. all) (has_key 1) update_ranked_row (update_ranked_is.command w.checks w.terms) (update_ranked_is.plain w.checks w.terms) (λ was row. refl)
+      let set = updated s update_ranked 1 _ 1 _ _ _ _ _ _ _ _ refl (λ P all. all) (has_key 1) update_ranked_row (update_ranked_is.command w.o.checks w.o.terms) (update_ranked_is.plain w.o.checks w.o.terms) (λ was row. refl)
       (Text key ∷ []) r old new h.count w.is apart (ap (λ p. filter p (old.now.trees 1)) (same_key 1 key) ∙ one) h.runs in
       subst₂ (λ p row. Sets 1 p row old.now new.now) (same_key 1 key) (rw (cast_int number, cast_int capacity, cast_int (pos 1)) refl) set;
 }
 
-abbrev pub update_phase : List ℕ
-update_phase = codes "UPDATE portal SET phase = ?1 WHERE id = 1"
-
-abbrev update_phase_row : List Term
-update_phase_row = col 1 0 ∷ lit Null ∷ col 1 2 ∷ param 0 ∷ col 1 4 ∷ []
-
-update_phase_is : Updates update_phase 0 0 (op2 (Compare Eq Binary) (col 1 0) (lit (Int (pos 1))) ∷ []) update_phase_row
-unfolding understood everything
-update_phase_is = record { command = λ checks more. refl; plain = λ checks more. (refl, refl) }
-
+-- the one row of a table changes whose id is 1
 abbrev the_one : List Term
 the_one = op2 (Compare Eq Binary) (col 1 0) (lit (Int (pos 1))) ∷ []
 
-passed : (phase : ℕ) (r : Row) → column r 0 ≡ Int (pos 1) → passes the_one (Int (pos phase) ∷ []) r ≡ true
-passed phase r is = equals_int (column r 0) (pos 1) ∙ ap (λ v. is_eq (value_cmp v (Int (pos 1)))) is ∙ eq_self (Int (pos 1))
+passed : (params r : Row) → column r 0 ≡ Int (pos 1) → passes the_one params r ≡ true
+passed params r is = equals_int (column r 0) (pos 1) ∙ ap (λ v. is_eq (value_cmp v (Int (pos 1)))) is ∙ eq_self (Int (pos 1))
 
-pub phase_moved : (old new : State) (phase : ℕ) → Ran update_phase (Int (pos phase) ∷ []) old new → Made (MovesTo phase) old new
+module _ (at : ℕ) (name : List ℕ) (tree : ℕ) (columns : List Column) (key : Option ℕ) (primary : List ℕ) (uniques : List (List ℕ)) (orders : List Order) (references : List Reference)
+    (stands : StandsAt at (table_of name tree columns key primary uniques orders [] references)) where
+  one_changed : (sql : List ℕ) (project : List Term) → Updates sql at tree the_one project → ((checks terms : ℕ → List Term) (r new : Row) → works (portal_with checks terms) Enforced 0 tree (r ∷ []) (new ∷ []) ≡ [])
+      → (params r made : Row) → column r 0 ≡ Int (pos 1) → rowid r ≡ Int (pos 1)
+      → ((checks more : ℕ → List Term) → cast_row (with_checks checks more (table_of name tree columns key primary uniques orders [] references)) (shown_as project params r) ≡ made)
+      → (old new : State) → Ran sql params old new → IsCurrent old.now.schema → old.now.trees tree ≡ r ∷ [] → Becomes tree made old.now new.now
+  one_changed sql project updates idle params r made id number cast old new h own one =
+      let w = own_is Second old.now.schema own in
+      let p = passes the_one params in
+      let hit : p r ≡ true = passed params r id in
+      let meets : filter p (old.now.trees tree) ≡ r ∷ [] = ap (filter p) one ∙ rw hit refl in
+      let left : filter (λ x. not (p x)) (old.now.trees tree) ≡ [] = ap (filter (λ x. not (p x))) one ∙ rw hit refl in
+      let apart : IsApart (old.now.trees tree) = subst IsApart (sym one) (number ∙ ap Int (sym (ap id_in number)), tt, tt) in
+      let set = updated (portal_with w.o.checks w.o.terms) sql at name tree columns key primary uniques orders (w.o.checks tree) references (w.o.terms tree) (stands w.o.checks w.o.terms) (λ P all. all)
+      the_one project (updates.command w.o.checks w.o.terms) (updates.plain w.o.checks w.o.terms) (idle w.o.checks w.o.terms) params r old new h.count w.is apart meets h.runs in
+      let done = subst (λ row. Sets tree p row old.now new.now) (cast w.o.checks w.o.terms) set in
+      record { schema_is = done.schema_is; rows = done.rows ∙ ap (put_row made) left; others = done.others; sound = done.sound }
+
+phase_is : Updates (codes "UPDATE portal SET phase = ?1 WHERE id = 1") 0 0 the_one (col 1 0 ∷ lit Null ∷ col 1 2 ∷ param 0 ∷ col 1 4 ∷ [])
+unfolding understood everything
+phase_is = record { command = λ checks more. refl; plain = λ checks more. (refl, refl) }
+
+pub phase_moved : (old new : State) (phase : ℕ) → Ran (codes "UPDATE portal SET phase = ?1 WHERE id = 1") (Int (pos phase) ∷ []) old new → Made (MovesTo phase) old new
 phase_moved old new phase h = record {
   shown = h.shown;
-  changed = λ own version was office one.
-      let w = own_is old.now.schema own in
-      let s = portal_with w.checks w.terms in
-      let r = portal_row version was office in
-      let p = passes the_one (Int (pos phase) ∷ []) in
-      let hit : p r ≡ true = passed phase r refl in
-      let meets : filter p (old.now.trees 0) ≡ r ∷ [] = ap (filter p) one ∙ rw hit refl in
-      let left : filter (λ x. not (p x)) (old.now.trees 0) ≡ [] = ap (filter (λ x. not (p x))) one ∙ rw hit refl in
-      let apart : IsApart (old.now.trees 0) = subst IsApart (sym one) (refl, tt, tt) in
-      let set = updated s update_phase 0 _ 0 _ _ _ _ _ _ _ _ refl (λ P all. all) the_one update_phase_row (update_phase_is.command w.checks w.terms) (update_phase_is.plain w.checks w.terms) (λ was row. refl)
-      (Int (pos phase) ∷ []) r old new h.count w.is apart meets h.runs in
-      let done = subst (λ row. Sets 0 p row old.now new.now) (rw (cast_int (pos 1), cast_null, cast_int version, cast_int (pos phase)) refl) set in
-      record { schema_is = done.schema_is; rows = done.rows ∙ ap (put_row (portal_row version (pos phase) office)) left; others = done.others; sound = done.sound };
+  changed = λ own version was office. one_changed 0 _ 0 _ _ _ _ _ _ (λ checks more. refl) _ _ phase_is (λ checks terms r new. refl) (Int (pos phase) ∷ []) (portal_row version was office) _ refl refl
+      (λ checks more. rw (cast_int (pos 1), cast_null, cast_int version, cast_int (pos phase)) refl) old new h own;
+}
+
+version_is : Updates (codes "UPDATE portal SET version = ?1 WHERE id = 1") 0 0 the_one (col 1 0 ∷ lit Null ∷ param 0 ∷ col 1 3 ∷ col 1 4 ∷ [])
+unfolding understood everything
+version_is = record { command = λ checks more. refl; plain = λ checks more. (refl, refl) }
+
+pub version_set : (old new : State) (version : ℕ) → Ran (codes "UPDATE portal SET version = ?1 WHERE id = 1") (Int (pos version) ∷ []) old new → Made (IsOfVersion version) old new
+version_set old new version h = record {
+  shown = h.shown;
+  changed = λ own was phase office. one_changed 0 _ 0 _ _ _ _ _ _ (λ checks more. refl) _ _ version_is (λ checks terms r new. refl) (Int (pos version) ∷ []) (portal_row was phase office) _ refl refl
+      (λ checks more. rw (cast_int (pos 1), cast_null, cast_int (pos version), cast_int phase) refl) old new h own;
+}
+
+second_is : Updates (codes "UPDATE second SET phase = ?1 WHERE id = 1") 6 15 the_one (col 1 0 ∷ lit Null ∷ param 0 ∷ [])
+unfolding understood everything
+second_is = record { command = λ checks more. refl; plain = λ checks more. (refl, refl) }
+
+pub second_moved : (old new : State) (phase : ℕ) → Ran (codes "UPDATE second SET phase = ?1 WHERE id = 1") (Int (pos phase) ∷ []) old new → Made (MovesSecond phase) old new
+second_moved old new phase h = record {
+  shown = h.shown;
+  changed = λ own was. one_changed 6 _ 15 _ _ _ _ _ _ (λ checks more. refl) _ _ second_is (λ checks terms r new. refl) (Int (pos phase) ∷ []) (second_row was) _ refl refl
+      (λ checks more. rw (cast_int (pos 1), cast_null, cast_int (pos phase)) refl) old new h own;
 }

@@ -1,17 +1,6 @@
 -- What the tests of the texts mean.
-use Rattle.std.proofs.Common.{◌≡◌, ℕ, ℤ, pos, List, [], ◌∷◌, true, ◌&&◌, Some, refl}
-use Rattle.std.specs.Ordering.{is_eq}
-use Rattle.std.specs.declared.cmp.Ordering.{Ordering}
-use Rattle.std.specs.declared.cmp.Ordering.TheVariants.{Less, Equal, Greater}
-use Rattle.sqlite.specs.declared.types.Value.{Value}
-use Rattle.sqlite.specs.declared.types.Value.TheVariants.{Null, Int, Real, Blob, Text}
-use Rattle.sqlite.specs.Collation.TheVariants.{Binary}
-use Rattle.sqlite.specs.Order.{Row, value_cmp, column}
-use Rattle.sqlite.specs.Ops.{binary, is_true, from_truth}
-use Rattle.sqlite.specs.Term.{Term, col, lit, op2}
-use Rattle.sqlite_sql.specs.declared.ops.BinaryOp.TheVariants.{Compare}
-use Rattle.sqlite_sql.specs.declared.ops.CompareOp.TheVariants.{Eq}
-use Rattle.portal_tables.specs.Changes.{has_text, has_number}
+use Rattle.std.specs.Prelude.{◌≡◌, ◌∷◌, ◌&&◌}
+use Rattle.portal_tables.proofs.Base.{ℕ, ℤ, pos, List, [], true, Some, refl, is_eq, Ordering, Less, Equal, Greater, Value, Null, Int, Real, Blob, Text, Binary, Row, value_cmp, column, binary, is_true, from_truth, Term, col, lit, op2, Compare, Eq, has_text, has_number}
 use Rattle.portal_tables.proofs.Query.{passes}
 
 abbrev pub param : ℕ → Term

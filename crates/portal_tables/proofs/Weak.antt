@@ -1,20 +1,42 @@
--- A schema that is the portal's own but for its checks and the terms of its defaults.
-use Rattle.std.proofs.Common.{◌≡◌, ℕ, cond, eqb, List, [], ◌∷◌, refl, ◌∙◌}
-use Rattle.std.specs.List.{AllZip}
-use Rattle.sqlite.specs.Term.{Term}
-use Rattle.sqlite.specs.Table.{Table}
-use Rattle.sqlite.specs.Schema.{Schema}
-use Rattle.portal_tables.specs.Tables.{portal_schema, portal, lecturer, project, student, choice, ranking}
-use Rattle.portal_tables.specs.Own.{SameTable, IsOwn}
+-- Schemas that are the portal's own but for their checks and the terms of their defaults.
+use Rattle.std.specs.Prelude.{◌≡◌, ◌&&◌, ◌∷◌, ◌++◌}
+use Rattle.portal_tables.proofs.Base.{ℕ, Bool, true, false, not, cond, eqb, take, drop, List, [], map, refl, sym, ap, ap₂, ◌∙◌, AllZip, list_all, and_parts, eq-eqb, take-append-drop, Term, Table, Schema, Index, Round, First, Second, first_schema, portal_schema, SameTable, IsOwn, IsFirst, HasRound}
+
+abbrev with_terms : List Term → List Term → Table → Table
+with_terms checks terms t = record t { checks = checks; stamps = record t.stamps { terms = terms } }
 
 abbrev pub with_checks : (ℕ → List Term) → (ℕ → List Term) → Table → Table
-with_checks checks terms t = record t { checks = checks t.tree; stamps = record { places = []; terms = terms t.tree; formats = [] } }
+with_checks checks terms t = with_terms (checks t.tree) (terms t.tree) t
 
+-- what is left open
+pub record Open : Type 0 where
+  pub checks : ℕ → List Term
+  pub terms : ℕ → List Term
+  pub tables : List Table
+  pub indexes : List Index
+
+-- all tables, those of the first round, and those with whatever stands behind them
 abbrev pub portal_with : (ℕ → List Term) → (ℕ → List Term) → Schema
-portal_with checks terms = record portal_schema { tables = with_checks checks terms (portal 0) ∷ with_checks checks terms (lecturer 1) ∷ with_checks checks terms (project 4) ∷ with_checks checks terms (student 6) ∷ with_checks checks terms (choice 9) ∷ with_checks checks terms (ranking 12) ∷ [] }
+portal_with checks terms = record portal_schema { tables = map (with_checks checks terms) portal_schema.tables }
 
-table_is : (t u : Table) (checks terms : ℕ → List Term) → SameTable t u → u.stamps.places ≡ [] → u.stamps.formats ≡ [] → t.checks ≡ checks u.tree → t.stamps.terms ≡ terms u.tree → t ≡ with_checks checks terms u
-table_is t u checks terms s none nothing c d = λ i. record {
+abbrev pub first_with : (ℕ → List Term) → (ℕ → List Term) → Schema
+first_with checks terms = record first_schema { tables = map (with_checks checks terms) first_schema.tables }
+
+abbrev pub schema_with : Round → Open → Schema
+schema_with First o = record { tables = map (with_checks o.checks o.terms) first_schema.tables ++ o.tables; indexes = o.indexes; views = [] }
+schema_with Second o = portal_with o.checks o.terms
+
+pub record IsWith (round : Round) (s : Schema) : Type 0 where
+  pub o : Open
+  pub is : s ≡ schema_with round o
+
+pub record IsFirstWith (s : Schema) : Type 0 where
+  pub checks : ℕ → List Term
+  pub terms : ℕ → List Term
+  pub is : s ≡ first_with checks terms
+
+table_is : (t u : Table) → SameTable t u → t ≡ with_terms t.checks t.stamps.terms u
+table_is t u s = λ i. record {
   name = s.name i;
   tree = s.tree i;
   columns = s.columns i;
@@ -22,35 +44,67 @@ table_is t u checks terms s none nothing c d = λ i. record {
   primary = s.rules.primary i;
   uniques = s.rules.uniques i;
   orders = s.rules.orders i;
-  checks = c i;
+  checks = t.checks;
   references = s.rules.references i;
   computed = s.defaults.computed i;
-  stamps = record { places = (s.defaults.places ∙ none) i; terms = d i; formats = (s.defaults.formats ∙ nothing) i };
+  stamps = record { places = s.defaults.places i; terms = t.stamps.terms; formats = s.defaults.formats i };
   is_counted = s.is_counted i;
 }
 
--- what the tables have at their trees
-abbrev pick : {X : Type 0} → X → X → X → X → X → X → ℕ → X
-pick a b c d e f n = cond (eqb n 0) a (cond (eqb n 1) b (cond (eqb n 4) c (cond (eqb n 6) d (cond (eqb n 9) e f))))
+-- what one tree has, and what others have
+abbrev with_one : ℕ → List Term → (ℕ → List Term) → ℕ → List Term
+with_one tree one others n = cond (eqb n tree) one (others n)
 
-pub record IsWith (s : Schema) : Type 0 where
-  pub checks : ℕ → List Term
-  pub terms : ℕ → List Term
-  pub is : s ≡ portal_with checks terms
+abbrev are_apart : List Table → Bool
+are_apart [] = true
+are_apart (u ∷ us) = list_all (λ v. not (eqb v.tree u.tree)) us && are_apart us
 
-zipped : (ts : List Table) (s : Schema) → s.tables ≡ ts → AllZip SameTable ts portal_schema.tables → s.indexes ≡ portal_schema.indexes → s.views ≡ [] → IsWith s
-zipped (a ∷ b ∷ c ∷ d ∷ e ∷ f ∷ []) s is h indexes views =
-    let checks = pick a.checks b.checks c.checks d.checks e.checks f.checks in
-    let terms = pick a.stamps.terms b.stamps.terms c.stamps.terms d.stamps.terms e.stamps.terms f.stamps.terms in
-    let own : a ∷ b ∷ c ∷ d ∷ e ∷ f ∷ [] ≡ (portal_with checks terms).tables = λ i. table_is a (portal 0) checks terms h.0 refl refl refl refl i ∷ table_is b (lecturer 1) checks terms h.1.0 refl refl refl refl i ∷ table_is c (project 4) checks terms h.1.1.0 refl refl refl refl i ∷ table_is d (student 6) checks terms h.1.1.1.0 refl refl refl refl i ∷ table_is e (choice 9) checks terms h.1.1.1.1.0 refl refl refl refl i ∷ table_is f (ranking 12) checks terms h.1.1.1.1.1.0 refl refl refl refl i ∷ [] in
-    record { checks = checks; terms = terms; is = λ i. record { tables = (is ∙ own) i; indexes = indexes i; views = views i } }
-zipped [] s is h indexes views = absurd h
-zipped (a ∷ []) s is h indexes views = absurd h.1
-zipped (a ∷ b ∷ []) s is h indexes views = absurd h.1.1
-zipped (a ∷ b ∷ c ∷ []) s is h indexes views = absurd h.1.1.1
-zipped (a ∷ b ∷ c ∷ d ∷ []) s is h indexes views = absurd h.1.1.1.1
-zipped (a ∷ b ∷ c ∷ d ∷ e ∷ []) s is h indexes views = absurd h.1.1.1.1.1
-zipped (a ∷ b ∷ c ∷ d ∷ e ∷ f ∷ g ∷ more) s is h indexes views = absurd h.1.1.1.1.1.1
+others_have : (tree : ℕ) (c d : List Term) (checks terms : ℕ → List Term) (us : List Table) → list_all (λ v. not (eqb v.tree tree)) us ≡ true
+    → map (with_checks checks terms) us ≡ map (with_checks (with_one tree c checks) (with_one tree d terms)) us
+others_have tree c d checks terms [] h = refl
+others_have tree c d checks terms (v ∷ us) h =
+    let two = and_parts (not (eqb v.tree tree)) (list_all (λ w. not (eqb w.tree tree)) us) h in
+    λ i. with_terms (skips (eqb v.tree tree) c (checks v.tree) two.0 i) (skips (eqb v.tree tree) d (terms v.tree) two.0 i) v ∷ others_have tree c d checks terms us two.1 i
+  where
+    skips : (b : Bool) (x y : List Term) → not b ≡ true → y ≡ cond b x y
+    skips true x y e = absurd (cc)
+    skips false x y e = refl
 
-pub own_is : (s : Schema) → IsOwn s → IsWith s
-own_is s h = zipped s.tables s refl h.tables h.indexes h.no_views
+record AreWith (ts us : List Table) : Type 0 where
+  checks : ℕ → List Term
+  terms : ℕ → List Term
+  is : ts ≡ map (with_checks checks terms) us
+
+zipped : (ts us : List Table) → AllZip SameTable ts us → are_apart us ≡ true → AreWith ts us
+zipped [] [] h apart = record { checks = λ _. []; terms = λ _. []; is = refl }
+zipped [] (u ∷ us) h apart = absurd h
+zipped (t ∷ ts) [] h apart = absurd h
+zipped (t ∷ ts) (u ∷ us) h apart =
+    let two = and_parts (list_all (λ v. not (eqb v.tree u.tree)) us) (are_apart us) apart in
+    let rest = zipped ts us h.1 two.1 in
+    let own : (x : List Term) (others : ℕ → List Term) → x ≡ with_one u.tree x others u.tree = λ x others. sym (ap (λ b. cond b x (others u.tree)) (eq-eqb u.tree u.tree refl)) in
+    record {
+      checks = with_one u.tree t.checks rest.checks;
+      terms = with_one u.tree t.stamps.terms rest.terms;
+      is = ap₂ (λ x xs. x ∷ xs) (table_is t u h.0 ∙ ap₂ (λ c d. with_terms c d u) (own t.checks rest.checks) (own t.stamps.terms rest.terms))
+          (rest.is ∙ others_have u.tree t.checks t.stamps.terms rest.checks rest.terms us two.0);
+    }
+
+pub own_is : (round : Round) (s : Schema) → HasRound round s → IsWith round s
+own_is First s h =
+    let z = zipped (take 6 s.tables) first_schema.tables h.tables refl in
+    record {
+      o = record { checks = z.checks; terms = z.terms; tables = drop 6 s.tables; indexes = s.indexes };
+      is = λ i. record { tables = (sym (take-append-drop 6 s.tables) ∙ ap (λ ts. ts ++ drop 6 s.tables) z.is) i; indexes = s.indexes; views = h.no_views i };
+    }
+own_is Second s h =
+    let z = zipped s.tables portal_schema.tables h.tables refl in
+    record {
+      o = record { checks = z.checks; terms = z.terms; tables = []; indexes = [] };
+      is = λ i. record { tables = z.is i; indexes = h.indexes i; views = h.no_views i };
+    }
+
+pub first_is : (s : Schema) → IsFirst s → IsFirstWith s
+first_is s h =
+    let z = zipped s.tables first_schema.tables h.tables refl in
+    record { checks = z.checks; terms = z.terms; is = λ i. record { tables = z.is i; indexes = h.indexes i; views = h.no_views i } }

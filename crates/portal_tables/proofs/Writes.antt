@@ -1,46 +1,15 @@
 -- What a statement on one table does to its rows.
-use Rattle.std.proofs.Common.{◌≡◌, ◌⊎◌, inl, inr, ℕ, ℤ, List, [], ◌∷◌, ◌++◌, map, slice_get, Bool, true, false, not, ◌&&◌, cond, ◌≢◌, Option, Some, None, Ok, Err, Result, refl, sym, ap, ap₂, subst, subst₂, ◌∙◌, ◌||◌, filter, length, drop, ◌/◌}
-use Rattle.std.specs.List.{AllByRecursion, list_any}
-use Rattle.std.proofs.lemmas.Bool.{and_parts}
-use Rattle.sqlite.specs.declared.types.Value.TheVariants.{Null, Int}
-use Rattle.sqlite.specs.Order.{Row}
-use Rattle.sqlite.specs.Term.{Term, col}
-use Rattle.sqlite.specs.Ops.{unary}
-use Rattle.sqlite.specs.Table.{Table}
-use Rattle.sqlite.specs.Schema.{Schema}
+use Rattle.std.specs.Prelude.{◌≡◌, ◌⊎◌, ◌∷◌, ◌++◌, ◌&&◌, ◌≢◌, ◌||◌}
+use Rattle.std.proofs.Common.{◌/◌}
+use Rattle.portal_tables.proofs.Base.{inl, inr, ℕ, ℤ, List, [], map, slice_get, Bool, true, false, not, cond, Option, Some, None, Ok, Err, Result, refl, sym, ap, ap₂, subst, subst₂, ◌∙◌, filter, length, drop, AllByRecursion, list_any, and_parts, Null, Int, Row, Term, col, unary, Table, Schema, Values, Insert, Delete, Update, Edit, edit_of, put_all, next_rowid, is_taken, are_fresh, without_all, id_in, taken_by, cast, cast_row, Chosen, Given, Tally, Written, Edited, Trees, put_row, rowid, has_rowid, understood, Database, IsDatabase, value_rows, State, mode_of, Executes, IsPlain, command_of, statement_of, runs_as, one_step, one_permutation, works, Enforced, Column, Reference, Order, own_trees, Puts, Drops, Sets, IsApart, with_rows, AreNew, IsPermutation, IsPermutation-map, IsPermutation-trans, IsPermutation-append_left, list_any-IsPermutation, IsProgramAnswer, IsAnswer, output, Output, answer_alone, ids_of, Program, map-map}
 use Rattle.sqlite.specs.Kind.TheVariants as kind
-use Rattle.sqlite.specs.Source.TheVariants.{Values}
-use Rattle.sqlite.specs.Command.TheVariants.{Insert, Delete, Update}
-use Rattle.sqlite.specs.Edit.{Edit, edit_of, numbered, put_all, next_rowid, is_taken, are_fresh, without_all, id_in, taken_by}
-use Rattle.sqlite.specs.Cast.{cast, cast_row}
-use Rattle.sqlite.specs.Rowids.TheVariants.{Chosen, Given}
-use Rattle.sqlite.specs.Does.{Tally, Does}
-use Rattle.sqlite.specs.Rows.{Written, Edited}
-use Rattle.sqlite.specs.Tree.{Trees, put_row, rowid, has_rowid}
-use Rattle.sqlite.specs.Listing.{understood}
-use Rattle.sqlite.specs.Effect.{Database, IsDatabase, value_rows}
-use Rattle.sqlite.specs.State.{State, mode_of, Executes}
-use Rattle.sqlite.proofs.Callers.{IsPlain, command_of, statement_of, runs_as, one_step, one_permutation}
-use Rattle.sqlite_rules.specs.Action.{works}
-use Rattle.sqlite_schema.specs.declared.schema.Keys.TheVariants.{Enforced}
-use Rattle.sqlite_schema.specs.declared.schema.Column.{Column}
-use Rattle.sqlite_schema.specs.declared.schema.Reference.{Reference}
-use Rattle.sqlite_value.specs.declared.keys.Order.{Order}
+use Rattle.sqlite.specs.Edit.{numbered}
+use Rattle.sqlite.specs.Does.{Does}
 use Rattle.portal_tables.proofs.Weak.{portal_with}
-use Rattle.portal_tables.specs.Tables.{own_trees}
-use Rattle.portal_tables.specs.Changes.{Puts, Drops, Sets, IsApart, with_rows, AreNew}
 use Rattle.portal_tables.proofs.Query.{one_table, passes, shown_as}
 use Rattle.portal_tables.proofs.Lists.{looped, not_true, filter_same, without_is, found_once, apart_filter}
 use Rattle.portal_tables.proofs.Keeping.{rows_put}
-use Rattle.std.specs.List.Sorted.{IsPermutation}
-use Rattle.std.proofs.lemmas.List.Sorted.{IsPermutation-map, IsPermutation-trans, IsPermutation-append_left, list_any-IsPermutation}
 use Rattle.portal_tables.proofs.Sorted.{all_permuted}
-use Rattle.sqlite.specs.Program.{IsProgramAnswer}
-use Rattle.sqlite.specs.Query.{IsAnswer, output, Output}
-use Rattle.sqlite_exec.proofs.RunLemmas.{answer_alone}
-use Rattle.sqlite_rules.specs.Calls.{ids_of}
-use Rattle.sqlite_schema.specs.declared.program.Program.{Program}
-use Rattle.sqlite_trees.proofs.ListLemmas.{map-map}
 
 -- the other tables of a schema are as they were
 abbrev KeepsIn : Schema → ℕ → Database → Database → Type 0

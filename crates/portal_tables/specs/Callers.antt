@@ -1,16 +1,6 @@
 -- What a lecturer or a student sees, of the own row and of what the tables hold.
-use Rattle.std.specs.Prelude.{Vec, ◌==◌, if◌then◌else◌, List, [], map, filter, Some, None}
-use Rattle.std.specs.declared.alloc.Global.{Global}
-use Rattle.sqlite.specs.Order.{Row, column, bytes}
-use Rattle.sqlite.specs.Tree.{Trees}
-use Rattle.sqlite_trees.specs.Objects.{number_in}
-use Rattle.portal_core.specs.declared.phase.Phase.{Phase}
-use Rattle.portal_core.specs.declared.phase.Round.TheVariants.{First}
-use Rattle.portal_core.specs.declared.rows.Listing.{Listing}
-use Rattle.portal_core.specs.declared.rows.Person.{Person}
-use Rattle.portal_core.specs.Sight.{StudentSees, LecturerSees}
-use Rattle.portal_core.specs.Words.{Key, is}
-use Rattle.portal_core.specs.World.{is_at, is_from_ranking, is_published}
+use Rattle.std.specs.Prelude.{◌==◌, if◌then◌else◌}
+use Rattle.portal_tables.specs.Base.{Vec, List, [], map, filter, Some, None, Option, Global, Row, column, bytes, Trees, number_in, Phase, First, Listing, Person, StudentSees, LecturerSees, Key, is, is_at, is_from_ranking, is_published}
 use Rattle.portal_tables.specs.Tables.{choice_tree, ranking_tree}
 use Rattle.portal_tables.specs.declared.lines.Line.{Line}
 use Rattle.portal_tables.specs.Lines.{applicant_lines}
@@ -40,28 +30,35 @@ placed_told db phase keys = map (λ k. (k, placed_among phase k (lines_shown db 
 abbrev pub own_keys : List Listing → Key → List Key
 own_keys offers lecturer = map (λ p. p.key) (filter (λ p. is p.lecturer lecturer) offers)
 
--- what the lecturer sees whose row is shown, with the catalogue
-abbrev pub lecturer_shown : Trees → Phase → Row → List Listing → LecturerSees
-lecturer_shown db phase c offers =
+-- what the lecturer sees whose row is shown, with the catalogue, a ranking, and what is told of the own projects
+abbrev pub lecturer_with : Phase → Row → List Listing → Option (List Key) → List (Key × List Person) → List (Key × List Person) → LecturerSees
+lecturer_with phase c offers ranking applicants placed =
     record {
       round = First;
       phase = phase;
       me = record { key = first c; name = bytes (column c 1) };
       capacity = number_in (column c 3);
       catalogue = offers;
-      applicants = applicants_told db phase (own_keys offers (first c));
-      ranking = if number_in (column c 4) == 1 then Some (chosen (db ranking_tree) (first c)) else None;
-      placed = placed_told db phase (own_keys offers (first c));
+      applicants = applicants;
+      ranking = ranking;
+      placed = placed;
     }
 
--- what the student sees whose row is shown, with the catalogue
-abbrev pub student_shown : Trees → Phase → Row → List Listing → StudentSees
-student_shown db phase c offers =
+abbrev pub lecturer_shown : Trees → Phase → Row → List Listing → LecturerSees
+lecturer_shown db phase c offers =
+    lecturer_with phase c offers (if number_in (column c 4) == 1 then Some (chosen (db ranking_tree) (first c)) else None) (applicants_told db phase (own_keys offers (first c))) (placed_told db phase (own_keys offers (first c)))
+
+-- what the student sees whose row is shown, with the catalogue and a list
+abbrev pub student_with : Phase → Row → List Listing → List Key → StudentSees
+student_with phase c offers choices =
     record {
       round = First;
       phase = phase;
       me = record { key = first c; name = bytes (column c 1) };
       catalogue = offers;
-      choices = chosen (db choice_tree) (first c);
+      choices = choices;
       result = if is_published phase then text_or_none (column c 3) else None;
     }
+
+abbrev pub student_shown : Trees → Phase → Row → List Listing → StudentSees
+student_shown db phase c offers = student_with phase c offers (chosen (db choice_tree) (first c))

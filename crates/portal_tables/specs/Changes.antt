@@ -1,16 +1,6 @@
 -- What a statement does to the rows of one table, and what a query shows of them.
-use Rattle.std.specs.Prelude.{◌≡◌, ◌≢◌, ℕ, pos, Bool, true, false, not, List, [], ◌∷◌, map, filter, ⊤}
-use Rattle.std.specs.List.{AllByRecursion}
-use Rattle.std.specs.List.Sorted.{IsPermutation, IsSorted}
-use Rattle.std.specs.Ordering.{is_eq}
-use Rattle.sqlite.specs.declared.types.Value.TheVariants.{Int, Text as Words}
-use Rattle.sqlite.specs.Collation.TheVariants.{Binary}
-use Rattle.sqlite_value.specs.Keys.{ascending}
-use Rattle.sqlite_sql.specs.Query.{key_cmp}
-use Rattle.sqlite.specs.Order.{Row, value_cmp, column}
-use Rattle.sqlite.specs.Edit.{next_rowid, is_taken, id_in}
-use Rattle.sqlite.specs.Tree.{put_row, rowid}
-use Rattle.sqlite.specs.Effect.{Database, IsDatabase}
+use Rattle.std.specs.Prelude.{◌≡◌, ◌≢◌, ◌∷◌}
+use Rattle.portal_tables.specs.Base.{ℕ, pos, Bool, true, false, not, List, [], map, filter, ⊤, AllByRecursion, IsPermutation, IsSorted, is_eq, Int, Words, Binary, ascending, key_cmp, Row, value_cmp, column, next_rowid, is_taken, id_in, put_row, rowid, Database, IsDatabase}
 use Rattle.portal_tables.specs.Tables.{own_trees}
 
 -- the other tables are as they were

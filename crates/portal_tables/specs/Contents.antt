@@ -1,13 +1,5 @@
 -- The rows of the rolls and lists, of the rolls that queries show and the lists in the tables.
-use Rattle.std.specs.Prelude.{List, map}
-use Rattle.std.specs.List.{AllByRecursion, filter_map}
-use Rattle.sqlite.specs.Order.{Row}
-use Rattle.sqlite.specs.Tree.{Trees}
-use Rattle.portal_core.specs.Good.{IsLecturer, IsProject, IsStudent}
-use Rattle.portal_core.specs.Words.{Key}
-use Rattle.portal_core.specs.declared.rows.LecturerRow.{LecturerRow}
-use Rattle.portal_core.specs.declared.rows.ProjectRow.{ProjectRow}
-use Rattle.portal_core.specs.declared.rows.StudentRow.{StudentRow}
+use Rattle.portal_tables.specs.Base.{List, map, AllByRecursion, filter_map, Row, Trees, IsLecturer, IsProject, IsStudent, Key, LecturerRow, ProjectRow, StudentRow}
 use Rattle.portal_tables.specs.Owners.{entry, with_list, IsRead, IsFine}
 use Rattle.portal_tables.specs.Shown.{shown_lecturer, shown_project, shown_student, shown_pair, HasPlace}
 use Rattle.portal_tables.specs.declared.contents.Contents.{Contents}

@@ -1,7 +1,6 @@
 -- What rows that a query shows are decoded to, and whether there are any.
-use Rattle.std.specs.Prelude.{◌≡◌, Bool, not, List, map}
-use Rattle.sqlite.specs.Order.{Row}
-use Rattle.portal_core.specs.Words.{is_empty}
+use Rattle.std.specs.Prelude.{◌≡◌}
+use Rattle.portal_tables.specs.Base.{Bool, not, List, map, Row, is_empty}
 
 -- these are what the rows that are shown are decoded to, in their order
 pub record ShowsAs {T : Type 0} (decode : Row → T) (IsShown : List Row → Type 0) (items : List T) : Type 0 where

@@ -1,3 +1,4 @@
+pub mod Base
 pub mod Tables
 pub mod ListTables
 pub mod Own

@@ -1,21 +1,17 @@
 -- What may be told of students, of the rows of the tables.
-use Rattle.std.specs.Prelude.{List, map, filter, Option, option_map}
-use Rattle.std.specs.List.{AllByRecursion, find}
-use Rattle.sqlite.specs.Order.{Row, column, bytes}
-use Rattle.sqlite.specs.Tree.{Trees}
-use Rattle.sqlite.specs.Effect.{Database, IsDatabase}
-use Rattle.portal_core.specs.Words.{Key, is, has}
+use Rattle.portal_tables.specs.Base.{List, map, filter, Option, option_map, AllByRecursion, find, Row, column, bytes, Trees, Database, IsDatabase, Key, is, has}
 use Rattle.portal_tables.specs.Tables.{choice_tree, own_trees}
-use Rattle.portal_tables.specs.Own.{IsOwn}
+use Rattle.portal_tables.specs.Own.{IsOwn, IsCurrent}
 use Rattle.portal_tables.specs.Changes.{IsApart}
 use Rattle.portal_tables.specs.Lists.{chosen}
 use Rattle.portal_tables.specs.Rolls.{students_shown}
 use Rattle.portal_tables.specs.Shown.{first, text_or_none}
 use Rattle.portal_tables.specs.declared.lines.Line.{Line}
 
--- the six tables are the portal's own and sound, and no two rows of one have one number
+-- the tables are the portal's own and sound, and no two rows of one have one number
 pub record HasTables (db : Database) : Type 0 where
   pub own : IsOwn db.schema
+  pub current : IsCurrent db.schema
   pub sound : IsDatabase db
   pub apart : AllByRecursion (λ t. IsApart (db.trees t)) own_trees
 

@@ -1,8 +1,6 @@
 -- A list in a table: the rows of its owner, by rising place.
-use Rattle.std.specs.Prelude.{◌≡◌, ℕ, ◌+◌, List, [], ◌∷◌, map, filter}
-use Rattle.sqlite.specs.Order.{Row, column, bytes}
-use Rattle.sqlite_trees.specs.Objects.{number_in}
-use Rattle.portal_core.specs.Words.{Key, put_all}
+use Rattle.std.specs.Prelude.{◌≡◌, ◌+◌, ◌∷◌}
+use Rattle.portal_tables.specs.Base.{ℕ, List, [], map, filter, Row, column, bytes, number_in, Key, put_all}
 use Rattle.portal_tables.specs.Changes.{has_text}
 
 -- the rows of an owner

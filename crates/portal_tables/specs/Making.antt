@@ -1,41 +1,58 @@
 -- How the tables come to be.
-use Rattle.std.specs.Prelude.{◌≡◌, ◌≢◌, ℕ, pos, List, [], ◌∷◌}
-use Rattle.std.specs.List.{AllByRecursion}
-use Rattle.sqlite.specs.Tree.{Trees}
-use Rattle.sqlite.specs.Schema.{Schema}
-use Rattle.sqlite.specs.Change.{created}
-use Rattle.sqlite.specs.Effect.{Database, IsDatabase}
-use Rattle.portal_tables.specs.Tables.{no_schema, portal_schema, portal_tree, own_trees, portal, lecturer, project, student, choice, ranking}
-use Rattle.portal_tables.specs.Rows.{portal_row}
+use Rattle.std.specs.Prelude.{◌≡◌, ◌≢◌, ◌∷◌}
+use Rattle.portal_tables.specs.Base.{ℕ, ℤ, pos, List, [], AllByRecursion, Schema, created, Database, IsDatabase}
+use Rattle.portal_tables.specs.Tables.{no_schema, first_schema, portal_schema, portal_tree, second_tree, choice2_tree, ranked2_tree, ranking2_tree, assigned2_tree, first_trees, second_trees, own_trees, second, choice2, ranked2, ranking2, assigned2, version, first_version}
+use Rattle.portal_tables.specs.Own.{IsFirst, IsCurrent}
+use Rattle.portal_tables.specs.Rows.{portal_row, second_row}
 
-abbrev pub are_empty : Schema → Trees → Type 0
-are_empty schema db = AllByRecursion (λ t. db t.tree ≡ []) schema.tables
+-- tables of a schema are there: some as they were, and more that are empty
+pub record Grown (schema : Schema) (kept more : List ℕ) (old new : Database) : Type 0 where
+  pub schema_is : new.schema ≡ schema
+  pub same : AllByRecursion (λ t. new.trees t ≡ old.trees t) kept
+  pub empty : AllByRecursion (λ t. new.trees t ≡ []) more
+  pub sound : IsDatabase new
 
--- the six tables, as they are made one after the other
-abbrev pub full_schema : Schema
-full_schema = created (created (created (created (created (created no_schema (portal 0)) (lecturer 0)) (project 0)) (student 0)) (choice 0)) (ranking 0)
+-- from the tables of one schema to those of another
+abbrev pub Grows : Schema → Schema → List ℕ → List ℕ → Database → Database → Type 0
+Grows before after kept more old new = old.schema ≡ before → Grown after kept more old new
 
--- these tables are there, all empty
-pub record Has (schema : Schema) (db : Database) : Type 0 where
-  pub schema_is : db.schema ≡ schema
-  pub empty : are_empty schema db.trees
-  pub sound : IsDatabase db
+-- over no table the six of the first round are made, and all
+abbrev pub MakesFirst : Database → Database → Type 0
+MakesFirst = Grows no_schema first_schema [] first_trees
 
--- from the tables of one schema, all empty, to those of another, all empty
-abbrev pub Grows : Schema → Schema → Database → Database → Type 0
-Grows before after old new = old.schema ≡ before → are_empty before old.trees → Has after new
-
--- over no table the six are made, all empty
 abbrev pub Makes : Database → Database → Type 0
-Makes old new = old.schema ≡ no_schema → Has portal_schema new
+Makes = Grows no_schema portal_schema [] own_trees
 
--- the portal's tables with the row of the office and nothing else: version 1, in setup
+-- behind tables the five of the second round, as they are made one after the other
+abbrev pub with_second : Schema → Schema
+with_second s = created (created (created (created (created s (second 0)) (choice2 0)) (ranked2 0)) (ranking2 0)) (assigned2 0)
+
+abbrev pub MakesSecond : Database → Database → Type 0
+MakesSecond old new = IsFirst old.schema → Grown (with_second old.schema) first_trees second_trees old new
+
+-- the portal's tables with the row of the office, the row of a second round that is not there, and nothing else: in setup
 pub record IsFresh (office : List ℕ) (db : Database) : Type 0 where
   pub schema_is : db.schema ≡ portal_schema
-  pub row : db.trees portal_tree ≡ portal_row (pos 1) (pos 0) office ∷ []
-  pub others : AllByRecursion (λ t. t ≢ portal_tree → db.trees t ≡ []) own_trees
+  pub row : db.trees portal_tree ≡ portal_row (pos version) (pos 0) office ∷ []
+  pub second : db.trees second_tree ≡ second_row (pos 0) ∷ []
+  pub others : AllByRecursion (λ t. t ≢ portal_tree → t ≢ second_tree → db.trees t ≡ []) own_trees
   pub sound : IsDatabase db
 
--- over no table the portal's are made, with the row of the office
+-- over no table the portal's are made, with the rows of the office and of no second round
 abbrev pub Creates : List ℕ → Database → Database → Type 0
 Creates office old new = old.schema ≡ no_schema → IsFresh office new
+
+-- beside the six tables are the five, with the one row of `second`, which tells no second round; `portal` tells the version of all tables, and
+-- nothing else in the six has changed
+pub record Upgraded (phase : ℤ) (office : List ℕ) (old new : Database) : Type 0 where
+  pub current : IsCurrent new.schema
+  pub portal : new.trees portal_tree ≡ portal_row (pos version) phase office ∷ []
+  pub others : AllByRecursion (λ t. t ≢ portal_tree → new.trees t ≡ old.trees t) first_trees
+  pub second : new.trees second_tree ≡ second_row (pos 0) ∷ []
+  pub empty : AllByRecursion (λ t. new.trees t ≡ []) (choice2_tree ∷ ranked2_tree ∷ ranking2_tree ∷ assigned2_tree ∷ [])
+  pub sound : IsDatabase new
+
+-- of the six tables of version 1 all are made
+abbrev pub Upgrades : Database → Database → Type 0
+Upgrades old new = IsFirst old.schema → (phase : ℤ) (office : List ℕ) → old.trees portal_tree ≡ portal_row (pos first_version) phase office ∷ []
+    → Upgraded phase office old new

@@ -1,12 +1,5 @@
 -- The catalogue of the projects, of the rows of the rolls.
-use Rattle.std.specs.Prelude.{List, map, Option, option_map}
-use Rattle.std.specs.List.{find, filter_map}
-use Rattle.sqlite.specs.Tree.{Trees}
-use Rattle.portal_core.specs.declared.rows.LecturerRow.{LecturerRow}
-use Rattle.portal_core.specs.declared.rows.Listing.{Listing}
-use Rattle.portal_core.specs.declared.rows.ProjectRow.{ProjectRow}
-use Rattle.portal_core.specs.View.{listing_with}
-use Rattle.portal_core.specs.Words.{Key, is}
+use Rattle.portal_tables.specs.Base.{List, map, Option, option_map, find, filter_map, Trees, LecturerRow, Listing, ProjectRow, listing_with, Key, is}
 use Rattle.portal_tables.specs.Rolls.{lecturers_shown, projects_shown}
 use Rattle.portal_tables.specs.Shown.{shown_lecturer, shown_project}
 

@@ -1,10 +1,7 @@
--- Schemas that are the same but for their checks and the terms of their defaults.
-use Rattle.std.specs.Prelude.{◌≡◌, []}
-use Rattle.std.specs.List.{AllZip}
-use Rattle.sqlite.specs.Table.{Table}
-use Rattle.sqlite.specs.Schema.{Schema}
-use Rattle.sqlite.specs.Effect.{Database}
-use Rattle.portal_tables.specs.Tables.{portal_schema}
+-- Which tables are the portal's own: the same but for their checks and the terms of their defaults.
+use Rattle.std.specs.Prelude.{◌≡◌}
+use Rattle.portal_tables.specs.Base.{[], take, AllZip, Table, Schema, Database, Round, First, Second}
+use Rattle.portal_tables.specs.Tables.{first_schema, portal_schema}
 
 pub record SameRules (a b : Table) : Type 0 where
   pub primary : a.primary ≡ b.primary
@@ -33,8 +30,22 @@ pub record SameSchema (a b : Schema) : Type 0 where
   pub no_views_there : b.views ≡ []
 
 -- the tables are those that the portal makes, and there is no other
-abbrev pub IsOwn : Schema → Type 0
-IsOwn schema = SameSchema schema portal_schema
+abbrev pub IsCurrent : Schema → Type 0
+IsCurrent schema = SameSchema schema portal_schema
+
+-- the tables are the six of version 1, and there is no other
+abbrev pub IsFirst : Schema → Type 0
+IsFirst schema = SameSchema schema first_schema
+
+-- of either version: the first six tables are those of the first round, whatever stands behind them, and there is no view
+pub record IsOwn (schema : Schema) : Type 0 where
+  pub tables : AllZip SameTable (take 6 schema.tables) first_schema.tables
+  pub no_views : schema.views ≡ []
+
+-- what is asked of the tables to read those of a round
+abbrev pub HasRound : Round → Schema → Type 0
+HasRound First = IsOwn
+HasRound Second = IsCurrent
 
 abbrev pub HasOwn : Database → Type 0
 HasOwn db = IsOwn db.schema

@@ -1,23 +1,19 @@
 -- The lists that the tables hold of the owners whose rows are shown.
-use Rattle.std.specs.Prelude.{Vec, ◌≡◌, true, false, Bool, ◌==◌, if◌then◌else◌, List, [], Option, Some, None, map}
-use Rattle.std.specs.List.{AllByRecursion}
-use Rattle.std.specs.declared.alloc.Global.{Global}
-use Rattle.sqlite.specs.Order.{Row, column}
-use Rattle.sqlite.specs.Tree.{Trees}
-use Rattle.sqlite_trees.specs.Objects.{number_in}
-use Rattle.spa_rows.specs.Form.{is_key}
-use Rattle.portal_core.specs.Words.{Key, has, Rise}
+use Rattle.std.specs.Prelude.{◌≡◌, ◌==◌, if◌then◌else◌}
+use Rattle.portal_tables.specs.Base.{Vec, true, false, Bool, List, [], Option, Some, None, map, AllByRecursion, Global, Row, column, Trees, number_in, is_key, Key, has, Rise}
 pub use Rattle.portal_tables.specs.ListTables.{tree_of}
 use Rattle.portal_tables.specs.Rolls.{row_key}
 use Rattle.portal_tables.specs.Shown.{first}
 use Rattle.portal_tables.specs.declared.list_table.Lists.{Lists}
-use Rattle.portal_tables.specs.declared.list_table.Lists.TheVariants.{Choices, Rankings}
+use Rattle.portal_tables.specs.declared.list_table.Lists.TheVariants.{Choices, Rankings, SecondChoices, SecondRankings}
 use Rattle.portal_tables.specs.Lists.{IsWhole, chosen, of_key}
 
--- each student has a list, and each lecturer whose row says that a ranking is there
+-- each student has a list, and each lecturer whose row says that a ranking is there; of the second round those are the owners
 abbrev pub has_list : Lists → Row → Bool
 has_list Choices c = true
 has_list Rankings c = number_in (column c 4) == 1
+has_list SecondChoices c = true
+has_list SecondRankings c = true
 
 -- the list of the owner whose row is shown
 abbrev pub entry : Lists → Trees → Row → Option (Key × List Key)

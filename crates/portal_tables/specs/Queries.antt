@@ -1,17 +1,15 @@
 -- What each query reads of the tables, and shows.
-use Rattle.std.specs.Prelude.{codes, ℕ, List, [], ◌∷◌, ◌++◌, Bool}
-use Rattle.sqlite.specs.declared.types.Value.TheVariants.{Text as Words}
-use Rattle.sqlite.specs.Order.{Row}
-use Rattle.sqlite.specs.Tree.{Trees}
+use Rattle.std.specs.Prelude.{◌∷◌, ◌++◌}
+use Rattle.portal_tables.specs.Base.{codes, ℕ, List, [], Bool, Words, Row, Trees, Round, First, InSecond}
 use Rattle.portal_tables.specs.declared.select.Query.{Query}
-use Rattle.portal_tables.specs.declared.select.Query.TheVariants.{Office, Whole, LecturerByCode, StudentByCode, LecturerByKey, StudentTold, AllLists, ListOf, Choosers, Listed, Numbers}
+use Rattle.portal_tables.specs.declared.select.Query.TheVariants.{Office, Whole, LecturerByCode, StudentByCode, LecturerByKey, StudentTold, AllLists, ListOf, Choosers, Listed, Numbers, Second, SecondRanked, SecondPlaces, SecondPlaceOf}
 use Rattle.portal_tables.specs.declared.select.Roll.{Roll}
 use Rattle.portal_tables.specs.declared.select.Roll.TheVariants.{Lecturers, Projects, Students}
 use Rattle.portal_tables.specs.declared.select.Table.{Table}
-use Rattle.portal_tables.specs.declared.select.Table.TheVariants.{OfRoll, OfLists}
+use Rattle.portal_tables.specs.declared.select.Table.TheVariants.{OfRoll, OfLists, OfRanked, OfPlaces}
 use Rattle.portal_tables.specs.Changes.{ListsBy, every, columns, has_text, has_number}
-use Rattle.portal_tables.specs.ListTables.{names, tree_of}
-use Rattle.portal_tables.specs.Tables.{portal_tree, lecturer_tree, project_tree, student_tree, choice_tree}
+use Rattle.portal_tables.specs.ListTables.{round_of, names, tree_of}
+use Rattle.portal_tables.specs.Tables.{portal_tree, lecturer_tree, project_tree, student_tree, choice_tree, second_tree, ranked2_tree, assigned2_tree}
 
 abbrev pub roll_tree : Roll → ℕ
 roll_tree Lecturers = lecturer_tree
@@ -27,6 +25,25 @@ columns_of Students = 2 ∷ 3 ∷ 4 ∷ []
 abbrev pub table_tree : Table → ℕ
 table_tree (OfRoll roll) = roll_tree roll
 table_tree (OfLists lists) = tree_of lists
+table_tree OfRanked = ranked2_tree
+table_tree OfPlaces = assigned2_tree
+
+-- the round of a table, and of the tables that a query reads
+abbrev pub table_round : Table → Round
+table_round (OfRoll roll) = First
+table_round (OfLists lists) = round_of lists
+table_round OfRanked = InSecond
+table_round OfPlaces = InSecond
+
+abbrev pub round_asked : Query → Round
+round_asked (AllLists lists) = round_of lists
+round_asked (ListOf lists owner) = round_of lists
+round_asked (Numbers table) = table_round table
+round_asked Second = InSecond
+round_asked SecondRanked = InSecond
+round_asked SecondPlaces = InSecond
+round_asked (SecondPlaceOf student) = InSecond
+round_asked _ = First
 
 -- of the table with this tree the rows that pass, by rising values of some columns, each shown by some columns
 pub record Selection : Type 0 where
@@ -46,6 +63,10 @@ selection (AllLists lists) = record { tree = tree_of lists; passes = every; by =
 selection (ListOf lists owner) = record { tree = tree_of lists; passes = has_text 1 owner.now; by = 2 ∷ []; shown = 2 ∷ 3 ∷ [] }
 selection (Choosers project) = record { tree = choice_tree; passes = has_text 3 project.now; by = 1 ∷ []; shown = 1 ∷ [] }
 selection Listed = record { tree = choice_tree; passes = has_number 2 1; by = 1 ∷ []; shown = 1 ∷ [] }
+selection Second = record { tree = second_tree; passes = every; by = 0 ∷ []; shown = 0 ∷ 2 ∷ [] }
+selection SecondRanked = record { tree = ranked2_tree; passes = every; by = 1 ∷ []; shown = 1 ∷ [] }
+selection SecondPlaces = record { tree = assigned2_tree; passes = every; by = 1 ∷ []; shown = 1 ∷ 2 ∷ [] }
+selection (SecondPlaceOf student) = record { tree = assigned2_tree; passes = has_text 1 student.now; by = 1 ∷ []; shown = 1 ∷ 2 ∷ [] }
 selection (Numbers table) = record { tree = table_tree table; passes = every; by = 0 ∷ []; shown = 0 ∷ [] }
 
 -- the query shows these rows of the tables
@@ -59,6 +80,8 @@ table_name (OfRoll Lecturers) = codes "lecturer"
 table_name (OfRoll Projects) = codes "project"
 table_name (OfRoll Students) = codes "student"
 table_name (OfLists lists) = (names lists).name
+table_name OfRanked = codes "ranked2"
+table_name OfPlaces = codes "assigned2"
 
 abbrev pub text_of : Query → List ℕ
 text_of Office = codes "SELECT id, version, phase, office FROM portal ORDER BY id"
@@ -73,6 +96,10 @@ text_of (AllLists lists) = let t = names lists in codes "SELECT " ++ t.owner ++ 
 text_of (ListOf lists owner) = let t = names lists in codes "SELECT place, " ++ t.item ++ codes " FROM " ++ t.name ++ codes " WHERE " ++ t.owner ++ codes " = ?1 ORDER BY place"
 text_of (Choosers project) = codes "SELECT student FROM choice WHERE project = ?1 ORDER BY student"
 text_of Listed = codes "SELECT student FROM choice WHERE place = 1 ORDER BY student"
+text_of Second = codes "SELECT id, phase FROM second ORDER BY id"
+text_of SecondRanked = codes "SELECT lecturer FROM ranked2 ORDER BY lecturer"
+text_of SecondPlaces = codes "SELECT student, project FROM assigned2 ORDER BY student"
+text_of (SecondPlaceOf student) = codes "SELECT student, project FROM assigned2 WHERE student = ?1 ORDER BY student"
 text_of (Numbers table) = codes "SELECT rowid FROM " ++ table_name table ++ codes " ORDER BY rowid"
 
 abbrev pub given : Query → Row
@@ -82,4 +109,5 @@ given (LecturerByKey key) = Words key.now ∷ []
 given (StudentTold key) = Words key.now ∷ []
 given (ListOf lists owner) = Words owner.now ∷ []
 given (Choosers project) = Words project.now ∷ []
+given (SecondPlaceOf student) = Words student.now ∷ []
 given _ = []

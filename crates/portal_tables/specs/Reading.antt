@@ -1,28 +1,35 @@
 -- What queries leave, and what they tell.
-use Rattle.std.specs.Prelude.{◌≡◌, false, IsTrue, Result, IfOk, OnOk, OnErr}
-use Rattle.sqlite.specs.Effect.{Database}
-use Rattle.sqlite.specs.Held.{Held, state}
-use Rattle.sqlite.specs.State.{State, HasCleanDisk, IsUnchanged, Survives}
-use Rattle.sqlite.specs.Store.{Ghosts}
-use Rattle.portal_tables.specs.Own.{IsOwn}
+use Rattle.std.specs.Prelude.{◌≡◌}
+use Rattle.portal_tables.specs.Base.{false, IsTrue, Result, IfOk, OnOk, OnErr, Database, Held, state, State, HasCleanDisk, IsUnchanged, Survives, Ghosts, Round, First}
+use Rattle.portal_tables.specs.Own.{IsOwn, HasRound}
 use Rattle.portal_tables.specs.Steps.{Leaves}
 
--- One query: with an answer nothing is changed, with an error at most the open transaction is undone, none is begun, and a crash leaves what it left before.
-pub record Asks {V E : Type 0} (result : Result V E) (old new : State) : Type 0 where
-  pub same : IsOwn old.now.schema → HasCleanDisk new → OnOk result (IsUnchanged old new)
-  pub err : IsOwn old.now.schema → HasCleanDisk new → OnErr result (Leaves old new)
+-- One query of a round's tables: with an answer nothing is changed, with an error at most the open transaction is undone, none is begun, and a crash leaves what it left before.
+pub record AsksIn (round : Round) {V E : Type 0} (result : Result V E) (old new : State) : Type 0 where
+  pub same : HasRound round old.now.schema → HasCleanDisk new → OnOk result (IsUnchanged old new)
+  pub err : HasRound round old.now.schema → HasCleanDisk new → OnErr result (Leaves old new)
   pub mode : old.in_transaction ≡ false → new.in_transaction ≡ false
-  pub crash : Survives old new (λ _. IsOwn old.now.schema → ⊥)
+  pub crash : Survives old new (λ _. HasRound round old.now.schema → ⊥)
 
 -- Several queries, or none: the same, where the connection was open. `now` asks nothing of that, so that it holds where no query was made.
-pub record Reads {V E : Type 0} (result : Result V E) (old new : State) : Type 0 where
-  pub same : IsOwn old.now.schema → HasCleanDisk new → IsTrue old.is_open → OnOk result (IsUnchanged old new)
-  pub err : IsOwn old.now.schema → HasCleanDisk new → IsTrue old.is_open → OnErr result (Leaves old new)
-  pub now : IsOwn old.now.schema → HasCleanDisk new → OnOk result (new.now ≡ old.now)
+pub record ReadsIn (round : Round) {V E : Type 0} (result : Result V E) (old new : State) : Type 0 where
+  pub same : HasRound round old.now.schema → HasCleanDisk new → IsTrue old.is_open → OnOk result (IsUnchanged old new)
+  pub err : HasRound round old.now.schema → HasCleanDisk new → IsTrue old.is_open → OnErr result (Leaves old new)
+  pub now : HasRound round old.now.schema → HasCleanDisk new → OnOk result (new.now ≡ old.now)
   pub mode : old.in_transaction ≡ false → new.in_transaction ≡ false
-  pub crash : Survives old new (λ _. IsOwn old.now.schema → IsTrue old.is_open → ⊥)
+  pub crash : Survives old new (λ _. HasRound round old.now.schema → IsTrue old.is_open → ⊥)
 
--- over tables of the portal's own, and where the disk is clean, the answer is this of the database
+-- where a round's tables are the portal's own, and the disk is clean, the answer is this of the database
+abbrev pub TellsIn : {S V E : Type 0} → Round → Ghosts S → Held S → Held S → Result V E → (Database → V → Type 0) → Type 0
+TellsIn round g old new result P = HasRound round old.schema → HasCleanDisk (state g new) → IfOk result (P (state g old).now)
+
+-- of the first round's tables
+abbrev pub Asks : {V E : Type 0} → Result V E → State → State → Type 0
+Asks result old new = AsksIn First result old new
+
+abbrev pub Reads : {V E : Type 0} → Result V E → State → State → Type 0
+Reads result old new = ReadsIn First result old new
+
 abbrev pub Tells : {S V E : Type 0} → Ghosts S → Held S → Held S → Result V E → (Database → V → Type 0) → Type 0
 Tells g old new result P = IsOwn old.schema → HasCleanDisk (state g new) → IfOk result (P (state g old).now)
 

@@ -1,10 +1,6 @@
 -- Row numbers that rise.
-use Rattle.std.specs.Prelude.{◌&&◌, ℤ, Bool, true, false, List, [], ◌∷◌, Option, Some, None}
-use Rattle.std.specs.Ordering.{is_lt, int_cmp}
-use Rattle.sqlite.specs.declared.types.Value.{Value}
-use Rattle.sqlite.specs.declared.types.Value.TheVariants.{Int}
-use Rattle.sqlite.specs.Order.{Row, column}
-use Rattle.sqlite.specs.Edit.{id_in}
+use Rattle.std.specs.Prelude.{◌&&◌, ◌∷◌}
+use Rattle.portal_tables.specs.Base.{ℤ, Bool, true, false, List, [], Option, Some, None, is_lt, int_cmp, Value, Int, Row, column, id_in}
 
 -- the value is a whole number, above this one
 abbrev pub is_above : Option ℤ → Value → Bool

@@ -1,8 +1,6 @@
 -- The three rolls by rising key, whatever the order of their rows in the tables.
-use Rattle.std.specs.Prelude.{List, [], ◌∷◌, map}
-use Rattle.sqlite.specs.Order.{Row, column, bytes}
-use Rattle.sqlite.specs.Tree.{Trees}
-use Rattle.portal_core.specs.Words.{Key, Rise, put_all}
+use Rattle.std.specs.Prelude.{◌∷◌}
+use Rattle.portal_tables.specs.Base.{List, [], map, Row, column, bytes, Trees, Key, Rise, put_all}
 use Rattle.portal_tables.specs.declared.select.Roll.{Roll}
 use Rattle.portal_tables.specs.declared.select.Roll.TheVariants.{Lecturers, Projects, Students}
 use Rattle.portal_tables.specs.Queries.{roll_tree, columns_of}

@@ -1,19 +1,9 @@
--- What the statements put into the six tables.
-use Rattle.std.specs.Prelude.{◌≡◌, ℕ, ℤ, pos, if◌then◌else◌, List, [], ◌∷◌, map, filter, length, Option, Some, None}
-use Rattle.std.specs.List.{flat_map}
-use Rattle.std.specs.Ordering.{is_eq}
-use Rattle.sqlite.specs.declared.types.Value.{Value}
-use Rattle.sqlite.specs.declared.types.Value.TheVariants.{Null, Int, Text as Words}
-use Rattle.sqlite.specs.Order.{Row, column, value_cmp}
-use Rattle.sqlite.specs.Effect.{Database, IsDatabase}
-use Rattle.sqlite.specs.Store.{Ghosts}
-use Rattle.sqlite.specs.Held.{Held, state}
-use Rattle.portal_core.specs.declared.rows.LecturerRow.{LecturerRow}
-use Rattle.portal_core.specs.declared.rows.ProjectRow.{ProjectRow}
-use Rattle.portal_core.specs.declared.rows.StudentRow.{StudentRow}
+-- What the statements put into the tables.
+use Rattle.std.specs.Prelude.{◌≡◌, if◌then◌else◌, ◌∷◌}
+use Rattle.portal_tables.specs.Base.{ℕ, ℤ, pos, List, [], map, filter, length, Option, Some, None, flat_map, is_eq, Value, Null, Int, Words, Row, column, value_cmp, Database, IsDatabase, Ghosts, Held, state, Key, LecturerRow, ProjectRow, StudentRow}
 use Rattle.portal_tables.specs.declared.insert.lists.NewPlace.{NewPlace}
-use Rattle.portal_tables.specs.Tables.{portal_tree, lecturer_tree, student_tree}
-use Rattle.portal_tables.specs.Own.{IsOwn}
+use Rattle.portal_tables.specs.Tables.{portal_tree, lecturer_tree, student_tree, second_tree}
+use Rattle.portal_tables.specs.Own.{IsCurrent}
 use Rattle.portal_tables.specs.Steps.{Ran, Made}
 use Rattle.portal_tables.specs.Changes.{Puts, Drops, Sets, Alters, Becomes, IsApart, has_text, columns}
 
@@ -57,9 +47,20 @@ place_new r = place_cells r.owner.now (pos r.place) r.item.now
 abbrev pub portal_row : ℤ → ℤ → List ℕ → Row
 portal_row version phase office = Int (pos 1) ∷ portal_cells version phase office
 
+-- the cells of the row of `second` after its number, and the row, whose id is 1
+abbrev pub second_cells : ℤ → Row
+second_cells phase = Null ∷ Int phase ∷ []
+
+abbrev pub second_row : ℤ → Row
+second_row phase = Int (pos 1) ∷ second_cells phase
+
+-- the cells of a pair of a student and a project, in the result of the second round
+abbrev pub pair_new : Key × Key → Row
+pair_new p = Words p.0 ∷ Words p.1 ∷ []
+
 -- rows with these cells come to a table of the portal's own
 abbrev pub Adds : ℕ → List Row → Database → Database → Type 0
-Adds tree cells old new = IsOwn old.schema → Puts tree cells old new
+Adds tree cells old new = IsCurrent old.schema → Puts tree cells old new
 
 -- a text that adds so many rows to the table, where it is run with the values of one after the other
 abbrev pub AddsBy : {S R : Type 0} → Ghosts S → List ℕ → ℕ → ℕ → (R → Row) → (R → Row) → Type 0
@@ -68,16 +69,25 @@ AddsBy {S} {R} g text count tree values cells = (rows : List R) → length rows 
 
 -- the rows with this key in their first column are gone
 abbrev pub Clears : ℕ → List ℕ → Database → Database → Type 0
-Clears tree key old new = IsOwn old.schema → IsApart (old.trees tree) → Drops tree (has_text 1 key) old new
+Clears tree key old new = IsCurrent old.schema → IsApart (old.trees tree) → Drops tree (has_text 1 key) old new
 
 -- the one row of `portal` tells this phase
 abbrev pub MovesTo : ℕ → Database → Database → Type 0
-MovesTo phase old new = IsOwn old.schema → (version was : ℤ) (office : List ℕ) → old.trees portal_tree ≡ portal_row version was office ∷ []
+MovesTo phase old new = IsCurrent old.schema → (version was : ℤ) (office : List ℕ) → old.trees portal_tree ≡ portal_row version was office ∷ []
     → Becomes portal_tree (portal_row version (pos phase) office) old new
+
+-- the one row of `portal` tells this version
+abbrev pub IsOfVersion : ℕ → Database → Database → Type 0
+IsOfVersion version old new = IsCurrent old.schema → (was phase : ℤ) (office : List ℕ) → old.trees portal_tree ≡ portal_row was phase office ∷ []
+    → Becomes portal_tree (portal_row (pos version) phase office) old new
+
+-- the one row of `second` tells this phase
+abbrev pub MovesSecond : ℕ → Database → Database → Type 0
+MovesSecond phase old new = IsCurrent old.schema → (was : ℤ) → old.trees second_tree ≡ second_row was ∷ [] → Becomes second_tree (second_row (pos phase)) old new
 
 -- the lecturer's one row says that a ranking is there
 abbrev pub Ranks : List ℕ → Database → Database → Type 0
-Ranks key old new = IsOwn old.schema → IsApart (old.trees lecturer_tree) → (number : ℤ) (name code : List ℕ) (capacity ranked : ℤ)
+Ranks key old new = IsCurrent old.schema → IsApart (old.trees lecturer_tree) → (number : ℤ) (name code : List ℕ) (capacity ranked : ℤ)
     → filter (has_text 1 key) (old.trees lecturer_tree) ≡ (Int number ∷ lecturer_cells key name code capacity ranked) ∷ []
     → Sets lecturer_tree (has_text 1 key) (Int number ∷ lecturer_cells key name code capacity (pos 1)) old new
 
@@ -104,4 +114,4 @@ with_assigned all r = column r 0 ∷ column r 1 ∷ column r 2 ∷ column r 3 �
 
 -- each of these students is assigned to the project or to none, one after another, and no other student's row has changed
 abbrev pub Assigns : List Assigned → Database → Database → Type 0
-Assigns all old new = IsOwn old.schema → IsDatabase old → IsApart (old.trees student_tree) → Alters student_tree student_shown (with_assigned all) old new
+Assigns all old new = IsCurrent old.schema → IsDatabase old → IsApart (old.trees student_tree) → Alters student_tree student_shown (with_assigned all) old new

@@ -1,14 +1,6 @@
 -- What the rows that a query shows are decoded to: the cells of a roll or of a list, without the number of the row.
-use Rattle.std.specs.Prelude.{◌≡◌, ℕ, true, List, [], ◌∷◌, Option, Some, None, option_map, IfSome}
-use Rattle.sqlite.specs.declared.types.Value.{Value}
-use Rattle.sqlite.specs.declared.types.Value.TheVariants.{Null, Int, Real, Blob, Text as Words}
-use Rattle.sqlite.specs.Order.{Row, column, bytes}
-use Rattle.sqlite_trees.specs.Objects.{number_in}
-use Rattle.spa_rows.specs.Form.{is_key}
-use Rattle.portal_core.specs.Words.{Key}
-use Rattle.portal_core.specs.declared.rows.LecturerRow.{LecturerRow}
-use Rattle.portal_core.specs.declared.rows.ProjectRow.{ProjectRow}
-use Rattle.portal_core.specs.declared.rows.StudentRow.{StudentRow}
+use Rattle.std.specs.Prelude.{◌≡◌, ◌∷◌}
+use Rattle.portal_tables.specs.Base.{ℕ, true, List, [], Option, Some, None, option_map, IfSome, Value, Null, Int, Real, Blob, Words, Row, column, bytes, number_in, is_key, Key, LecturerRow, ProjectRow, StudentRow}
 
 -- the text in a cell, if it is not NULL
 abbrev pub text_or_none : Value → Option Key
@@ -39,6 +31,10 @@ shown_student c = record { key = first c; name = bytes (column c 1); code = byte
 -- the pair of the result that a student's row tells
 abbrev pub shown_pair : Row → Option (Key × Key)
 shown_pair c = option_map (λ p. (first c, p)) (text_or_none (column c 3))
+
+-- the pair that a row of the second round's result tells
+abbrev pub told_pair : Row → Key × Key
+told_pair c = (first c, bytes (column c 1))
 
 -- the place and the key that a row of a list shows
 abbrev pub shown_place : Row → ℕ

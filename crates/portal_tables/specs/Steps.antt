@@ -1,13 +1,6 @@
 -- What a step of a transaction does, and what is there when the transaction has ended.
-use Rattle.std.specs.Prelude.{◌≡◌, ◌⊎◌, true, false, List, ℕ, IsTrue, Ok, Result, OnOk}
-use Rattle.sqlite.specs.Order.{Row}
-use Rattle.sqlite.specs.Tree.{Trees}
-use Rattle.sqlite.specs.Effect.{Database}
-use Rattle.sqlite.specs.State.{State, Shows, ExecutesIn, IsUnchanged, IsRolledBack, HasCleanDisk, KeepsCommit, Survives}
-use Rattle.sqlite.specs.Store.{Ghosts}
-use Rattle.sqlite.specs.Held.{state}
-use Rattle.sqlite.specs.declared.error.Error.{Error}
-use Rattle.sqlite.specs.declared.transaction.Transaction.{Transaction}
+use Rattle.std.specs.Prelude.{◌≡◌, ◌⊎◌}
+use Rattle.portal_tables.specs.Base.{true, false, List, ℕ, IsTrue, Ok, Result, OnOk, Row, Trees, Database, State, Shows, ExecutesIn, IsUnchanged, IsRolledBack, HasCleanDisk, KeepsCommit, Survives, Ghosts, state, Error, Transaction}
 
 -- the text ran inside the transaction, with these values
 pub record Ran (sql : List ℕ) (params : Row) (old new : State) : Type 0 where

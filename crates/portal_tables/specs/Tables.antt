@@ -1,20 +1,6 @@
--- The six tables: their texts, and what is understood of them.
-use Rattle.sqlite.specs.Collation.TheVariants.{Binary}
-use Rattle.std.specs.Prelude.{true, false, [], ◌∷◌, ◌++◌, Some, None, codes, List, ℕ, pos, Bool, Option}
-use Rattle.sqlite.specs.declared.types.Value.TheVariants.{Null, Int}
-use Rattle.sqlite.specs.Table.{Table}
-use Rattle.sqlite.specs.Schema.{Schema}
-use Rattle.sqlite.specs.Kind.{Kind}
-use Rattle.sqlite.specs.Kind.TheVariants.{Integer, Text}
-use Rattle.sqlite.specs.Term.{Term, lit, col, op2}
-use Rattle.sqlite_sql.specs.declared.ops.BinaryOp.TheVariants.{Compare, And, Or}
-use Rattle.sqlite_sql.specs.declared.ops.CompareOp.TheVariants.{Eq, Ge, Le}
-use Rattle.sqlite_schema.specs.declared.schema.Column.{Column}
-use Rattle.sqlite_schema.specs.declared.schema.Index.{Index}
-use Rattle.sqlite_schema.specs.declared.schema.Reference.{Reference}
-use Rattle.sqlite_schema.specs.declared.schema.Action.TheVariants.{NoAction}
-use Rattle.sqlite_value.specs.declared.keys.Order.{Order}
-use Rattle.sqlite_value.specs.Keys.{plain}
+-- The portal's tables: their texts, and what is understood of them. Six are those of the first round, and five behind them of the second.
+use Rattle.std.specs.Prelude.{◌∷◌, ◌++◌}
+use Rattle.portal_tables.specs.Base.{Binary, true, false, [], Some, None, codes, List, ℕ, pos, Bool, Option, Null, Int, Table, Schema, Kind, Integer, Text, Term, lit, col, op2, Compare, And, Or, Eq, Ge, Le, Column, Index, Reference, NoAction, Order, plain}
 
 abbrev pub column_of : List ℕ → Kind → Bool → Column
 column_of name kind required = record { name = name; kind = kind; is_strict = true; not_null = required; default = Null; collation = Binary }
@@ -29,7 +15,7 @@ refers_to place parent = record {
   is_deferred = false;
 }
 
--- what the six tables share: STRICT, no computed defaults, no AUTOINCREMENT
+-- what the tables share: STRICT, no computed defaults, no AUTOINCREMENT
 abbrev pub table_of : List ℕ → ℕ → List Column → Option ℕ → List ℕ → List (List ℕ) → List Order → List Term → List Reference → Table
 table_of name tree columns key primary uniques orders checks references = record {
   name = name;
@@ -46,12 +32,12 @@ table_of name tree columns key primary uniques orders checks references = record
   is_counted = false;
 }
 
--- checks of a number: it is n, and it is from 1 to 200
+-- checks of a number: it is n, and it is from one number to another
 abbrev pub is_at : ℕ → ℕ → Term
 is_at place n = op2 (Compare Eq Binary) (col 1 place) (lit (Int (pos n)))
 
-abbrev pub from_1_to_200 : ℕ → Term
-from_1_to_200 place = op2 And (op2 (Compare Ge Binary) (col 1 place) (lit (Int (pos 1)))) (op2 (Compare Le Binary) (col 1 place) (lit (Int (pos 200))))
+abbrev pub is_from : ℕ → ℕ → ℕ → Term
+is_from low high place = op2 And (op2 (Compare Ge Binary) (col 1 place) (lit (Int (pos low)))) (op2 (Compare Le Binary) (col 1 place) (lit (Int (pos high))))
 
 abbrev pub portal_text : List ℕ
 portal_text = codes "CREATE TABLE portal (id INTEGER NOT NULL PRIMARY KEY CHECK (id = 1), version INTEGER NOT NULL, "
@@ -72,7 +58,7 @@ abbrev pub lecturer : ℕ → Table
 lecturer tree = table_of (codes "lecturer") tree
     (column_of (codes "key") Text true ∷ column_of (codes "name") Text true ∷ column_of (codes "code") Text true ∷
     column_of (codes "capacity") Integer true ∷ column_of (codes "ranked") Integer true ∷ [])
-    None (1 ∷ []) ((1 ∷ []) ∷ (3 ∷ []) ∷ []) (plain ∷ plain ∷ []) (from_1_to_200 4 ∷ op2 Or (is_at 5 0) (is_at 5 1) ∷ []) []
+    None (1 ∷ []) ((1 ∷ []) ∷ (3 ∷ []) ∷ []) (plain ∷ plain ∷ []) (is_from 1 200 4 ∷ op2 Or (is_at 5 0) (is_at 5 1) ∷ []) []
 
 abbrev pub project_text : List ℕ
 project_text = codes "CREATE TABLE project (key TEXT NOT NULL PRIMARY KEY, lecturer TEXT NOT NULL REFERENCES lecturer (key), "
@@ -82,7 +68,7 @@ abbrev pub project : ℕ → Table
 project tree = table_of (codes "project") tree
     (column_of (codes "key") Text true ∷ column_of (codes "lecturer") Text true ∷ column_of (codes "title") Text true ∷
     column_of (codes "capacity") Integer true ∷ [])
-    None (1 ∷ []) ((1 ∷ []) ∷ []) (plain ∷ []) (from_1_to_200 4 ∷ []) (refers_to 2 (codes "lecturer") ∷ [])
+    None (1 ∷ []) ((1 ∷ []) ∷ []) (plain ∷ []) (is_from 1 200 4 ∷ []) (refers_to 2 (codes "lecturer") ∷ [])
 
 abbrev pub student_text : List ℕ
 student_text = codes "CREATE TABLE student (key TEXT NOT NULL PRIMARY KEY, name TEXT NOT NULL, code TEXT NOT NULL UNIQUE, "
@@ -110,18 +96,57 @@ list_table t tree = table_of t.name tree
     (column_of t.owner Text true ∷ column_of (codes "place") Integer true ∷ column_of t.item Text true ∷ [])
     None (1 ∷ 2 ∷ []) ((1 ∷ 2 ∷ []) ∷ (3 ∷ 1 ∷ []) ∷ []) (plain ∷ plain ∷ []) [] (refers_to 1 t.owner ∷ refers_to 3 t.item ∷ [])
 
--- students' lists of projects, and lecturers' rankings of students
+-- students' lists of projects, and lecturers' rankings of students, of each round
 abbrev pub choice_names : ListTable
 choice_names = record { name = codes "choice"; owner = codes "student"; item = codes "project" }
 
 abbrev pub ranking_names : ListTable
 ranking_names = record { name = codes "ranking"; owner = codes "lecturer"; item = codes "student" }
 
+abbrev pub choice2_names : ListTable
+choice2_names = record choice_names { name = codes "choice2" }
+
+abbrev pub ranking2_names : ListTable
+ranking2_names = record ranking_names { name = codes "ranking2" }
+
 abbrev pub choice : ℕ → Table
 choice = list_table choice_names
 
 abbrev pub ranking : ℕ → Table
 ranking = list_table ranking_names
+
+abbrev pub choice2 : ℕ → Table
+choice2 = list_table choice2_names
+
+abbrev pub ranking2 : ℕ → Table
+ranking2 = list_table ranking2_names
+
+-- the phase of the second round, 0 where there is none
+abbrev pub second_text : List ℕ
+second_text = codes "CREATE TABLE second (id INTEGER NOT NULL PRIMARY KEY CHECK (id = 1), "
+    ++ codes "phase INTEGER NOT NULL CHECK (phase >= 0 AND phase <= 3)) STRICT"
+
+abbrev pub second : ℕ → Table
+second tree = table_of (codes "second") tree
+    (column_of (codes "id") Integer true ∷ column_of (codes "phase") Integer true ∷ [])
+    (Some 0) (0 ∷ []) [] [] (is_at 0 1 ∷ is_from 0 3 2 ∷ []) []
+
+-- who has a ranking in the second round
+abbrev pub ranked2_text : List ℕ
+ranked2_text = codes "CREATE TABLE ranked2 (lecturer TEXT NOT NULL PRIMARY KEY REFERENCES lecturer (key)) STRICT"
+
+abbrev pub ranked2 : ℕ → Table
+ranked2 tree = table_of (codes "ranked2") tree (column_of (codes "lecturer") Text true ∷ [])
+    None (1 ∷ []) ((1 ∷ []) ∷ []) (plain ∷ []) [] (refers_to 1 (codes "lecturer") ∷ [])
+
+-- the result of the second round
+abbrev pub assigned2_text : List ℕ
+assigned2_text = codes "CREATE TABLE assigned2 (student TEXT NOT NULL PRIMARY KEY REFERENCES student (key), "
+    ++ codes "project TEXT NOT NULL REFERENCES project (key)) STRICT"
+
+abbrev pub assigned2 : ℕ → Table
+assigned2 tree = table_of (codes "assigned2") tree (column_of (codes "student") Text true ∷ column_of (codes "project") Text true ∷ [])
+    None (1 ∷ []) ((1 ∷ []) ∷ []) (plain ∷ []) [] (refers_to 1 (codes "student") ∷ refers_to 2 (codes "project") ∷ [])
 
 abbrev pub no_schema : Schema
 no_schema = record { tables = []; indexes = []; views = [] }
@@ -136,9 +161,10 @@ index_of tree name table columns = record {
   is_unique = true;
 }
 
--- as they are made in this order: a table and then its indexes, each in a tree of its own
-abbrev pub portal_schema : Schema
-portal_schema = record {
+-- The tables of the first round, which are those of version 1, as they are made in this order: a table and then its indexes, each in a tree of
+-- its own.
+abbrev pub first_schema : Schema
+first_schema = record {
   tables = portal 0 ∷ lecturer 1 ∷ project 4 ∷ student 6 ∷ choice 9 ∷ ranking 12 ∷ [];
   indexes = index_of 2 (codes "lecturer_1") 1 (1 ∷ []) ∷ index_of 3 (codes "lecturer_2") 1 (3 ∷ []) ∷ index_of 5 (codes "project_1") 4 (1 ∷ [])
       ∷ index_of 7 (codes "student_1") 6 (1 ∷ []) ∷ index_of 8 (codes "student_2") 6 (3 ∷ [])
@@ -146,6 +172,24 @@ portal_schema = record {
       ∷ index_of 13 (codes "ranking_1") 12 (1 ∷ 2 ∷ []) ∷ index_of 14 (codes "ranking_2") 12 (3 ∷ 1 ∷ []) ∷ [];
   views = [];
 }
+
+-- all tables: behind those of the first round the five of the second
+abbrev pub portal_schema : Schema
+portal_schema = record {
+  tables = first_schema.tables ++ second 15 ∷ choice2 16 ∷ ranked2 19 ∷ ranking2 21 ∷ assigned2 24 ∷ [];
+  indexes = first_schema.indexes ++ index_of 17 (codes "choice2_1") 16 (1 ∷ 2 ∷ []) ∷ index_of 18 (codes "choice2_2") 16 (3 ∷ 1 ∷ [])
+      ∷ index_of 20 (codes "ranked2_1") 19 (1 ∷ [])
+      ∷ index_of 22 (codes "ranking2_1") 21 (1 ∷ 2 ∷ []) ∷ index_of 23 (codes "ranking2_2") 21 (3 ∷ 1 ∷ [])
+      ∷ index_of 25 (codes "assigned2_1") 24 (1 ∷ []) ∷ [];
+  views = [];
+}
+
+-- the versions of the schema that the row of `portal` tells: that of all tables, and that of the six alone
+abbrev pub version : ℕ
+version = 2
+
+abbrev pub first_version : ℕ
+first_version = 1
 
 abbrev pub portal_tree : ℕ
 portal_tree = 0
@@ -165,6 +209,27 @@ choice_tree = 9
 abbrev pub ranking_tree : ℕ
 ranking_tree = 12
 
--- the trees of the six tables
+abbrev pub second_tree : ℕ
+second_tree = 15
+
+abbrev pub choice2_tree : ℕ
+choice2_tree = 16
+
+abbrev pub ranked2_tree : ℕ
+ranked2_tree = 19
+
+abbrev pub ranking2_tree : ℕ
+ranking2_tree = 21
+
+abbrev pub assigned2_tree : ℕ
+assigned2_tree = 24
+
+-- the trees of the six, of the five, and of all
+abbrev pub first_trees : List ℕ
+first_trees = portal_tree ∷ lecturer_tree ∷ project_tree ∷ student_tree ∷ choice_tree ∷ ranking_tree ∷ []
+
+abbrev pub second_trees : List ℕ
+second_trees = second_tree ∷ choice2_tree ∷ ranked2_tree ∷ ranking2_tree ∷ assigned2_tree ∷ []
+
 abbrev pub own_trees : List ℕ
-own_trees = portal_tree ∷ lecturer_tree ∷ project_tree ∷ student_tree ∷ choice_tree ∷ ranking_tree ∷ []
+own_trees = first_trees ++ second_trees

@@ -1,12 +1,10 @@
 //! Whether the rows of a table have numbers of their own: what removes or changes rows goes by their numbers.
 
-ghost use Rattle.std.specs.Prelude.{◌≡◌, true, IfSome, IsTrue, None};
-ghost use Rattle.sqlite.specs.Held.{state};
-ghost use Rattle.sqlite.specs.declared.types.Value.TheVariants.{Int};
-ghost use Rattle.sqlite.specs.Order.{column};
+ghost use Rattle.std.specs.Prelude.{◌≡◌};
+ghost use Rattle.portal_tables.specs.Base.{true, IfSome, IsTrue, None, state, Int, column};
 ghost use Rattle.portal_tables.specs.Changes.{IsApart};
-ghost use Rattle.portal_tables.specs.Queries.{table_tree};
-ghost use Rattle.portal_tables.specs.Reading.{Asks, Tells};
+ghost use Rattle.portal_tables.specs.Queries.{table_tree, table_round};
+ghost use Rattle.portal_tables.specs.Reading.{AsksIn, TellsIn};
 ghost use Rattle.portal_tables.specs.Rising.{rises};
 
 use crate::select::{Query, Table, read};
@@ -39,9 +37,10 @@ fn do_rise(rows: &[Row]) -> bool
 
 /// Whether the rows of a table have numbers of their own.
 pub fn are_apart<S: Alter>(conn: &mut Connection<S>, table: Table) -> Result<bool, Error>
-    ensures apart { Tells S.Store conn.old conn.new result
+    ensures apart { TellsIn (table_round table) S.Store conn.old conn.new result
         (λ db apart. IsTrue apart → IsApart (db.trees (table_tree table))) }
-    ensures asks { Asks result (state S.Store conn.old) (state S.Store conn.new) }
+    ensures asks { AsksIn (table_round table) result
+        (state S.Store conn.old) (state S.Store conn.new) }
 {
     let rows = read(conn, Query::Numbers(table))?;
     Ok(do_rise(&rows))

@@ -1,8 +1,7 @@
 //! Applicants and placed students of a lecturer's projects.
 
-ghost use Rattle.std.specs.Prelude.{◌≡◌, [], ◌∷◌, ◌++◌, IfOk, OnOk, map, filter};
-ghost use Rattle.sqlite.specs.Held.{state};
-ghost use Rattle.portal_core.specs.World.{is_at, is_from_ranking};
+ghost use Rattle.std.specs.Prelude.{◌≡◌, ◌∷◌, ◌++◌};
+ghost use Rattle.portal_tables.specs.Base.{[], IfOk, OnOk, map, filter, state, is_at, is_from_ranking};
 ghost use Rattle.portal_tables.specs.Callers.{with_persons, lines_shown, placed_among, applicants_told, placed_told};
 ghost use Rattle.portal_tables.specs.Lines.{HasTables};
 ghost use Rattle.portal_tables.specs.Reading.{Reads, TellsOf};

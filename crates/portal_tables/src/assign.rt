@@ -1,7 +1,7 @@
 //! The projects that students are assigned to.
 
-ghost use Rattle.std.specs.Prelude.{◌≡◌, [], ◌∷◌, option_map};
-ghost use Rattle.sqlite_value.specs.Value.{owned};
+ghost use Rattle.std.specs.Prelude.{◌≡◌, ◌∷◌};
+ghost use Rattle.portal_tables.specs.Base.{[], option_map, owned};
 ghost use Rattle.portal_tables.specs.Steps.{Does, Made, GoesOn};
 ghost use Rattle.portal_tables.specs.Rows.{Assigns, text_or_null as text_or_null_of};
 

@@ -1,10 +1,7 @@
 //! From one cell of a row that a query shows to a key, a name, a code or a number.
 
-ghost use Rattle.std.specs.Prelude.{◌≡◌, ◌≤◌, true, false, Err, IfOk, IfSome};
-ghost use Rattle.sqlite.specs.Order.{column, bytes};
-ghost use Rattle.sqlite_trees.specs.Objects.{number_in};
-ghost use Rattle.spa_rows.specs.Form.{is_key};
-ghost use Rattle.portal_core.specs.Form.{is_code, is_name};
+ghost use Rattle.std.specs.Prelude.{◌≡◌, ◌≤◌};
+ghost use Rattle.portal_tables.specs.Base.{true, false, Err, IfOk, IfSome, column, bytes, number_in, is_key, is_code, is_name};
 ghost use Rattle.portal_tables.specs.Shown.{text_or_none};
 
 use crate::fault::TableFault;

@@ -1,11 +1,7 @@
 //! The rows of the rolls and lists: all that the tables hold but the office's row, read and decoded.
 
-ghost use Rattle.std.specs.Prelude.{◌≡◌, false, Err, IfOk, OnOk, IsTrue, map};
-ghost use Rattle.std.specs.List.{AllByRecursion, filter_map};
-ghost use Rattle.sqlite.specs.State.{HasCleanDisk};
-ghost use Rattle.sqlite.specs.Effect.{IsDatabase};
-ghost use Rattle.sqlite.specs.Held.{state};
-ghost use Rattle.portal_core.specs.Good.{IsLecturer, IsProject, IsStudent};
+ghost use Rattle.std.specs.Prelude.{◌≡◌};
+ghost use Rattle.portal_tables.specs.Base.{false, Err, IfOk, OnOk, IsTrue, map, AllByRecursion, filter_map, HasCleanDisk, IsDatabase, state, IsLecturer, IsProject, IsStudent};
 ghost use Rattle.portal_tables.specs.Own.{IsOwn};
 ghost use Rattle.portal_tables.specs.Contents.{rows_held, rows_from, AreRead, AreFine};
 ghost use Rattle.portal_tables.specs.Owners.{AreOwned, with_list};

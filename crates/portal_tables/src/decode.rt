@@ -1,13 +1,9 @@
 //! From the rows that queries show to the rows of rolls, lists and pairs.
 
-ghost use Rattle.std.specs.Prelude.{◌≡◌, ◌↔◌, true, Err, IfOk, IsTrue, map, ⊤};
-ghost use Rattle.std.specs.List.{AllByRecursion, filter_map};
-ghost use Rattle.sqlite.specs.Order.{Row as Cells};
-ghost use Rattle.spa_rows.specs.Form.{is_key};
-ghost use Rattle.portal_core.specs.Good.{IsLecturer, IsProject, IsStudent};
-ghost use Rattle.portal_core.specs.Words.{Rise, is_before};
+ghost use Rattle.std.specs.Prelude.{◌≡◌, ◌↔◌};
+ghost use Rattle.portal_tables.specs.Base.{true, Err, IfOk, IsTrue, map, ⊤, AllByRecursion, filter_map, Cells, is_key, IsLecturer, IsProject, IsStudent, Rise, is_before};
 ghost use Rattle.portal_tables.specs.Lists.{CountUp};
-ghost use Rattle.portal_tables.specs.Shown.{as_list, first, shown_lecturer, shown_project, shown_student, shown_pair, shown_place, shown_name, HasPlace};
+ghost use Rattle.portal_tables.specs.Shown.{as_list, first, shown_lecturer, shown_project, shown_student, shown_pair, told_pair, shown_place, shown_name, HasPlace};
 
 use crate::cells::{assigned_at, bytes_at, capacity_at, code_at, key_at, name_at, number_at};
 use crate::fault::TableFault;
@@ -83,6 +79,17 @@ impl FromCells for Key {
 
     fn from_cells(alloc: Global, row: &Row) -> Result<Key, TableFault> {
         key_at(alloc, row, 1)
+    }
+}
+
+/// A pair of the second round's result.
+impl FromCells for (Key, Key) {
+    ghost shown = { told_pair };
+
+    ghost is_fine = { λ c. (is_key (told_pair c).0 ≡ true) × (is_key (told_pair c).1 ≡ true) };
+
+    fn from_cells(alloc: Global, row: &Row) -> Result<(Key, Key), TableFault> {
+        Ok((key_at(alloc, row, 0)?, key_at(alloc, row, 1)?))
     }
 }
 

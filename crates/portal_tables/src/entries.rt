@@ -1,15 +1,11 @@
 //! The lists of the owners whose rows are shown: one owner's by a query, or several in turn.
 
-ghost use Rattle.std.specs.Prelude.{◌≡◌, ◌↔◌, ◌∷◌, [], false, true, Ok, Err, IfOk, OnOk, IsTrue, Some, None, option_map, if◌then◌else◌, map};
-ghost use Rattle.std.specs.List.{AllByRecursion, filter_map};
-ghost use Rattle.sqlite.specs.State.{HasCleanDisk};
-ghost use Rattle.sqlite.specs.Held.{state};
-ghost use Rattle.spa_rows.specs.Form.{is_key};
-ghost use Rattle.portal_core.specs.Words.{has, Rise};
-ghost use Rattle.portal_tables.specs.Own.{IsOwn};
+ghost use Rattle.std.specs.Prelude.{◌≡◌, ◌↔◌, ◌∷◌, if◌then◌else◌};
+ghost use Rattle.portal_tables.specs.Base.{[], false, true, Ok, Err, IfOk, OnOk, IsTrue, Some, None, option_map, map, AllByRecursion, filter_map, HasCleanDisk, state, is_key, has, Rise};
+ghost use Rattle.portal_tables.specs.Own.{HasRound};
 ghost use Rattle.portal_tables.specs.Lists.{of_key, IsWhole, chosen};
-ghost use Rattle.portal_tables.specs.Reading.{Reads};
-ghost use Rattle.portal_tables.specs.ListTables.{tree_of};
+ghost use Rattle.portal_tables.specs.Reading.{ReadsIn};
+ghost use Rattle.portal_tables.specs.ListTables.{round_of, tree_of};
 ghost use Rattle.portal_tables.specs.Owners.{AreOwned, has_list, entry, with_list, IsRead, IsFine};
 ghost use Rattle.portal_tables.specs.Shown.{first};
 
@@ -31,31 +27,35 @@ pub fn list_in<S: Alter>(
     lists: Lists,
     owner: &Key,
 ) -> Result<Vec<Key>, TableFault>
-    ensures names { IsOwn conn.old.schema → HasCleanDisk (state S.Store conn.new)
+    ensures names { HasRound (round_of lists) conn.old.schema
+        → HasCleanDisk (state S.Store conn.new)
         → IfOk result (λ v. v.items
         ≡ chosen ((state S.Store conn.old).now.trees (tree_of lists)) owner.now) }
-    ensures whole { IsOwn conn.old.schema → HasCleanDisk (state S.Store conn.new)
+    ensures whole { HasRound (round_of lists) conn.old.schema
+        → HasCleanDisk (state S.Store conn.new)
         → OnOk result (IsWhole
         (of_key owner.now ((state S.Store conn.old).now.trees (tree_of lists)))) }
-    ensures damaged { IsOwn conn.old.schema → HasCleanDisk (state S.Store conn.new)
+    ensures damaged { HasRound (round_of lists) conn.old.schema
+        → HasCleanDisk (state S.Store conn.new)
         → result ≡ Err TableFault.Damaged
         → IsWhole (of_key owner.now ((state S.Store conn.old).now.trees (tree_of lists)))
         → AllByRecursion (λ k. is_key k ≡ true)
         (chosen ((state S.Store conn.old).now.trees (tree_of lists)) owner.now) → ⊥ }
-    ensures reads { Reads result (state S.Store conn.old) (state S.Store conn.new) }
+    ensures reads { ReadsIn (round_of lists) result
+        (state S.Store conn.old) (state S.Store conn.new) }
     ensures mode { conn.old.in_transaction ≡ false → conn.new.in_transaction ≡ false }
 {
     let rows = read_rows(alloc, conn, Query::ListOf(lists, owner.as_bytes()))?;
     list_from(alloc, &rows)
 }
 
-/// Whether the owner has a list: the row of a lecturer says whether a ranking is there.
+/// Whether the owner has a list: the row of a lecturer says whether a ranking of the first round is there.
 fn has_list(lists: Lists, row: &Row) -> bool
     ensures { result ≡ has_list lists row.now }
 {
     match lists {
-        Lists::Choices => true,
         Lists::Rankings => number_at(row, 4) == 1,
+        Lists::Choices | Lists::SecondChoices | Lists::SecondRankings => true,
     }
 }
 
@@ -88,15 +88,17 @@ fn entry_in<S: Alter>(
     lists: Lists,
     owner: &Row,
 ) -> Result<Option<(Key, Vec<Key>)>, TableFault>
-    ensures ok { IsOwn conn.old.schema → HasCleanDisk (state S.Store conn.new)
+    ensures ok { HasRound (round_of lists) conn.old.schema → HasCleanDisk (state S.Store conn.new)
         → IfOk result (λ found. option_map with_list found
         ≡ entry lists (state S.Store conn.old).now.trees owner.now) }
-    ensures read { IsOwn conn.old.schema → HasCleanDisk (state S.Store conn.new)
+    ensures read { HasRound (round_of lists) conn.old.schema → HasCleanDisk (state S.Store conn.new)
         → OnOk result (IsRead lists (state S.Store conn.old).now.trees owner.now) }
-    ensures damaged { IsOwn conn.old.schema → HasCleanDisk (state S.Store conn.new)
+    ensures damaged { HasRound (round_of lists) conn.old.schema
+        → HasCleanDisk (state S.Store conn.new)
         → result ≡ Err TableFault.Damaged
         → IsFine lists (state S.Store conn.old).now.trees owner.now → ⊥ }
-    ensures reads { Reads result (state S.Store conn.old) (state S.Store conn.new) }
+    ensures reads { ReadsIn (round_of lists) result
+        (state S.Store conn.old) (state S.Store conn.new) }
     ensures mode { conn.old.in_transaction ≡ false → conn.new.in_transaction ≡ false }
 {
     let key = key_at(alloc, owner, 0)?;
@@ -112,16 +114,18 @@ fn entries_each<S: Alter>(
     lists: Lists,
     owners: &[Row],
 ) -> Result<Vec<(Key, Vec<Key>)>, TableFault>
-    ensures ok { IsOwn conn.old.schema → HasCleanDisk (state S.Store conn.new)
+    ensures ok { HasRound (round_of lists) conn.old.schema → HasCleanDisk (state S.Store conn.new)
         → IfOk result (λ v. map with_list v.items
         ≡ filter_map (entry lists (state S.Store conn.old).now.trees) owners.now) }
-    ensures read { IsOwn conn.old.schema → HasCleanDisk (state S.Store conn.new)
+    ensures read { HasRound (round_of lists) conn.old.schema → HasCleanDisk (state S.Store conn.new)
         → OnOk result (AllByRecursion
         (IsRead lists (state S.Store conn.old).now.trees) owners.now) }
-    ensures damaged { IsOwn conn.old.schema → HasCleanDisk (state S.Store conn.new)
+    ensures damaged { HasRound (round_of lists) conn.old.schema
+        → HasCleanDisk (state S.Store conn.new)
         → result ≡ Err TableFault.Damaged
         → AllByRecursion (IsFine lists (state S.Store conn.old).now.trees) owners.now → ⊥ }
-    ensures reads { Reads result (state S.Store conn.old) (state S.Store conn.new) }
+    ensures reads { ReadsIn (round_of lists) result
+        (state S.Store conn.old) (state S.Store conn.new) }
     ensures mode { conn.old.in_transaction ≡ false → conn.new.in_transaction ≡ false }
 {
     let mut entries = Vec::new(alloc);
@@ -160,10 +164,12 @@ fn see_owners<S: Alter>(
     lists: Lists,
     owners: &[Row],
 ) -> Result<(), TableFault>
-    ensures damaged { IsOwn conn.old.schema → HasCleanDisk (state S.Store conn.new)
+    ensures damaged { HasRound (round_of lists) conn.old.schema
+        → HasCleanDisk (state S.Store conn.new)
         → result ≡ Err TableFault.Damaged
         → AreOwned lists (state S.Store conn.old).now.trees owners.now → ⊥ }
-    ensures reads { Reads result (state S.Store conn.old) (state S.Store conn.new) }
+    ensures reads { ReadsIn (round_of lists) result
+        (state S.Store conn.old) (state S.Store conn.new) }
 {
     let rows = read_rows(alloc, conn, Query::AllLists(lists))?;
     if are_owned(owners, &rows) {
@@ -181,17 +187,19 @@ pub fn entries_in<S: Alter>(
     lists: Lists,
     owners: &[Row],
 ) -> Result<Vec<(Key, Vec<Key>)>, TableFault>
-    ensures ok { IsOwn conn.old.schema → HasCleanDisk (state S.Store conn.new)
+    ensures ok { HasRound (round_of lists) conn.old.schema → HasCleanDisk (state S.Store conn.new)
         → IfOk result (λ v. map with_list v.items
         ≡ filter_map (entry lists (state S.Store conn.old).now.trees) owners.now) }
-    ensures read { IsOwn conn.old.schema → HasCleanDisk (state S.Store conn.new)
+    ensures read { HasRound (round_of lists) conn.old.schema → HasCleanDisk (state S.Store conn.new)
         → OnOk result (AllByRecursion
         (IsRead lists (state S.Store conn.old).now.trees) owners.now) }
-    ensures damaged { IsOwn conn.old.schema → HasCleanDisk (state S.Store conn.new)
+    ensures damaged { HasRound (round_of lists) conn.old.schema
+        → HasCleanDisk (state S.Store conn.new)
         → result ≡ Err TableFault.Damaged
         → AreOwned lists (state S.Store conn.old).now.trees owners.now
         → AllByRecursion (IsFine lists (state S.Store conn.old).now.trees) owners.now → ⊥ }
-    ensures reads { Reads result (state S.Store conn.old) (state S.Store conn.new) }
+    ensures reads { ReadsIn (round_of lists) result
+        (state S.Store conn.old) (state S.Store conn.new) }
 {
     see_owners(alloc, conn, lists, owners)?;
     entries_each(alloc, conn, lists, owners)

@@ -1,33 +1,41 @@
-//! Rows more: the office's row, and rows of the other tables, eight in a statement where there are as many.
+//! Rows more: the office's row, that of the second round, and rows of the other tables, eight in a statement where there are as many.
 
-ghost use Rattle.std.specs.Prelude.{◌≡◌, ℕ, ◌<◌, ◌≤◌, ◌++◌, [], ◌∷◌, pos, map, OnOk};
-ghost use Rattle.std.specs.List.{flat_map};
-ghost use Rattle.sqlite.specs.Order.{Row};
-ghost use Rattle.sqlite.specs.Values.{bound};
+ghost use Rattle.std.specs.Prelude.{◌≡◌, ◌<◌, ◌≤◌, ◌++◌, ◌∷◌};
+ghost use Rattle.portal_tables.specs.Base.{ℕ, [], pos, map, OnOk, flat_map, Row, bound};
 ghost use Rattle.portal_tables.specs.Steps.{Does, Ran, Made, GoesOn};
-ghost use Rattle.portal_tables.specs.Tables.{portal_tree};
-ghost use Rattle.portal_tables.specs.Rows.{Adds, AddsBy, portal_cells};
+ghost use Rattle.portal_tables.specs.Tables.{portal_tree, second_tree, version};
+ghost use Rattle.portal_tables.specs.Rows.{Adds, AddsBy, portal_cells, second_cells};
 
 mod lists;
 mod rolls;
 
+use crate::office::VERSION;
 use crate::run::write;
 pub use lists::NewPlace;
 pub use rolls::{Lecturers, Projects, Students};
-use sqlite::types::ValueRef;
+use sqlite::types::{ToSql, ValueRef};
 use sqlite::{Alter, Error, Transaction};
 use std::alloc::{AllocError, Global};
 
-/// Adds the row of `portal`: version 1, phase 0 and the office's code.
-pub fn add_portal<S: Alter>(tx: &mut Transaction<'_, S>, office: &[u8]) -> Result<(), Error>
+/// Adds the row of `portal`: the version of all tables, phase 0 and the office's code.
+pub(crate) fn add_portal<S: Alter>(tx: &mut Transaction<'_, S>, office: &[u8]) -> Result<(), Error>
     ensures { Does S.Store (Made
-        (Adds portal_tree (portal_cells (pos 1) (pos 0) office.now ∷ []))) result tx.old tx.new }
+        (Adds portal_tree
+        (portal_cells (pos version) (pos 0) office.now ∷ []))) result tx.old tx.new }
 {
     write(
         tx,
-        "INSERT INTO portal (version, phase, office) VALUES (1, 0, ?1)",
-        &[ValueRef::Text(office)],
+        "INSERT INTO portal (version, phase, office) VALUES (?1, 0, ?2)",
+        &[VERSION.to_sql(), ValueRef::Text(office)],
     )
+}
+
+/// Adds the row of `second`: no second round.
+pub(crate) fn add_second<S: Alter>(tx: &mut Transaction<'_, S>) -> Result<(), Error>
+    ensures { Does S.Store (Made
+        (Adds second_tree (second_cells (pos 0) ∷ []))) result tx.old tx.new }
+{
+    write(tx, "INSERT INTO second (phase) VALUES (0)", &[])
 }
 
 /// A table to which rows of a type come.

@@ -1,11 +1,9 @@
 //! What a lecturer sees, by queries of the own list and of the own projects' applicants.
 
-ghost use Rattle.std.specs.Prelude.{◌≡◌, ◌==◌, IfOk, if◌then◌else◌, Some, None, option_map, map};
-ghost use Rattle.sqlite.specs.Order.{column, bytes};
-ghost use Rattle.sqlite.specs.Held.{state};
-ghost use Rattle.sqlite_trees.specs.Objects.{number_in};
+ghost use Rattle.std.specs.Prelude.{◌≡◌, ◌==◌, if◌then◌else◌};
+ghost use Rattle.portal_tables.specs.Base.{IfOk, Some, None, option_map, map, column, bytes, state, number_in};
 ghost use Rattle.portal_tables.specs.Tables.{ranking_tree};
-ghost use Rattle.portal_tables.specs.Callers.{with_persons, own_keys, lecturer_shown};
+ghost use Rattle.portal_tables.specs.Callers.{with_persons, own_keys, lecturer_with, lecturer_shown};
 ghost use Rattle.portal_tables.specs.Lines.{HasTables};
 ghost use Rattle.portal_tables.specs.Lists.{chosen};
 ghost use Rattle.portal_tables.specs.Reading.{Reads, Tells, TellsOf};
@@ -66,21 +64,8 @@ fn put_together(
     told: Told,
 ) -> Result<LecturerView, TableFault>
     ensures { IfOk result (λ v. v
-        ≡ record {
-          round = Round.First;
-          phase = phase;
-          me = record {
-            key = first row.now;
-            name =
-                bytes (column row.now 1);
-          };
-          capacity = number_in
-              (column row.now 3);
-          catalogue = catalogue.value.items;
-          applicants = map with_persons told.applicants.items;
-          ranking = option_map (λ r. r.items) ranking;
-          placed = map with_persons told.placed.items;
-        }) }
+        ≡ lecturer_with phase row.now catalogue.value.items (option_map (λ r. r.items) ranking)
+        (map with_persons told.applicants.items) (map with_persons told.placed.items)) }
 {
     Ok(LecturerView {
         round: Round::First,

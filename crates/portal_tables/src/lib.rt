@@ -1,4 +1,4 @@
-//! The six tables of the portal in a database of the crate `sqlite`: how they are made, what each statement does to one of
+//! The tables of the portal in a database of the crate `sqlite`: how they are made, what each statement does to one of
 //! them, what a query shows of one, and how what is shown is decoded into the portal's rows of rolls, the names of a list, the
 //! row of the office, what may be told of students, and what a lecturer and a student see. It knows rows and numbers of trees and no
 //! world.
@@ -25,7 +25,9 @@ pub mod own;
 pub mod put;
 pub mod rolls;
 mod run;
+pub mod second;
 pub mod select;
 pub mod step;
 pub mod student;
 pub mod update;
+pub mod upgrade;

@@ -1,11 +1,8 @@
 //! What may be told of a student: of one, of those whose keys rows begin with, and of those whose list holds a project. Each is
 //! asked for by key.
 
-ghost use Rattle.std.specs.Prelude.{◌≡◌, ◌∷◌, [], IfOk, Some, map};
-ghost use Rattle.sqlite.specs.Order.{column, bytes};
-ghost use Rattle.sqlite.specs.State.{HasCleanDisk};
-ghost use Rattle.sqlite.specs.Held.{state};
-ghost use Rattle.portal_core.specs.Words.{Rise};
+ghost use Rattle.std.specs.Prelude.{◌≡◌, ◌∷◌};
+ghost use Rattle.portal_tables.specs.Base.{[], IfOk, Some, map, column, bytes, HasCleanDisk, state, Rise};
 ghost use Rattle.portal_tables.specs.Reading.{Reads, TellsOf};
 ghost use Rattle.portal_tables.specs.Shown.{first};
 ghost use Rattle.portal_tables.specs.Lines.{HasTables, told_line, line_at, applicant_lines};

@@ -10,6 +10,10 @@ pub enum Lists {
     Choices,
     /// Lecturers' rankings of students.
     Rankings,
+    /// Students' lists of the second round.
+    SecondChoices,
+    /// Lecturers' rankings of the second round.
+    SecondRankings,
 }
 
 impl Lists {
@@ -20,6 +24,8 @@ impl Lists {
         match self {
             Lists::Choices => "DELETE FROM choice WHERE student = ?1",
             Lists::Rankings => "DELETE FROM ranking WHERE lecturer = ?1",
+            Lists::SecondChoices => "DELETE FROM choice2 WHERE student = ?1",
+            Lists::SecondRankings => "DELETE FROM ranking2 WHERE lecturer = ?1",
         }
     }
 }

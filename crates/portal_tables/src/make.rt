@@ -1,56 +1,83 @@
-//! Makes the six tables.
+//! Makes the portal's tables.
 
-ghost use Rattle.std.specs.Prelude.{◌≡◌, false, OnOk, OnErr, IsTrue};
-ghost use Rattle.sqlite.specs.State.{HasCleanDisk, Survives};
-ghost use Rattle.sqlite.specs.Held.{state};
+ghost use Rattle.std.specs.Prelude.{◌≡◌};
+ghost use Rattle.portal_tables.specs.Base.{false, OnOk, OnErr, IsTrue, HasCleanDisk, Survives, state};
 ghost use Rattle.portal_tables.specs.Steps.{Does, Made, Commits, IsAfter, LeavesOnly, Stays};
-ghost use Rattle.portal_tables.specs.Making.{Creates, Makes};
+ghost use Rattle.portal_tables.specs.Making.{Creates, Makes, MakesFirst, MakesSecond};
 
 use crate::fault::TableFault;
-use crate::insert::add_portal;
+use crate::insert::{add_portal, add_second};
 use crate::run::write;
 use crate::step::{Step, commit};
 use sqlite::{Alter, Connection, Error, Transaction};
 use std::alloc::Global;
 
-/// Makes the six tables, all empty, where the database has no table. An error of the store is handed on; the transaction
+const PORTAL: &str =
+    "CREATE TABLE portal (id INTEGER NOT NULL PRIMARY KEY CHECK (id = 1), version INTEGER NOT NULL, phase INTEGER NOT NULL, office TEXT NOT NULL) STRICT";
+
+const LECTURER: &str =
+    "CREATE TABLE lecturer (key TEXT NOT NULL PRIMARY KEY, name TEXT NOT NULL, code TEXT NOT NULL UNIQUE, capacity INTEGER NOT NULL CHECK (capacity >= 1 AND capacity <= 200), ranked INTEGER NOT NULL CHECK (ranked = 0 OR ranked = 1)) STRICT";
+
+const PROJECT: &str =
+    "CREATE TABLE project (key TEXT NOT NULL PRIMARY KEY, lecturer TEXT NOT NULL REFERENCES lecturer (key), title TEXT NOT NULL, capacity INTEGER NOT NULL CHECK (capacity >= 1 AND capacity <= 200)) STRICT";
+
+const STUDENT: &str =
+    "CREATE TABLE student (key TEXT NOT NULL PRIMARY KEY, name TEXT NOT NULL, code TEXT NOT NULL UNIQUE, assigned TEXT REFERENCES project (key)) STRICT";
+
+const CHOICE: &str =
+    "CREATE TABLE choice (student TEXT NOT NULL REFERENCES student (key), place INTEGER NOT NULL, project TEXT NOT NULL REFERENCES project (key), PRIMARY KEY (student, place), UNIQUE (project, student)) STRICT";
+
+const RANKING: &str =
+    "CREATE TABLE ranking (lecturer TEXT NOT NULL REFERENCES lecturer (key), place INTEGER NOT NULL, student TEXT NOT NULL REFERENCES student (key), PRIMARY KEY (lecturer, place), UNIQUE (student, lecturer)) STRICT";
+
+const SECOND: &str =
+    "CREATE TABLE second (id INTEGER NOT NULL PRIMARY KEY CHECK (id = 1), phase INTEGER NOT NULL CHECK (phase >= 0 AND phase <= 3)) STRICT";
+
+const CHOICE2: &str =
+    "CREATE TABLE choice2 (student TEXT NOT NULL REFERENCES student (key), place INTEGER NOT NULL, project TEXT NOT NULL REFERENCES project (key), PRIMARY KEY (student, place), UNIQUE (project, student)) STRICT";
+
+const RANKED2: &str =
+    "CREATE TABLE ranked2 (lecturer TEXT NOT NULL PRIMARY KEY REFERENCES lecturer (key)) STRICT";
+
+const RANKING2: &str =
+    "CREATE TABLE ranking2 (lecturer TEXT NOT NULL REFERENCES lecturer (key), place INTEGER NOT NULL, student TEXT NOT NULL REFERENCES student (key), PRIMARY KEY (lecturer, place), UNIQUE (student, lecturer)) STRICT";
+
+const ASSIGNED2: &str =
+    "CREATE TABLE assigned2 (student TEXT NOT NULL PRIMARY KEY REFERENCES student (key), project TEXT NOT NULL REFERENCES project (key)) STRICT";
+
+/// Makes the six tables of the first round, all empty, where the database has no table.
+fn make_first<S: Alter>(tx: &mut Transaction<'_, S>) -> Result<(), Error>
+    ensures { Does S.Store (Made MakesFirst) result tx.old tx.new }
+{
+    write(tx, PORTAL, &[])?;
+    write(tx, LECTURER, &[])?;
+    write(tx, PROJECT, &[])?;
+    write(tx, STUDENT, &[])?;
+    write(tx, CHOICE, &[])?;
+    write(tx, RANKING, &[])
+}
+
+/// Makes the five tables of the second round, all empty, beside the six.
+pub(crate) fn make_second<S: Alter>(tx: &mut Transaction<'_, S>) -> Result<(), Error>
+    ensures { Does S.Store (Made MakesSecond) result tx.old tx.new }
+{
+    write(tx, SECOND, &[])?;
+    write(tx, CHOICE2, &[])?;
+    write(tx, RANKED2, &[])?;
+    write(tx, RANKING2, &[])?;
+    write(tx, ASSIGNED2, &[])
+}
+
+/// Makes the portal's tables, all empty, where the database has no table. An error of the store is handed on; the transaction
 /// should then be dropped, which undoes it.
 pub fn make_tables<S: Alter>(tx: &mut Transaction<'_, S>) -> Result<(), Error>
     ensures { Does S.Store (Made Makes) result tx.old tx.new }
 {
-    write(
-        tx,
-        "CREATE TABLE portal (id INTEGER NOT NULL PRIMARY KEY CHECK (id = 1), version INTEGER NOT NULL, phase INTEGER NOT NULL, office TEXT NOT NULL) STRICT",
-        &[],
-    )?;
-    write(
-        tx,
-        "CREATE TABLE lecturer (key TEXT NOT NULL PRIMARY KEY, name TEXT NOT NULL, code TEXT NOT NULL UNIQUE, capacity INTEGER NOT NULL CHECK (capacity >= 1 AND capacity <= 200), ranked INTEGER NOT NULL CHECK (ranked = 0 OR ranked = 1)) STRICT",
-        &[],
-    )?;
-    write(
-        tx,
-        "CREATE TABLE project (key TEXT NOT NULL PRIMARY KEY, lecturer TEXT NOT NULL REFERENCES lecturer (key), title TEXT NOT NULL, capacity INTEGER NOT NULL CHECK (capacity >= 1 AND capacity <= 200)) STRICT",
-        &[],
-    )?;
-    write(
-        tx,
-        "CREATE TABLE student (key TEXT NOT NULL PRIMARY KEY, name TEXT NOT NULL, code TEXT NOT NULL UNIQUE, assigned TEXT REFERENCES project (key)) STRICT",
-        &[],
-    )?;
-    write(
-        tx,
-        "CREATE TABLE choice (student TEXT NOT NULL REFERENCES student (key), place INTEGER NOT NULL, project TEXT NOT NULL REFERENCES project (key), PRIMARY KEY (student, place), UNIQUE (project, student)) STRICT",
-        &[],
-    )?;
-    write(
-        tx,
-        "CREATE TABLE ranking (lecturer TEXT NOT NULL REFERENCES lecturer (key), place INTEGER NOT NULL, student TEXT NOT NULL REFERENCES student (key), PRIMARY KEY (lecturer, place), UNIQUE (student, lecturer)) STRICT",
-        &[],
-    )
+    make_first(tx)?;
+    make_second(tx)
 }
 
-/// The six tables with the row of the office, of this code; all other tables are empty.
+/// The tables with the row of the office, of this code, and that of no second round; all other tables are empty.
 struct MakePortal<'a> {
     office: &'a [u8],
 }
@@ -61,11 +88,12 @@ impl Step for MakePortal<'_> {
     fn take<S: Alter>(self, _alloc: Global, tx: &mut Transaction<'_, S>) -> Result<(), Error> {
         let MakePortal { office } = self;
         make_tables(tx)?;
-        add_portal(tx, office)
+        add_portal(tx, office)?;
+        add_second(tx)
     }
 }
 
-/// Makes the portal's tables and the row of the office in a transaction of their own. After an error nothing is there of
+/// Makes the portal's tables, the row of the office and that of no second round in a transaction of their own. After an error nothing is there of
 /// them, and it is `Memory` for want of memory, else `Store`; after Ok a crash leaves them alone.
 pub fn create_portal<S: Alter>(
     alloc: Global,

@@ -1,10 +1,7 @@
 //! Keys that rows begin with, looked for among rows whose keys rise.
 
-ghost use Rattle.std.specs.Prelude.{◌≡◌, ◌<◌, IfOk, IfSome, is_some, not, map, filter, length, slice_index_or};
-ghost use Rattle.std.specs.Cmp.Lexicographic.{slice_cmp};
-ghost use Rattle.std.specs.Ordering.{nat_cmp};
-ghost use Rattle.sqlite.specs.Order.{Row as Cells};
-ghost use Rattle.portal_core.specs.Words.{has, Rise};
+ghost use Rattle.std.specs.Prelude.{◌≡◌, ◌<◌};
+ghost use Rattle.portal_tables.specs.Base.{IfOk, IfSome, is_some, not, map, filter, length, slice_index_or, slice_cmp, nat_cmp, Cells, has, Rise};
 ghost use Rattle.portal_tables.specs.Shown.{first};
 
 use crate::cells::{bytes_at, key_at};

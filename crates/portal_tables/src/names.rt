@@ -1,16 +1,24 @@
 //! Whether a database has tables of the portal's names.
 
-ghost use Rattle.std.specs.Prelude.{◌≡◌, ◌↔◌, IsTrue};
-ghost use Rattle.std.specs.List.{list_any};
+ghost use Rattle.std.specs.Prelude.{◌≡◌, ◌↔◌};
+ghost use Rattle.portal_tables.specs.Base.{IsTrue, list_any};
 ghost use Rattle.portal_tables.specs.Tables.{no_schema};
-ghost use Rattle.portal_tables.specs.Names.{has_own_name, stands_for_table, is_named_table, is_named_view, has_names};
+ghost use Rattle.portal_tables.specs.Names.{has_first_name, has_second_name, has_name, stands_for_table, is_named_table, is_named_view, has_names};
 
 use sqlite_schema::names::same_name;
 use sqlite_schema::schema::{Schema, Table, View};
 
-/// Whether this is the name of one of the six tables.
-fn is_own_name(name: &[u8]) -> bool
-    ensures { result ≡ has_own_name name.now }
+/// Which tables' names are meant.
+#[derive(Clone, Copy, Drop)]
+pub enum Names {
+    /// Those of all the portal's tables.
+    All,
+    /// Those of the tables of the second round.
+    OfSecond,
+}
+
+fn is_first_name(name: &[u8]) -> bool
+    ensures { result ≡ has_first_name name.now }
 {
     same_name(name, b"portal".as_slice())
         || same_name(name, b"lecturer".as_slice())
@@ -18,6 +26,28 @@ fn is_own_name(name: &[u8]) -> bool
         || same_name(name, b"student".as_slice())
         || same_name(name, b"choice".as_slice())
         || same_name(name, b"ranking".as_slice())
+}
+
+fn is_second_name(name: &[u8]) -> bool
+    ensures { result ≡ has_second_name name.now }
+{
+    same_name(name, b"second".as_slice())
+        || same_name(name, b"choice2".as_slice())
+        || same_name(name, b"ranked2".as_slice())
+        || same_name(name, b"ranking2".as_slice())
+        || same_name(name, b"assigned2".as_slice())
+}
+
+impl Names {
+    /// Whether this is one of the names.
+    fn has(self, name: &[u8]) -> bool
+        ensures { result ≡ has_name self name.now }
+    {
+        match self {
+            Names::All => is_first_name(name) || is_second_name(name),
+            Names::OfSecond => is_second_name(name),
+        }
+    }
 }
 
 /// Whether this is a view, or a table that the connection cannot read.
@@ -30,35 +60,27 @@ fn is_view(view: &View) -> bool
     }
 }
 
-/// Whether a table has one of the six names.
-fn has_own_tables(tables: &[Table]) -> bool
-    ensures { result ≡ list_any is_named_table tables.now }
+/// Whether a table has one of the names.
+fn has_tables(names: Names, tables: &[Table]) -> bool
+    ensures { result ≡ list_any (is_named_table names) tables.now }
 {
-    for table in tables {
-        if is_own_name(table.name.as_slice()) {
-            return true;
-        }
-    }
-    false
+    tables.iter().any(|table| names.has(table.name.as_slice()))
 }
 
-/// Whether a view, or a table that the connection cannot read, has one of the six names.
-fn has_own_views(views: &[View]) -> bool
-    ensures { result ≡ list_any is_named_view views.now }
+/// Whether a view, or a table that the connection cannot read, has one of the names.
+fn has_views(names: Names, views: &[View]) -> bool
+    ensures { result ≡ list_any (is_named_view names) views.now }
 {
-    for view in views {
-        if is_own_name(view.name.as_slice()) && is_view(view) {
-            return true;
-        }
-    }
-    false
+    views
+        .iter()
+        .any(|view| names.has(view.name.as_slice()) && is_view(view))
 }
 
-/// Whether a table or a view of one of the six names is there, whatever the case of its letters.
-pub fn is_there(schema: &Schema) -> bool
-    ensures { result ≡ has_names schema.now }
+/// Whether a table or a view of one of the names is there, whatever the case of its letters.
+pub fn is_there(schema: &Schema, names: Names) -> bool
+    ensures { result ≡ has_names names schema.now }
 {
-    has_own_tables(schema.tables.as_slice()) || has_own_views(schema.views.as_slice())
+    has_tables(names, schema.tables.as_slice()) || has_views(names, schema.views.as_slice())
 }
 
 /// Whether there is no table, no index and no view.

@@ -1,8 +1,7 @@
 //! The catalogue of the projects: each with its lecturer's name.
 
-ghost use Rattle.std.specs.Prelude.{◌≡◌, IfOk, option_map, map};
-ghost use Rattle.sqlite.specs.Held.{state};
-ghost use Rattle.portal_core.specs.View.{listing_with};
+ghost use Rattle.std.specs.Prelude.{◌≡◌};
+ghost use Rattle.portal_tables.specs.Base.{IfOk, option_map, map, state, listing_with};
 ghost use Rattle.portal_tables.specs.Offers.{name_of, offered, catalogue_shown};
 ghost use Rattle.portal_tables.specs.Own.{HasOwn};
 ghost use Rattle.portal_tables.specs.Reading.{Reads, TellsOf};
@@ -22,12 +21,8 @@ use std::rc::Rc;
 fn name_among<'a>(lecturers: &'a [LecturerRow], key: &Key) -> Option<&'a Name>
     ensures { option_map (λ n. n.now) result ≡ name_of lecturers.now key.now }
 {
-    for lecturer in lecturers {
-        if lecturer.key == *key {
-            return Some(&lecturer.name);
-        }
-    }
-    None
+    let found = lecturers.iter().find(|lecturer| lecturer.key == *key)?;
+    Some(&found.name)
 }
 
 fn listing_among(

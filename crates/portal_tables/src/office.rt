@@ -1,13 +1,7 @@
 //! The row of the office.
 
-ghost use Rattle.std.specs.Prelude.{◌≡◌, ◌↔◌, ◌∷◌, [], pos, true, false, Err, IfOk, IfSome, IfNone, OnOk, OnErr, IsTrue, List, ℕ};
-ghost use Rattle.sqlite.specs.declared.types.Value.TheVariants.{Int, Text as Words};
-ghost use Rattle.sqlite.specs.Order.{Row as Cells, column};
-ghost use Rattle.sqlite.specs.State.{HasCleanDisk};
-ghost use Rattle.sqlite.specs.Effect.{IsDatabase};
-ghost use Rattle.sqlite.specs.Held.{state};
-ghost use Rattle.portal_core.specs.Form.{is_code};
-ghost use Rattle.portal_core.specs.declared.phase.Phase.{Phase as ThePhase};
+ghost use Rattle.std.specs.Prelude.{◌≡◌, ◌↔◌, ◌∷◌};
+ghost use Rattle.portal_tables.specs.Base.{[], pos, true, false, Err, IfOk, IfSome, IfNone, OnOk, OnErr, IsTrue, List, ℕ, Int, Words, Cells, column, HasCleanDisk, IsDatabase, state, is_code, ThePhase};
 ghost use Rattle.portal_tables.specs.Tables.{portal_tree};
 ghost use Rattle.portal_tables.specs.Own.{IsOwn};
 ghost use Rattle.portal_tables.specs.Reading.{Asks};
@@ -22,6 +16,12 @@ use sqlite::types::ValueRef;
 use sqlite::{Alter, Connection, Row};
 use std::alloc::Global;
 
+/// The version of the schema with all tables, which the row of `portal` tells.
+pub const VERSION: u32 = 2;
+
+/// The version of the six tables alone.
+pub const FIRST_VERSION: u32 = 1;
+
 /// What the row of the office says.
 #[derive(Drop)]
 pub struct Office {
@@ -31,13 +31,16 @@ pub struct Office {
     pub code: Code,
 }
 
-fn is_one(row: &Row, at: usize) -> bool
-    ensures { IsTrue result ↔ (column row.now at ≡ Int (pos 1)) }
+pub(crate) fn is_number(row: &Row, at: usize, number: u32) -> bool
+    ensures { IsTrue result ↔ (column row.now at ≡ Int (pos number)) }
 {
-    matches!(row.get_ref(at), Ok(ValueRef::Int(1)))
+    match row.get_ref(at) {
+        Ok(ValueRef::Int(found)) => found == i64::from(number),
+        _ => false,
+    }
 }
 
-fn phase_at(row: &Row, at: usize) -> Option<Phase>
+pub(crate) fn phase_at(row: &Row, at: usize) -> Option<Phase>
     ensures some { IfSome result (λ phase. column row.now at ≡ Int (pos (number_of phase))) }
     ensures none { IfNone result
         ((phase : ThePhase) → column row.now at ≡ Int (pos (number_of phase)) → ⊥) }
@@ -63,13 +66,13 @@ fn text_code_at(alloc: Global, row: &Row, at: usize) -> Result<Code, TableFault>
     }
 }
 
-/// The office, of its row: id and version are 1.
-fn office_at(alloc: Global, row: &Row) -> Result<Office, TableFault>
-    ensures ok { IfOk result (λ office. IsOffice office.phase office.code row.now) }
+/// The office, of its row, whose id is 1.
+fn office_at(alloc: Global, row: &Row, version: u32) -> Result<Office, TableFault>
+    ensures ok { IfOk result (λ office. IsOffice version office.phase office.code row.now) }
     ensures damaged { result ≡ Err TableFault.Damaged → (phase : ThePhase) (code : List ℕ)
-        → IsOffice phase code row.now → is_code code ≡ true → ⊥ }
+        → IsOffice version phase code row.now → is_code code ≡ true → ⊥ }
 {
-    if !is_one(row, 0) || !is_one(row, 1) {
+    if !is_number(row, 0, 1) || !is_number(row, 1, version) {
         return Err(TableFault::Damaged);
     }
     let Some(phase) = phase_at(row, 2) else {
@@ -79,34 +82,37 @@ fn office_at(alloc: Global, row: &Row) -> Result<Office, TableFault>
     Ok(Office { phase, code })
 }
 
-/// The office, of the only row of its table. The fault is `Damaged` where there is not one row, with id and version 1, a phase and
-/// a code.
-pub fn office_from(alloc: Global, rows: &[Row]) -> Result<Office, TableFault>
+/// The office, of the only row of its table. The fault is `Damaged` where there is not one row, with id 1, the version, a phase and a code.
+fn office_from(alloc: Global, rows: &[Row], version: u32) -> Result<Office, TableFault>
     ensures ok { IfOk result (λ office. (row : Cells) × (rows.now ≡ row ∷ [])
-        × IsOffice office.phase office.code row) }
+        × IsOffice version office.phase office.code row) }
     ensures damaged { result ≡ Err TableFault.Damaged
         → (row : Cells) (phase : ThePhase) (code : List ℕ) → rows.now ≡ row ∷ []
-        → IsOffice phase code row → is_code code ≡ true → ⊥ }
+        → IsOffice version phase code row → is_code code ≡ true → ⊥ }
 {
     match rows {
-        [row] => office_at(alloc, row),
+        [row] => office_at(alloc, row, version),
         _ => Err(TableFault::Damaged),
     }
 }
 
-/// The office, of its table. The fault is `Damaged` where the table has not the one row of version 1, `Store` where the store
+/// The office, of its table. The fault is `Damaged` where the table has not the one row, of this version, `Store` where the store
 /// answered an error.
-pub fn office_in<S: Alter>(alloc: Global, conn: &mut Connection<S>) -> Result<Office, TableFault>
+pub fn office_in<S: Alter>(
+    alloc: Global,
+    conn: &mut Connection<S>,
+    version: u32,
+) -> Result<Office, TableFault>
     ensures row { IsOwn conn.old.schema → IsDatabase (state S.Store conn.old).now
         → HasCleanDisk (state S.Store conn.new)
         → IfOk result (λ office. (state S.Store conn.old).now.trees portal_tree
-        ≡ portal_row (pos 1) (pos (number_of office.phase)) office.code ∷ []) }
+        ≡ portal_row (pos version) (pos (number_of office.phase)) office.code ∷ []) }
     ensures damaged { IsOwn conn.old.schema → HasCleanDisk (state S.Store conn.new)
         → result ≡ Err TableFault.Damaged
-        → (office : HasOffice ((state S.Store conn.old).now.trees portal_tree))
+        → (office : HasOffice version ((state S.Store conn.old).now.trees portal_tree))
         → is_code office.office ≡ true → ⊥ }
     ensures asks { Asks result (state S.Store conn.old) (state S.Store conn.new) }
 {
     let rows = read_rows(alloc, conn, Query::Office)?;
-    office_from(alloc, &rows)
+    office_from(alloc, &rows, version)
 }

@@ -1,10 +1,10 @@
 //! Whether the tables are those that the portal makes, but for the terms of their checks and defaults: a scratch connection
 //! in memory has the portal's own, and the two schemas are compared part by part.
 
-ghost use Rattle.std.specs.Prelude.{◌≡◌, ◌↔◌, IsTrue, [], length, false, IfOk, OnOk, Option, None};
-ghost use Rattle.std.specs.List.{AllZip};
+ghost use Rattle.std.specs.Prelude.{◌≡◌, ◌↔◌};
+ghost use Rattle.portal_tables.specs.Base.{IsTrue, [], length, false, IfOk, OnOk, Option, None, AllZip};
 ghost use Rattle.portal_tables.specs.Tables.{no_schema, portal_schema};
-ghost use Rattle.portal_tables.specs.Own.{SameRules, SameDefaults, SameTable, SameSchema, IsOwn};
+ghost use Rattle.portal_tables.specs.Own.{SameRules, SameDefaults, SameTable, SameSchema, IsCurrent, IsFirst, IsOwn};
 
 use crate::make::make_tables;
 use sqlite::{Alter, Connection, Error, MemStore};
@@ -137,17 +137,18 @@ fn are_same_tables(a: &[Table], b: &[Table]) -> bool
     true
 }
 
-/// Whether the two are the same but for checks.
-fn is_same_schema(a: &Schema, b: &Schema) -> bool
-    ensures { IsTrue result ↔ SameSchema a.now b.now }
+/// Whether the schema has these tables, but for checks, and these indexes, and no view.
+fn is_same_schema(schema: &Schema, tables: &[Table], indexes: &[Index]) -> bool
+    ensures { IsTrue result
+        ↔ SameSchema schema.now
+        (record { tables = tables.now; indexes = indexes.now; views = [] }) }
 {
-    are_same_tables(a.tables.as_slice(), b.tables.as_slice())
-        && are_same(a.indexes.as_slice(), b.indexes.as_slice())
-        && a.views.is_empty()
-        && b.views.is_empty()
+    are_same_tables(schema.tables.as_slice(), tables)
+        && are_same(schema.indexes.as_slice(), indexes)
+        && schema.views.is_empty()
 }
 
-/// Makes the six tables over an empty database in memory.
+/// Makes the portal's tables over an empty database in memory.
 fn make_scratch(conn: &mut Connection<MemStore>) -> Result<(), Error>
     requires idle { conn.old.in_transaction ≡ false }
     requires empty { conn.old.schema ≡ no_schema }
@@ -195,8 +196,23 @@ impl Pattern {
     /// Whether the tables of a connection are those that `make_tables` makes, and no other table, index or view is there.
     /// It reads nothing of the database.
     pub fn fits<S: Alter>(&self, conn: &Connection<S>) -> bool
-        ensures { IsTrue result ↔ IsOwn conn.now.schema }
+        ensures current { IsTrue result ↔ IsCurrent conn.now.schema }
+        ensures own { IsTrue result → IsOwn conn.now.schema }
     {
-        is_same_schema(conn.schema(), self.conn.schema())
+        let all = self.conn.schema();
+        is_same_schema(conn.schema(), all.tables.as_slice(), all.indexes.as_slice())
+    }
+
+    /// Whether they are the six of version 1, and no other is there.
+    pub fn fits_first<S: Alter>(&self, conn: &Connection<S>) -> bool
+        ensures first { IsTrue result ↔ IsFirst conn.now.schema }
+        ensures own { IsTrue result → IsOwn conn.now.schema }
+    {
+        let all = self.conn.schema();
+        is_same_schema(
+            conn.schema(),
+            &all.tables.as_slice()[..6],
+            &all.indexes.as_slice()[..9],
+        )
     }
 }

@@ -1,6 +1,7 @@
 //! A list in place of another.
 
-ghost use Rattle.std.specs.Prelude.{◌≡◌, ◌≤◌, length, map, IfOk};
+ghost use Rattle.std.specs.Prelude.{◌≡◌, ◌≤◌};
+ghost use Rattle.portal_tables.specs.Base.{length, map, IfOk};
 ghost use Rattle.portal_tables.specs.Steps.{Does, Made, GoesOn};
 ghost use Rattle.portal_tables.specs.ListTables.{tree_of};
 ghost use Rattle.portal_tables.specs.Rows.{Clears, place_new};

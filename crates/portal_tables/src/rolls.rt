@@ -1,12 +1,7 @@
 //! The three rolls of the portal, read by key and decoded.
 
-ghost use Rattle.std.specs.Prelude.{◌≡◌, Err, IfOk, IsTrue, map};
-ghost use Rattle.std.specs.List.{AllByRecursion, filter_map};
-ghost use Rattle.sqlite.specs.State.{HasCleanDisk};
-ghost use Rattle.sqlite.specs.Effect.{IsDatabase};
-ghost use Rattle.sqlite.specs.Held.{state};
-ghost use Rattle.portal_core.specs.Good.{IsLecturer, IsProject, IsStudent};
-ghost use Rattle.portal_core.specs.Words.{Rise};
+ghost use Rattle.std.specs.Prelude.{◌≡◌};
+ghost use Rattle.portal_tables.specs.Base.{Err, IfOk, IsTrue, map, AllByRecursion, filter_map, HasCleanDisk, IsDatabase, state, IsLecturer, IsProject, IsStudent, Rise};
 ghost use Rattle.portal_tables.specs.Own.{IsOwn, HasOwn};
 ghost use Rattle.portal_tables.specs.Reading.{Reads, Tells, TellsOf};
 ghost use Rattle.portal_tables.specs.Rolls.{roll_rows, RollRises, lecturers_shown, projects_shown, students_shown, RollsRise};

@@ -1,12 +1,10 @@
 //! What can be asked of the tables: each query is a text, with a value at most, and shows rows of one table.
 
-ghost use Rattle.std.specs.Prelude.{◌≡◌, Err, IfOk, map};
-ghost use Rattle.sqlite.specs.Held.{state};
-ghost use Rattle.sqlite.specs.Order.{Row as Cells};
-ghost use Rattle.sqlite.specs.Values.{bound};
+ghost use Rattle.std.specs.Prelude.{◌≡◌};
+ghost use Rattle.portal_tables.specs.Base.{Err, IfOk, map, state, Cells, bound};
 ghost use Rattle.portal_tables.specs.Decoding.{ShowsAs, FindsAny};
-ghost use Rattle.portal_tables.specs.Queries.{Shows, text_of, given};
-ghost use Rattle.portal_tables.specs.Reading.{Asks, Reads, Tells};
+ghost use Rattle.portal_tables.specs.Queries.{Shows, round_asked, text_of, given};
+ghost use Rattle.portal_tables.specs.Reading.{AsksIn, ReadsIn, TellsIn};
 ghost use Rattle.portal_tables.specs.Shown.{as_list};
 
 use crate::decode::FromCells;
@@ -34,6 +32,10 @@ pub enum Roll {
 pub enum Table {
     OfRoll(Roll),
     OfLists(Lists),
+    /// The lecturers with a ranking in the second round.
+    OfRanked,
+    /// The result of the second round.
+    OfPlaces,
 }
 
 /// What can be asked of a table.
@@ -59,6 +61,14 @@ pub enum Query<'a> {
     Choosers(&'a [u8]),
     /// The students who have a list, by key: those of the first rows of lists.
     Listed,
+    /// The row of the second round: id and phase.
+    Second,
+    /// The lecturers with a ranking in the second round, by key.
+    SecondRanked,
+    /// The result of the second round by student: student and project.
+    SecondPlaces,
+    /// Of that the row of one student, where there is one.
+    SecondPlaceOf(&'a [u8]),
     /// The numbers of a table's rows.
     Numbers(Table),
 }
@@ -90,14 +100,30 @@ impl<'a> Query<'a> {
             }
             Query::AllLists(Lists::Choices) => "SELECT student, place, project FROM choice",
             Query::AllLists(Lists::Rankings) => "SELECT lecturer, place, student FROM ranking",
+            Query::AllLists(Lists::SecondChoices) => "SELECT student, place, project FROM choice2",
+            Query::AllLists(Lists::SecondRankings) => {
+                "SELECT lecturer, place, student FROM ranking2"
+            }
             Query::ListOf(Lists::Choices, _) => {
                 "SELECT place, project FROM choice WHERE student = ?1 ORDER BY place"
             }
             Query::ListOf(Lists::Rankings, _) => {
                 "SELECT place, student FROM ranking WHERE lecturer = ?1 ORDER BY place"
             }
+            Query::ListOf(Lists::SecondChoices, _) => {
+                "SELECT place, project FROM choice2 WHERE student = ?1 ORDER BY place"
+            }
+            Query::ListOf(Lists::SecondRankings, _) => {
+                "SELECT place, student FROM ranking2 WHERE lecturer = ?1 ORDER BY place"
+            }
             Query::Choosers(_) => "SELECT student FROM choice WHERE project = ?1 ORDER BY student",
             Query::Listed => "SELECT student FROM choice WHERE place = 1 ORDER BY student",
+            Query::Second => "SELECT id, phase FROM second ORDER BY id",
+            Query::SecondRanked => "SELECT lecturer FROM ranked2 ORDER BY lecturer",
+            Query::SecondPlaces => "SELECT student, project FROM assigned2 ORDER BY student",
+            Query::SecondPlaceOf(_) => {
+                "SELECT student, project FROM assigned2 WHERE student = ?1 ORDER BY student"
+            }
             Query::Numbers(Table::OfRoll(Roll::Lecturers)) => {
                 "SELECT rowid FROM lecturer ORDER BY rowid"
             }
@@ -113,6 +139,14 @@ impl<'a> Query<'a> {
             Query::Numbers(Table::OfLists(Lists::Rankings)) => {
                 "SELECT rowid FROM ranking ORDER BY rowid"
             }
+            Query::Numbers(Table::OfLists(Lists::SecondChoices)) => {
+                "SELECT rowid FROM choice2 ORDER BY rowid"
+            }
+            Query::Numbers(Table::OfLists(Lists::SecondRankings)) => {
+                "SELECT rowid FROM ranking2 ORDER BY rowid"
+            }
+            Query::Numbers(Table::OfRanked) => { "SELECT rowid FROM ranked2 ORDER BY rowid" }
+            Query::Numbers(Table::OfPlaces) => { "SELECT rowid FROM assigned2 ORDER BY rowid" }
         }
     }
 
@@ -126,11 +160,15 @@ impl<'a> Query<'a> {
             | Query::LecturerByKey(key)
             | Query::StudentTold(key)
             | Query::ListOf(_, key)
-            | Query::Choosers(key) => Some(ValueRef::Text(key)),
+            | Query::Choosers(key)
+            | Query::SecondPlaceOf(key) => Some(ValueRef::Text(key)),
             Query::Office
             | Query::Whole(_)
             | Query::AllLists(_)
             | Query::Listed
+            | Query::Second
+            | Query::SecondRanked
+            | Query::SecondPlaces
             | Query::Numbers(_) => None,
         }
     }
@@ -148,10 +186,12 @@ fn values<'a>(value: &'a Option<ValueRef<'a>>) -> &'a [ValueRef<'a>]
 /// The rows that a query shows, or the store's own error.
 
 pub fn read<S: Alter>(conn: &mut Connection<S>, query: Query<'_>) -> Result<Vec<Row>, Error>
-    ensures rows { Tells S.Store conn.old conn.new result
+    ensures rows { TellsIn (round_asked query.entry) S.Store conn.old conn.new result
         (λ db rows. Shows query.entry db.trees rows.items) }
-    ensures asks { Asks result (state S.Store conn.old) (state S.Store conn.new) }
-    ensures reads { Reads result (state S.Store conn.old) (state S.Store conn.new) }
+    ensures asks { AsksIn (round_asked query.entry) result
+        (state S.Store conn.old) (state S.Store conn.new) }
+    ensures reads { ReadsIn (round_asked query.entry) result
+        (state S.Store conn.old) (state S.Store conn.new) }
 {
     conn.query_all(query.text(), values(&query.value()))
 }
@@ -162,11 +202,13 @@ pub fn read_each<S: Alter, T: FromCells>(
     conn: &mut Connection<S>,
     query: Query<'_>,
 ) -> Result<Vec<T>, TableFault>
-    ensures rows { Tells S.Store conn.old conn.new result
+    ensures rows { TellsIn (round_asked query.entry) S.Store conn.old conn.new result
         (λ db v. ShowsAs T.shown (Shows query.entry db.trees) v.items) }
     ensures undamaged { result ≡ Err TableFault.Damaged → ((c : Cells) → T.is_fine c) → ⊥ }
-    ensures asks { Asks result (state S.Store conn.old) (state S.Store conn.new) }
-    ensures reads { Reads result (state S.Store conn.old) (state S.Store conn.new) }
+    ensures asks { AsksIn (round_asked query.entry) result
+        (state S.Store conn.old) (state S.Store conn.new) }
+    ensures reads { ReadsIn (round_asked query.entry) result
+        (state S.Store conn.old) (state S.Store conn.new) }
 {
     run::read_each(alloc, conn, query.text(), values(&query.value()))
 }
@@ -177,21 +219,25 @@ pub fn read_rows<S: Alter>(
     conn: &mut Connection<S>,
     query: Query<'_>,
 ) -> Result<Vec<Row>, TableFault>
-    ensures rows { Tells S.Store conn.old conn.new result
+    ensures rows { TellsIn (round_asked query.entry) S.Store conn.old conn.new result
         (λ db rows. Shows query.entry db.trees rows.items) }
     ensures undamaged { result ≡ Err TableFault.Damaged → ⊥ }
-    ensures asks { Asks result (state S.Store conn.old) (state S.Store conn.new) }
-    ensures reads { Reads result (state S.Store conn.old) (state S.Store conn.new) }
+    ensures asks { AsksIn (round_asked query.entry) result
+        (state S.Store conn.old) (state S.Store conn.new) }
+    ensures reads { ReadsIn (round_asked query.entry) result
+        (state S.Store conn.old) (state S.Store conn.new) }
 {
     read_each(alloc, conn, query)
 }
 
 /// Whether a query shows a row. No more than one is read.
 pub fn finds_any<S: Alter>(conn: &mut Connection<S>, query: Query<'_>) -> Result<bool, Error>
-    ensures told { Tells S.Store conn.old conn.new result
+    ensures told { TellsIn (round_asked query.entry) S.Store conn.old conn.new result
         (λ db. FindsAny (Shows query.entry db.trees)) }
-    ensures asks { Asks result (state S.Store conn.old) (state S.Store conn.new) }
-    ensures reads { Reads result (state S.Store conn.old) (state S.Store conn.new) }
+    ensures asks { AsksIn (round_asked query.entry) result
+        (state S.Store conn.old) (state S.Store conn.new) }
+    ensures reads { ReadsIn (round_asked query.entry) result
+        (state S.Store conn.old) (state S.Store conn.new) }
 {
     run::finds_any(conn, query.text(), values(&query.value()))
 }

@@ -1,9 +1,7 @@
 //! What is done in a transaction of its own.
 
-ghost use Rattle.std.specs.Prelude.{◌≡◌, false, Err, OnOk, OnErr, IsTrue};
-ghost use Rattle.sqlite.specs.State.{HasCleanDisk, Survives};
-ghost use Rattle.sqlite.specs.Held.{state};
-ghost use Rattle.sqlite.specs.Effect.{Database};
+ghost use Rattle.std.specs.Prelude.{◌≡◌};
+ghost use Rattle.portal_tables.specs.Base.{false, Err, OnOk, OnErr, IsTrue, HasCleanDisk, Survives, state, Database};
 ghost use Rattle.portal_tables.specs.Steps.{Does, GoesOn, Commits, IsAfter, LeavesOnly, Stays};
 
 use crate::fault::TableFault;

@@ -1,10 +1,8 @@
 //! What a student sees, by a query of the own list.
 
-ghost use Rattle.std.specs.Prelude.{◌≡◌, IfOk, if◌then◌else◌, None};
-ghost use Rattle.sqlite.specs.Order.{column, bytes};
-ghost use Rattle.sqlite.specs.Held.{state};
-ghost use Rattle.portal_core.specs.World.{is_published};
-ghost use Rattle.portal_tables.specs.Callers.{student_shown};
+ghost use Rattle.std.specs.Prelude.{◌≡◌, if◌then◌else◌};
+ghost use Rattle.portal_tables.specs.Base.{IfOk, None, column, bytes, state, is_published};
+ghost use Rattle.portal_tables.specs.Callers.{student_with, student_shown};
 ghost use Rattle.portal_tables.specs.Reading.{Reads, Tells};
 ghost use Rattle.portal_tables.specs.Shown.{text_or_none, first};
 
@@ -39,18 +37,7 @@ fn put_together(
     choices: Vec<Key>,
 ) -> Result<StudentView, TableFault>
     ensures { IfOk result (λ v. v
-        ≡ record {
-          round = Round.First;
-          phase = phase;
-          me = record {
-            key = first row.now;
-            name =
-                bytes (column row.now 1);
-          };
-          catalogue = catalogue.value.items;
-          choices = choices.items;
-          result = if is_published phase then text_or_none (column row.now 3) else None;
-        }) }
+        ≡ student_with phase row.now catalogue.value.items choices.items) }
 {
     Ok(StudentView {
         round: Round::First,

@@ -1,7 +1,7 @@
 //! One column of one row changes.
 
 ghost use Rattle.portal_tables.specs.Steps.{Does, Made};
-ghost use Rattle.portal_tables.specs.Rows.{MovesTo, Ranks};
+ghost use Rattle.portal_tables.specs.Rows.{IsOfVersion, MovesTo, Ranks};
 
 use crate::run::write;
 use sqlite::types::{ToSql, ValueRef};
@@ -15,6 +15,17 @@ pub fn set_phase<S: Alter>(tx: &mut Transaction<'_, S>, phase: u32) -> Result<()
         tx,
         "UPDATE portal SET phase = ?1 WHERE id = 1",
         &[phase.to_sql()],
+    )
+}
+
+/// Writes the version into the row of `portal`.
+pub(crate) fn set_version<S: Alter>(tx: &mut Transaction<'_, S>, version: u32) -> Result<(), Error>
+    ensures { Does S.Store (Made (IsOfVersion version)) result tx.old tx.new }
+{
+    write(
+        tx,
+        "UPDATE portal SET version = ?1 WHERE id = 1",
+        &[version.to_sql()],
     )
 }
 

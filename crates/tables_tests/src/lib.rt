@@ -2,4 +2,6 @@
 #![tactic(auto)]
 
 #[cfg(test)]
+mod second;
+#[cfg(test)]
 mod tests;

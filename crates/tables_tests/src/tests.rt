@@ -33,7 +33,7 @@ fn put_value(rt: &(impl Abort + AllocGlobal), text: &mut String, row: &Row, at: 
 }
 
 /// The rows are these, so many columns each, with a stroke behind each row.
-fn shows<E: Drop>(
+pub(crate) fn shows<E: Drop>(
     rt: &(impl Abort + AllocGlobal),
     rows: Result<Vec<Row>, E>,
     columns: usize,
@@ -78,7 +78,7 @@ fn put_key(rt: &impl Abort, text: &mut String, key: &Key) {
 }
 
 /// The lists of the owners are these, each told by its owner and whom or what it names, with a stroke behind it.
-fn tells(
+pub(crate) fn tells(
     rt: &(impl Abort + AllocGlobal),
     conn: &mut Connection<MemStore>,
     lists: Lists,
@@ -101,14 +101,14 @@ fn tells(
 }
 
 /// Makes the tables, or says that they are not made.
-fn creates(rt: &impl AllocGlobal, conn: &mut Connection<MemStore>) -> bool {
+pub(crate) fn creates(rt: &impl AllocGlobal, conn: &mut Connection<MemStore>) -> bool {
     if !conn.is_autocommit() {
         return false;
     }
     create_portal(rt.alloc(), conn, b"office-code-1").is_ok()
 }
 
-fn key(rt: &(impl Abort + AllocGlobal), text: &[u8]) -> Key {
+pub(crate) fn key(rt: &(impl Abort + AllocGlobal), text: &[u8]) -> Key {
     Key::parse(rt.alloc(), text).expect(rt, "a key")
 }
 
@@ -246,7 +246,7 @@ fn are_apart(rt: &impl Abort, conn: &mut Connection<MemStore>) {
 }
 
 /// A database in memory with the portal's tables and the small department.
-fn department(rt: &(impl Abort + AllocGlobal)) -> Connection<MemStore> {
+pub(crate) fn department(rt: &(impl Abort + AllocGlobal)) -> Connection<MemStore> {
     let mut conn = Connection::open_in_memory(rt.alloc()).expect(rt, "memory");
     assert!(rt; creates(rt, &mut conn));
     fill(rt, &mut conn).expect(rt, "rows");
@@ -424,6 +424,7 @@ fn own_tables_are_told(rt: HostRuntime) -> Result<(), Fail> {
     assert!(rt; !pattern.fits(&conn));
     assert!(rt; creates(&rt, &mut conn));
     assert!(rt; pattern.fits(&conn));
+    assert!(rt; !pattern.fits_first(&conn));
     assert!(rt; !creates(&rt, &mut conn));
     Ok(())
 }
@@ -442,7 +443,7 @@ fn rolls_are_shown(rt: HostRuntime) {
         &rt,
         read(&mut conn, Query::Office),
         4,
-        "1 1 0 office-code-1 /",
+        "1 2 0 office-code-1 /",
     );
     shows(
         &rt,
@@ -596,7 +597,7 @@ fn changes_are_shown(rt: HostRuntime) {
         &rt,
         read(&mut conn, Query::Office),
         4,
-        "1 1 3 office-code-1 /",
+        "1 2 3 office-code-1 /",
     );
     shows(
         &rt,

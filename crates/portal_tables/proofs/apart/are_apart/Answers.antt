@@ -1,7 +1,5 @@
-use Rattle.std.proofs.Common.{◌≡◌, None, true, subst}
-use Rattle.sqlite.specs.Held.{state}
-use Rattle.portal_tables.specs.Queries.{table_tree}
-use Rattle.portal_tables.specs.Rising.{rises}
+use Rattle.std.specs.Prelude.{◌≡◌}
+use Rattle.portal_tables.proofs.Base.{None, true, subst, state, table_tree, rises}
 use Rattle.portal_tables.proofs.Rises.{apart_of}
 use Rattle.portal_tables.proofs.apart.are_apart.Goals as goal
 

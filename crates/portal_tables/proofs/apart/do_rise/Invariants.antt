@@ -1,5 +1,5 @@
-use Rattle.std.proofs.Common.{◌≡◌, drop, true, None}
-use Rattle.portal_tables.specs.Rising.{rises}
+use Rattle.std.specs.Prelude.{◌≡◌}
+use Rattle.portal_tables.proofs.Base.{drop, true, None, rises}
 use Rattle.portal_tables.proofs.apart.do_rise.Given as goal
 
 abbrev pub invariant-loop-row : goal.invariant-loop-row

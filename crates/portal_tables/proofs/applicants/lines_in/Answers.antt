@@ -1,9 +1,6 @@
-use Rattle.std.proofs.Common.{◌≡◌, ◌∙◌, true, [], rules, sym, ap}
-use Rattle.std.specs.Prelude.{if◌then◌else◌}
-use Rattle.std.proofs.lemmas.Result.{IfOk-weaker}
-use Rattle.sqlite.specs.Held.{state}
-use Rattle.portal_core.specs.World.{is_from_ranking}
-use Rattle.portal_tables.specs.Lines.{applicant_lines}
+use Rattle.std.specs.Prelude.{◌≡◌, if◌then◌else◌}
+use Rattle.portal_tables.proofs.Base.{◌∙◌, true, [], sym, ap, IfOk-weaker, state, is_from_ranking, applicant_lines}
+use Rattle.std.proofs.Common.{rules}
 use Rattle.portal_tables.proofs.applicants.lines_in.Goals as goal
 
 pub returns-then-are_closed-clause-told : goal.returns-then-are_closed-clause-told

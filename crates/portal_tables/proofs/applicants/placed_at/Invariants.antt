@@ -1,6 +1,5 @@
-use Rattle.std.proofs.Common.{◌≡◌, map, take}
-use Rattle.std.specs.Prelude.{filter}
-use Rattle.portal_core.specs.World.{is_at}
+use Rattle.std.specs.Prelude.{◌≡◌}
+use Rattle.portal_tables.proofs.Base.{map, take, filter, is_at}
 use Rattle.portal_tables.proofs.applicants.placed_at.Given as goal
 
 abbrev pub invariant-loop-line : goal.invariant-loop-line

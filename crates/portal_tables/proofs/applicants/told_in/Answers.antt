@@ -1,27 +1,15 @@
-use Rattle.std.proofs.Common.{◌≡◌, ◌∙◌, arith, ap, subst, IsTrue, map, List}
+use Rattle.std.specs.Prelude.{◌≡◌}
+use Rattle.portal_tables.proofs.Base.{◌∙◌, ap, subst, IsTrue, map, List, Database, HasCleanDisk, IsUnchanged, state, lines_shown, placed_among, HasTables, Line}
+use Rattle.std.proofs.Common.{arith}
 use Rattle.std.proofs.lemmas.Grind.{common_steps}
-use Rattle.sqlite.specs.Effect.{Database}
-use Rattle.sqlite.specs.State.{HasCleanDisk, IsUnchanged}
-use Rattle.sqlite.specs.Held.{state}
-use Rattle.portal_tables.specs.Callers.{lines_shown, placed_among}
-use Rattle.portal_tables.specs.Lines.{HasTables}
-use Rattle.portal_tables.specs.declared.lines.Line.{Line}
 use Rattle.portal_tables.proofs.InTurn.{reads_then, reads_more, reads_handed, clean_before}
 use Rattle.portal_tables.proofs.applicants.told_in.Goals as goal
 
 pub returns-in_err-lines-clause-reads : goal.returns-in_err-lines-clause-reads
-returns-in_err-lines-clause-reads g c =
-    let a = state g.S.Store c.args.conn.now in
-    let b = state g.S.Store c.loop-project.conn in
-    let d = state g.S.Store c.lines_in.new.conn in
-    reads_handed c.in_err-lines.field-0.0 c.from_residual.result a d c.from_residual.ensures.0 (reads_then c.loop-project.told _ a b d c.loop-project.invariant.reads c.in_err-lines.ensures.reads)
+returns-in_err-lines-clause-reads g c = reads_handed c.in_err-lines.field-0.0 c.from_residual.result _ _ c.from_residual.ensures.0 (reads_then c.loop-project.told _ _ _ _ c.loop-project.invariant.reads c.in_err-lines.ensures.reads)
 
 pub returns-in_err-add-clause-reads : goal.returns-in_err-add-clause-reads
-returns-in_err-add-clause-reads g c =
-    let a = state g.S.Store c.args.conn.now in
-    let b = state g.S.Store c.loop-project.conn in
-    let d = state g.S.Store c.lines_in.new.conn in
-    reads_more c.in_ok-lines.lines _ a d (reads_then c.loop-project.told _ a b d c.loop-project.invariant.reads c.in_ok-lines.ensures.reads)
+returns-in_err-add-clause-reads g c = reads_more c.in_ok-lines.lines _ _ _ (reads_then c.loop-project.told _ _ _ _ c.loop-project.invariant.reads c.in_ok-lines.ensures.reads)
 
 pub loop-project-preserved : goal.loop-project-preserved
 loop-project-preserved g c =

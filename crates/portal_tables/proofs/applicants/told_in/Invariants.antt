@@ -1,10 +1,5 @@
-use Rattle.std.proofs.Common.{◌≡◌, Ok, IsTrue, map, take}
-use Rattle.sqlite.specs.State.{HasCleanDisk}
-use Rattle.sqlite.specs.Held.{state}
-use Rattle.portal_tables.specs.Callers.{with_persons, applicants_told, placed_told}
-use Rattle.portal_tables.specs.Lines.{HasTables}
-use Rattle.portal_tables.specs.Reading.{Reads}
-use Rattle.portal_tables.specs.declared.fault.TableFault.{TableFault}
+use Rattle.std.specs.Prelude.{◌≡◌}
+use Rattle.portal_tables.proofs.Base.{Ok, IsTrue, map, take, HasCleanDisk, state, with_persons, applicants_told, placed_told, HasTables, Reads, TableFault}
 use Rattle.portal_tables.proofs.applicants.told_in.Given as goal
 
 abbrev pub invariant-loop-project : goal.invariant-loop-project

@@ -1,8 +1,5 @@
-use Rattle.std.proofs.Common.{Ok, subst, arith}
-use Rattle.std.proofs.lemmas.List.{take_all}
-use Rattle.sqlite.specs.Held.{state}
-use Rattle.portal_tables.specs.Steps.{Does, GoesOn}
-use Rattle.portal_tables.specs.Rows.{Assigns}
+use Rattle.portal_tables.proofs.Base.{Ok, subst, take_all, state, Does, GoesOn, Assigns}
+use Rattle.std.proofs.Common.{arith}
 use Rattle.portal_tables.proofs.Runs.{does_none, does_then, goes_nowhere, goes_then}
 use Rattle.portal_tables.proofs.Assigning.{assigns_none, assigns_next}
 use Rattle.portal_tables.proofs.assign.assign_all.Goals as goal

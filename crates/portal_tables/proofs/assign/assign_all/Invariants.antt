@@ -1,6 +1,4 @@
-use Rattle.std.proofs.Common.{take, Ok}
-use Rattle.portal_tables.specs.Steps.{Does, GoesOn}
-use Rattle.portal_tables.specs.Rows.{Assigns}
+use Rattle.portal_tables.proofs.Base.{take, Ok, Does, GoesOn, Assigns}
 use Rattle.portal_tables.proofs.assign.assign_all.Given as goal
 
 abbrev pub invariant-loop-a : goal.invariant-loop-a

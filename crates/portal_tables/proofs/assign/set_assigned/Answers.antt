@@ -1,8 +1,5 @@
-use Rattle.std.proofs.Common.{option_map, [], ◌∷◌, ap, subst, ◌∙◌}
-use Rattle.sqlite.specs.declared.types.Value.TheVariants.{Text}
-use Rattle.sqlite.specs.Values.{bound_value}
-use Rattle.portal_tables.specs.Steps.{Does, Made, Ran}
-use Rattle.portal_tables.specs.Rows.{Assigns}
+use Rattle.std.specs.Prelude.{◌∷◌}
+use Rattle.portal_tables.proofs.Base.{option_map, [], ap, subst, ◌∙◌, Text, bound_value, Does, Made, Ran, Assigns}
 use Rattle.portal_tables.proofs.Runs.{does_more}
 use Rattle.portal_tables.proofs.Assigning.{one_assigned, update_one, assigned_bound}
 use Rattle.portal_tables.proofs.assign.set_assigned.Goals as goal

@@ -1,13 +1,6 @@
-use Rattle.std.proofs.Common.{List, [], ◌∷◌, sym, subst, subst₂}
-use Rattle.sqlite.specs.Effect.{Database}
-use Rattle.sqlite.specs.Held.{state}
-use Rattle.sqlite.specs.Order.{Row as Cells}
-use Rattle.sqlite.specs.State.{IsUnchanged}
-use Rattle.portal_tables.specs.declared.list_table.Lists.TheVariants.{Choices, Rankings}
-use Rattle.portal_tables.specs.Owners.{AreOwned}
-use Rattle.portal_tables.specs.Contents.{AreFine}
+use Rattle.std.specs.Prelude.{◌∷◌}
+use Rattle.portal_tables.proofs.Base.{List, [], sym, subst, subst₂, Database, state, Cells, IsUnchanged, Choices, Rankings, AreOwned, AreFine, lecturers_shown, projects_shown, students_shown}
 use Rattle.portal_tables.proofs.Owners.{owned}
-use Rattle.portal_tables.specs.Rolls.{lecturers_shown, projects_shown, students_shown}
 use Rattle.portal_tables.proofs.InTurn.{reads_then, clean_before, still_own}
 use Rattle.portal_tables.proofs.contents.contents_in.Goals as goal
 
@@ -24,8 +17,8 @@ returns-clause-damaged g c own sound clean on damaged up fine =
     let students = sym (c.in_ok-rolls.ensures.students own before on) in
     let there = subst (λ (x : Database). AreFine x.trees (lecturers_shown a.now.trees) (projects_shown a.now.trees) (students_shown a.now.trees)) (sym m.0.now_is) fine in
     let here = subst₂ (λ (ls ps : List Cells). AreFine b.now.trees ls ps (students_shown a.now.trees)) lecturers projects there in
-    let choices = subst₂ (λ (x : Database) (rows : List Cells). AreOwned Choices x.trees rows) (sym m.0.now_is) students (owned a.now own sound Choices (2 ∷ 3 ∷ 4 ∷ []) up.students_rise) in
-    let rankings = subst₂ (λ (x : Database) (rows : List Cells). AreOwned Rankings x.trees rows) (sym m.0.now_is) lecturers (owned a.now own sound Rankings (2 ∷ 3 ∷ 4 ∷ 5 ∷ []) up.lecturers_rise) in
+    let choices = subst₂ (λ (x : Database) (rows : List Cells). AreOwned Choices x.trees rows) (sym m.0.now_is) students (owned a.now Choices own sound (2 ∷ 3 ∷ 4 ∷ []) up.students_rise) in
+    let rankings = subst₂ (λ (x : Database) (rows : List Cells). AreOwned Rankings x.trees rows) (sym m.0.now_is) lecturers (owned a.now Rankings own sound (2 ∷ 3 ∷ 4 ∷ 5 ∷ []) up.lecturers_rise) in
     c.rows_in.ensures.damaged (still_own a b m own) clean m.0.is_open damaged choices rankings (subst (AreFine b.now.trees rolls.lecturers.items rolls.projects.items) students here)
 
 pub returns-clause-reads : goal.returns-clause-reads

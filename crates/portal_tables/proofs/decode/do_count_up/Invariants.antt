@@ -1,6 +1,5 @@
-use Rattle.std.proofs.Common.{◌↔◌, ◌+◌, map, drop}
-use Rattle.portal_tables.specs.Lists.{CountUp}
-use Rattle.portal_tables.specs.Shown.{shown_place}
+use Rattle.std.specs.Prelude.{◌↔◌, ◌+◌}
+use Rattle.portal_tables.proofs.Base.{map, drop, CountUp, shown_place}
 use Rattle.portal_tables.proofs.decode.do_count_up.Given as goal
 
 abbrev pub invariant-loop-i : goal.invariant-loop-i

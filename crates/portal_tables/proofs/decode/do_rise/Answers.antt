@@ -1,8 +1,5 @@
+use Rattle.portal_tables.proofs.Base.{always_returns_same, is_before, adjacent_rise, first}
 use Rattle.std.proofs.Common.{rules}
-use Rattle.std.proofs.lemmas.Fn.{always_returns_same}
-use Rattle.portal_core.specs.Words.{is_before}
-use Rattle.portal_core.proofs.Adjacent.{adjacent_rise}
-use Rattle.portal_tables.specs.Shown.{first}
 use Rattle.portal_tables.proofs.decode.do_rise.Goals as goal
 
 pub returns : goal.returns

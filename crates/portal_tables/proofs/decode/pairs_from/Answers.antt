@@ -1,6 +1,6 @@
+use Rattle.portal_tables.proofs.Base.{filter_map-append}
 use Rattle.std.proofs.Common.{arith}
 use Rattle.std.proofs.lemmas.Grind.{common_steps}
-use Rattle.std.proofs.lemmas.List.Elements.{filter_map-append}
 use Rattle.portal_tables.proofs.decode.pairs_from.Goals.{in-Some+in_ok-push, in_default}
 use Rattle.portal_tables.proofs.decode.pairs_from.Goals as goal
 

@@ -1,31 +1,16 @@
-use Rattle.std.proofs.Common.{◌≡◌, ◌+◌, ◌++◌, [], ◌∷◌, map, take, option_map, arith, sym, ap, ap₂, subst, ◌∙◌}
-use Rattle.std.specs.List.{AllByRecursion, filter_map, cons_option}
+use Rattle.std.specs.Prelude.{◌≡◌, ◌+◌, ◌++◌, ◌∷◌}
+use Rattle.portal_tables.proofs.Base.{[], map, take, option_map, sym, ap, ap₂, subst, ◌∙◌, AllByRecursion, filter_map, cons_option, take_more, filter_map-append, Database, HasCleanDisk, state, all_append, HasRound, round_of, entry, with_list, IsRead}
+use Rattle.std.proofs.Common.{arith}
 use Rattle.std.proofs.lemmas.Grind.{common_steps}
-use Rattle.std.proofs.lemmas.List.{take_more}
-use Rattle.std.proofs.lemmas.List.Elements.{filter_map-append}
-use Rattle.sqlite.specs.Effect.{Database}
-use Rattle.sqlite.specs.State.{HasCleanDisk}
-use Rattle.sqlite.specs.Held.{state}
-use Rattle.portal_core.proofs.AllLaws.{all_append}
-use Rattle.portal_tables.specs.Own.{IsOwn}
-use Rattle.portal_tables.specs.Owners.{entry, with_list, IsRead}
 use Rattle.portal_tables.proofs.InTurn.{reads_then, reads_more, reads_handed, clean_before}
 use Rattle.portal_tables.proofs.entries.entries_each.Goals.{in-Some+in_ok-push, in_default}
 use Rattle.portal_tables.proofs.entries.entries_each.Goals as goal
 
 pub returns-in_err-entry-clause-reads : goal.returns-in_err-entry-clause-reads
-returns-in_err-entry-clause-reads g c =
-    let a = state g.S.Store c.args.conn.now in
-    let b = state g.S.Store c.loop-owner.conn in
-    let d = state g.S.Store c.entry_in.new.conn in
-    reads_handed c.in_err-entry.field-0.0 c.from_residual.result a d c.from_residual.ensures.0 (reads_then c.loop-owner.entries _ a b d c.loop-owner.invariant.reads c.in_err-entry.ensures.reads)
+returns-in_err-entry-clause-reads g c = reads_handed c.in_err-entry.field-0.0 c.from_residual.result _ _ c.from_residual.ensures.0 (reads_then c.loop-owner.entries _ _ _ _ c.loop-owner.invariant.reads c.in_err-entry.ensures.reads)
 
 pub returns-in_err-push-clause-reads : goal.returns-in_err-push-clause-reads
-returns-in_err-push-clause-reads g c =
-    let a = state g.S.Store c.args.conn.now in
-    let b = state g.S.Store c.loop-owner.conn in
-    let d = state g.S.Store c.entry_in.new.conn in
-    reads_more c.in_ok-entry.field-0 _ a d (reads_then c.loop-owner.entries _ a b d c.loop-owner.invariant.reads c.in_ok-entry.ensures.reads)
+returns-in_err-push-clause-reads g c = reads_more c.in_ok-entry.field-0 _ _ _ (reads_then c.loop-owner.entries _ _ _ _ c.loop-owner.invariant.reads c.in_ok-entry.ensures.reads)
 
 pub loop-owner-preserved : goal.loop-owner-preserved
 loop-owner-preserved g c =
@@ -44,7 +29,7 @@ loop-owner-preserved g c =
       told = λ own clean.
           let f = entry lists a.now.trees in
           let here : option_map with_list c.in_ok-entry.field-0 ≡ f owner =
-          subst (λ (x : Database). IsOwn x.schema → HasCleanDisk d → option_map with_list c.in_ok-entry.field-0 ≡ entry lists x.trees owner)
+          subst (λ (x : Database). HasRound (round_of lists) x.schema → HasCleanDisk d → option_map with_list c.in_ok-entry.field-0 ≡ entry lists x.trees owner)
           (inv.reads.now own (back clean)) e.ok own clean in
           let more : map with_list c.loop-owner.entries.items ++ cons_option (option_map with_list c.in_ok-entry.field-0) [] ≡ filter_map f (take (i + 1) c.args.owners.now) =
           ap₂ (λ l o. l ++ cons_option o []) (inv.told own (back clean)) here
@@ -54,7 +39,7 @@ loop-owner-preserved g c =
             | in_default w ↦ grind (arith, common_steps, more)
           ];
       read = λ own clean.
-          let here = subst (λ (x : Database). IsOwn x.schema → HasCleanDisk d → IsRead lists x.trees owner) (inv.reads.now own (back clean)) e.read own clean in
+          let here = subst (λ (x : Database). HasRound (round_of lists) x.schema → HasCleanDisk d → IsRead lists x.trees owner) (inv.reads.now own (back clean)) e.read own clean in
           subst (AllByRecursion (IsRead lists a.now.trees)) (sym next)
           (all_append (IsRead lists a.now.trees) (take i c.args.owners.now) (owner ∷ []) (inv.read own (back clean)) (here, tt));
       reads = reads_more c.in_ok-entry.field-0 _ a d (reads_then c.loop-owner.entries _ a b d inv.reads e.reads);

@@ -1,4 +1,4 @@
-use Rattle.sqlite.specs.Held.{state}
+use Rattle.portal_tables.proofs.Base.{state}
 use Rattle.portal_tables.proofs.InTurn.{reads_then}
 use Rattle.portal_tables.proofs.entries.entries_in.Goals as goal
 

@@ -1,9 +1,6 @@
-use Rattle.std.proofs.Common.{◌≡◌, sym, ap, subst, ◌∙◌}
-use Rattle.std.proofs.lemmas.Result.{on_ok_weaker}
-use Rattle.sqlite.specs.Held.{state}
-use Rattle.portal_tables.specs.Lists.{of_key, IsWhole, chosen}
+use Rattle.std.specs.Prelude.{◌≡◌}
+use Rattle.portal_tables.proofs.Base.{sym, ap, subst, ◌∙◌, on_ok_weaker, state, of_key, IsWhole, chosen, first}
 use Rattle.portal_tables.specs.Owners.{tree_of}
-use Rattle.portal_tables.specs.Shown.{first}
 use Rattle.portal_tables.proofs.Listed.{none_chosen}
 use Rattle.portal_tables.proofs.entries.entry_in.Goals as goal
 

@@ -1,14 +1,8 @@
-use Rattle.std.proofs.Common.{◌≡◌, true, [], ◌∷◌, sym, subst, subst₂}
-use Rattle.std.specs.List.{AllByRecursion}
-use Rattle.sqlite.specs.Held.{state}
-use Rattle.spa_rows.specs.Form.{is_key}
-use Rattle.portal_tables.specs.Changes.{ListsBy, has_text, columns}
-use Rattle.portal_tables.specs.ListTables.{tree_of}
-use Rattle.portal_tables.specs.Shown.{shown_name}
+use Rattle.std.specs.Prelude.{◌≡◌, ◌∷◌}
+use Rattle.portal_tables.proofs.Base.{true, [], sym, subst, subst₂, AllByRecursion, state, is_key, ListsBy, has_text, columns, tree_of, shown_name, all_unmap}
 use Rattle.portal_tables.proofs.Listed.{list_whole, list_names, list_counts}
 use Rattle.portal_tables.proofs.InTurn.{named, wholly}
 use Rattle.portal_tables.proofs.entries.list_in.Goals as goal
-use Rattle.portal_core.proofs.Keys.{all_unmap}
 
 pub returns-clause-names : goal.returns-clause-names
 returns-clause-names g c own clean =

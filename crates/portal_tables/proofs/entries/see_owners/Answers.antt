@@ -1,14 +1,5 @@
-use Rattle.std.proofs.Common.{◌≡◌, true, false, List, [], ◌∷◌, map, filter, sym, subst}
-use Rattle.std.specs.List.{AllByRecursion}
-use Rattle.sqlite.specs.Held.{state}
-use Rattle.sqlite.specs.Order.{Row as Cells}
-use Rattle.sqlite_trees.proofs.ListLemmas.{all-filter}
-use Rattle.portal_core.specs.Words.{Key, has}
-use Rattle.portal_core.proofs.AllLaws.{all_map}
-use Rattle.portal_tables.specs.Changes.{columns, every}
-use Rattle.portal_tables.specs.ListTables.{tree_of}
-use Rattle.portal_tables.specs.Rolls.{row_key}
-use Rattle.portal_tables.specs.Shown.{first}
+use Rattle.std.specs.Prelude.{◌≡◌, ◌∷◌}
+use Rattle.portal_tables.proofs.Base.{true, false, List, [], map, filter, sym, subst, AllByRecursion, state, Cells, all-filter, Key, has, all_map, columns, every, tree_of, row_key, first}
 use Rattle.portal_tables.proofs.Listed.{permuted}
 use Rattle.portal_tables.proofs.Sorted.{all_permuted}
 use Rattle.portal_tables.proofs.entries.see_owners.Goals as goal

@@ -1,7 +1,6 @@
-use Rattle.std.proofs.Common.{rules, ◌≡◌, [], ◌++◌, Ok, map, refl, sym, ap, ap₂, subst, ◌∙◌}
-use Rattle.std.proofs.lemmas.List.{append-nil, append_assoc, nil_from_length, take-append-drop}
-use Rattle.portal_tables.specs.Steps.{Does, GoesOn}
-use Rattle.portal_tables.specs.Rows.{Adds}
+use Rattle.std.specs.Prelude.{◌≡◌, ◌++◌}
+use Rattle.portal_tables.proofs.Base.{[], Ok, map, refl, sym, ap, ap₂, subst, ◌∙◌, append-nil, append_assoc, nil_from_length, take-append-drop, Does, GoesOn, Adds}
+use Rattle.std.proofs.Common.{rules}
 use Rattle.portal_tables.proofs.Runs.{does_none, goes_nowhere}
 use Rattle.portal_tables.proofs.Keeping.{adds_none, rows_run}
 use Rattle.portal_tables.proofs.insert.add_all.Goals as goal

@@ -1,6 +1,5 @@
-use Rattle.std.proofs.Common.{◌≡◌, ◌++◌, List, length, map, Ok}
-use Rattle.portal_tables.specs.Steps.{Does, GoesOn}
-use Rattle.portal_tables.specs.Rows.{Adds}
+use Rattle.std.specs.Prelude.{◌≡◌, ◌++◌}
+use Rattle.portal_tables.proofs.Base.{List, length, map, Ok, Does, GoesOn, Adds}
 use Rattle.portal_tables.proofs.insert.add_all.Given as goal
 
 abbrev pub invariant-runs : goal.invariant-runs

@@ -1,8 +1,5 @@
-use Rattle.std.proofs.Common.{subst, ap, ◌∙◌, arith, sym}
-use Rattle.std.specs.List.{flat_map}
-use Rattle.std.proofs.lemmas.List.{take_all}
-use Rattle.sqlite.specs.Values.{bound}
-use Rattle.portal_tables.specs.Steps.{Does, Ran}
+use Rattle.portal_tables.proofs.Base.{subst, ap, ◌∙◌, sym, flat_map, take_all, bound, Does, Ran}
+use Rattle.std.proofs.Common.{arith}
 use Rattle.portal_tables.proofs.insert.write_rows.Goals as goal
 
 pub returns : goal.returns

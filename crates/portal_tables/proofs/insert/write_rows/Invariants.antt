@@ -1,6 +1,5 @@
-use Rattle.std.proofs.Common.{◌≡◌, take}
-use Rattle.std.specs.List.{flat_map}
-use Rattle.sqlite.specs.Values.{bound}
+use Rattle.std.specs.Prelude.{◌≡◌}
+use Rattle.portal_tables.proofs.Base.{take, flat_map, bound}
 use Rattle.portal_tables.proofs.insert.write_rows.Given as goal
 
 abbrev pub invariant-loop-row : goal.invariant-loop-row

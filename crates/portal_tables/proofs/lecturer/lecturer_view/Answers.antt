@@ -1,23 +1,10 @@
-use Rattle.std.proofs.Common.{◌≡◌, ◌∙◌, IsTrue, List, ap, map, subst}
-use Rattle.std.specs.Prelude.{Vec}
-use Rattle.std.specs.declared.alloc.Global.{Global}
-use Rattle.sqlite.specs.Effect.{Database}
-use Rattle.sqlite.specs.Held.{state}
-use Rattle.sqlite.specs.State.{HasCleanDisk, IsUnchanged}
-use Rattle.std.proofs.lemmas.Result.{IfOk-weaker}
-use Rattle.portal_core.specs.declared.rows.Listing.{Listing}
-use Rattle.portal_tables.specs.Callers.{with_persons, applicants_told, placed_told, own_keys, lecturer_shown}
-use Rattle.portal_tables.specs.Lines.{HasTables}
-use Rattle.portal_tables.specs.Shown.{first}
+use Rattle.std.specs.Prelude.{◌≡◌}
+use Rattle.portal_tables.proofs.Base.{◌∙◌, IsTrue, List, ap, map, subst, Vec, Global, Database, state, HasCleanDisk, IsUnchanged, IfOk-weaker, Listing, with_persons, applicants_told, placed_told, own_keys, lecturer_shown, HasTables, first}
 use Rattle.portal_tables.proofs.InTurn.{reads_then, reads_more, reads_handed, clean_before}
 use Rattle.portal_tables.proofs.lecturer.lecturer_view.Goals as goal
 
 pub returns-in_err-told-clause-reads : goal.returns-in_err-told-clause-reads
-returns-in_err-told-clause-reads g c =
-    let a = state g.S.Store c.args.conn.now in
-    let b = state g.S.Store c.ranking_in.new.conn in
-    let d = state g.S.Store c.told_in.new.conn in
-    reads_handed c.in_err-told.field-0.0 c.from_residual-in_err-told.result a d c.from_residual-in_err-told.ensures.0 (reads_then c.in_ok-ranking.ranking _ a b d c.in_ok-ranking.ensures.reads c.in_err-told.ensures.reads)
+returns-in_err-told-clause-reads g c = reads_handed c.in_err-told.field-0.0 c.from_residual-in_err-told.result _ _ c.from_residual-in_err-told.ensures.0 (reads_then c.in_ok-ranking.ranking _ _ _ _ c.in_ok-ranking.ensures.reads c.in_err-told.ensures.reads)
 
 pub returns-clause-shows : goal.returns-clause-shows
 returns-clause-shows g c tables clean on =
@@ -43,8 +30,4 @@ returns-clause-shows g c tables clean on =
     IfOk-weaker c.put_together.result _ _ (λ v is. is ∙ (λ i. record from { applicants = applicants i; ranking = ranking i; placed = placed i })) c.put_together.ensures
 
 pub returns-clause-reads : goal.returns-clause-reads
-returns-clause-reads g c =
-    let a = state g.S.Store c.args.conn.now in
-    let b = state g.S.Store c.ranking_in.new.conn in
-    let d = state g.S.Store c.told_in.new.conn in
-    reads_more c.in_ok-told.told c.put_together.result a d (reads_then c.in_ok-ranking.ranking _ a b d c.in_ok-ranking.ensures.reads c.in_ok-told.ensures.reads)
+returns-clause-reads g c = reads_more c.in_ok-told.told c.put_together.result _ _ (reads_then c.in_ok-ranking.ranking _ _ _ _ c.in_ok-ranking.ensures.reads c.in_ok-told.ensures.reads)

@@ -1,6 +1,5 @@
-use Rattle.std.proofs.Common.{◌≡◌, take}
-use Rattle.portal_tables.specs.Callers.{own_keys}
-use Rattle.portal_tables.specs.Shown.{first}
+use Rattle.std.specs.Prelude.{◌≡◌}
+use Rattle.portal_tables.proofs.Base.{take, own_keys, first}
 use Rattle.portal_tables.proofs.lecturer.own_projects.Given as goal
 
 abbrev pub invariant-loop-project : goal.invariant-loop-project

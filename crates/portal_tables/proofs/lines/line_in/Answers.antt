@@ -1,6 +1,4 @@
-use Rattle.sqlite.specs.Held.{state}
-use Rattle.std.proofs.lemmas.Result.{IfOk-weaker}
-use Rattle.portal_tables.specs.declared.fault.TableFault.{TableFault}
+use Rattle.portal_tables.proofs.Base.{state, IfOk-weaker, TableFault}
 use Rattle.portal_tables.proofs.InTurn.{reads_more, reads_handed}
 use Rattle.portal_tables.proofs.LineRows.{line_told}
 use Rattle.portal_tables.proofs.lines.line_in.Goals as goal

@@ -1,25 +1,15 @@
-use Rattle.std.proofs.Common.{◌≡◌, ◌∙◌, arith, subst, Some, ap}
+use Rattle.std.specs.Prelude.{◌≡◌}
+use Rattle.portal_tables.proofs.Base.{◌∙◌, subst, Some, ap, Database, HasCleanDisk, IsUnchanged, state, HasTables, line_at}
+use Rattle.std.proofs.Common.{arith}
 use Rattle.std.proofs.lemmas.Grind.{common_steps}
-use Rattle.sqlite.specs.Effect.{Database}
-use Rattle.sqlite.specs.State.{HasCleanDisk, IsUnchanged}
-use Rattle.sqlite.specs.Held.{state}
-use Rattle.portal_tables.specs.Lines.{HasTables, line_at}
 use Rattle.portal_tables.proofs.InTurn.{reads_then, reads_more, reads_handed, clean_before}
 use Rattle.portal_tables.proofs.lines.lines_from.Goals as goal
 
 pub returns-in_err-line_in-clause-reads : goal.returns-in_err-line_in-clause-reads
-returns-in_err-line_in-clause-reads g c =
-    let a = state g.S.Store c.args.conn.now in
-    let b = state g.S.Store c.loop-row.conn in
-    let d = state g.S.Store c.line_in.new.conn in
-    reads_handed c.in_err-line_in.field-0.0 c.from_residual.result a d c.from_residual.ensures.0 (reads_then c.loop-row.lines _ a b d c.loop-row.invariant.1 c.in_err-line_in.ensures.reads)
+returns-in_err-line_in-clause-reads g c = reads_handed c.in_err-line_in.field-0.0 c.from_residual.result _ _ c.from_residual.ensures.0 (reads_then c.loop-row.lines _ _ _ _ c.loop-row.invariant.1 c.in_err-line_in.ensures.reads)
 
 pub returns-in_err-push-clause-reads : goal.returns-in_err-push-clause-reads
-returns-in_err-push-clause-reads g c =
-    let a = state g.S.Store c.args.conn.now in
-    let b = state g.S.Store c.loop-row.conn in
-    let d = state g.S.Store c.line_in.new.conn in
-    reads_more c.in_ok-line_in.field-0 _ a d (reads_then c.loop-row.lines _ a b d c.loop-row.invariant.1 c.in_ok-line_in.ensures.reads)
+returns-in_err-push-clause-reads g c = reads_more c.in_ok-line_in.field-0 _ _ _ (reads_then c.loop-row.lines _ _ _ _ c.loop-row.invariant.1 c.in_ok-line_in.ensures.reads)
 
 pub loop-row-preserved : goal.loop-row-preserved
 loop-row-preserved g c =

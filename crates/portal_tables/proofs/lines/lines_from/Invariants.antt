@@ -1,10 +1,5 @@
-use Rattle.std.proofs.Common.{◌≡◌, Ok, IsTrue, map, take, Some}
-use Rattle.sqlite.specs.State.{HasCleanDisk}
-use Rattle.sqlite.specs.Held.{state}
-use Rattle.portal_tables.specs.Reading.{Reads}
-use Rattle.portal_tables.specs.Shown.{first}
-use Rattle.portal_tables.specs.Lines.{HasTables, line_at}
-use Rattle.portal_tables.specs.declared.fault.TableFault.{TableFault}
+use Rattle.std.specs.Prelude.{◌≡◌}
+use Rattle.portal_tables.proofs.Base.{Ok, IsTrue, map, take, Some, HasCleanDisk, state, Reads, first, HasTables, line_at, TableFault}
 use Rattle.portal_tables.proofs.lines.lines_from.Given as goal
 
 abbrev pub invariant-loop-row : goal.invariant-loop-row

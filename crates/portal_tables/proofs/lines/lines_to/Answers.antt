@@ -1,13 +1,5 @@
-use Rattle.std.proofs.Common.{◌≡◌, [], ◌∷◌, sym, subst, subst₂, map, Some, IsTrue}
-use Rattle.std.specs.Prelude.{IfOk}
-use Rattle.sqlite.specs.Effect.{Database}
-use Rattle.sqlite.specs.Held.{state}
-use Rattle.sqlite.specs.State.{HasCleanDisk, IsUnchanged}
-use Rattle.portal_tables.specs.Changes.{ListsBy, has_text, columns}
-use Rattle.portal_tables.specs.Tables.{choice_tree}
-use Rattle.portal_tables.specs.declared.fault.TableFault.{TableFault}
-use Rattle.portal_tables.specs.Shown.{first}
-use Rattle.portal_tables.specs.Lines.{HasTables, line_at}
+use Rattle.std.specs.Prelude.{◌≡◌, ◌∷◌}
+use Rattle.portal_tables.proofs.Base.{[], sym, subst, subst₂, map, Some, IsTrue, IfOk, Database, state, HasCleanDisk, IsUnchanged, ListsBy, has_text, columns, choice_tree, TableFault, first, HasTables, line_at}
 use Rattle.portal_tables.proofs.InTurn.{reads_handed, reads_then, clean_before, both}
 use Rattle.portal_tables.proofs.LineRows.{lines_are}
 use Rattle.portal_tables.proofs.lines.lines_to.Goals as goal

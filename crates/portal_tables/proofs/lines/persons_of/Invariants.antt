@@ -1,4 +1,5 @@
-use Rattle.std.proofs.Common.{◌≡◌, map, take}
+use Rattle.std.specs.Prelude.{◌≡◌}
+use Rattle.portal_tables.proofs.Base.{map, take}
 use Rattle.portal_tables.proofs.lines.persons_of.Given as goal
 
 abbrev pub invariant-loop-line : goal.invariant-loop-line

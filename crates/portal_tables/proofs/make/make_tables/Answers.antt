@@ -1,10 +1,5 @@
-use Rattle.portal_tables.proofs.Making.{grown, grown_then, all_made, portal_made, lecturer_made, project_made, student_made, choice_made, ranking_made}
+use Rattle.portal_tables.proofs.Making.{all_made}
 use Rattle.portal_tables.proofs.make.make_tables.Goals as goal
 
 pub returns : goal.returns
-returns g c =
-    let st = g.S.Store in
-    all_made st _ _ _
-    (grown_then st _ _ _ _ _ _ _ _ (grown_then st _ _ _ _ _ _ _ _ (grown_then st _ _ _ _ _ _ _ _ (grown_then st _ _ _ _ _ _ _ _ (grown_then st _ _ _ _ _ _ _ _
-    (grown st _ _ _ portal_made _ _ _ c.in_ok-write.ensures) (grown st _ _ _ lecturer_made _ _ _ c.in_ok-write-2.ensures)) (grown st _ _ _ project_made _ _ _ c.in_ok-write-3.ensures))
-    (grown st _ _ _ student_made _ _ _ c.in_ok-write-4.ensures)) (grown st _ _ _ choice_made _ _ _ c.in_ok-write-5.ensures)) (grown st _ _ _ ranking_made _ _ _ c.write-6.ensures))
+returns g c = all_made g.S.Store _ _ _ _ c.in_ok-make_first.ensures c.make_second.ensures

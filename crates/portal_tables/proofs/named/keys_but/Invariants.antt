@@ -1,7 +1,5 @@
-use Rattle.std.proofs.Common.{◌≡◌, map, take}
-use Rattle.std.specs.Prelude.{filter, not}
-use Rattle.portal_core.specs.Words.{has}
-use Rattle.portal_tables.specs.Shown.{first}
+use Rattle.std.specs.Prelude.{◌≡◌}
+use Rattle.portal_tables.proofs.Base.{map, take, filter, not, has, first}
 use Rattle.portal_tables.proofs.named.keys_but.Given as goal
 
 abbrev pub invariant-loop-row : goal.invariant-loop-row

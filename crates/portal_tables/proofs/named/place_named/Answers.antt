@@ -1,12 +1,5 @@
+use Rattle.portal_tables.proofs.Base.{nat_cmp, slice_cmp, nat_list_cmp_total, always_returns_same, searchable_from_sorted, exact_bytes, first, rows_sorted}
 use Rattle.std.proofs.Common.{rules, arith}
-use Rattle.std.specs.Ordering.{nat_cmp}
-use Rattle.std.specs.Cmp.Lexicographic.{slice_cmp}
-use Rattle.std.proofs.lemmas.Cmp.{nat_list_cmp_total}
-use Rattle.std.proofs.lemmas.Fn.{always_returns_same}
-use Rattle.std.proofs.lemmas.List.Sorted.{searchable_from_sorted}
-use Rattle.std.proofs.lemmas.Map.Lookups.{exact_bytes}
-use Rattle.portal_tables.specs.Shown.{first}
-use Rattle.portal_core.proofs.Adjacent.{rows_sorted}
 use Rattle.portal_tables.proofs.NamedRows.{known_at, known_nowhere}
 use Rattle.portal_tables.proofs.named.place_named.Goals as goal
 

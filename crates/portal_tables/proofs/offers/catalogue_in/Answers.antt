@@ -1,20 +1,9 @@
-use Rattle.std.proofs.Common.{◌∙◌, ap, ap₂, map}
-use Rattle.sqlite.specs.Effect.{Database}
-use Rattle.sqlite.specs.Held.{state}
-use Rattle.sqlite.specs.State.{IsUnchanged}
-use Rattle.std.proofs.lemmas.Result.{IfOk-weaker}
-use Rattle.portal_tables.specs.Offers.{offered}
-use Rattle.portal_tables.specs.Shown.{shown_lecturer, shown_project}
-use Rattle.portal_tables.specs.Rolls.{projects_shown}
+use Rattle.portal_tables.proofs.Base.{◌∙◌, ap, ap₂, map, Database, state, IsUnchanged, IfOk-weaker, offered, shown_lecturer, shown_project, projects_shown}
 use Rattle.portal_tables.proofs.InTurn.{reads_then, reads_more, reads_handed, clean_before, still_own}
 use Rattle.portal_tables.proofs.offers.catalogue_in.Goals as goal
 
 pub returns-in_err-projects-clause-reads : goal.returns-in_err-projects-clause-reads
-returns-in_err-projects-clause-reads g c =
-    let a = state g.S.Store c.args.conn.now in
-    let b = state g.S.Store c.roll_in.new.conn in
-    let d = state g.S.Store c.roll_in-2.new.conn in
-    reads_handed c.in_err-projects.field-0.0 c.from_residual-in_err-projects.result a d c.from_residual-in_err-projects.ensures.0 (reads_then c.in_ok-lecturers.lecturers _ a b d c.in_ok-lecturers.ensures.reads c.in_err-projects.ensures.reads)
+returns-in_err-projects-clause-reads g c = reads_handed c.in_err-projects.field-0.0 c.from_residual-in_err-projects.result _ _ c.from_residual-in_err-projects.ensures.0 (reads_then c.in_ok-lecturers.lecturers _ _ _ _ c.in_ok-lecturers.ensures.reads c.in_err-projects.ensures.reads)
 
 pub returns-clause-shows : goal.returns-clause-shows
 returns-clause-shows g c own clean on =
@@ -28,8 +17,4 @@ returns-clause-shows g c own clean on =
     IfOk-weaker c.catalogue_of.result _ _ (λ v is. is ∙ ap₂ offered (ap (map shown_lecturer) lecturers) (ap (map shown_project) projects)) c.catalogue_of.ensures
 
 pub returns-clause-reads : goal.returns-clause-reads
-returns-clause-reads g c =
-    let a = state g.S.Store c.args.conn.now in
-    let b = state g.S.Store c.roll_in.new.conn in
-    let d = state g.S.Store c.roll_in-2.new.conn in
-    reads_more c.in_ok-projects.projects c.catalogue_of.result a d (reads_then c.in_ok-lecturers.lecturers _ a b d c.in_ok-lecturers.ensures.reads c.in_ok-projects.ensures.reads)
+returns-clause-reads g c = reads_more c.in_ok-projects.projects c.catalogue_of.result _ _ (reads_then c.in_ok-lecturers.lecturers _ _ _ _ c.in_ok-lecturers.ensures.reads c.in_ok-projects.ensures.reads)

@@ -1,6 +1,6 @@
+use Rattle.portal_tables.proofs.Base.{filter_map-append}
 use Rattle.std.proofs.Common.{arith}
 use Rattle.std.proofs.lemmas.Grind.{common_steps}
-use Rattle.std.proofs.lemmas.List.Elements.{filter_map-append}
 use Rattle.portal_tables.proofs.offers.listings_of.Goals as goal
 use Rattle.portal_tables.proofs.offers.listings_of.Goals.{in-Some+in_ok-push, in_default}
 

@@ -1,5 +1,5 @@
-use Rattle.std.proofs.Common.{◌≡◌, take}
-use Rattle.portal_tables.specs.Offers.{offered}
+use Rattle.std.specs.Prelude.{◌≡◌}
+use Rattle.portal_tables.proofs.Base.{take, offered}
 use Rattle.portal_tables.proofs.offers.listings_of.Given as goal
 
 abbrev pub invariant-loop-project : goal.invariant-loop-project

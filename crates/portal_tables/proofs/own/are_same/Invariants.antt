@@ -1,4 +1,5 @@
-use Rattle.std.proofs.Common.{◌≡◌, take, length}
+use Rattle.std.specs.Prelude.{◌≡◌}
+use Rattle.portal_tables.proofs.Base.{take, length}
 use Rattle.portal_tables.proofs.own.are_same.Given as goal
 
 abbrev pub invariant-loop-i : goal.invariant-loop-i

@@ -1,5 +1,5 @@
-use Rattle.std.proofs.Common.{subst₂, arith}
-use Rattle.portal_tables.specs.Own.{SameTable}
+use Rattle.portal_tables.proofs.Base.{subst₂, SameTable}
+use Rattle.std.proofs.Common.{arith}
 use Rattle.portal_tables.proofs.Zip.{zip_more}
 use Rattle.portal_tables.proofs.own.are_same_tables.Goals as goal
 

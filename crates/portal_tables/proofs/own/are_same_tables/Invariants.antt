@@ -1,6 +1,5 @@
-use Rattle.std.proofs.Common.{◌≡◌, take, length}
-use Rattle.std.specs.List.{AllZip}
-use Rattle.portal_tables.specs.Own.{SameTable}
+use Rattle.std.specs.Prelude.{◌≡◌}
+use Rattle.portal_tables.proofs.Base.{take, length, AllZip, SameTable}
 use Rattle.portal_tables.proofs.own.are_same_tables.Given as goal
 
 abbrev pub invariant-loop-i : goal.invariant-loop-i

@@ -1,8 +1,6 @@
-use Rattle.std.proofs.Common.{rules, ◌≡◌, ◌∙◌, ap, subst}
-use Rattle.sqlite.specs.Effect.{Database}
-use Rattle.sqlite.specs.Held.{Held}
-use Rattle.sqlite.proofs.Callers.{memory_is_clean}
-use Rattle.portal_tables.specs.Tables.{portal_schema}
+use Rattle.std.specs.Prelude.{◌≡◌}
+use Rattle.portal_tables.proofs.Base.{◌∙◌, ap, subst, Database, Held, memory_is_clean, portal_schema}
+use Rattle.std.proofs.Common.{rules}
 use Rattle.portal_tables.proofs.own.make_scratch.Goals as goal
 
 pub returns : goal.returns

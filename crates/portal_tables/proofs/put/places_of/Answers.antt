@@ -1,6 +1,5 @@
-use Rattle.std.proofs.Common.{pos, map, ap, ◌+◌, ◌∙◌}
-use Rattle.portal_tables.specs.declared.insert.lists.NewPlace.{NewPlace}
-use Rattle.portal_tables.specs.Rows.{place_new, place_cells}
+use Rattle.std.specs.Prelude.{◌+◌}
+use Rattle.portal_tables.proofs.Base.{pos, map, ap, ◌∙◌, NewPlace, place_new, place_cells}
 use Rattle.portal_tables.proofs.Putting.{cells_next}
 use Rattle.portal_tables.proofs.put.places_of.Goals as goal
 

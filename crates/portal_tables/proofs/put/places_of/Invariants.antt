@@ -1,6 +1,5 @@
-use Rattle.std.proofs.Common.{◌≡◌, map, take}
-use Rattle.portal_tables.specs.Rows.{place_new}
-use Rattle.portal_tables.specs.Putting.{list_cells}
+use Rattle.std.specs.Prelude.{◌≡◌}
+use Rattle.portal_tables.proofs.Base.{map, take, place_new, list_cells}
 use Rattle.portal_tables.proofs.put.places_of.Given as goal
 
 abbrev pub invariant-rows : goal.invariant-rows

@@ -1,7 +1,4 @@
-use Rattle.std.proofs.Common.{Ok, map, ap, subst, ◌∙◌}
-use Rattle.portal_tables.specs.ListTables.{tree_of}
-use Rattle.portal_tables.specs.Steps.{Does, Made, GoesOn}
-use Rattle.portal_tables.specs.Rows.{Adds, Clears, place_new}
+use Rattle.portal_tables.proofs.Base.{Ok, map, ap, subst, ◌∙◌, tree_of, Does, Made, GoesOn, Adds, Clears, place_new}
 use Rattle.portal_tables.proofs.Putting.{list_put}
 use Rattle.portal_tables.proofs.Runs.{does_then}
 use Rattle.portal_tables.proofs.put.put_list.Goals as goal

@@ -1,6 +1,4 @@
-use Rattle.sqlite.specs.Held.{state}
-use Rattle.portal_tables.specs.Queries.{roll_tree, columns_of}
-use Rattle.portal_tables.specs.declared.fault.TableFault.{TableFault}
+use Rattle.portal_tables.proofs.Base.{state, roll_tree, columns_of, TableFault}
 use Rattle.portal_tables.proofs.InTurn.{reads_more, reads_handed}
 use Rattle.portal_tables.proofs.RollRows.{rolled, rolled_not}
 use Rattle.portal_tables.proofs.Texts.{roll_texts}

@@ -1,14 +1,6 @@
-use Rattle.std.proofs.Common.{◌∙◌, [], ◌∷◌, subst, sym}
-use Rattle.std.specs.Prelude.{IfErr}
-use Rattle.sqlite.specs.Order.{Row as Cells}
-use Rattle.sqlite.specs.State.{HasCleanDisk, Begins, Shown, Survives, FailsToQuery}
+use Rattle.std.specs.Prelude.{◌∷◌}
+use Rattle.portal_tables.proofs.Base.{◌∙◌, [], subst, sym, IfErr, Cells, HasCleanDisk, Begins, Shown, Survives, FailsToQuery, state, understood, bound, survives_weaker, survives_then, never_commits, begun_plain, given_begin, Leaves}
 use Rattle.sqlite.specs.Given.{IsPlain}
-use Rattle.sqlite.specs.Held.{state}
-use Rattle.sqlite.specs.Listing.{understood}
-use Rattle.sqlite.specs.Values.{bound}
-use Rattle.sqlite.proofs.StateLemmas.{survives_weaker, survives_then}
-use Rattle.sqlite.proofs.Callers.{never_commits, begun_plain, given_begin}
-use Rattle.portal_tables.specs.Steps.{Leaves}
 use Rattle.portal_tables.proofs.Decoded.{at_err, at_end, at_row, shown_before}
 use Rattle.portal_tables.proofs.InTurn.{clean_before}
 use Rattle.portal_tables.proofs.Queries.{failed_leaves, on_err}

@@ -1,12 +1,6 @@
-use Rattle.std.proofs.Common.{rules, ◌≡◌, ◌∙◌, subst, sym}
-use Rattle.std.specs.Prelude.{IfErr}
-use Rattle.sqlite.specs.State.{HasCleanDisk, Shown, FailsToQuery}
-use Rattle.portal_tables.specs.Decoding.{ShowsAs}
-use Rattle.sqlite.specs.Held.{state}
-use Rattle.sqlite.specs.Values.{bound}
-use Rattle.sqlite.proofs.StateLemmas.{survives_weaker, survives_then}
-use Rattle.sqlite.proofs.Callers.{never_commits}
-use Rattle.portal_tables.specs.Steps.{Leaves}
+use Rattle.std.specs.Prelude.{◌≡◌}
+use Rattle.portal_tables.proofs.Base.{◌∙◌, subst, sym, IfErr, HasCleanDisk, Shown, FailsToQuery, ShowsAs, state, bound, survives_weaker, survives_then, never_commits, Leaves}
+use Rattle.std.proofs.Common.{rules}
 use Rattle.portal_tables.proofs.Decoded.{at_err, at_ok, at_end, at_row, ended, one_more}
 use Rattle.portal_tables.proofs.InTurn.{unchanged_then, clean_before}
 use Rattle.portal_tables.proofs.Queries.{failed_leaves, on_err}

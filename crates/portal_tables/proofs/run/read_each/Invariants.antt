@@ -1,10 +1,6 @@
-use Rattle.std.proofs.Common.{◌≡◌, false}
-use Rattle.sqlite.specs.State.{HasCleanDisk, IsUnchanged, Survives}
-use Rattle.sqlite.specs.Held.{state}
-use Rattle.sqlite.specs.Given.{HasGiven, IsPlain}
-use Rattle.sqlite.specs.Listing.{understood}
-use Rattle.sqlite.specs.Values.{bound}
-use Rattle.portal_tables.specs.Decoding.{ShowsAs}
+use Rattle.std.specs.Prelude.{◌≡◌}
+use Rattle.portal_tables.proofs.Base.{false, HasCleanDisk, IsUnchanged, Survives, state, HasGiven, understood, bound, ShowsAs}
+use Rattle.sqlite.specs.Given.{IsPlain}
 use Rattle.portal_tables.proofs.run.read_each.Given as goal
 
 abbrev pub invariant-rows : goal.invariant-rows

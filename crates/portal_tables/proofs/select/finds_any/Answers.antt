@@ -1,6 +1,4 @@
-use Rattle.std.proofs.Common.{◌∙◌, ap}
-use Rattle.sqlite.specs.Held.{state}
-use Rattle.sqlite.specs.Values.{bound}
+use Rattle.portal_tables.proofs.Base.{◌∙◌, ap, state, bound}
 use Rattle.portal_tables.proofs.Decoded.{found_any}
 use Rattle.portal_tables.proofs.InTurn.{reads_of}
 use Rattle.portal_tables.proofs.Shows.{plain, shows, ends, asks}

@@ -1,9 +1,4 @@
-use Rattle.std.proofs.Common.{◌∙◌, ap}
-use Rattle.std.proofs.lemmas.Result.{IfOk-weaker}
-use Rattle.sqlite.specs.Held.{state}
-use Rattle.sqlite.specs.Values.{bound}
-use Rattle.sqlite.proofs.StateLemmas.{survives_weaker}
-use Rattle.sqlite.proofs.Callers.{never_commits}
+use Rattle.portal_tables.proofs.Base.{◌∙◌, ap, IfOk-weaker, state, bound, survives_weaker, never_commits}
 use Rattle.portal_tables.proofs.Queries.{read_same, read_fails}
 use Rattle.portal_tables.proofs.InTurn.{reads_of}
 use Rattle.portal_tables.proofs.Shows.{shows, asks}

@@ -1,7 +1,4 @@
-use Rattle.std.proofs.Common.{◌∙◌, ap}
-use Rattle.std.proofs.lemmas.Result.{IfOk-weaker}
-use Rattle.sqlite.specs.Held.{state}
-use Rattle.sqlite.specs.Values.{bound}
+use Rattle.portal_tables.proofs.Base.{◌∙◌, ap, IfOk-weaker, state, bound}
 use Rattle.portal_tables.proofs.Decoded.{shows_weaker}
 use Rattle.portal_tables.proofs.Shows.{plain, shows, asks}
 use Rattle.portal_tables.proofs.InTurn.{reads_of}

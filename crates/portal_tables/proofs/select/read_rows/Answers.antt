@@ -1,4 +1,4 @@
-use Rattle.std.proofs.lemmas.Result.{IfOk-weaker}
+use Rattle.portal_tables.proofs.Base.{IfOk-weaker}
 use Rattle.portal_tables.proofs.Decoded.{as_shown}
 use Rattle.portal_tables.proofs.select.read_rows.Goals as goal
 

@@ -1,7 +1,6 @@
-use Rattle.std.proofs.Common.{rules, ◌≡◌, not, IsTrue, ap, subst, ◌∙◌, arith}
-use Rattle.sqlite.specs.State.{HasCleanDisk, Survives}
-use Rattle.sqlite.specs.Held.{Held, state}
-use Rattle.portal_tables.specs.Steps.{Commits, IsAfter, Stays}
+use Rattle.std.specs.Prelude.{◌≡◌}
+use Rattle.portal_tables.proofs.Base.{not, IsTrue, ap, subst, ◌∙◌, HasCleanDisk, Survives, Held, state, Commits, IsAfter, Stays}
+use Rattle.std.proofs.Common.{rules, arith}
 use Rattle.portal_tables.proofs.Queries.{on_err}
 use Rattle.portal_tables.proofs.Runs.{ended_well, ended_crash, ended_badly}
 use Rattle.portal_tables.proofs.step.commit.Goals as goal

@@ -1,9 +1,5 @@
-use Rattle.std.proofs.Common.{◌∙◌, ap}
-use Rattle.sqlite.specs.Held.{state}
-use Rattle.std.proofs.lemmas.Result.{IfOk-weaker}
-use Rattle.portal_tables.specs.Tables.{choice_tree}
+use Rattle.portal_tables.proofs.Base.{◌∙◌, ap, state, IfOk-weaker, choice_tree, chosen}
 use Rattle.portal_tables.specs.Callers.{student_shown}
-use Rattle.portal_tables.specs.Lists.{chosen}
 use Rattle.portal_tables.proofs.InTurn.{reads_more}
 use Rattle.portal_tables.proofs.student.student_view.Goals as goal
 

@@ -1,4 +1,4 @@
-use Rattle.std.proofs.Common.{refl}
+use Rattle.portal_tables.proofs.Base.{refl}
 use Rattle.portal_tables.proofs.Statements.{lecturers_added, lecturer_one, by_one}
 use Rattle.portal_tables.proofs.insert.rolls.LecturersTargetLecturerRow.text.Goals as goal
 

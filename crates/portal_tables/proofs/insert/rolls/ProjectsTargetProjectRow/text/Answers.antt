@@ -1,4 +1,4 @@
-use Rattle.std.proofs.Common.{refl}
+use Rattle.portal_tables.proofs.Base.{refl}
 use Rattle.portal_tables.proofs.Statements.{projects_added, project_one, by_one}
 use Rattle.portal_tables.proofs.insert.rolls.ProjectsTargetProjectRow.text.Goals as goal
 

@@ -1,4 +1,4 @@
-use Rattle.std.proofs.Common.{refl}
+use Rattle.portal_tables.proofs.Base.{refl}
 use Rattle.portal_tables.proofs.Statements.{projects_added, project_eight, by_eight}
 use Rattle.portal_tables.proofs.insert.rolls.ProjectsTargetProjectRow.text_of_eight.Goals as goal
 

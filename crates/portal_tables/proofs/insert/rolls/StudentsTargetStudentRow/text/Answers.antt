@@ -1,4 +1,4 @@
-use Rattle.std.proofs.Common.{refl}
+use Rattle.portal_tables.proofs.Base.{refl}
 use Rattle.portal_tables.proofs.Statements.{students_added, student_one, by_one}
 use Rattle.portal_tables.proofs.insert.rolls.StudentsTargetStudentRow.text.Goals as goal
 

@@ -1,0 +1,14 @@
+use Rattle.std.specs.Prelude.{◌∷◌}
+use Rattle.portal_tables.proofs.Base.{[], first_trees}
+use Rattle.portal_tables.proofs.Making.{grown, grown_then, five_made, second_made, choice2_made, ranked2_made, ranking2_made, assigned2_made}
+use Rattle.portal_tables.proofs.make.make_second.Goals as goal
+
+pub returns : goal.returns
+returns g c =
+    let st = g.S.Store in
+    five_made st _ _ _
+    (grown_then st _ _ _ first_trees (15 ∷ 16 ∷ 19 ∷ 21 ∷ []) (24 ∷ []) _ _ _ _ _ (grown_then st _ _ _ first_trees (15 ∷ 16 ∷ 19 ∷ []) (21 ∷ []) _ _ _ _ _ (grown_then st _ _ _ first_trees (15 ∷ 16 ∷ []) (19 ∷ []) _ _ _ _ _ (grown_then st _ _ _ first_trees (15 ∷ []) (16 ∷ []) _ _ _ _ _ (grown st _ _ _ _ _ second_made _ _ _ c.in_ok-write.ensures)
+    (grown st _ _ _ _ _ choice2_made _ _ _ c.in_ok-write-2.ensures))
+    (grown st _ _ _ _ _ ranked2_made _ _ _ c.in_ok-write-3.ensures))
+    (grown st _ _ _ _ _ ranking2_made _ _ _ c.in_ok-write-4.ensures))
+    (grown st _ _ _ _ _ assigned2_made _ _ _ c.write-5.ensures))

@@ -1,0 +1,121 @@
+//! The second round: its phase, who has a ranking in it, and its result.
+
+ghost use Rattle.std.specs.Prelude.{◌≡◌, ◌∷◌};
+ghost use Rattle.portal_tables.specs.Base.{[], pos, Err, IfOk, HasCleanDisk, IsDatabase, state, ThePhase, Second};
+ghost use Rattle.portal_tables.specs.Tables.{second_tree, assigned2_tree};
+ghost use Rattle.portal_tables.specs.Own.{IsCurrent};
+ghost use Rattle.portal_tables.specs.Office.{number_of, IsSecond};
+ghost use Rattle.portal_tables.specs.Putting.{PutsPlaces, RanksSecond};
+ghost use Rattle.portal_tables.specs.Reading.{AsksIn};
+ghost use Rattle.portal_tables.specs.Rows.{MovesSecond, pair_new, second_row};
+ghost use Rattle.portal_tables.specs.Steps.{Does, Made, GoesOn};
+
+use crate::fault::TableFault;
+use crate::insert::{Target, add_all};
+use crate::office::{is_number, phase_at};
+use crate::run::write;
+use crate::select::{Query, read_rows};
+use portal_core::Phase;
+use spa_rows::Key;
+use sqlite::types::{ToSql, ValueRef};
+use sqlite::{Alter, Connection, Error, Row, Transaction};
+use std::alloc::{AllocError, Global};
+
+/// The phase of the second round, of the only row of its table: setup where there is no second round.
+fn second_from(rows: &[Row]) -> Result<Phase, TableFault>
+    ensures ok { IfOk result (λ phase. IsSecond phase rows.now) }
+    ensures damaged { result ≡ Err TableFault.Damaged
+        → (phase : ThePhase) → IsSecond phase rows.now → ⊥ }
+{
+    let [row] = rows else {
+        return Err(TableFault::Damaged);
+    };
+    if !is_number(row, 0, 1) {
+        return Err(TableFault::Damaged);
+    }
+    phase_at(row, 1).ok_or(TableFault::Damaged)
+}
+
+/// The phase of the second round, of its table: setup where there is no second round. The fault is `Damaged` where the table has not the one
+/// row that tells a phase, `Store` where the store answered an error.
+pub fn second_in<S: Alter>(alloc: Global, conn: &mut Connection<S>) -> Result<Phase, TableFault>
+    ensures row { IsCurrent conn.old.schema → IsDatabase (state S.Store conn.old).now
+        → HasCleanDisk (state S.Store conn.new)
+        → IfOk result (λ phase. (state S.Store conn.old).now.trees second_tree
+        ≡ second_row (pos (number_of phase)) ∷ []) }
+    ensures damaged { IsCurrent conn.old.schema → HasCleanDisk (state S.Store conn.new)
+        → result ≡ Err TableFault.Damaged → (phase : ThePhase)
+        → (state S.Store conn.old).now.trees second_tree
+        ≡ second_row (pos (number_of phase)) ∷ [] → ⊥ }
+    ensures asks { AsksIn Second result (state S.Store conn.old) (state S.Store conn.new) }
+{
+    let rows = read_rows(alloc, conn, Query::Second)?;
+    second_from(&rows)
+}
+
+/// Writes the phase of the second round, 1 to 3, or 0 for none, into the row of `second`.
+pub fn set_second<S: Alter>(tx: &mut Transaction<'_, S>, phase: u32) -> Result<(), Error>
+    ensures { Does S.Store (Made (MovesSecond phase)) result tx.old tx.new }
+{
+    write(
+        tx,
+        "UPDATE second SET phase = ?1 WHERE id = 1",
+        &[phase.to_sql()],
+    )
+}
+
+/// Says of a lecturer that a ranking of the second round is there.
+pub fn rank_second<S: Alter>(tx: &mut Transaction<'_, S>, lecturer: &[u8]) -> Result<(), Error>
+    ensures { Does S.Store (Made (RanksSecond lecturer.now)) result tx.old tx.new }
+{
+    write(
+        tx,
+        "DELETE FROM ranked2 WHERE lecturer = ?1",
+        &[ValueRef::Text(lecturer)],
+    )?;
+    write(
+        tx,
+        "INSERT INTO ranked2 (lecturer) VALUES (?1)",
+        &[ValueRef::Text(lecturer)],
+    )
+}
+
+/// The result of the second round.
+#[derive(Clone, Copy, Drop)]
+struct Places;
+
+impl Target<(Key, Key)> for Places {
+    ghost tree = { λ _. assigned2_tree };
+
+    ghost cells = { pair_new };
+
+    ghost values = { pair_new };
+
+    fn text<S: Alter>(&self) -> &'static str {
+        "INSERT INTO assigned2 (student, project) VALUES (?1, ?2)"
+    }
+
+    fn text_of_eight<S: Alter>(&self) -> &'static str {
+        "INSERT INTO assigned2 (student, project) VALUES (?1, ?2), (?3, ?4), (?5, ?6), (?7, ?8), (?9, ?10), (?11, ?12), (?13, ?14), (?15, ?16)"
+    }
+
+    fn put_values<'v>(row: &'v (Key, Key), all: &mut Vec<ValueRef<'v>>) -> Result<(), AllocError> {
+        all.extend_from_slice(&[
+            ValueRef::Text(row.0.as_bytes()),
+            ValueRef::Text(row.1.as_bytes()),
+        ])
+    }
+}
+
+/// The result of the second round becomes these pairs of a student and a project, in place of any other. The first error of the store ends it
+/// and is handed on, and it may be want of memory.
+pub fn put_places<S: Alter>(
+    alloc: Global,
+    tx: &mut Transaction<'_, S>,
+    pairs: &[(Key, Key)],
+) -> Result<(), Error>
+    ensures { Does S.Store (GoesOn (PutsPlaces pairs.now)) result tx.old tx.new }
+{
+    write(tx, "DELETE FROM assigned2", &[])?;
+    add_all(alloc, tx, &Places, pairs)
+}

@@ -1,0 +1,47 @@
+//! Makes all tables of the six of version 1.
+
+ghost use Rattle.std.specs.Prelude.{◌≡◌};
+ghost use Rattle.portal_tables.specs.Base.{false, Err, OnOk, OnErr, IsTrue, HasCleanDisk, Survives, state};
+ghost use Rattle.portal_tables.specs.Steps.{Commits, IsAfter, LeavesOnly, Stays};
+ghost use Rattle.portal_tables.specs.Making.{Upgrades};
+
+use crate::fault::TableFault;
+use crate::insert::add_second;
+use crate::make::make_second;
+use crate::office::VERSION;
+use crate::step::{Step, commit};
+use crate::update::set_version;
+use sqlite::{Alter, Connection, Error, Transaction};
+use std::alloc::Global;
+
+/// The tables of the second round beside those of the first, with the row of no second round and the version of all.
+#[derive(Drop)]
+struct Upgrade;
+
+impl Step for Upgrade {
+    ghost makes = { λ _. Upgrades };
+
+    fn take<S: Alter>(self, _alloc: Global, tx: &mut Transaction<'_, S>) -> Result<(), Error> {
+        make_second(tx)?;
+        add_second(tx)?;
+        set_version(tx, VERSION)
+    }
+}
+
+/// Makes all tables of the six, in a transaction of its own, and leaves what the six hold. After an error nothing is changed, and it is `Memory`
+/// for want of memory, else `Store`; a crash leaves the six as they were, or all tables, and after Ok all.
+pub fn upgrade_tables<S: Alter>(alloc: Global, conn: &mut Connection<S>) -> Result<(), TableFault>
+    requires idle { conn.old.in_transaction ≡ false }
+    ensures idle { conn.new.in_transaction ≡ false }
+    ensures ok { HasCleanDisk (state S.Store conn.new)
+        → OnOk result (Commits Upgrades (state S.Store conn.old) (state S.Store conn.new)) }
+    ensures err { HasCleanDisk (state S.Store conn.new) → IsTrue (state S.Store conn.new).is_open
+        → OnErr result (Stays (state S.Store conn.old) (state S.Store conn.new)) }
+    ensures durable { HasCleanDisk (state S.Store conn.new)
+        → OnOk result (LeavesOnly (state S.Store conn.new)) }
+    ensures fault { result ≡ Err TableFault.Damaged → ⊥ }
+    ensures crash { Survives (state S.Store conn.old) (state S.Store conn.new)
+        (IsAfter Upgrades (state S.Store conn.old)) }
+{
+    commit(alloc, conn, Upgrade)
+}

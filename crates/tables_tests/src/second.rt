@@ -1,0 +1,220 @@
+//! The tables of the second round, and the upgrade of a file that has them not.
+
+use crate::tests::{creates, department, key, shows, tells};
+use portal_core::Phase;
+use portal_tables::apart::are_apart;
+use portal_tables::fault::TableFault;
+use portal_tables::list_table::Lists;
+use portal_tables::names::{Names, is_there};
+use portal_tables::office::{FIRST_VERSION, VERSION, office_in};
+use portal_tables::own::Pattern;
+use portal_tables::put::put_list;
+use portal_tables::second::{put_places, rank_second, second_in, set_second};
+use portal_tables::select::{Query, Roll, Table, read, read_each, read_rows};
+use portal_tables::upgrade::upgrade_tables;
+use spa_rows::Key;
+use sqlite::{Connection, Error, MemStore};
+use std::alloc::Global;
+use std::process::Abort;
+use std::test::Fail;
+
+/// The first four tables of version 1, as a program of that version makes them.
+const ROLLS: &str =
+    "CREATE TABLE portal (id INTEGER NOT NULL PRIMARY KEY CHECK (id = 1), version INTEGER NOT NULL, phase INTEGER NOT NULL, office TEXT NOT NULL) STRICT; CREATE TABLE lecturer (key TEXT NOT NULL PRIMARY KEY, name TEXT NOT NULL, code TEXT NOT NULL UNIQUE, capacity INTEGER NOT NULL CHECK (capacity >= 1 AND capacity <= 200), ranked INTEGER NOT NULL CHECK (ranked = 0 OR ranked = 1)) STRICT; CREATE TABLE project (key TEXT NOT NULL PRIMARY KEY, lecturer TEXT NOT NULL REFERENCES lecturer (key), title TEXT NOT NULL, capacity INTEGER NOT NULL CHECK (capacity >= 1 AND capacity <= 200)) STRICT; CREATE TABLE student (key TEXT NOT NULL PRIMARY KEY, name TEXT NOT NULL, code TEXT NOT NULL UNIQUE, assigned TEXT REFERENCES project (key)) STRICT;";
+
+/// The last table, which comes behind that of choices, and rows of a small department.
+const ROWS: &str =
+    "CREATE TABLE ranking (lecturer TEXT NOT NULL REFERENCES lecturer (key), place INTEGER NOT NULL, student TEXT NOT NULL REFERENCES student (key), PRIMARY KEY (lecturer, place), UNIQUE (student, lecturer)) STRICT; INSERT INTO portal VALUES (1, 1, 2, 'office-code-1'); INSERT INTO lecturer VALUES ('L1', 'Lee', 'lee-code-1', 2, 0); INSERT INTO project VALUES ('P1', 'L1', 'Tides', 1); INSERT INTO student VALUES ('S1', 'Ann', 'ann-code-1', NULL); INSERT INTO choice VALUES ('S1', 1, 'P1');";
+
+/// A database of version 1 whose table of choices is made by this text.
+fn of_version_1(rt: &(impl Abort + AllocGlobal), choices: &str) -> Connection<MemStore> {
+    let mut conn = Connection::open_in_memory(rt.alloc()).expect(rt, "memory");
+    conn.execute_batch(ROLLS).expect(rt, "tables");
+    conn.execute(choices, &[]).expect(rt, "a table");
+    conn.execute_batch(ROWS).expect(rt, "rows");
+    conn
+}
+
+/// The upgrade is made, and what the six tables hold is as it was.
+fn is_upgraded(rt: &(impl Abort + AllocGlobal), conn: &mut Connection<MemStore>) {
+    assert!(rt; conn.is_autocommit());
+    assert!(rt; office_in(rt.alloc(), conn, FIRST_VERSION).is_ok());
+    assert!(rt; upgrade_tables(rt.alloc(), conn).is_ok());
+    assert!(rt; office_in(rt.alloc(), conn, FIRST_VERSION).is_err());
+    assert!(rt; office_in(rt.alloc(), conn, VERSION).is_ok());
+    shows(rt, read(conn, Query::Office), 4, "1 2 2 office-code-1 /");
+    shows(rt, read(conn, Query::Second), 2, "1 0 /");
+    shows(
+        rt,
+        read(conn, Query::Whole(Roll::Students)),
+        4,
+        "S1 Ann ann-code-1 - /",
+    );
+    shows(
+        rt,
+        read(conn, Query::AllLists(Lists::Choices)),
+        3,
+        "S1 1 P1 /",
+    );
+    shows(rt, read(conn, Query::AllLists(Lists::SecondChoices)), 3, "");
+}
+
+#[test]
+fn version_1_is_upgraded(rt: HostRuntime) -> Result<(), Fail> {
+    let pattern = Pattern::new(rt.alloc())?;
+    let mut conn = of_version_1(
+        &rt,
+        "CREATE TABLE choice (student TEXT NOT NULL REFERENCES student (key), place INTEGER NOT NULL, project TEXT NOT NULL REFERENCES project (key), PRIMARY KEY (student, place), UNIQUE (project, student)) STRICT",
+    );
+    assert!(rt; pattern.fits_first(&conn));
+    is_upgraded(&rt, &mut conn);
+    assert!(rt; pattern.fits(&conn));
+    Ok(())
+}
+
+#[test]
+fn the_order_in_a_rule_is_free(rt: HostRuntime) -> Result<(), Fail> {
+    let pattern = Pattern::new(rt.alloc())?;
+    let mut conn = of_version_1(
+        &rt,
+        "CREATE TABLE choice (student TEXT NOT NULL REFERENCES student (key), place INTEGER NOT NULL, project TEXT NOT NULL REFERENCES project (key), PRIMARY KEY (student, place), UNIQUE (student, project)) STRICT",
+    );
+    assert!(rt; !pattern.fits_first(&conn));
+    is_upgraded(&rt, &mut conn);
+    assert!(rt; !pattern.fits(&conn));
+    Ok(())
+}
+
+#[test]
+fn a_name_is_taken(rt: HostRuntime) -> Result<(), Fail> {
+    let mut conn = Connection::open_in_memory(rt.alloc())?;
+    assert!(rt; !is_there(conn.schema(), Names::All));
+    conn.execute("CREATE TABLE Portal (a)", &[])?;
+    assert!(rt; is_there(conn.schema(), Names::All));
+    assert!(rt; !is_there(conn.schema(), Names::OfSecond));
+    conn.execute("CREATE TABLE RANKED2 (a)", &[])?;
+    assert!(rt; is_there(conn.schema(), Names::OfSecond));
+    Ok(())
+}
+
+/// What is written of the second round: a list, a ranking, who has one, and in which phase.
+fn write_second(
+    rt: &(impl Abort + AllocGlobal),
+    conn: &mut Connection<MemStore>,
+) -> Result<(), Error> {
+    if !conn.is_autocommit() {
+        return Ok(());
+    }
+    let alloc = rt.alloc();
+    let mut tx = conn.transaction();
+    put_list(
+        alloc,
+        &mut tx,
+        Lists::SecondChoices,
+        &key(rt, b"S1"),
+        &[key(rt, b"P1")],
+    )?;
+    put_list(
+        alloc,
+        &mut tx,
+        Lists::SecondRankings,
+        &key(rt, b"L1"),
+        &[key(rt, b"S2"), key(rt, b"S1")],
+    )?;
+    rank_second(&mut tx, b"L1")?;
+    rank_second(&mut tx, b"L1")?;
+    set_second(&mut tx, 2)?;
+    tx.commit()
+}
+
+#[test]
+fn the_second_round_is_written(rt: HostRuntime) {
+    let mut conn = department(&rt);
+    write_second(&rt, &mut conn).expect(&rt, "rows");
+    shows(
+        &rt,
+        read(&mut conn, Query::AllLists(Lists::Choices)),
+        3,
+        "S2 1 P1 /S1 1 P2 /S1 2 P1 /",
+    );
+    let students = read(&mut conn, Query::Whole(Roll::Students));
+    tells(
+        &rt,
+        &mut conn,
+        Lists::SecondChoices,
+        students,
+        "S1 P1 /S2 /",
+    );
+    let ranked = read(&mut conn, Query::SecondRanked);
+    tells(&rt, &mut conn, Lists::SecondRankings, ranked, "L1 S2 S1 /");
+    let phase = second_in(rt.alloc(), &mut conn);
+    assert!(rt; matches!(phase, Ok(Phase::Ranking)));
+    let tables = [
+        Table::OfLists(Lists::SecondChoices),
+        Table::OfLists(Lists::SecondRankings),
+        Table::OfRanked,
+        Table::OfPlaces,
+    ];
+    for table in tables {
+        assert!(rt; are_apart(&mut conn, table).expect(&rt, "numbers"));
+    }
+}
+
+#[test]
+fn no_second_round_is_told(rt: HostRuntime) -> Result<(), Fail> {
+    let mut conn = Connection::open_in_memory(rt.alloc())?;
+    assert!(rt; creates(&rt, &mut conn));
+    let phase = second_in(rt.alloc(), &mut conn);
+    assert!(rt; matches!(phase, Ok(Phase::Setup)));
+    conn.execute("DELETE FROM second", &[])?;
+    let phase = second_in(rt.alloc(), &mut conn);
+    assert!(rt; matches!(phase, Err(TableFault::Damaged)));
+    Ok(())
+}
+
+fn write_places(
+    conn: &mut Connection<MemStore>,
+    alloc: Global,
+    pairs: &[(Key, Key)],
+) -> Result<(), Error> {
+    if !conn.is_autocommit() {
+        return Ok(());
+    }
+    let mut tx = conn.transaction();
+    put_places(alloc, &mut tx, pairs)?;
+    tx.commit()
+}
+
+#[test]
+fn the_second_result_is_put(rt: HostRuntime) {
+    let mut conn = department(&rt);
+    let both = [
+        (key(&rt, b"S1"), key(&rt, b"P1")),
+        (key(&rt, b"S2"), key(&rt, b"P2")),
+    ];
+    write_places(&mut conn, rt.alloc(), &both).expect(&rt, "rows");
+    shows(
+        &rt,
+        read(&mut conn, Query::SecondPlaces),
+        2,
+        "S1 P1 /S2 P2 /",
+    );
+    let one = [(key(&rt, b"S2"), key(&rt, b"P2"))];
+    write_places(&mut conn, rt.alloc(), &one).expect(&rt, "rows");
+    shows(
+        &rt,
+        read_rows(rt.alloc(), &mut conn, Query::SecondPlaceOf(b"S1")),
+        2,
+        "",
+    );
+    let pairs: Result<Vec<(Key, Key)>, TableFault> = read_each(
+        rt.alloc(),
+        &mut conn,
+        Query::SecondPlaces,
+    );
+    let Ok(pairs) = pairs else {
+        panic!(&rt; "no pairs");
+    };
+    assert_eq!(rt; pairs.len(), 1);
+    assert_eq!(rt; pairs[0].1.as_str(), "P2");
+}
