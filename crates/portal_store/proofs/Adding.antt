@@ -1,5 +1,5 @@
 -- New rows of a roll: what a loop of INSERTs leaves of the tables, and what that is to the world.
-use Rattle.std.proofs.Common.{◌≡◌, ℕ, pos, false, ◌||◌, List, [], ◌∷◌, ◌++◌, None, map, drop, refl, sym, ap, ap₂, subst, subst₂, ◌∙◌}
+use Rattle.std.proofs.Common.{◌≡◌, ℕ, false, ◌||◌, List, [], ◌∷◌, ◌++◌, None, map, drop, refl, sym, ap, ap₂, subst, subst₂, ◌∙◌}
 use Rattle.std.proofs.lemmas.List.{map-append}
 use Rattle.std.specs.List.{AllByRecursion, IsDistinct}
 use Rattle.std.specs.List.Sorted.{IsPermutation}
@@ -19,9 +19,8 @@ use Rattle.portal_core.specs.Words.{Key, is, has, Rise, put_all}
 use Rattle.portal_core.specs.World.{lecturer_key, project_key, student_key}
 use Rattle.portal_core.specs.Change.{changed, Lecturers, Projects, Students, new_lecturer, new_student}
 use Rattle.portal_core.specs.Good.{Good}
-use Rattle.portal_tables.specs.Tables.{portal_tree, lecturer_tree, project_tree, student_tree, choice_tree, ranking_tree}
+use Rattle.portal_tables.specs.Tables.{portal_tree, lecturer_tree, project_tree, student_tree, choice_tree, ranking_tree, version}
 use Rattle.portal_tables.specs.declared.list_table.Lists.TheVariants as which
-use Rattle.portal_tables.specs.Own.{IsOwn}
 use Rattle.portal_tables.specs.Changes.{IsApart, Puts, Keeps, with_rows, AreNew}
 use Rattle.portal_tables.specs.Rows.{Adds, lecturer_new, project_new, student_new}
 use Rattle.portal_tables.proofs.Keeping.{puts_apart}
@@ -31,7 +30,7 @@ use Rattle.portal_tables.specs.Office.{HasOffice}
 use Rattle.portal_store.specs.Kept.{Holds, Turned, Turns}
 use Rattle.portal_tables.specs.Lists.{of_key, IsWhole, list_of}
 use Rattle.portal_tables.specs.Rolls.{row_key}
-use Rattle.portal_store.proofs.Still.{apart_kept}
+use Rattle.portal_store.proofs.Still.{kept_at, holds_after}
 use Rattle.portal_store.specs.World.{world_of, phase_of, is_ranked, lecturer_of, project_row, student_of}
 use Rattle.portal_tables.proofs.Sorted.{permutes, permutes_more, more_put, rise_distinct, all_permuted, distinct_permuted, map_twice, map_alike}
 use Rattle.portal_tables.proofs.Listed.{all_map_on}
@@ -149,16 +148,16 @@ module _ (rows : List LecturerRow) (old new : Database) (was : Holds old) (bette
     where
       go : (rs : List LecturerRow) → AllByRecursion (λ r. has (map row_key (old.trees lecturer_tree)) r.key ≡ false) rs → AllByRecursion (λ r. of_key r.key (old.trees ranking_tree) ≡ []) rs
       go [] h = tt
-      go (r ∷ rs) h = (none_of _ (old.trees lecturer_tree) r.key (old.trees ranking_tree) (place_parents old was.own was.sound which.Rankings was.apart.1.1.1.1.1.0) h.0, go rs h.1)
+      go (r ∷ rs) h = (none_of _ (old.trees lecturer_tree) r.key (old.trees ranking_tree) (place_parents old which.Rankings was.own was.sound was.apart.1.1.1.1.1.0) h.0, go rs h.1)
 
   lecturers_turned : Turned (Lecturers rows) old new
   unfolding world_of
   lecturers_turned =
-      let portal : new.trees portal_tree ≡ old.trees portal_tree = a.others.0 (λ e. absurd (cc)) in
-      let projects : new.trees project_tree ≡ old.trees project_tree = a.others.1.1.0 (λ e. absurd (cc)) in
-      let students : new.trees student_tree ≡ old.trees student_tree = a.others.1.1.1.0 (λ e. absurd (cc)) in
-      let choices : new.trees choice_tree ≡ old.trees choice_tree = a.others.1.1.1.1.0 (λ e. absurd (cc)) in
-      let rankings : new.trees ranking_tree ≡ old.trees ranking_tree = a.others.1.1.1.1.1.0 (λ e. absurd (cc)) in
+      let portal : new.trees portal_tree ≡ old.trees portal_tree = kept_at lecturer_tree old new a.others portal_tree refl refl in
+      let projects : new.trees project_tree ≡ old.trees project_tree = kept_at lecturer_tree old new a.others project_tree refl refl in
+      let students : new.trees student_tree ≡ old.trees student_tree = kept_at lecturer_tree old new a.others student_tree refl refl in
+      let choices : new.trees choice_tree ≡ old.trees choice_tree = kept_at lecturer_tree old new a.others choice_tree refl refl in
+      let rankings : new.trees ranking_tree ≡ old.trees ranking_tree = kept_at lecturer_tree old new a.others ranking_tree refl refl in
       let ready = was.apart in
       let f = lecturer_of (old.trees ranking_tree) in
       let news : map (λ c. f (unnumbered c)) (map lecturer_new rows) ≡ map new_lecturer rows = sym (map_twice (λ c. f (unnumbered c)) lecturer_new rows) in
@@ -168,23 +167,17 @@ module _ (rows : List LecturerRow) (old new : Database) (was : Holds old) (bette
       ap (λ l. put_all lecturer_key (map (lecturer_of l) (new.trees lecturer_tree)) []) rankings
       ∙ more_put lecturer_key (map new_lecturer rows) (map f (old.trees lecturer_tree)) (map f (new.trees lecturer_tree)) same lecturers_up in
       record {
-        holds = record {
-          own = subst IsOwn (sym a.schema_is) was.own;
-          sound = a.sound was.sound;
-          apart = apart_kept lecturer_tree old new a.others (a.apart ready.1.0) ready;
-          office = subst HasOffice (sym portal) was.office;
-          whole = record {
-            choices = subst₂ (λ x y. AllByRecursion (λ r. IsWhole (of_key (row_key r) y)) x) (sym students) (sym choices) was.whole.choices;
-            rankings = subst (λ y. AllByRecursion (λ r. IsWhole (of_key (row_key r) y)) (new.trees lecturer_tree)) (sym rankings)
-                (all_added (λ r. IsWhole (of_key (row_key r) (old.trees ranking_tree))) lecturer_tree (map lecturer_new rows) old new
-                (λ r h. subst (λ k. IsWhole (of_key k (old.trees ranking_tree))) (sym (key_bare r)) h) (λ r h. subst (λ k. IsWhole (of_key k (old.trees ranking_tree))) (key_bare r) h) a
-                (all_map (λ c. IsWhole (of_key (row_key (unnumbered c)) (old.trees ranking_tree))) lecturer_new rows (whole_yet rows unranked_yet)) was.whole.rankings);
-            ranked = subst (λ y. AllByRecursion (λ r. is_ranked r ≡ false → of_key (row_key r) y ≡ []) (new.trees lecturer_tree)) (sym rankings)
-                (all_added (λ r. is_ranked r ≡ false → of_key (row_key r) (old.trees ranking_tree) ≡ []) lecturer_tree (map lecturer_new rows) old new
-                (λ r h e. ap (λ k. of_key k (old.trees ranking_tree)) (key_bare r) ∙ h (sym (ranked_bare r) ∙ e)) (λ r h e. sym (ap (λ k. of_key k (old.trees ranking_tree)) (key_bare r)) ∙ h (ranked_bare r ∙ e)) a
-                (all_map (λ c. is_ranked (unnumbered c) ≡ false → of_key (row_key (unnumbered c)) (old.trees ranking_tree) ≡ []) lecturer_new rows (none_yet rows unranked_yet)) was.whole.ranked);
-          };
-        };
+        holds = holds_after lecturer_tree old new refl was a.others a.schema_is (a.sound was.sound) (a.apart ready.1.0) (subst (HasOffice version) (sym portal) was.office) (record {
+          choices = subst₂ (λ x y. AllByRecursion (λ r. IsWhole (of_key (row_key r) y)) x) (sym students) (sym choices) was.whole.choices;
+          rankings = subst (λ y. AllByRecursion (λ r. IsWhole (of_key (row_key r) y)) (new.trees lecturer_tree)) (sym rankings)
+              (all_added (λ r. IsWhole (of_key (row_key r) (old.trees ranking_tree))) lecturer_tree (map lecturer_new rows) old new
+              (λ r h. subst (λ k. IsWhole (of_key k (old.trees ranking_tree))) (sym (key_bare r)) h) (λ r h. subst (λ k. IsWhole (of_key k (old.trees ranking_tree))) (key_bare r) h) a
+              (all_map (λ c. IsWhole (of_key (row_key (unnumbered c)) (old.trees ranking_tree))) lecturer_new rows (whole_yet rows unranked_yet)) was.whole.rankings);
+          ranked = subst (λ y. AllByRecursion (λ r. is_ranked r ≡ false → of_key (row_key r) y ≡ []) (new.trees lecturer_tree)) (sym rankings)
+              (all_added (λ r. is_ranked r ≡ false → of_key (row_key r) (old.trees ranking_tree) ≡ []) lecturer_tree (map lecturer_new rows) old new
+              (λ r h e. ap (λ k. of_key k (old.trees ranking_tree)) (key_bare r) ∙ h (sym (ranked_bare r) ∙ e)) (λ r h e. sym (ap (λ k. of_key k (old.trees ranking_tree)) (key_bare r)) ∙ h (ranked_bare r ∙ e)) a
+              (all_map (λ c. is_ranked (unnumbered c) ≡ false → of_key (row_key (unnumbered c)) (old.trees ranking_tree) ≡ []) lecturer_new rows (none_yet rows unranked_yet)) was.whole.ranked);
+        });
         world = λ i. record {
           round = First;
           phase = phase_of (number_in (column (slice_index_or (portal i) 0 []) 3));
@@ -204,7 +197,7 @@ module _ (rows : List LecturerRow) (old new : Database) (was : Holds old) (bette
       none_yet (r ∷ rs) h = (λ _. h.0, none_yet rs h.1)
 
 pub lecturers_turn : (rows : List LecturerRow) (old new : Database) → Adds lecturer_tree (map lecturer_new rows) old new → Turns (Lecturers rows) old new
-lecturers_turn rows old new adds was good better = lecturers_turned rows old new was better (added_of _ _ old new (adds was.own))
+lecturers_turn rows old new adds was good better = lecturers_turned rows old new was better (added_of _ _ old new (adds was.current))
 
 module _ (rows : List ProjectRow) (old new : Database) (was : Holds old) (better : Good (changed (world_of old.trees) (Projects rows))) (a : Added project_tree (map project_new rows) old new) where
   projects_up : Rise (map project_key (put_all project_key rows (put_all project_key (map project_row (old.trees project_tree)) [])))
@@ -214,11 +207,11 @@ module _ (rows : List ProjectRow) (old new : Database) (was : Holds old) (better
   projects_turned : Turned (Projects rows) old new
   unfolding world_of
   projects_turned =
-      let portal : new.trees portal_tree ≡ old.trees portal_tree = a.others.0 (λ e. absurd (cc)) in
-      let lecturers : new.trees lecturer_tree ≡ old.trees lecturer_tree = a.others.1.0 (λ e. absurd (cc)) in
-      let students : new.trees student_tree ≡ old.trees student_tree = a.others.1.1.1.0 (λ e. absurd (cc)) in
-      let choices : new.trees choice_tree ≡ old.trees choice_tree = a.others.1.1.1.1.0 (λ e. absurd (cc)) in
-      let rankings : new.trees ranking_tree ≡ old.trees ranking_tree = a.others.1.1.1.1.1.0 (λ e. absurd (cc)) in
+      let portal : new.trees portal_tree ≡ old.trees portal_tree = kept_at project_tree old new a.others portal_tree refl refl in
+      let lecturers : new.trees lecturer_tree ≡ old.trees lecturer_tree = kept_at project_tree old new a.others lecturer_tree refl refl in
+      let students : new.trees student_tree ≡ old.trees student_tree = kept_at project_tree old new a.others student_tree refl refl in
+      let choices : new.trees choice_tree ≡ old.trees choice_tree = kept_at project_tree old new a.others choice_tree refl refl in
+      let rankings : new.trees ranking_tree ≡ old.trees ranking_tree = kept_at project_tree old new a.others ranking_tree refl refl in
       let ready = was.apart in
       let news : map (λ c. project_row (unnumbered c)) (map project_new rows) ≡ rows = sym (map_twice (λ c. project_row (unnumbered c)) project_new rows) ∙ map_itself rows in
       let same : IsPermutation (rows ++ map project_row (old.trees project_tree)) (map project_row (new.trees project_tree)) =
@@ -226,13 +219,7 @@ module _ (rows : List ProjectRow) (old new : Database) (was : Holds old) (better
       let roll : put_all project_key (map project_row (new.trees project_tree)) [] ≡ put_all project_key rows (put_all project_key (map project_row (old.trees project_tree)) []) =
       more_put project_key rows (map project_row (old.trees project_tree)) (map project_row (new.trees project_tree)) same projects_up in
       record {
-        holds = record {
-          own = subst IsOwn (sym a.schema_is) was.own;
-          sound = a.sound was.sound;
-          apart = apart_kept project_tree old new a.others (a.apart ready.1.1.0) ready;
-          office = subst HasOffice (sym portal) was.office;
-          whole = whole_same old.trees new.trees lecturers students choices rankings was.whole;
-        };
+        holds = holds_after project_tree old new refl was a.others a.schema_is (a.sound was.sound) (a.apart ready.1.1.0) (subst (HasOffice version) (sym portal) was.office) (whole_same old.trees new.trees lecturers students choices rankings was.whole);
         world = λ i. record {
           round = First;
           phase = phase_of (number_in (column (slice_index_or (portal i) 0 []) 3));
@@ -248,7 +235,7 @@ module _ (rows : List ProjectRow) (old new : Database) (was : Holds old) (better
       map_itself (r ∷ rs) = ap (λ l. r ∷ l) (map_itself rs)
 
 pub projects_turn : (rows : List ProjectRow) (old new : Database) → Adds project_tree (map project_new rows) old new → Turns (Projects rows) old new
-projects_turn rows old new adds was good better = projects_turned rows old new was better (added_of _ _ old new (adds was.own))
+projects_turn rows old new adds was good better = projects_turned rows old new was better (added_of _ _ old new (adds was.current))
 
 module _ (rows : List StudentRow) (old new : Database) (was : Holds old) (better : Good (changed (world_of old.trees) (Students rows))) (a : Added student_tree (map student_new rows) old new) where
   students_up : Rise (map student_key (put_all student_key (map new_student rows) (put_all student_key (map (student_of (old.trees choice_tree)) (old.trees student_tree)) [])))
@@ -262,16 +249,16 @@ module _ (rows : List StudentRow) (old new : Database) (was : Holds old) (better
     where
       go : (rs : List StudentRow) → AllByRecursion (λ r. has (map row_key (old.trees student_tree)) r.key ≡ false) rs → AllByRecursion (λ r. of_key r.key (old.trees choice_tree) ≡ []) rs
       go [] h = tt
-      go (r ∷ rs) h = (none_of _ (old.trees student_tree) r.key (old.trees choice_tree) (place_parents old was.own was.sound which.Choices was.apart.1.1.1.1.0) h.0, go rs h.1)
+      go (r ∷ rs) h = (none_of _ (old.trees student_tree) r.key (old.trees choice_tree) (place_parents old which.Choices was.own was.sound was.apart.1.1.1.1.0) h.0, go rs h.1)
 
   students_turned : Turned (Students rows) old new
   unfolding world_of
   students_turned =
-      let portal : new.trees portal_tree ≡ old.trees portal_tree = a.others.0 (λ e. absurd (cc)) in
-      let lecturers : new.trees lecturer_tree ≡ old.trees lecturer_tree = a.others.1.0 (λ e. absurd (cc)) in
-      let projects : new.trees project_tree ≡ old.trees project_tree = a.others.1.1.0 (λ e. absurd (cc)) in
-      let choices : new.trees choice_tree ≡ old.trees choice_tree = a.others.1.1.1.1.0 (λ e. absurd (cc)) in
-      let rankings : new.trees ranking_tree ≡ old.trees ranking_tree = a.others.1.1.1.1.1.0 (λ e. absurd (cc)) in
+      let portal : new.trees portal_tree ≡ old.trees portal_tree = kept_at student_tree old new a.others portal_tree refl refl in
+      let lecturers : new.trees lecturer_tree ≡ old.trees lecturer_tree = kept_at student_tree old new a.others lecturer_tree refl refl in
+      let projects : new.trees project_tree ≡ old.trees project_tree = kept_at student_tree old new a.others project_tree refl refl in
+      let choices : new.trees choice_tree ≡ old.trees choice_tree = kept_at student_tree old new a.others choice_tree refl refl in
+      let rankings : new.trees ranking_tree ≡ old.trees ranking_tree = kept_at student_tree old new a.others ranking_tree refl refl in
       let ready = was.apart in
       let f = student_of (old.trees choice_tree) in
       let news : map (λ c. f (unnumbered c)) (map student_new rows) ≡ map new_student rows =
@@ -283,20 +270,14 @@ module _ (rows : List StudentRow) (old new : Database) (was : Holds old) (better
       ap (λ l. put_all student_key (map (student_of l) (new.trees student_tree)) []) choices
       ∙ more_put student_key (map new_student rows) (map f (old.trees student_tree)) (map f (new.trees student_tree)) same students_up in
       record {
-        holds = record {
-          own = subst IsOwn (sym a.schema_is) was.own;
-          sound = a.sound was.sound;
-          apart = apart_kept student_tree old new a.others (a.apart ready.1.1.1.0) ready;
-          office = subst HasOffice (sym portal) was.office;
-          whole = record {
-            choices = subst (λ y. AllByRecursion (λ r. IsWhole (of_key (row_key r) y)) (new.trees student_tree)) (sym choices)
-                (all_added (λ r. IsWhole (of_key (row_key r) (old.trees choice_tree))) student_tree (map student_new rows) old new
-                (λ r h. subst (λ k. IsWhole (of_key k (old.trees choice_tree))) (sym (key_bare r)) h) (λ r h. subst (λ k. IsWhole (of_key k (old.trees choice_tree))) (key_bare r) h) a
-                (all_map (λ c. IsWhole (of_key (row_key (unnumbered c)) (old.trees choice_tree))) student_new rows (whole_yet rows unlisted_yet)) was.whole.choices);
-            rankings = subst₂ (λ x y. AllByRecursion (λ r. IsWhole (of_key (row_key r) y)) x) (sym lecturers) (sym rankings) was.whole.rankings;
-            ranked = subst₂ (λ x y. AllByRecursion (λ r. is_ranked r ≡ false → of_key (row_key r) y ≡ []) x) (sym lecturers) (sym rankings) was.whole.ranked;
-          };
-        };
+        holds = holds_after student_tree old new refl was a.others a.schema_is (a.sound was.sound) (a.apart ready.1.1.1.0) (subst (HasOffice version) (sym portal) was.office) (record {
+          choices = subst (λ y. AllByRecursion (λ r. IsWhole (of_key (row_key r) y)) (new.trees student_tree)) (sym choices)
+              (all_added (λ r. IsWhole (of_key (row_key r) (old.trees choice_tree))) student_tree (map student_new rows) old new
+              (λ r h. subst (λ k. IsWhole (of_key k (old.trees choice_tree))) (sym (key_bare r)) h) (λ r h. subst (λ k. IsWhole (of_key k (old.trees choice_tree))) (key_bare r) h) a
+              (all_map (λ c. IsWhole (of_key (row_key (unnumbered c)) (old.trees choice_tree))) student_new rows (whole_yet rows unlisted_yet)) was.whole.choices);
+          rankings = subst₂ (λ x y. AllByRecursion (λ r. IsWhole (of_key (row_key r) y)) x) (sym lecturers) (sym rankings) was.whole.rankings;
+          ranked = subst₂ (λ x y. AllByRecursion (λ r. is_ranked r ≡ false → of_key (row_key r) y ≡ []) x) (sym lecturers) (sym rankings) was.whole.ranked;
+        });
         world = λ i. record {
           round = First;
           phase = phase_of (number_in (column (slice_index_or (portal i) 0 []) 3));
@@ -312,4 +293,4 @@ module _ (rows : List StudentRow) (old new : Database) (was : Holds old) (better
       whole_yet (r ∷ rs) h = (subst IsWhole (sym h.0) tt, whole_yet rs h.1)
 
 pub students_turn : (rows : List StudentRow) (old new : Database) → Adds student_tree (map student_new rows) old new → Turns (Students rows) old new
-students_turn rows old new adds was good better = students_turned rows old new was better (added_of _ _ old new (adds was.own))
+students_turn rows old new adds was good better = students_turned rows old new was better (added_of _ _ old new (adds was.current))

@@ -3,32 +3,59 @@ use Rattle.std.proofs.Common.{◌≡◌, ◌⊎◌, inl, inr, refl, sym, ap, sub
 use Rattle.sqlite.specs.Tree.{Trees}
 use Rattle.sqlite.specs.Effect.{Database, IsDatabase}
 use Rattle.portal_core.specs.Good.{Good}
+use Rattle.portal_tables.specs.Tables.{first_version}
+use Rattle.portal_tables.specs.Own.{IsFirst, IsCurrent}
 use Rattle.portal_tables.proofs.Owned.{own_again}
 use Rattle.portal_store.specs.World.{world_of}
-use Rattle.portal_store.specs.Kept.{Stands, Holds}
-use Rattle.portal_store.specs.Asked.{Refutes}
-use Rattle.portal_store.specs.Crash.{Reopens, OpensAgain, OpensFresh}
+use Rattle.portal_store.specs.Kept.{Stands, StandsAs, Holds}
+use Rattle.portal_store.specs.Asked.{Refutes, Bars}
+use Rattle.portal_store.specs.Crash.{Reopens, OpensAgain, OpensFresh, UpgradesAgain}
 use Rattle.portal_store.specs.declared.store.OpenFault.{OpenFault}
-use Rattle.portal_store.specs.declared.store.OpenFault.TheVariants.{NotPortal, OtherVersion, Damaged, Store, Memory}
+use Rattle.portal_store.specs.declared.store.OpenFault.TheVariants as opening
+use Rattle.portal_store.specs.declared.store.UpgradeFault.{UpgradeFault}
+use Rattle.portal_store.specs.declared.store.UpgradeFault.TheVariants as upgrading
 use Rattle.portal_store.proofs.First.{first_holds, first_is, first_is_good}
+use Rattle.portal_store.proofs.Upgraded.{upgraded_stands, upgraded_world}
 
-only_store : (db : Trees) → Stands db → (fault : OpenFault) → Refutes fault db → (fault ≡ Store) ⊎ (fault ≡ Memory)
-only_store db stands NotPortal none = absurd (let e = sym stands.office.is ∙ none in cc)
-only_store db stands OtherVersion not_so = absurd (not_so.other _ stands.office.is refl)
-only_store db stands Damaged not_so = absurd (not_so.1 stands)
-only_store db stands Store told = inl refl
-only_store db stands Memory told = inr refl
+only_store : (db : Trees) → Stands db → (fault : OpenFault) → Refutes fault db → (fault ≡ opening.Store) ⊎ (fault ≡ opening.Memory)
+only_store db stands opening.NotPortal none = absurd (let e = sym stands.first.office.is ∙ none in cc)
+only_store db stands opening.OtherVersion not_so = absurd (not_so.other _ stands.first.office.is refl)
+only_store db stands opening.Damaged not_so = absurd (not_so.1 stands)
+only_store db stands opening.Store told = inl refl
+only_store db stands opening.Memory told = inr refl
 
-reopens : (left found : Database) → Holds left → Good (world_of left.trees) → found.trees ≡ left.trees → IsDatabase found → Reopens found
-reopens left found holds good same is =
-    let stands : Stands found.trees = subst Stands (sym same) (record { office = holds.office; whole = holds.whole; good = good }) in
-    record { own = own_again left found holds.sound is same holds.own; stands = stands; faults = only_store found.trees stands }
+reopens : (left found : Database) → IsCurrent left.schema → IsDatabase left → Stands left.trees → found.trees ≡ left.trees → IsDatabase found → Reopens found
+reopens left found current sound stands_there same is =
+    let stands : Stands found.trees = subst Stands (sym same) stands_there in
+    record { current = own_again IsCurrent left found sound is same current; stands = stands; faults = only_store found.trees stands }
+
+holds_again : (left found : Database) → Holds left → Good (world_of left.trees) → found.trees ≡ left.trees → IsDatabase found → Reopens found
+holds_again left found holds good =
+    reopens left found holds.current holds.sound (record { first = record { office = holds.office; whole = holds.whole; good = good }; second = holds.second })
 
 pub opens_again : OpensAgain
-opens_again change old found holds good leaves (inl same) is = (reopens old found holds good same is, inl (ap world_of same))
+opens_again change old found holds good leaves (inl same) is = (holds_again old found holds good same is, inl (ap world_of same))
 opens_again change old found holds good leaves (inr turned) is =
     let turn = turned.1 in
-    (reopens turned.0 found turn.holds (subst Good (sym turn.world) leaves) turned.2 is, inr (ap world_of turned.2 ∙ turn.world))
+    (holds_again turned.0 found turn.holds (subst Good (sym turn.world) leaves) turned.2 is, inr (ap world_of turned.2 ∙ turn.world))
 
 pub opens_fresh : OpensFresh
-opens_fresh office made found form fresh same is = (reopens made found (first_holds office made fresh) (first_is_good office made fresh form) same is, ap world_of same ∙ first_is office made fresh)
+opens_fresh office made found form fresh same is = (holds_again made found (first_holds office made fresh) (first_is_good office made fresh form) same is, ap world_of same ∙ first_is office made fresh)
+
+none_but_store : (db : Trees) → StandsAs first_version db → (fault : UpgradeFault) → Bars fault db → (fault ≡ upgrading.Store) ⊎ (fault ≡ upgrading.Memory)
+none_but_store db stands upgrading.NotPortal none = absurd (let e = sym stands.office.is ∙ none in cc)
+none_but_store db stands upgrading.OtherVersion not_so = absurd (not_so.other _ stands.office.is refl)
+none_but_store db stands upgrading.Damaged not_so = absurd (not_so.1 stands)
+none_but_store db stands upgrading.Store told = inl refl
+none_but_store db stands upgrading.Memory told = inr refl
+none_but_store db stands upgrading.Exists taken = absurd taken
+
+pub upgrades_again : UpgradesAgain
+upgrades_again old found first sound stands is = (
+  λ same.
+      let there : StandsAs first_version found.trees = subst (StandsAs first_version) (sym same) stands in
+      (record { first = own_again IsFirst old found sound is same first; stands = there; faults = none_but_store found.trees there }, ap world_of same),
+  λ after upgrades same.
+      let up = upgrades first _ _ stands.office.is in
+      (reopens after found up.current up.sound (upgraded_stands old after stands up) same is, ap world_of same ∙ upgraded_world old after stands.office up),
+)

@@ -1,65 +1,156 @@
 -- Queries in turn, and what `open` makes of them.
-use Rattle.std.proofs.Common.{List, [], ◌∷◌, pos, ◌≡◌, ◌≢◌, inl, ℕ, Bool, false, IsTrue, IfErr, Ok, Err, Result, OnOk, OnErr, map, length, filter, slice_index_or, refl, sym, ap, subst, ◌∙◌, arith}
-use Rattle.std.specs.Result.{IsErr}
+use Rattle.std.proofs.Common.{List, [], ◌∷◌, pos, ◌≡◌, ◌≢◌, ◌⊎◌, inl, inr, ℕ, Bool, true, false, not, IsTrue, IfErr, Ok, Err, Result, OnOk, map, length, filter, slice_index_or, refl, sym, ap, subst, ◌∙◌}
+use Rattle.std.specs.List.{AllByRecursion}
+use Rattle.std.specs.Result.{IsErr, IsErrAnd}
 use Rattle.std.specs.List.Sorted.{IsPermutation}
 use Rattle.std.proofs.lemmas.List.Sorted.{length_permutation}
 use Rattle.sqlite.specs.declared.types.Value.TheVariants.{Int}
-use Rattle.sqlite.specs.Order.{Row, column, bytes}
+use Rattle.sqlite.specs.Order.{Row, column}
 use Rattle.sqlite.specs.Tree.{Trees}
-use Rattle.sqlite.specs.Effect.{Database}
-use Rattle.sqlite.specs.State.{State, HasCleanDisk, IsUnchanged, IsLive, Survives}
+use Rattle.sqlite.specs.Effect.{Database, IsDatabase}
+use Rattle.sqlite.specs.State.{State, HasCleanDisk, IsUnchanged, IsLive}
 use Rattle.sqlite.specs.Store.{Ghosts}
 use Rattle.sqlite.specs.Held.{Held, state}
-use Rattle.sqlite.proofs.StateLemmas.{survives_then}
+use Rattle.sqlite.proofs.StateLemmas.{survives_then, survives_weaker}
 use Rattle.sqlite.proofs.Callers.{one_permutation}
-use Rattle.portal_tables.specs.Tables.{portal_tree}
-use Rattle.portal_tables.specs.Own.{IsOwn}
-use Rattle.portal_tables.specs.Changes.{ListsBy, every, columns}
-use Rattle.portal_tables.specs.Rows.{portal_row}
-use Rattle.portal_tables.specs.Steps.{Leaves}
+use Rattle.portal_core.specs.declared.phase.Round.{Round}
+use Rattle.portal_core.specs.declared.phase.Round.TheVariants.{Second}
+use Rattle.portal_tables.specs.Tables.{portal_tree, second_tree, choice2_tree, ranked2_tree, ranking2_tree, assigned2_tree, own_trees, version}
+use Rattle.portal_tables.specs.Own.{HasRound, IsCurrent}
+use Rattle.portal_tables.specs.Changes.{IsApart, ListsBy, every, columns}
+use Rattle.portal_tables.specs.Rows.{second_row}
+use Rattle.portal_tables.specs.Reading.{AsksIn, ReadsIn}
+use Rattle.portal_tables.specs.Decoding.{FindsAny}
+use Rattle.portal_tables.specs.Queries.{selection, Shows}
+use Rattle.portal_tables.specs.declared.select.Query.{Query}
+use Rattle.portal_core.specs.Words.{is_empty}
 use Rattle.std.proofs.lemmas.Result.{on_ok_weaker, on_err_weaker}
-use Rattle.portal_core.specs.Words.{Key}
-use Rattle.portal_core.specs.declared.phase.Phase.{Phase}
-use Rattle.portal_tables.specs.Office.{number_of}
-use Rattle.portal_store.specs.World.{world_of}
-use Rattle.portal_store.specs.Kept.{Holds, IsKept}
-use Rattle.portal_tables.proofs.InTurn.{unchanged_then, then_leaves}
-use Rattle.portal_tables.specs.Reading.{Asks}
-use Rattle.portal_store.specs.Asked.{IsVersion1, Refutes, Admits}
+use Rattle.portal_store.specs.Kept.{HasSecond, Holds, IsKept, Stands}
+use Rattle.portal_tables.proofs.InTurn.{clean_before, unchanged_then, then_leaves, reads_of}
+use Rattle.portal_tables.proofs.Keeping.{apart_one, apart_none}
+use Rattle.portal_tables.proofs.Owned.{current_own, has_round}
+use Rattle.portal_store.specs.Asked.{HasVersion, Denies, SaysNothing, Blames, Refutes, AdmitsAs, Admits}
+use Rattle.portal_tables.specs.declared.fault.TableFault.{TableFault}
+use Rattle.portal_tables.specs.declared.fault.TableFault.TheVariants as told
 use Rattle.portal_store.specs.declared.store.OpenFault.{OpenFault}
 use Rattle.portal_store.specs.declared.store.OpenFault.TheVariants.{NotPortal, OtherVersion, Damaged, Store, Memory}
 
--- after one that answered, another
-pub asks_then : {U D V E : Type 0} (u : U) (r : Result V E) (a b c : State) → Asks {V = U} {E = D} (Ok u) a b → Asks r b c → Asks r a c
-asks_then u r a b c p q =
-    let middle : IsOwn a.now.schema → HasCleanDisk c → IsUnchanged a b = λ own clean. p.same own (omega (arith, q.crash.clean, clean)) in
-    let own_there : IsUnchanged a b → IsOwn a.now.schema → IsOwn b.now.schema = λ same own. subst (λ (d : Database). IsOwn d.schema) (sym same.0.now_is) own in
+-- after one that answered, others or none
+pub asks_reads : {round : Round} {U V D E : Type 0} (u : U) (r : Result V E) (a b c : State) → AsksIn round {V = U} {E = D} (Ok u) a b → ReadsIn round r b c → AsksIn round r a c
+asks_reads {round} u r a b c p q =
+    let middle : HasRound round a.now.schema → HasCleanDisk c → IsUnchanged a b = λ own clean. p.same own (clean_before b c _ q.crash clean) in
+    let own_there : IsUnchanged a b → HasRound round a.now.schema → HasRound round b.now.schema = λ same own. subst (λ (d : Database). HasRound round d.schema) (sym same.0.now_is) own in
     record {
-      same = λ own clean. let m = middle own clean in on_ok_weaker r (unchanged_then a b c m) (q.same (own_there m own) clean);
-      err = λ own clean. let m = middle own clean in on_err_weaker r (then_leaves a b c m) (q.err (own_there m own) clean);
+      same = λ own clean. let m = middle own clean in on_ok_weaker r (unchanged_then a b c m) (q.same (own_there m own) clean m.0.is_open);
+      err = λ own clean. let m = middle own clean in on_err_weaker r (then_leaves a b c m) (q.err (own_there m own) clean m.0.is_open);
       mode = λ idle. q.mode (p.mode idle);
-      crash = survives_then a b c _ _ _ (λ clean db no. no) (λ clean db no own. no (own_there (middle own clean) own)) p.crash q.crash;
+      crash = survives_then a b c _ _ _ (λ clean db no. no) (λ clean db no own. let m = middle own clean in no (own_there m own) m.0.is_open) p.crash q.crash;
     }
 
+-- after one that answered, another
+pub asks_then : {round : Round} {U V D E : Type 0} (u : U) (r : Result V E) (a b c : State) → AsksIn round {V = U} {E = D} (Ok u) a b → AsksIn round r b c → AsksIn round r a c
+asks_then {round} u r a b c p q = asks_reads u r a b c p (reads_of r b c q)
+
 -- the same queries, where an error is answered in the end
-asks_fail : {U D V E : Type 0} (x : Result U D) (e : E) (a b : State) → Asks x a b → Asks {V = V} {E = E} (Err e) a b
+pub asks_fail : {round : Round} {U V D E : Type 0} (x : Result U D) (e : E) (a b : State) → AsksIn round x a b → AsksIn round {V = V} {E = E} (Err e) a b
 asks_fail (Ok u) e a b h = record { same = λ own clean. tt; err = λ own clean. inl (h.same own clean); mode = h.mode; crash = h.crash }
 asks_fail (Err d) e a b h = record { same = λ own clean. tt; err = h.err; mode = h.mode; crash = h.crash }
 
-pub asks_err : {U D V E : Type 0} (x : Result U D) (r : Result V E) (a b : State) → IsErr r → Asks x a b → Asks r a b
+pub asks_err : {round : Round} {U V D E : Type 0} (x : Result U D) (r : Result V E) (a b : State) → IsErr r → AsksIn round x a b → AsksIn round r a b
 asks_err x (Ok v) a b is h = absurd (cc)
 asks_err x (Err e) a b is h = asks_fail x e a b h
 
+-- the same queries, where they answered, whatever is answered then
+pub asks_more : {round : Round} {U V D E : Type 0} (u : U) (r : Result V E) (a b : State) → AsksIn round {V = U} {E = D} (Ok u) a b → AsksIn round r a b
+asks_more u (Ok v) a b h = record { same = h.same; err = λ own clean. tt; mode = h.mode; crash = h.crash }
+asks_more u (Err e) a b h = asks_fail (Ok u) e a b h
+
 -- after one that answered what was wanted, another
-pub asks_after : {U D V E : Type 0} (x : Result U D) (u : U) (r : Result V E) (a b c : State) → x ≡ Ok u → Asks x a b → Asks r b c → Asks r a c
-asks_after {U} {D} x u r a b c is h then = asks_then u r a b c (subst (λ (y : Result U D). Asks y a b) is h) then
+pub asks_after : {round : Round} {U V D E : Type 0} (x : Result U D) (u : U) (r : Result V E) (a b c : State) → x ≡ Ok u → AsksIn round x a b → AsksIn round r b c → AsksIn round r a c
+asks_after {round} {U} {V} {D} x u r a b c is h then = asks_then u r a b c (subst (λ (y : Result U D). AsksIn round y a b) is h) then
 
 -- the same queries, where they answered what was wanted, or an error is answered
-pub asks_so : {U D V E : Type 0} (x : Result U D) (u : U) (r : Result V E) (a b : State) → OnOk r (x ≡ Ok u) → Asks x a b → Asks r a b
-asks_so {U} {D} x u (Ok v) a b is h =
-    let there = subst (λ (y : Result U D). Asks y a b) is h in
-    record { same = there.same; err = λ own clean. tt; mode = there.mode; crash = there.crash }
+pub asks_so : {round : Round} {U V D E : Type 0} (x : Result U D) (u : U) (r : Result V E) (a b : State) → OnOk r (x ≡ Ok u) → AsksIn round x a b → AsksIn round r a b
+asks_so {round} {U} {V} {D} x u (Ok v) a b is h = asks_more u (Ok v) a b (subst (λ (y : Result U D). AsksIn round y a b) is h)
 asks_so x u (Err e) a b is h = asks_fail x e a b h
+
+-- what reads the tables of either round reads those of both
+pub asks_all : (round : Round) {V E : Type 0} (r : Result V E) (a b : State) → AsksIn round r a b → AsksIn Second r a b
+asks_all round r a b h = record {
+  same = λ own. h.same (has_round round a.now.schema own);
+  err = λ own. h.err (has_round round a.now.schema own);
+  mode = h.mode;
+  crash = survives_weaker a b _ _ (λ clean db no own. no (has_round round a.now.schema own)) h.crash;
+}
+
+-- refusals
+
+pub denies_more : (fault : OpenFault) (A B : Type 0) → (B → A) → Denies fault A → Denies fault B
+denies_more NotPortal A B back h = h
+denies_more OtherVersion A B back h = h
+denies_more Damaged A B back h = λ b. h (back b)
+denies_more Store A B back h = tt
+denies_more Memory A B back h = tt
+
+-- who says nothing denies anything
+pub denies_any : (fault : OpenFault) (A : Type 0) → SaysNothing fault → Denies fault A
+denies_any fault A = denies_more fault (Unit {0}) A (λ _. tt)
+
+pub denied_by : (fault : OpenFault) (A : Type 0) → (fault ≡ Damaged) ⊎ (fault ≡ Memory) → (fault ≡ Damaged → A → ⊥) → Denies fault A
+denied_by NotPortal A (inl e) h = absurd (cc)
+denied_by NotPortal A (inr e) h = absurd (cc)
+denied_by OtherVersion A (inl e) h = absurd (cc)
+denied_by OtherVersion A (inr e) h = absurd (cc)
+denied_by Damaged A e h = h refl
+denied_by Store A e h = tt
+denied_by Memory A e h = tt
+
+-- as a fault of the tables' rows
+pub denied_of : (fault : OpenFault) (why : TableFault) (A : Type 0) → (why ≡ told.Damaged → fault ≡ Damaged) → ((why ≡ told.Damaged → ⊥) → SaysNothing fault) → (why ≡ told.Damaged → A → ⊥) → Denies fault A
+denied_of fault told.Damaged A damaged nothing h = subst (λ f. Denies f A) (sym (damaged refl)) (h refl)
+denied_of fault told.Store A damaged nothing h = denies_any fault A (nothing (λ e. absurd (cc)))
+denied_of fault told.Memory A damaged nothing h = denies_any fault A (nothing (λ e. absurd (cc)))
+
+pub blames_more : (fault : OpenFault) (of : ℕ) (A B : Type 0) (db : Trees) → (B → A) → Blames fault of A db → Blames fault of B db
+blames_more NotPortal of A B db back h = h
+blames_more OtherVersion of A B db back h = h
+blames_more Damaged of A B db back h = (h.0, λ b. h.1 (back b))
+blames_more Store of A B db back h = tt
+blames_more Memory of A B db back h = tt
+
+-- of tables of this version
+pub blamed : (fault : OpenFault) (of : ℕ) (A : Type 0) (db : Trees) → HasVersion of db → Denies fault A → Blames fault of A db
+blamed NotPortal of A db of_version h = absurd h
+blamed OtherVersion of A db of_version h = absurd h
+blamed Damaged of A db of_version h = (of_version, h)
+blamed Store of A db of_version h = tt
+blamed Memory of A db of_version h = tt
+
+-- who says nothing of the tables blames them for nothing
+pub blames_none : (fault : OpenFault) (of : ℕ) (A : Type 0) (db : Trees) → SaysNothing fault → Blames fault of A db
+blames_none NotPortal of A db h = absurd h
+blames_none OtherVersion of A db h = absurd h
+blames_none Damaged of A db h = absurd (h tt)
+blames_none Store of A db h = tt
+blames_none Memory of A db h = tt
+
+pub live_still : (a b : State) → IsUnchanged a b → IsLive a → IsLive b
+live_still a b same live = λ on.
+    let was = live same.0.was_open in
+    (subst IsDatabase (sym same.0.now_is) was.0, subst IsDatabase (sym same.0.committed_is) was.1)
+
+pub if_err_weaker : {V E : Type 0} (P Q : E → Type 0) (r : Result V E) → ((e : E) → P e → Q e) → IfErr r P → IfErr r Q
+if_err_weaker P Q (Ok v) more h = tt
+if_err_weaker P Q (Err e) more h = more e h
+
+-- of the tables of both rounds, once those of the first are known to be of the version
+pub refuted : {V : Type 0} (A : Type 0) (db : Trees) (r : Result V OpenFault) → HasVersion version db → (Stands db → A) → IfErr r (λ f. Denies f A) → IfErr r (λ f. Refutes f db)
+refuted A db r of_version so = if_err_weaker (λ f. Denies f A) (λ f. Refutes f db) r (λ f h. blamed f version (Stands db) db of_version (denies_more f A (Stands db) so h))
+
+-- what is handed on says what was said
+pub handed : {V E : Type 0} (P : E → Type 0) (e : E) (r : Result V E) → IsErrAnd r (λ f. f ≡ e) → P e → IfErr r P
+handed P e (Ok v) is h = tt
+handed P e (Err f) is h = subst P (sym is) h
 
 -- the row of the office
 
@@ -88,34 +179,74 @@ listed_nil keys show table shown h none =
     let f : Row → Row × Row = λ r. (columns keys r, show r) in
     h.is ∙ keyed_none h.keyed (length_permutation _ h.keyed h.same ∙ ap (λ t. length (map f (filter every t))) none)
 
-pub office_version : (db : Trees) (shown : List Row) (row : Row) (rest : List Row) → ListsBy (0 ∷ []) every (columns (0 ∷ 2 ∷ 3 ∷ 4 ∷ [])) (db portal_tree) shown → shown ≡ row ∷ rest
-    → column row 1 ≡ Int (pos 1) → IsVersion1 db
-office_version db shown row rest h is v = record {
+pub office_version : (of : ℕ) (db : Trees) (shown : List Row) (row : Row) (rest : List Row) → ListsBy (0 ∷ []) every (columns (0 ∷ 2 ∷ 3 ∷ 4 ∷ [])) (db portal_tree) shown → shown ≡ row ∷ rest
+    → column row 1 ≡ Int (pos of) → HasVersion of db
+office_version of db shown row rest h is v = record {
   there = λ none. let e : row ∷ rest ≡ [] = sym is ∙ listed_nil _ _ _ shown h none in absurd (cc);
-  version = λ r one.
+  version_is = λ r one.
       let e : columns (0 ∷ 2 ∷ 3 ∷ 4 ∷ []) r ∷ [] ≡ row ∷ rest = sym (listed_one _ _ _ shown r h one) ∙ is in
       ap (λ (l : List Row). column (slice_index_or l 0 []) 1) e ∙ v;
 }
 
-pub office_refuted : {V : Type 0} (db : Trees) (shown : List Row) (r : Result V OpenFault) → ListsBy (0 ∷ []) every (columns (0 ∷ 2 ∷ 3 ∷ 4 ∷ [])) (db portal_tree) shown → (r ≡ Err NotPortal → shown ≡ [])
-    → (r ≡ Err OtherVersion → shown ≢ []) → (r ≡ Err OtherVersion → (row : Row) → shown ≡ row ∷ [] → column row 1 ≡ Int (pos 1) → ⊥) → IfErr r (λ fault. fault ≡ Damaged → ⊥) → IfErr r (λ fault. Refutes fault db)
-office_refuted db shown (Ok v) h none there other judged = tt
-office_refuted db shown (Err NotPortal) h none there other judged = listed_none _ _ _ shown h (none refl)
-office_refuted db shown (Err OtherVersion) h none there other judged = record {
+pub office_refuted : {V : Type 0} (of : ℕ) (A : Type 0) (db : Trees) (shown : List Row) (r : Result V OpenFault) → ListsBy (0 ∷ []) every (columns (0 ∷ 2 ∷ 3 ∷ 4 ∷ [])) (db portal_tree) shown → (r ≡ Err NotPortal → shown ≡ [])
+    → (r ≡ Err OtherVersion → shown ≢ []) → (r ≡ Err OtherVersion → (row : Row) → shown ≡ row ∷ [] → column row 1 ≡ Int (pos of) → ⊥) → IfErr r (λ fault. fault ≡ Damaged → ⊥) → IfErr r (λ fault. Blames fault of A db)
+office_refuted of A db shown (Ok v) h none there other judged = tt
+office_refuted of A db shown (Err NotPortal) h none there other judged = listed_none _ _ _ shown h (none refl)
+office_refuted of A db shown (Err OtherVersion) h none there other judged = record {
   there = λ empty. there refl (listed_nil _ _ _ shown h empty);
   other = λ row one v. other refl _ (listed_one _ _ _ shown row h one) v;
 }
-office_refuted db shown (Err Damaged) h none there other judged = absurd (judged refl)
-office_refuted db shown (Err Store) h none there other judged = tt
-office_refuted db shown (Err Memory) h none there other judged = tt
+office_refuted of A db shown (Err Damaged) h none there other judged = absurd (judged refl)
+office_refuted of A db shown (Err Store) h none there other judged = tt
+office_refuted of A db shown (Err Memory) h none there other judged = tt
 
--- the code that the one row tells is that of the world
-pub office_told : (db : Trees) (phase : Phase) (code : Key) → db portal_tree ≡ portal_row (pos 1) (pos (number_of phase)) code ∷ [] → code ≡ (world_of db).office
-unfolding world_of
-office_told db phase code is = sym (ap (λ rows. bytes (column (slice_index_or rows 0 []) 4)) is)
+-- a table of which a query shows whether there is a row
+
+pub found_none : (q : Query) (db : Trees) (found : Bool) → (selection q).passes ≡ every → FindsAny (Shows q db) found → found ≡ false → db (selection q).tree ≡ []
+found_none q db found all h none =
+    let s = selection q in
+    listed_none s.by (columns s.shown) (db s.tree) h.rows (subst (λ p. ListsBy s.by p (columns s.shown) (db s.tree) h.rows) all h.shown) (empty_if h.rows (sym h.told ∙ none))
+  where
+    empty_if : (rows : List Row) → not (is_empty rows) ≡ false → rows ≡ []
+    empty_if [] e = refl
+    empty_if (r ∷ rs) e = absurd (cc)
+
+pub found_some : (q : Query) (db : Trees) (found : Bool) → (selection q).passes ≡ every → FindsAny (Shows q db) found → found ≡ true → db (selection q).tree ≡ [] → ⊥
+found_some q db found all h some none =
+    let s = selection q in
+    let rows : h.rows ≡ [] = listed_nil s.by (columns s.shown) (db s.tree) h.rows (subst (λ p. ListsBy s.by p (columns s.shown) (db s.tree) h.rows) all h.shown) none in
+    let e : not (is_empty {X = Row} []) ≡ true = ap (λ (l : List Row). not (is_empty l)) (sym rows) ∙ sym h.told ∙ some in
+    absurd (cc)
+
+-- row numbers differ in the tables of both rounds
+pub apart_all : (db : Trees) (of : ℕ) → AdmitsAs of db → HasSecond db → AllByRecursion (λ t. IsApart (db t)) own_trees
+apart_all db of admits second =
+    let six = admits.apart in
+    let none = second.says in (
+      six.0,
+      (
+        six.1.0,
+        (
+          six.1.1.0,
+          (
+            six.1.1.1.0,
+            (
+              six.1.1.1.1.0,
+              (
+                six.1.1.1.1.1.0,
+                (
+                  apart_one (db second_tree) (second_row (pos 0)) (pos 1) refl second.is,
+                  (apart_none (db choice2_tree) none.0, (apart_none (db ranked2_tree) none.1.0, (apart_none (db ranking2_tree) none.1.1.0, (apart_none (db assigned2_tree) none.1.1.1.0, tt)))),
+                ),
+              ),
+            ),
+          ),
+        ),
+      ),
+    )
 
 -- a store over tables that were admitted
-pub opened_kept : {S : Type 0} (g : Ghosts S) (own : Bool) (old new : Held S) → new.in_transaction ≡ false → (IsTrue own → IsOwn old.schema) → (IsTrue (state g old).is_open → (state g old).now ≡ (state g old).committed) → IsLive (state g old)
+pub opened_kept : {S : Type 0} (g : Ghosts S) (own : Bool) (old new : Held S) → new.in_transaction ≡ false → (IsTrue own → IsCurrent old.schema) → (IsTrue (state g old).is_open → (state g old).now ≡ (state g old).committed) → IsLive (state g old)
     → (IsTrue own → IsTrue (state g new).is_open → IsUnchanged (state g old) (state g new) × Admits (state g old).now.trees) → IsKept g new own
 opened_kept g own old new idle is_own settled live found = record {
   idle = idle;
@@ -123,6 +254,14 @@ opened_kept g own old new idle is_own settled live found = record {
       let f = found mine on in
       let same = f.0.0 in
       let good = f.1 in
-      let before : Holds (state g old).now = record { own = is_own mine; sound = (live same.was_open).0; apart = good.apart; office = good.stands.office; whole = good.stands.whole } in
+      let before : Holds (state g old).now = record {
+        current = is_own mine;
+        own = current_own old.schema (is_own mine);
+        sound = (live same.was_open).0;
+        apart = good.apart;
+        office = good.stands.first.office;
+        second = good.stands.second;
+        whole = good.stands.first.whole;
+      } in
       record { settled = same.committed_is ∙ sym (settled same.was_open) ∙ sym same.now_is; holds = subst Holds (sym same.now_is) before };
 }

@@ -12,13 +12,11 @@ use Rattle.portal_core.specs.World.{Student, lecturer_key, project_key, student_
 use Rattle.portal_core.specs.Change.{changed, Choices, with_choice}
 use Rattle.portal_core.proofs.Keys.{is_same}
 use Rattle.portal_core.proofs.AllLaws.{all_weaker}
-use Rattle.portal_tables.specs.Own.{IsOwn}
-use Rattle.portal_tables.specs.Tables.{choice_tree}
-use Rattle.portal_tables.specs.Changes.{IsApart}
+use Rattle.portal_tables.specs.Tables.{portal_tree, lecturer_tree, project_tree, student_tree, choice_tree, ranking_tree, version}
 use Rattle.portal_tables.specs.Steps.{GoesOn}
 use Rattle.portal_tables.proofs.Runs.{goes_more}
 use Rattle.portal_tables.specs.Lists.{of_key, list_of, chosen, IsWhole}
-use Rattle.portal_store.proofs.Still.{apart_kept}
+use Rattle.portal_store.proofs.Still.{kept_at, holds_after}
 use Rattle.portal_store.specs.World.{world_of, phase_of, student_of, lecturer_of, project_row, is_ranked}
 use Rattle.portal_tables.specs.Rolls.{row_key}
 use Rattle.portal_tables.specs.Office.{HasOffice}
@@ -52,19 +50,19 @@ module _ (k : Key) (list : List Key) (first now : Database) (put : HasPut choice
       ∙ elim (is (row_key r) k) as (λ b. ◌≡◌ {A = Student} (record s { choice = cond b list s.choice }) (cond b (record s { choice = list }) s)) [ true ↦ refl | false ↦ refl ]
 
   portal : now.trees 0 ≡ first.trees 0
-  portal = put.tables.0 (λ e. absurd (cc))
+  portal = kept_at choice_tree first now put.tables portal_tree refl refl
 
   lecturers : now.trees 1 ≡ first.trees 1
-  lecturers = put.tables.1.0 (λ e. absurd (cc))
+  lecturers = kept_at choice_tree first now put.tables lecturer_tree refl refl
 
   projects : now.trees 4 ≡ first.trees 4
-  projects = put.tables.1.1.0 (λ e. absurd (cc))
+  projects = kept_at choice_tree first now put.tables project_tree refl refl
 
   students : now.trees 6 ≡ first.trees 6
-  students = put.tables.1.1.1.0 (λ e. absurd (cc))
+  students = kept_at choice_tree first now put.tables student_tree refl refl
 
   rankings : now.trees 12 ≡ first.trees 12
-  rankings = put.tables.1.1.1.1.1.0 (λ e. absurd (cc))
+  rankings = kept_at choice_tree first now put.tables ranking_tree refl refl
 
   choice_world : world_of now.trees ≡ changed (world_of first.trees) (Choices k list)
   unfolding world_of
@@ -93,17 +91,11 @@ module _ (k : Key) (list : List Key) (first now : Database) (put : HasPut choice
   }
 
   choice_holds : Holds first → Holds now
-  choice_holds was = record {
-    own = subst IsOwn (sym put.schema_is) was.own;
-    sound = put.sound;
-    apart = apart_kept choice_tree first now put.tables put.apart was.apart;
-    office = subst HasOffice (sym portal) was.office;
-    whole = choice_whole was.whole;
-  }
+  choice_holds was = holds_after choice_tree first now refl was put.tables put.schema_is put.sound put.apart (subst (HasOffice version) (sym portal) was.office) (choice_whole was.whole)
 
 pub choice_turns : (k : Key) (list : List Key) (first now : Database) → PutsList choice_tree k list first now → Turns (Choices k list) first now
 choice_turns k list first now puts holds good then =
-    let put = puts holds.own holds.apart.1.1.1.1.0 in
+    let put = puts holds.current holds.apart.1.1.1.1.0 in
     record { holds = choice_holds k list first now put holds; world = choice_world k list first now put }
 
 pub choice_made : (k : Key) (list : List Key) (old new : State) → GoesOn (PutsList choice_tree k list) old new → GoesOn (Turns (Choices k list)) old new

@@ -30,7 +30,7 @@ use Rattle.portal_tables.specs.declared.list_table.Lists.TheVariants.{Choices, R
 use Rattle.portal_tables.specs.Rolls.{row_key, by_key, RollsRise, lecturers_shown, projects_shown, students_shown, lecturer_columns, roll_columns}
 use Rattle.portal_store.specs.World.{world_of, is_ranked, lecturer_row, student_row, lecturer_of, project_row, student_of}
 use Rattle.portal_tables.specs.Lists.{of_key, chosen, list_of, IsWhole}
-use Rattle.portal_store.specs.Kept.{Stands}
+use Rattle.portal_store.specs.Kept.{StandsAs}
 use Rattle.portal_tables.specs.Shown.{shown_lecturer, shown_project, shown_student, HasPlace}
 use Rattle.portal_tables.specs.Owners.{IsFine}
 use Rattle.portal_tables.specs.Contents.{AreFine}
@@ -128,7 +128,7 @@ module _ (w : World) (one : w.round ≡ First) (good : Good w) where
   ranking_keys = all_weaker (λ l. IfSome l.ranking (IsRanking (map student_key (applicants_of w l.row.key)))) (λ l. IfSome l.ranking (AllByRecursion IsKey)) (λ l h. ranked_keys l.row.key l.ranking h) w.lecturers good.sound.rankings
 
 -- what is said of the world's rows, of the tables' rows in their order
-module _ (db : Trees) (stands : Stands db) where
+module _ (of : ℕ) (db : Trees) (stands : StandsAs of db) where
   of_lecturers : (P : Lecturer → Type 0) → AllByRecursion P (world_of db).lecturers → AllByRecursion (λ r. P (lecturer_of (db ranking_tree) r)) (by_key (db lecturer_tree))
   unfolding world_of
   of_lecturers P all = all_unmap P (lecturer_of (db ranking_tree)) (by_key (db lecturer_tree)) (subst (AllByRecursion P) (lecturers_are db) all)

@@ -1,6 +1,6 @@
 -- The tables as `create` makes them stand for the empty world in setup.
-use Rattle.std.proofs.Common.{◌≡◌, Bool, IsTrue, List, [], false, slice_index_or, map, sym, subst}
-use Rattle.std.specs.List.{AllByRecursion}
+use Rattle.std.proofs.Common.{◌≡◌, ◌≢◌, ℕ, Bool, IsTrue, List, [], ◌∷◌, true, false, not, eqb, refl, slice_index_or, map, sym, subst}
+use Rattle.std.specs.List.{AllByRecursion, list_all}
 use Rattle.sqlite.specs.Order.{Row, column, bytes}
 use Rattle.sqlite.specs.Effect.{Database}
 use Rattle.sqlite.specs.Store.{Ghosts}
@@ -12,35 +12,57 @@ use Rattle.portal_core.specs.Form.{is_code}
 use Rattle.portal_core.specs.Words.{Key, put_all}
 use Rattle.portal_core.specs.World.{lecturer_key, project_key, student_key}
 use Rattle.portal_core.specs.Good.{Good}
-use Rattle.portal_tables.specs.Tables.{no_schema}
+use Rattle.portal_tables.specs.Tables.{no_schema, portal_tree, lecturer_tree, project_tree, student_tree, choice_tree, ranking_tree, second_tree, choice2_tree, ranked2_tree, ranking2_tree, assigned2_tree}
 use Rattle.portal_tables.specs.Making.{IsFresh, Creates}
 use Rattle.portal_tables.specs.Steps.{Commits}
-use Rattle.portal_tables.proofs.Owned.{own_made}
+use Rattle.portal_tables.proofs.Keeping.{others_are}
+use Rattle.portal_tables.proofs.Making.{parts_of}
+use Rattle.portal_tables.proofs.Owned.{own_made, current_own}
 use Rattle.portal_tables.proofs.Fresh.{fresh_apart}
 use Rattle.portal_list.proofs.Fresh.{fresh_good}
 use Rattle.portal_store.specs.World.{world_of, phase_of, lecturer_of, project_row, student_of}
 use Rattle.portal_store.specs.Kept.{Holds, IsKept}
 use Rattle.portal_store.specs.Made.{first_world}
 
+-- the trees between that of `portal` and that of `second`, and those behind
+abbrev middle : List ℕ
+middle = lecturer_tree ∷ project_tree ∷ student_tree ∷ choice_tree ∷ ranking_tree ∷ []
+
+abbrev last : List ℕ
+last = choice2_tree ∷ ranked2_tree ∷ ranking2_tree ∷ assigned2_tree ∷ []
+
 none : (P : Row → Type 0) (rows : List Row) → rows ≡ [] → AllByRecursion P rows
 none P rows is = subst (AllByRecursion P) (sym is) tt
 
 module _ (office : Key) (db : Database) (f : IsFresh office db) where
+  -- all tables but `portal` and `second` are empty
+  parts : AllByRecursion (λ t. t ≢ portal_tree → t ≢ second_tree → db.trees t ≡ []) middle × AllByRecursion (λ t. t ≢ portal_tree → t ≢ second_tree → db.trees t ≡ []) (second_tree ∷ last)
+  parts = parts_of (λ t. t ≢ portal_tree → t ≢ second_tree → db.trees t ≡ []) middle (second_tree ∷ last) f.others.1
+
+  empty : (trees : List ℕ) → list_all (λ t. not (eqb t portal_tree)) trees ≡ true → list_all (λ t. not (eqb t second_tree)) trees ≡ true
+      → AllByRecursion (λ t. t ≢ portal_tree → t ≢ second_tree → db.trees t ≡ []) trees → AllByRecursion (λ t. db.trees t ≡ []) trees
+  empty trees p s all = others_are (λ t. db.trees t ≡ []) second_tree trees s (others_are (λ t. t ≢ second_tree → db.trees t ≡ []) portal_tree trees p all)
+
+  firsts : AllByRecursion (λ t. db.trees t ≡ []) middle
+  firsts = empty middle refl refl parts.0
+
   lecturers : db.trees 1 ≡ []
-  lecturers = f.others.1.0 (λ e. absurd (cc))
+  lecturers = firsts.0
 
   projects : db.trees 4 ≡ []
-  projects = f.others.1.1.0 (λ e. absurd (cc))
+  projects = firsts.1.0
 
   students : db.trees 6 ≡ []
-  students = f.others.1.1.1.0 (λ e. absurd (cc))
+  students = firsts.1.1.0
 
   pub first_holds : Holds db
   first_holds = record {
-    own = own_made db.schema f.schema_is;
+    current = own_made db.schema f.schema_is;
+    own = current_own db.schema (own_made db.schema f.schema_is);
     sound = f.sound;
     apart = fresh_apart office db f;
     office = record { phase = Setup; office = office; is = f.row };
+    second = record { is = f.second; says = empty last refl refl parts.1.1 };
     whole = record { choices = none _ (db.trees 6) students; rankings = none _ (db.trees 1) lecturers; ranked = none _ (db.trees 1) lecturers };
   }
 

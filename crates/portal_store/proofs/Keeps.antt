@@ -10,6 +10,7 @@ use Rattle.portal_core.specs.World.{World}
 use Rattle.portal_core.specs.Good.{Good, Sound}
 use Rattle.portal_tables.specs.Own.{IsOwn}
 use Rattle.portal_tables.proofs.Runs.{clean_if_open}
+use Rattle.portal_tables.specs.Reading.{Asks}
 use Rattle.portal_tables.specs.Steps.{Commits, Stays, Leaves, IsAfter}
 use Rattle.portal_core.specs.Remembered.{Remembers}
 use Rattle.portal_core.specs.declared.remembered.Remembered.{Remembered}
@@ -17,6 +18,7 @@ use Rattle.portal_store.specs.World.{world_of}
 use Rattle.portal_list.specs.Entries.{AllEntries}
 use Rattle.portal_store.specs.Kept.{AreEntries, Holds, Turned, Turns, Seen, IsKept, IsCleanStore, Lasts, LastsInMemory, kept_world}
 use Rattle.portal_store.specs.Crash.{IsLeft}
+use Rattle.portal_store.specs.Ending.{Ends}
 use Rattle.portal_store.specs.Reading.{KeepsInMind, KeepsEntries}
 
 -- nothing is changed
@@ -78,13 +80,12 @@ module _
   module _
       {V E : Type 0}
       (r : Result V E)
-      (ok : IsOwn old.schema → HasCleanDisk (state g new) → OnOk r (Commits (Turns change) (state g old) (state g new)))
-      (err : IsOwn old.schema → HasCleanDisk (state g new) → IsTrue (state g new).is_open → OnErr r (Stays (state g old) (state g new))) where
+      (ends : Ends (Turns change) r (state g old) (state g new)) where
     done : IsTrue own → IsTrue (state g new).is_open → OnOk r (Commits (Turns change) (state g old) (state g new))
-    done mine on = ok (known mine) (law on)
+    done mine on = ends.ok (known mine) (law on)
 
     stays : IsTrue own → IsTrue (state g new).is_open → OnErr r (Stays (state g old) (state g new))
-    stays mine on = err (known mine) (law on) on
+    stays mine on = ends.err (known mine) (law on) on
 
     kept_by : (r : Result V E) → (IsTrue own → IsTrue (state g new).is_open → OnOk r (Commits (Turns change) (state g old) (state g new)))
         → (IsTrue own → IsTrue (state g new).is_open → OnErr r (Stays (state g old) (state g new))) → IsKept g new own
@@ -176,8 +177,7 @@ module _
     (is_own : IsTrue before.own → IsOwn before.conn.schema)
     (law : IsTrue (state g new).is_open → HasCleanDisk (state g new))
     (r : Result V E)
-    (same : IsOwn old.schema → HasCleanDisk (state g new) → OnOk r (IsUnchanged (state g old) (state g new)))
-    (err : IsOwn old.schema → HasCleanDisk (state g new) → OnErr r (Leaves (state g old) (state g new))) where
+    (asks : Asks r (state g old) (state g new)) where
   own_known : IsTrue own → IsOwn old.schema
   own_known = subst (λ (s : Seen S). IsTrue s.own → IsOwn s.conn.schema) (sym is) is_own
 
@@ -186,7 +186,7 @@ module _
   either (Err e) a b = b
 
   rest : IsTrue own → IsTrue (state g new).is_open → Stays (state g old) (state g new)
-  rest mine on = rests g old new own kept mine (either r (same (own_known mine) (law on)) (err (own_known mine) (law on))) on
+  rest mine on = rests g old new own kept mine (either r (asks.same (own_known mine) (law on)) (asks.err (own_known mine) (law on))) on
 
   pub read_keeps : IsKept g new own
   read_keeps = still g old new own kept idle rest

@@ -5,6 +5,7 @@ pub mod Applying
 pub mod Asked
 pub mod ChoiceTurns
 pub mod FillTurns
+pub mod Ended
 pub mod Filled
 pub mod Fine
 pub mod First
@@ -19,3 +20,4 @@ pub mod RankTurns
 pub mod Remembered
 pub mod RowsOnce
 pub mod Still
+pub mod Upgraded

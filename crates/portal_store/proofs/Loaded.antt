@@ -1,5 +1,5 @@
 -- From what was read to the world.
-use Rattle.std.proofs.Common.{◌≡◌, pos, Bool, true, false, cond, Ok, Err, Result, Option, Some, None, option_map, List, [], ◌∷◌, map, refl, sym, ap, subst, ◌∙◌}
+use Rattle.std.proofs.Common.{◌≡◌, ℕ, pos, Bool, true, false, cond, Ok, Err, Result, Option, Some, None, option_map, List, [], ◌∷◌, map, refl, sym, ap, subst, ◌∙◌}
 use Rattle.std.specs.Result.{IsErrAnd}
 use Rattle.std.specs.Prelude.{slice_index_or}
 use Rattle.std.specs.List.{AllByRecursion, filter_map, cons_option}
@@ -108,10 +108,10 @@ module _ (db : Trees) where
   abbrev earlier_pair : Student → Option (Key × Key)
   earlier_pair s = option_map (λ p. (s.row.key, p)) s.earlier_place
 
-  pub rows_are : (phase : Phase) (code : Key) → db portal_tree ≡ portal_row (pos 1) (pos (number_of phase)) code ∷ []
+  pub rows_are : (of : ℕ) (phase : Phase) (code : Key) → db portal_tree ≡ portal_row (pos of) (pos (number_of phase)) code ∷ []
       → with_office phase code (rows_from db (lecturers_shown db) (projects_shown db) (students_shown db)) ≡ rows_of (world_of db)
   unfolding world_of
-  rows_are phase code office =
+  rows_are of phase code office =
       let phase_is : phase ≡ phase_of (number_in (column (slice_index_or (db portal_tree) 0 []) 3)) = sym (ap (λ rows. phase_of (number_in (column (slice_index_or rows 0 []) 3))) office ∙ phase_back phase) in
       let code_is : code ≡ bytes (column (slice_index_or (db portal_tree) 0 []) 4) = sym (ap (λ rows. bytes (column (slice_index_or rows 0 []) 4)) office) in
       let lecturers = map-map shown_lecturer lecturer_columns by_lecturer ∙ sym (ap (map (λ (l : Lecturer). l.row)) lecturers_are ∙ map-map (λ (l : Lecturer). l.row) (lecturer_of (db ranking_tree)) by_lecturer) in
@@ -157,15 +157,15 @@ module _ (db : Trees) where
             (all_weaker (λ r. IsRead Rankings db (lecturer_columns r)) (λ r. is_ranked r ≡ false → of_key (row_key r) (db ranking_tree) ≡ []) (λ r x. x.none) by_lecturer ranks);
       }
 
-  loads : (phase : Phase) (code : Key) → db portal_tree ≡ portal_row (pos 1) (pos (number_of phase)) code ∷ [] → (rows : AllRows)
-      → rows ≡ rows_from db (lecturers_shown db) (projects_shown db) (students_shown db) → AreRead db (lecturers_shown db) (students_shown db) → Loads db (with_office phase code rows)
-  loads phase code office rows is read = record { office = record { phase = phase; office = code; is = office }; whole = whole_is read; rows_are = ap (with_office phase code) is ∙ rows_are phase code office }
+  loads : (of : ℕ) (phase : Phase) (code : Key) → db portal_tree ≡ portal_row (pos of) (pos (number_of phase)) code ∷ [] → (rows : AllRows)
+      → rows ≡ rows_from db (lecturers_shown db) (projects_shown db) (students_shown db) → AreRead db (lecturers_shown db) (students_shown db) → Loads of db (with_office phase code rows)
+  loads of phase code office rows is read = record { office = record { phase = phase; office = code; is = office }; whole = whole_is read; rows_are = ap (with_office phase code) is ∙ rows_are of phase code office }
 
 -- the same, where they were read later
-pub loaded : (db there : Trees) → there ≡ db → (phase : Phase) (code : Key) → db portal_tree ≡ portal_row (pos 1) (pos (number_of phase)) code ∷ [] → (rows : AllRows)
-    → rows ≡ rows_from there (lecturers_shown there) (projects_shown there) (students_shown there) → AreRead there (lecturers_shown there) (students_shown there) → Loads db (with_office phase code rows)
-loaded db there same phase code office rows is read =
-    loads db phase code office rows (subst (λ t. rows ≡ rows_from t (lecturers_shown t) (projects_shown t) (students_shown t)) same is) (subst (λ t. AreRead t (lecturers_shown t) (students_shown t)) same read)
+pub loaded : (of : ℕ) (db there : Trees) → there ≡ db → (phase : Phase) (code : Key) → db portal_tree ≡ portal_row (pos of) (pos (number_of phase)) code ∷ [] → (rows : AllRows)
+    → rows ≡ rows_from there (lecturers_shown there) (projects_shown there) (students_shown there) → AreRead there (lecturers_shown there) (students_shown there) → Loads of db (with_office phase code rows)
+loaded of db there same phase code office rows is read =
+    loads db of phase code office rows (subst (λ t. rows ≡ rows_from t (lecturers_shown t) (projects_shown t) (students_shown t)) same is) (subst (λ t. AreRead t (lecturers_shown t) (students_shown t)) same read)
 
 -- an error that is handed on is the one that was answered
 pub same_error : {V U E : Type 0} (r : Result V E) (e want : E) → IsErrAnd r (λ f. f ≡ e) → r ≡ Err want → ◌≡◌ {A = Result U E} (Err e) (Err want)

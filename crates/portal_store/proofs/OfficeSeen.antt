@@ -25,7 +25,7 @@ use Rattle.portal_list.specs.Shown.{is_wanted, is_waiting}
 use Rattle.portal_list.proofs.Waiting.{waiting_lecturers}
 use Rattle.portal_list.proofs.Members.{has_all}
 use Rattle.portal_tables.specs.declared.list_table.Lists.TheVariants as which
-use Rattle.portal_tables.specs.Tables.{portal_tree, lecturer_tree, student_tree, choice_tree, ranking_tree}
+use Rattle.portal_tables.specs.Tables.{portal_tree, lecturer_tree, student_tree, choice_tree, ranking_tree, version}
 use Rattle.portal_tables.specs.Rows.{portal_row}
 use Rattle.portal_tables.proofs.Lists.{eq_self}
 use Rattle.portal_tables.specs.Changes.{ListsBy, columns, has_text, has_number}
@@ -86,7 +86,7 @@ module _ (db : Database) (holds : Holds db) (p : Key) (shown : List Row) (lists 
 every_whole : (db : Database) → Holds db → (k : Key) → IsWhole (of_key k (db.trees choice_tree))
 every_whole db holds k = elim (cases_Bool (has (map row_key (db.trees student_tree)) k)) [
   | inl known ↦ has_all (λ k. IsWhole (of_key k (db.trees choice_tree))) (map row_key (db.trees student_tree)) k (all_map (λ k. IsWhole (of_key k (db.trees choice_tree))) row_key (db.trees student_tree) holds.whole.choices) known
-  | inr off ↦ subst IsWhole (sym (none_of _ (db.trees student_tree) k (db.trees choice_tree) (place_parents db holds.own holds.sound which.Choices holds.apart.1.1.1.1.0) off)) tt
+  | inr off ↦ subst IsWhole (sym (none_of _ (db.trees student_tree) k (db.trees choice_tree) (place_parents db which.Choices holds.own holds.sound holds.apart.1.1.1.1.0) off)) tt
 ]
 
 one_is : (place : ℤ) → number_in (Int place) ≡ 1 → is_eq (value_cmp (Int place) (Int (pos 1))) ≡ true
@@ -107,7 +107,7 @@ module _ (db : Database) (holds : Holds db) (shown : List Row) (lists : ListsBy 
   table = db.trees choice_tree
 
   formed : AllByRecursion IsPlace table
-  formed = place_rows_formed db holds.own holds.sound which.Choices holds.apart.1.1.1.1.0
+  formed = place_rows_formed db which.Choices holds.own holds.sound holds.apart.1.1.1.1.0
 
   alike : (k : Key) (r : Row) → IsPlace r → (has_number 2 1 r && is k (row_key r)) ≡ (has_text 1 k r && has_number 2 1 r)
   alike k r x =
@@ -169,11 +169,11 @@ unlisted_told db =
     ∙ ap (map (λ (s : Student). s.row.key)) (filter-map (λ (s : Student). is_empty s.choice) (student_of (db choice_tree)) rows)
     ∙ map-map (λ (s : Student). s.row.key) (student_of (db choice_tree)) (filter (λ r. is_empty (chosen (db choice_tree) (row_key r))) rows))
 
-pub office_told : (db : Trees) (phase : Phase) (code : Key) (offers : List Listing) → db portal_tree ≡ portal_row (pos 1) (pos (number_of phase)) code ∷ [] → offers ≡ catalogue (world_of db)
+pub office_told : (db : Trees) (phase : Phase) (code : Key) (offers : List Listing) → db portal_tree ≡ portal_row (pos version) (pos (number_of phase)) code ∷ [] → offers ≡ catalogue (world_of db)
     → office_from db phase code offers (lecturers_shown db) (projects_shown db) (students_shown db) ≡ office_sees (world_of db)
 office_told db phase code offers office listed =
     let w = world_of db in
-    let same : with_office phase code (rows_from db (lecturers_shown db) (projects_shown db) (students_shown db)) ≡ rows_of w = rows_are db phase code office in
+    let same : with_office phase code (rows_from db (lecturers_shown db) (projects_shown db) (students_shown db)) ≡ rows_of w = rows_are db version phase code office in
     let without = unlisted_told db ∙ ap (λ (u : World). map (λ (s : Student). s.row.key) (filter (λ s. is_empty s.choice) u.students)) (sym (first_plays w (world_first db))) in
     let pairs : (if is_published phase then filter_map shown_pair (students_shown db) else []) ≡ pairs_of w
     = ap (λ (r : Rows). if is_published r.phase then r.pairs else []) same ∙ sym (pairs_shown w.phase w.students (none_earlier db)) in

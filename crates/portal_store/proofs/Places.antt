@@ -20,16 +20,15 @@ use Rattle.portal_core.specs.Good.{Good}
 use Rattle.portal_core.proofs.Keys.{is_same, all_unmap}
 use Rattle.portal_core.proofs.AllLaws.{map_same, all_map}
 use Rattle.portal_core.proofs.Kept.{place_row}
-use Rattle.portal_tables.specs.Tables.{portal_tree, lecturer_tree, project_tree, student_tree, choice_tree, ranking_tree}
-use Rattle.portal_tables.specs.Own.{IsOwn}
-use Rattle.portal_tables.specs.Changes.{IsApart, has_text, columns, every}
+use Rattle.portal_tables.specs.Tables.{portal_tree, lecturer_tree, project_tree, student_tree, choice_tree, ranking_tree, version}
+use Rattle.portal_tables.specs.Changes.{has_text, columns, every}
 use Rattle.portal_tables.specs.Rows.{MovesTo, Assigns, assigned_by, with_assigned, student_shown, text_or_null}
 use Rattle.portal_tables.specs.Office.{HasOffice}
 use Rattle.portal_store.specs.Kept.{Holds}
 use Rattle.portal_tables.specs.Lists.{of_key, IsWhole}
 use Rattle.portal_tables.specs.Rolls.{row_key}
 use Rattle.portal_tables.specs.Shown.{first, text_or_none}
-use Rattle.portal_store.proofs.Still.{apart_kept}
+use Rattle.portal_store.proofs.Still.{kept_at, holds_after}
 use Rattle.portal_store.specs.World.{world_of, phase_of, is_ranked, lecturer_of, project_row, student_of}
 use Rattle.portal_store.specs.Placing.{assigned_of, ShowsRoll, TurnsShown}
 use Rattle.portal_tables.proofs.Lists.{filter_all}
@@ -95,7 +94,7 @@ placed_all pairs shown old new assigns was good shows =
     let same_key : (s : Student) → student_key (with_place pairs s) ≡ student_key s = λ s. ap (λ r. r.key) (place_row pairs s) in
     let all = map (assigned_of pairs) shown in
     let formed = student_rows_formed old was.own was.sound was.apart.1.1.1.0 in
-    let a = assigns was.own was.sound was.apart.1.1.1.0 in
+    let a = assigns was.current was.sound was.apart.1.1.1.0 in
     let keys = map first shown in
     let known : AllByRecursion (λ r. has keys (row_key r) ≡ true) roll =
     all_unmap (λ k. has keys k ≡ true) row_key roll (all_permuted (λ k. has keys k ≡ true) keys (map row_key roll) (IsPermutation-sym _ _ (shown_keys shown old shows)) (each_there keys)) in
@@ -113,12 +112,11 @@ placed_all pairs shown old new assigns was good shows =
     map_same student_key (with_place pairs) same_key (map f roll) ∙ sym (map_twice student_key f roll) in
     let kept : IsPermutation (map row_key roll) (map row_key (new.trees student_tree)) =
     subst₂ IsPermutation before (sym (map_twice student_key f (new.trees student_tree))) (IsPermutation-map student_key _ _ same) in
-    let portal : new.trees portal_tree ≡ old.trees portal_tree = a.others.0 (λ e. absurd (cc)) in
-    let lecturers : new.trees lecturer_tree ≡ old.trees lecturer_tree = a.others.1.0 (λ e. absurd (cc)) in
-    let projects : new.trees project_tree ≡ old.trees project_tree = a.others.1.1.0 (λ e. absurd (cc)) in
-    let choices : new.trees choice_tree ≡ old.trees choice_tree = a.others.1.1.1.1.0 (λ e. absurd (cc)) in
-    let rankings : new.trees ranking_tree ≡ old.trees ranking_tree = a.others.1.1.1.1.1.0 (λ e. absurd (cc)) in
-    let ready = was.apart in
+    let portal : new.trees portal_tree ≡ old.trees portal_tree = kept_at student_tree old new a.others portal_tree refl refl in
+    let lecturers : new.trees lecturer_tree ≡ old.trees lecturer_tree = kept_at student_tree old new a.others lecturer_tree refl refl in
+    let projects : new.trees project_tree ≡ old.trees project_tree = kept_at student_tree old new a.others project_tree refl refl in
+    let choices : new.trees choice_tree ≡ old.trees choice_tree = kept_at student_tree old new a.others choice_tree refl refl in
+    let rankings : new.trees ranking_tree ≡ old.trees ranking_tree = kept_at student_tree old new a.others ranking_tree refl refl in
     let put : put_all student_key (map (with_place pairs) (map f roll)) [] ≡ map (with_place pairs) (put_all student_key (map f roll) []) = put_all_map student_key student_key (with_place pairs) same_key (map f roll) [] in
     let up : Rise (map student_key (put_all student_key (map (with_place pairs) (map f roll)) [])) =
     subst Rise (sym (ap (map student_key) put ∙ map_same student_key (with_place pairs) same_key (put_all student_key (map f roll) []))) good.sound.students_rise in
@@ -128,17 +126,11 @@ placed_all pairs shown old new assigns was good shows =
     all_unmap (λ k. IsWhole (of_key k (old.trees choice_tree))) row_key (new.trees student_tree)
     (all_permuted (λ k. IsWhole (of_key k (old.trees choice_tree))) _ _ kept (all_map (λ k. IsWhole (of_key k (old.trees choice_tree))) row_key roll was.whole.choices)) in
     record {
-      holds = record {
-        own = subst IsOwn (sym a.schema_is) was.own;
-        sound = a.sound;
-        apart = apart_kept student_tree old new a.others a.apart ready;
-        office = subst HasOffice (sym portal) was.office;
-        whole = record {
-          choices = subst (λ y. AllByRecursion (λ r. IsWhole (of_key (row_key r) y)) (new.trees student_tree)) (sym choices) lists;
-          rankings = subst₂ (λ x y. AllByRecursion (λ r. IsWhole (of_key (row_key r) y)) x) (sym lecturers) (sym rankings) was.whole.rankings;
-          ranked = subst₂ (λ x y. AllByRecursion (λ r. is_ranked r ≡ false → of_key (row_key r) y ≡ []) x) (sym lecturers) (sym rankings) was.whole.ranked;
-        };
-      };
+      holds = holds_after student_tree old new refl was a.others a.schema_is a.sound a.apart (subst (HasOffice version) (sym portal) was.office) (record {
+        choices = subst (λ y. AllByRecursion (λ r. IsWhole (of_key (row_key r) y)) (new.trees student_tree)) (sym choices) lists;
+        rankings = subst₂ (λ x y. AllByRecursion (λ r. IsWhole (of_key (row_key r) y)) x) (sym lecturers) (sym rankings) was.whole.rankings;
+        ranked = subst₂ (λ x y. AllByRecursion (λ r. is_ranked r ≡ false → of_key (row_key r) y ≡ []) x) (sym lecturers) (sym rankings) was.whole.ranked;
+      });
       world = λ i. record {
         round = First;
         phase = phase_of (number_in (column (slice_index_or (portal i) 0 []) 3));

@@ -18,7 +18,7 @@ use Rattle.portal_core.proofs.Keys.{find_map}
 use Rattle.portal_core.proofs.Capacities.{first_plays}
 use Rattle.portal_tables.specs.Rows.{portal_row}
 use Rattle.sqlite_trees.specs.Objects.{number_in}
-use Rattle.portal_tables.specs.Tables.{portal_tree, lecturer_tree, project_tree, student_tree, choice_tree, ranking_tree}
+use Rattle.portal_tables.specs.Tables.{portal_tree, lecturer_tree, project_tree, student_tree, choice_tree, ranking_tree, version}
 use Rattle.portal_tables.specs.Changes.{ListsBy, columns, has_text}
 use Rattle.portal_store.specs.Kept.{Holds}
 use Rattle.portal_tables.specs.Office.{number_of}
@@ -88,7 +88,7 @@ unfolding world_of
 student_told db row phase offers at_phase all = λ i. student_shown db (at_phase i) row (all i)
 
 -- the office
-module _ (db : Trees) (phase : Phase) (code : Key) (office : db portal_tree ≡ portal_row (pos 1) (pos (number_of phase)) code ∷ []) where
+module _ (db : Trees) (phase : Phase) (code : Key) (office : db portal_tree ≡ portal_row (pos version) (pos (number_of phase)) code ∷ []) where
   pub phase_told : phase ≡ (world_of db).phase
   unfolding world_of
   phase_told = sym (ap (λ rows. phase_of (number_in (column (slice_index_or rows 0 []) 3))) office ∙ phase_back phase)

@@ -16,8 +16,8 @@ use Rattle.portal_core.specs.Change.{changed, Ranks, with_ranking}
 use Rattle.portal_core.proofs.Keys.{is_same, is_own}
 use Rattle.portal_core.proofs.AllLaws.{all_weaker, is_sym, map_same}
 use Rattle.portal_list.proofs.Replaced.{ranking_here, ranking_elsewhere}
-use Rattle.portal_tables.specs.Own.{IsOwn}
-use Rattle.portal_tables.specs.Tables.{lecturer_tree, ranking_tree}
+use Rattle.portal_tables.specs.Own.{IsOwn, IsCurrent}
+use Rattle.portal_tables.specs.Tables.{portal_tree, lecturer_tree, project_tree, student_tree, choice_tree, ranking_tree, version}
 use Rattle.portal_tables.specs.Changes.{IsApart, Sets, has_text}
 use Rattle.portal_tables.specs.Rows as rows
 use Rattle.portal_tables.specs.Rows.{lecturer_cells}
@@ -26,7 +26,7 @@ use Rattle.portal_tables.proofs.Lists.{put_splits}
 use Rattle.portal_tables.proofs.Keeping.{sets_apart}
 use Rattle.portal_tables.proofs.Runs.{goes_then}
 use Rattle.portal_tables.specs.Lists.{of_key, chosen, IsWhole}
-use Rattle.portal_store.proofs.Still.{apart_kept}
+use Rattle.portal_store.proofs.Still.{kept_at, apart_kept, second_kept}
 use Rattle.portal_store.specs.World.{world_of, phase_of, student_of, lecturer_of, lecturer_row, project_row, is_ranked}
 use Rattle.portal_tables.specs.Rolls.{row_key}
 use Rattle.portal_tables.specs.Office.{HasOffice}
@@ -122,22 +122,22 @@ module _ (k : Key) (list : List Key) (first mid now : Database) (put : HasPut ra
   rest = filter (λ r. not (has_text 1 k r)) (first.trees lecturer_tree)
 
   portal : now.trees 0 ≡ first.trees 0
-  portal = set.others.0 (λ e. absurd (cc)) ∙ put.tables.0 (λ e. absurd (cc))
+  portal = kept_at lecturer_tree mid now set.others portal_tree refl refl ∙ kept_at ranking_tree first mid put.tables portal_tree refl refl
 
   lecturers : mid.trees 1 ≡ first.trees 1
-  lecturers = put.tables.1.0 (λ e. absurd (cc))
+  lecturers = kept_at ranking_tree first mid put.tables lecturer_tree refl refl
 
   projects : now.trees 4 ≡ first.trees 4
-  projects = set.others.1.1.0 (λ e. absurd (cc)) ∙ put.tables.1.1.0 (λ e. absurd (cc))
+  projects = kept_at lecturer_tree mid now set.others project_tree refl refl ∙ kept_at ranking_tree first mid put.tables project_tree refl refl
 
   students : now.trees 6 ≡ first.trees 6
-  students = set.others.1.1.1.0 (λ e. absurd (cc)) ∙ put.tables.1.1.1.0 (λ e. absurd (cc))
+  students = kept_at lecturer_tree mid now set.others student_tree refl refl ∙ kept_at ranking_tree first mid put.tables student_tree refl refl
 
   choices : now.trees 9 ≡ first.trees 9
-  choices = set.others.1.1.1.1.0 (λ e. absurd (cc)) ∙ put.tables.1.1.1.1.0 (λ e. absurd (cc))
+  choices = kept_at lecturer_tree mid now set.others choice_tree refl refl ∙ kept_at ranking_tree first mid put.tables choice_tree refl refl
 
   rankings : now.trees 12 ≡ mid.trees 12
-  rankings = set.others.1.1.1.1.1.0 (λ e. absurd (cc))
+  rankings = kept_at lecturer_tree mid now set.others ranking_tree refl refl
 
   old_rows : IsPermutation (first.trees 1) (before ∷ rest)
   old_rows = subst (λ l. IsPermutation (first.trees 1) (l ++ rest)) one (split_filter (has_text 1 k) (first.trees 1))
@@ -214,10 +214,12 @@ module _ (k : Key) (list : List Key) (first mid now : Database) (put : HasPut ra
 
   rank_holds : Holds first → Holds now
   rank_holds was = record {
+    current = subst IsCurrent (sym (set.schema_is ∙ put.schema_is)) was.current;
     own = subst IsOwn (sym (set.schema_is ∙ put.schema_is)) was.own;
     sound = set.sound;
     apart = apart_kept lecturer_tree mid now set.others (sets_apart lecturer_tree (has_text 1 k) after n mid now refl set (subst IsApart (sym lecturers) was.apart.1.0)) (apart_kept ranking_tree first mid put.tables put.apart was.apart);
-    office = subst HasOffice (sym portal) was.office;
+    office = subst (HasOffice version) (sym portal) was.office;
+    second = second_kept lecturer_tree mid now refl set.others (second_kept ranking_tree first mid refl put.tables was.second);
     whole = rank_whole was.whole;
   }
 
@@ -231,15 +233,15 @@ keys_distinct db up =
 pub rank_turns : (k : Key) (list : List Key) (first mid now : Database) → PutsList ranking_tree k list first mid → rows.Ranks k mid now
     → TurnsThere k list first now
 rank_turns k list first mid now puts ranks there holds up =
-    let put = puts holds.own holds.apart.1.1.1.1.1.0 in
+    let put = puts holds.current holds.apart.1.1.1.1.1.0 in
     let formed = lecturer_rows_formed first holds.own holds.sound holds.apart.1.0 in
-    let same : mid.trees 1 ≡ first.trees 1 = put.tables.1.0 (λ e. absurd (cc)) in
+    let same : mid.trees 1 ≡ first.trees 1 = kept_at ranking_tree first mid put.tables lecturer_tree refl refl in
     let one = one_row k (first.trees 1) formed (keys_distinct first up) there in
     let f = one.formed in
     let key : f.key ≡ k = sym (ap row_key f.is) ∙ one.key in
     let row_of = λ (x : Key). Int f.number ∷ lecturer_cells x f.name f.code f.capacity f.ranked in
     let was : filter (has_text 1 k) (first.trees 1) ≡ row_of k ∷ [] = one.is ∙ ap (λ r. r ∷ []) (f.is ∙ ap row_of key) in
-    let own = subst IsOwn (sym put.schema_is) holds.own in
+    let own = subst IsCurrent (sym put.schema_is) holds.current in
     let apart = subst IsApart (sym same) holds.apart.1.0 in
     let set = ranks own apart f.number f.name f.code f.capacity f.ranked (ap (filter (has_text 1 k)) same ∙ was) in
     record {

@@ -6,14 +6,17 @@ use Rattle.portal_core.specs.Form.{is_code}
 use Rattle.portal_core.specs.Words.{Key}
 use Rattle.portal_core.specs.Change.{Change, changed}
 use Rattle.portal_core.specs.Good.{Good}
-use Rattle.portal_tables.specs.Own.{IsOwn}
-use Rattle.portal_tables.specs.Making.{IsFresh}
+use Rattle.portal_tables.specs.Tables.{first_version}
+use Rattle.portal_tables.specs.Own.{IsFirst, IsCurrent}
+use Rattle.portal_tables.specs.Making.{IsFresh, Upgrades}
 use Rattle.portal_store.specs.World.{world_of}
-use Rattle.portal_store.specs.Kept.{Stands, Holds, Turned}
+use Rattle.portal_store.specs.Kept.{Stands, StandsAs, Holds, Turned}
 use Rattle.portal_store.specs.Made.{first_world}
-use Rattle.portal_store.specs.Asked.{Refutes}
+use Rattle.portal_store.specs.Asked.{Refutes, Bars}
 use Rattle.portal_store.specs.declared.store.OpenFault.{OpenFault}
-use Rattle.portal_store.specs.declared.store.OpenFault.TheVariants.{Store, Memory}
+use Rattle.portal_store.specs.declared.store.OpenFault.TheVariants as opening
+use Rattle.portal_store.specs.declared.store.UpgradeFault.{UpgradeFault}
+use Rattle.portal_store.specs.declared.store.UpgradeFault.TheVariants as upgrading
 
 -- the tables before the change, or tables that have turned to the changed world
 abbrev pub IsLeft : Change → Database → Trees → Type 0
@@ -21,9 +24,15 @@ IsLeft change old db = (db ≡ old.trees) ⊎ ((after : Database) × Turned chan
 
 -- an opening finds the portal's own tables and a good world, so that it is refused for the store or want of memory alone
 pub record Reopens (found : Database) : Type 0 where
-  pub own : IsOwn found.schema
+  pub current : IsCurrent found.schema
   pub stands : Stands found.trees
-  pub faults : (fault : OpenFault) → Refutes fault found.trees → (fault ≡ Store) ⊎ (fault ≡ Memory)
+  pub faults : (fault : OpenFault) → Refutes fault found.trees → (fault ≡ opening.Store) ⊎ (fault ≡ opening.Memory)
+
+-- an upgrade finds the tables of version 1 and a good world, so that it is refused for the store or want of memory alone
+pub record UpgradesYet (found : Database) : Type 0 where
+  pub first : IsFirst found.schema
+  pub stands : StandsAs first_version found.trees
+  pub faults : (fault : UpgradeFault) → Bars fault found.trees → (fault ≡ upgrading.Store) ⊎ (fault ≡ upgrading.Memory)
 
 -- what a crash of a change left opens with the world before or the world after
 abbrev pub OpensAgain : Type 0
@@ -33,3 +42,9 @@ OpensAgain = (change : Change) (old found : Database) → Holds old → Good (wo
 -- what `create` made opens with the empty world in setup
 abbrev pub OpensFresh : Type 0
 OpensFresh = (office : Key) (made found : Database) → IsTrue (is_code office) → IsFresh office made → found.trees ≡ made.trees → IsDatabase found → Reopens found × (world_of found.trees ≡ first_world office)
+
+-- what a crash of an upgrade left can be upgraded, where it is what was there before, or opened, where the upgrade was made: with the same world
+abbrev pub UpgradesAgain : Type 0
+UpgradesAgain = (old found : Database) → IsFirst old.schema → IsDatabase old → StandsAs first_version old.trees → IsDatabase found
+    → (found.trees ≡ old.trees → UpgradesYet found × (world_of found.trees ≡ world_of old.trees))
+    × ((after : Database) → Upgrades old after → found.trees ≡ after.trees → Reopens found × (world_of found.trees ≡ world_of old.trees))

@@ -1,5 +1,5 @@
--- The world that was found in the tables.
-use Rattle.std.specs.Prelude.{◌≡◌}
+-- The world that was found in tables of a version.
+use Rattle.std.specs.Prelude.{◌≡◌, ℕ}
 use Rattle.sqlite.specs.Tree.{Trees}
 use Rattle.portal_core.specs.World.{World}
 use Rattle.portal_tables.specs.Tables.{portal_tree}
@@ -7,7 +7,7 @@ use Rattle.portal_store.specs.World.{world_of}
 use Rattle.portal_tables.specs.Office.{HasOffice}
 use Rattle.portal_store.specs.Kept.{Whole}
 
-pub record Finds (db : Trees) (w : World) : Type 0 where
-  pub office : HasOffice (db portal_tree)
+pub record Finds (of : ℕ) (db : Trees) (w : World) : Type 0 where
+  pub office : HasOffice of (db portal_tree)
   pub whole : Whole db
   pub world : w ≡ world_of db

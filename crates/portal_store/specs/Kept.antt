@@ -1,5 +1,5 @@
 -- What a store keeps true between two calls, and what a change of the world is to the tables.
-use Rattle.std.specs.Prelude.{◌≡◌, ◌⊎◌, ℕ, ◌+◌, ◌-◌, ◌^◌, ◌≤◌, min, Bool, false, [], Option, IfSome, IsTrue, refl}
+use Rattle.std.specs.Prelude.{◌≡◌, ◌⊎◌, ℕ, pos, ◌+◌, ◌-◌, ◌^◌, ◌≤◌, min, Bool, false, [], ◌∷◌, Option, IfSome, IsTrue, refl}
 use Rattle.std.specs.Coded.{Coded, code_by, coded×, coded_bool, coded_ℕ}
 use Rattle.std.specs.List.{AllByRecursion}
 use Rattle.sqlite.specs.Tree.{Trees}
@@ -15,12 +15,13 @@ use Rattle.portal_core.specs.Good.{Good}
 use Rattle.portal_core.specs.Remembered.{Remembers}
 use Rattle.portal_core.specs.declared.remembered.Remembered.{Remembered}
 use Rattle.portal_list.specs.Entries.{AllEntries, HasEntries}
-use Rattle.portal_tables.specs.Tables.{portal_tree, lecturer_tree, student_tree, choice_tree, ranking_tree, own_trees}
-use Rattle.portal_tables.specs.Own.{IsOwn}
+use Rattle.portal_tables.specs.Tables.{portal_tree, lecturer_tree, student_tree, choice_tree, ranking_tree, second_tree, choice2_tree, ranked2_tree, ranking2_tree, assigned2_tree, own_trees, version}
+use Rattle.portal_tables.specs.Own.{IsOwn, IsCurrent}
 use Rattle.portal_tables.specs.Changes.{IsApart}
 use Rattle.portal_tables.specs.Lists.{of_key, IsWhole}
 use Rattle.portal_tables.specs.Office.{HasOffice}
 use Rattle.portal_tables.specs.Rolls.{row_key}
+use Rattle.portal_tables.specs.Rows.{second_row}
 use Rattle.portal_store.specs.World.{world_of, is_ranked}
 
 -- no list has a gap, and who has no ranking has no row of one
@@ -29,18 +30,34 @@ pub record Whole (db : Trees) : Type 0 where
   pub rankings : AllByRecursion (λ r. IsWhole (of_key (row_key r) (db ranking_tree))) (db lecturer_tree)
   pub ranked : AllByRecursion (λ r. is_ranked r ≡ false → of_key (row_key r) (db ranking_tree) ≡ []) (db lecturer_tree)
 
--- the tables stand for a good world
-pub record Stands (db : Trees) : Type 0 where
-  pub office : HasOffice (db portal_tree)
+-- the tables of the choices, rankings and places of a second round have no row
+abbrev pub AreEmpty : Trees → Type 0
+AreEmpty db = AllByRecursion (λ t. db t ≡ []) (choice2_tree ∷ ranked2_tree ∷ ranking2_tree ∷ assigned2_tree ∷ [])
+
+-- the one row of `second` tells that there is no second round, and nothing of one is there
+pub record HasSecond (db : Trees) : Type 0 where
+  pub is : db second_tree ≡ second_row (pos 0) ∷ []
+  pub says : AreEmpty db
+
+-- the tables of the first round are of this version and stand for a good world
+pub record StandsAs (of : ℕ) (db : Trees) : Type 0 where
+  pub office : HasOffice of (db portal_tree)
   pub whole : Whole db
   pub good : Good (world_of db)
 
+-- the tables of both rounds stand for a good world
+pub record Stands (db : Trees) : Type 0 where
+  pub first : StandsAs version db
+  pub second : HasSecond db
+
 -- what every change may rely on, and leaves
 pub record Holds (db : Database) : Type 0 where
+  pub current : IsCurrent db.schema
   pub own : IsOwn db.schema
   pub sound : IsDatabase db
   pub apart : AllByRecursion (λ t. IsApart (db.trees t)) own_trees
-  pub office : HasOffice (db.trees portal_tree)
+  pub office : HasOffice version (db.trees portal_tree)
+  pub second : HasSecond db.trees
   pub whole : Whole db.trees
 
 -- the tables have turned to the changed world

@@ -1,5 +1,6 @@
 pub mod Asked
 pub mod Crash
+pub mod Ending
 pub mod Found
 pub mod Kept
 pub mod Loads

@@ -1,12 +1,44 @@
--- What is remembered while the tables are read.
-use Rattle.std.specs.Prelude.{Option, IsTrue}
-use Rattle.sqlite.specs.State.{State, HasCleanDisk}
+-- What is known of the tables while they are read, and what is remembered.
+use Rattle.std.specs.Prelude.{◌≡◌, List, Option, IsTrue}
+use Rattle.sqlite.specs.Order.{Row}
+use Rattle.sqlite.specs.Effect.{IsDatabase}
+use Rattle.sqlite.specs.Held.{Held, state}
+use Rattle.sqlite.specs.State.{State, HasCleanDisk, IsLive}
+use Rattle.sqlite.specs.Store.{Ghosts}
+use Rattle.sqlite.specs.Tree.{Trees}
 use Rattle.portal_core.specs.Remembered.{Remembers}
 use Rattle.portal_core.specs.declared.remembered.Remembered.{Remembered}
 use Rattle.portal_core.specs.Good.{Good}
 use Rattle.portal_list.specs.Entries.{AllEntries}
+use Rattle.portal_tables.specs.Own.{IsOwn, IsCurrent}
+use Rattle.portal_tables.specs.Changes.{every}
+use Rattle.portal_tables.specs.Queries.{selection}
+use Rattle.portal_tables.specs.declared.select.Query.{Query}
 use Rattle.portal_store.specs.Kept.{AreEntries, Holds}
 use Rattle.portal_store.specs.World.{world_of}
+
+-- what the connection shows
+abbrev pub shown : {S : Type 0} → Ghosts S → Held S → Trees
+shown g conn = (state g conn).now.trees
+
+-- a query of all rows of a table, and these rows
+abbrev pub ReadsAll : Query → Type 0
+ReadsAll query = (selection query).passes ≡ every
+
+abbrev pub table_of : Query → Trees → List Row
+table_of query db = db (selection query).tree
+
+-- this holds where the first round's tables are the portal's own in a sound database, and the disk is clean
+abbrev pub OverOwn : {S : Type 0} → Ghosts S → Held S → Held S → Type 0 → Type 0
+OverOwn g old new So = IsOwn old.schema → IsDatabase (state g old).now → HasCleanDisk (state g new) → So
+
+-- the same of the tables of both rounds
+abbrev pub OverBoth : {S : Type 0} → Ghosts S → Held S → Held S → Type 0 → Type 0
+OverBoth g old new So = IsCurrent old.schema → IsDatabase (state g old).now → HasCleanDisk (state g new) → So
+
+-- the same of the first round's where the database is sound if it is open
+abbrev pub OverLive : {S : Type 0} → Ghosts S → Held S → Held S → Type 0 → Type 0
+OverLive g old new So = IsOwn old.schema → IsLive (state g old) → HasCleanDisk (state g new) → So
 
 -- what was remembered before was right, so what is remembered after is
 abbrev pub KeepsInMind : Remembered → Remembered → State → State → Type 0

@@ -1,13 +1,12 @@
 //! Makes one change of the world in a transaction of its own, whatever its kind.
 
-ghost use Rattle.std.specs.Prelude.{◌≡◌, false, OnOk, OnErr, IsTrue};
-ghost use Rattle.sqlite.specs.State.{HasCleanDisk, Survives};
+ghost use Rattle.std.specs.Prelude.{◌≡◌, false};
 ghost use Rattle.sqlite.specs.Held.{state};
 ghost use Rattle.portal_core.specs.Counting.{CountsFaults};
 ghost use Rattle.portal_core.specs.Meaning.{meant};
 ghost use Rattle.portal_tables.specs.Own.{IsOwn};
-ghost use Rattle.portal_tables.specs.Steps.{Commits, IsAfter, LeavesOnly, Stays};
 ghost use Rattle.portal_store.specs.Kept.{Turns};
+ghost use Rattle.portal_store.specs.Ending.{Ends};
 ghost use Rattle.portal_store.specs.Reading.{KeepsEntries};
 
 use crate::fault::told;
@@ -33,19 +32,10 @@ fn take<S: Alter>(
 ) -> Result<(), TableFault>
     requires idle { conn.old.in_transaction ≡ false }
     ensures idle { conn.new.in_transaction ≡ false }
-    ensures ok { IsOwn conn.old.schema → HasCleanDisk (state S.Store conn.new)
-        → OnOk result (Commits (Turns (meant change.now)) (state S.Store conn.old)
-        (state S.Store conn.new)) }
-    ensures err { IsOwn conn.old.schema → HasCleanDisk (state S.Store conn.new)
-        → IsTrue (state S.Store conn.new).is_open
-        → OnErr result (Stays (state S.Store conn.old) (state S.Store conn.new)) }
+    ensures ends { Ends (Turns (meant change.now)) result (state S.Store conn.old)
+        (state S.Store conn.new) }
     ensures entries { IsOwn conn.old.schema
         → KeepsEntries entries.old entries.new (state S.Store conn.old) (state S.Store conn.new) }
-    ensures durable { IsOwn conn.old.schema → HasCleanDisk (state S.Store conn.new)
-        → OnOk result (LeavesOnly (state S.Store conn.new)) }
-    ensures crash { IsOwn conn.old.schema
-        → Survives (state S.Store conn.old) (state S.Store conn.new)
-        (IsAfter (Turns (meant change.now)) (state S.Store conn.old)) }
 {
     match change {
         Change::Choices { student, projects } => commit(
@@ -74,19 +64,10 @@ pub(crate) fn make<S: Alter>(
 ) -> Result<(), KeepFault>
     requires idle { conn.old.in_transaction ≡ false }
     ensures idle { conn.new.in_transaction ≡ false }
-    ensures ok { IsOwn conn.old.schema → HasCleanDisk (state S.Store conn.new)
-        → OnOk result (Commits (Turns (meant change.now)) (state S.Store conn.old)
-        (state S.Store conn.new)) }
-    ensures err { IsOwn conn.old.schema → HasCleanDisk (state S.Store conn.new)
-        → IsTrue (state S.Store conn.new).is_open
-        → OnErr result (Stays (state S.Store conn.old) (state S.Store conn.new)) }
+    ensures ends { Ends (Turns (meant change.now)) result (state S.Store conn.old)
+        (state S.Store conn.new) }
     ensures entries { IsOwn conn.old.schema
         → KeepsEntries entries.old entries.new (state S.Store conn.old) (state S.Store conn.new) }
-    ensures durable { IsOwn conn.old.schema → HasCleanDisk (state S.Store conn.new)
-        → OnOk result (LeavesOnly (state S.Store conn.new)) }
-    ensures crash { IsOwn conn.old.schema
-        → Survives (state S.Store conn.old) (state S.Store conn.new)
-        (IsAfter (Turns (meant change.now)) (state S.Store conn.old)) }
     ensures counts { CountsFaults result faults.old faults.new }
 {
     match take(alloc, conn, entries, change) {

@@ -8,6 +8,7 @@ ghost use Rattle.portal_core.specs.Good.{Good};
 ghost use Rattle.portal_tables.specs.Tables.{no_schema};
 ghost use Rattle.portal_tables.specs.Making.{Creates};
 ghost use Rattle.portal_tables.specs.Names.{has_names};
+ghost use Rattle.portal_tables.specs.declared.names.Names.TheVariants.{All};
 ghost use Rattle.portal_tables.specs.Steps.{Commits, IsAfter, LeavesOnly, Stays};
 ghost use Rattle.portal_store.specs.Kept.{IsCleanStore, kept_world};
 ghost use Rattle.portal_store.specs.Made.{first_world};
@@ -17,7 +18,7 @@ use crate::store::{CreateFault, NotOpened, Store};
 use portal_core::{Code, Remembered};
 use portal_tables::fault::TableFault;
 use portal_tables::make::create_portal;
-use portal_tables::names::{is_empty, is_there};
+use portal_tables::names::{Names, is_empty, is_there};
 use portal_tables::own::Pattern;
 use sqlite::{Alter, Connection, MemStore};
 use std::alloc::Global;
@@ -25,7 +26,7 @@ use std::alloc::Global;
 impl<S: Alter> Store<S> {
     /// Makes the portal's tables in a database that has none of them: the empty world in setup, whose office has this code.
     /// A refusal hands the connection back, and the file holds what it held where the connection is clean. `Exists` comes
-    /// where a table or a view of one of the six names is there, and only then; no clause says when `Store` or `Memory` comes.
+    /// where a table or a view of one of the eleven names is there, and only then; no clause says when `Store` or `Memory` comes.
     pub fn create(
         alloc: Global,
         mut conn: Connection<S>,
@@ -40,9 +41,9 @@ impl<S: Alter> Store<S> {
         ensures good { IfOk result (λ s. IsCleanStore S.Store s → Good (kept_world S.Store s)) }
         ensures durable { IfOk result (λ s. HasCleanDisk (state S.Store s.conn)
             → LeavesOnly (state S.Store s.conn)) }
-        ensures exists { IfErr result (λ e. IsTrue (has_names conn.schema)
+        ensures exists { IfErr result (λ e. IsTrue (has_names All conn.schema)
             ↔ (e.fault ≡ CreateFault.Exists)) }
-        ensures free { IfOk result (λ _. has_names conn.schema ≡ false) }
+        ensures free { IfOk result (λ _. has_names All conn.schema ≡ false) }
         ensures untouched { IfErr result (λ e. e.fault ≡ CreateFault.Exists → e.connection ≡ conn) }
         ensures same { IfErr result (λ e. HasCleanDisk (state S.Store e.connection)
             → IsTrue (state S.Store e.connection).is_open
@@ -54,7 +55,7 @@ impl<S: Alter> Store<S> {
             (state S.Store e.connection) (IsAfter (Creates office) (state S.Store conn))) }
     {
         let own = is_empty(conn.schema());
-        if is_there(conn.schema()) {
+        if is_there(conn.schema(), Names::All) {
             return Err(NotOpened {
                 fault: CreateFault::Exists,
                 connection: conn,

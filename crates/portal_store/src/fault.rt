@@ -1,14 +1,15 @@
 //! What an error of the connection, of the tables or of their rows means to who makes or opens a store.
 
-ghost use Rattle.std.specs.Prelude.{◌≡◌, ◌≢◌, ◌↔◌, ◌⊎◌, ◌+◌, ◌-◌, ◌^◌};
+ghost use Rattle.std.specs.Prelude.{◌≡◌, ◌≢◌, ◌↔◌, ◌+◌, ◌-◌, ◌^◌};
 ghost use Rattle.sqlite.specs.Tree.{Trees};
 ghost use Rattle.sqlite.specs.State.{store_error};
 ghost use Rattle.sqlite_trees.specs.declared.error.StoreError.{StoreError};
 ghost use Rattle.sqlite_resolve.specs.declared.error.CompileError.{CompileError};
-ghost use Rattle.portal_store.specs.Kept.{Stands};
-ghost use Rattle.portal_store.specs.Asked.{IsVersion1, Refutes};
+ghost use Rattle.portal_tables.specs.Tables.{first_version};
+ghost use Rattle.portal_store.specs.Kept.{StandsAs};
+ghost use Rattle.portal_store.specs.Asked.{SaysNothing, Blames, Bars};
 
-use crate::store::{CreateFault, OpenFault};
+use crate::store::{CreateFault, OpenFault, UpgradeFault};
 use portal_core::KeepFault;
 use portal_list::RowsFault;
 use portal_tables::fault::TableFault;
@@ -38,8 +39,7 @@ pub(crate) fn rows_fault_of(fault: RowsFault) -> TableFault
 
 /// Want of memory, or a fault of the store: nothing is said of the tables.
 pub(crate) fn open_fault_of(error: Error) -> OpenFault
-    ensures refutes { (db : Trees) → Refutes result db }
-    ensures kind { (result ≡ OpenFault.Memory) ⊎ (result ≡ OpenFault.Store) }
+    ensures nothing { SaysNothing result }
     ensures memory { (result ≡ OpenFault.Memory)
         ↔ (error ≡ Error.SqliteFailure ErrorCode.OutOfMemory) }
 {
@@ -78,8 +78,7 @@ pub(crate) fn table_fault_of(error: Error) -> OpenFault
 
 /// What it means to an opening that no world was loaded.
 pub(crate) fn load_open_fault_of(fault: TableFault) -> OpenFault
-    ensures refutes { (db : Trees) → (fault ≡ TableFault.Damaged → Stands db → ⊥) → IsVersion1 db
-        → Refutes result db }
+    ensures nothing { (fault ≡ TableFault.Damaged → ⊥) → SaysNothing result }
     ensures damaged { (result ≡ OpenFault.Damaged) ↔ (fault ≡ TableFault.Damaged) }
     ensures memory { (result ≡ OpenFault.Memory) ↔ (fault ≡ TableFault.Memory) }
 {
@@ -87,6 +86,35 @@ pub(crate) fn load_open_fault_of(fault: TableFault) -> OpenFault
         TableFault::Damaged => OpenFault::Damaged,
         TableFault::Store => OpenFault::Store,
         TableFault::Memory => OpenFault::Memory,
+    }
+}
+
+/// What it means to an upgrade that the tables of version 1 are not opened.
+pub(crate) fn upgrade_fault_of(fault: OpenFault) -> UpgradeFault
+    ensures bars { (db : Trees) → Blames fault first_version (StandsAs first_version db) db
+        → Bars result db }
+    ensures exists { result ≢ UpgradeFault.Exists }
+    ensures damaged { (result ≡ UpgradeFault.Damaged) ↔ (fault ≡ OpenFault.Damaged) }
+    ensures memory { (result ≡ UpgradeFault.Memory) ↔ (fault ≡ OpenFault.Memory) }
+{
+    match fault {
+        OpenFault::NotPortal => UpgradeFault::NotPortal,
+        OpenFault::OtherVersion => UpgradeFault::OtherVersion,
+        OpenFault::Damaged => UpgradeFault::Damaged,
+        OpenFault::Store => UpgradeFault::Store,
+        OpenFault::Memory => UpgradeFault::Memory,
+    }
+}
+
+/// What it means that the tables are not upgraded: want of memory, or a fault of the store.
+pub(crate) fn upgrading_fault_of(fault: TableFault) -> UpgradeFault
+    ensures bars { (db : Trees) → Bars result db }
+    ensures exists { result ≢ UpgradeFault.Exists }
+    ensures memory { (result ≡ UpgradeFault.Memory) ↔ (fault ≡ TableFault.Memory) }
+{
+    match fault {
+        TableFault::Memory => UpgradeFault::Memory,
+        TableFault::Damaged | TableFault::Store => UpgradeFault::Store,
     }
 }
 

@@ -1,13 +1,12 @@
 //! The missing rankings, put in one transaction.
 
-ghost use Rattle.std.specs.Prelude.{◌≡◌, false, List, map, OnOk, OnErr, IsTrue};
-ghost use Rattle.sqlite.specs.State.{HasCleanDisk, Survives};
+ghost use Rattle.std.specs.Prelude.{◌≡◌, false, List, map};
 ghost use Rattle.sqlite.specs.Held.{state};
 ghost use Rattle.portal_core.specs.Words as words;
 ghost use Rattle.portal_core.specs.Change.{Fill};
 ghost use Rattle.portal_tables.specs.Own.{IsOwn};
-ghost use Rattle.portal_tables.specs.Steps.{Commits, IsAfter, LeavesOnly, Stays};
 ghost use Rattle.portal_store.specs.Kept.{Turns};
+ghost use Rattle.portal_store.specs.Ending.{Ends};
 ghost use Rattle.portal_store.specs.Putting.{TurnsAll};
 ghost use Rattle.portal_store.specs.Reading.{KeepsEntries};
 
@@ -50,18 +49,10 @@ pub(crate) fn fill_rankings<S: Alter>(
 ) -> Result<(), TableFault>
     requires idle { conn.old.in_transaction ≡ false }
     ensures idle { conn.new.in_transaction ≡ false }
-    ensures ok { IsOwn conn.old.schema → HasCleanDisk (state S.Store conn.new)
-        → OnOk result (Commits (Turns Fill) (state S.Store conn.old) (state S.Store conn.new)) }
+    ensures ends { Ends (Turns Fill) result (state S.Store conn.old)
+        (state S.Store conn.new) }
     ensures entries { IsOwn conn.old.schema
         → KeepsEntries entries.old entries.new (state S.Store conn.old) (state S.Store conn.new) }
-    ensures err { IsOwn conn.old.schema → HasCleanDisk (state S.Store conn.new)
-        → IsTrue (state S.Store conn.new).is_open
-        → OnErr result (Stays (state S.Store conn.old) (state S.Store conn.new)) }
-    ensures durable { IsOwn conn.old.schema → HasCleanDisk (state S.Store conn.new)
-        → OnOk result (LeavesOnly (state S.Store conn.new)) }
-    ensures crash { IsOwn conn.old.schema
-        → Survives (state S.Store conn.old) (state S.Store conn.new)
-        (IsAfter (Turns Fill) (state S.Store conn.old)) }
 {
     let _idle = conn.is_autocommit();
     let read = load_entries(alloc, conn)?;

@@ -1,17 +1,15 @@
 //! The instance of the world that the tables stand for.
 
-ghost use Rattle.std.specs.Prelude.{◌≡◌, false, IfOk, OnOk, OnErr};
-ghost use Rattle.sqlite.specs.State.{HasCleanDisk, IsUnchanged, Survives};
+ghost use Rattle.std.specs.Prelude.{◌≡◌, false, IfOk};
 ghost use Rattle.sqlite.specs.Held.{state};
-ghost use Rattle.sqlite.specs.Effect.{IsDatabase};
 ghost use Rattle.portal_core.specs.World.{World};
 ghost use Rattle.portal_core.specs.Counting.{CountsFaults};
 ghost use Rattle.portal_core.specs.Good.{Sound};
 ghost use Rattle.portal_core.specs.Instance as meant_by;
 ghost use Rattle.portal_list.specs.Entries.{HasEntries};
-ghost use Rattle.portal_tables.specs.Own.{IsOwn};
-ghost use Rattle.portal_tables.specs.Steps.{Leaves};
+ghost use Rattle.portal_tables.specs.Reading.{Asks};
 ghost use Rattle.portal_store.specs.World.{world_of};
+ghost use Rattle.portal_store.specs.Reading.{shown, OverOwn};
 
 use crate::fault::{rows_fault_of, told};
 use crate::load::load_entries;
@@ -46,16 +44,10 @@ pub(crate) fn instance_in<S: Alter>(
 ) -> Result<Instance, KeepFault>
     requires idle { conn.old.in_transaction ≡ false }
     ensures idle { conn.new.in_transaction ≡ false }
-    ensures instance { IsOwn conn.old.schema → IsDatabase (state S.Store conn.old).now
-        → HasCleanDisk (state S.Store conn.new)
-        → IfOk result (λ i. Sound (world_of (state S.Store conn.old).now.trees)
-        → i ≡ meant_by.instance (world_of (state S.Store conn.old).now.trees)) }
-    ensures same { IsOwn conn.old.schema → HasCleanDisk (state S.Store conn.new)
-        → OnOk result (IsUnchanged (state S.Store conn.old) (state S.Store conn.new)) }
-    ensures err { IsOwn conn.old.schema → HasCleanDisk (state S.Store conn.new)
-        → OnErr result (Leaves (state S.Store conn.old) (state S.Store conn.new)) }
-    ensures survives { Survives (state S.Store conn.old) (state S.Store conn.new)
-        (λ _. IsOwn conn.old.schema → ⊥) }
+    ensures instance { OverOwn S.Store conn.old conn.new
+        (IfOk result (λ i. Sound (world_of (shown S.Store conn.old))
+        → i ≡ meant_by.instance (world_of (shown S.Store conn.old)))) }
+    ensures asks { Asks result (state S.Store conn.old) (state S.Store conn.new) }
     ensures counts { CountsFaults result faults.old faults.new }
 {
     match load_entries(alloc, conn) {

@@ -1,4 +1,4 @@
-//! A keeper in a database of six tables, each change of which is one transaction.
+//! A keeper in a database of eleven tables, each change of which is one transaction.
 #![tactic(auto)]
 
 mod change;
@@ -18,7 +18,9 @@ mod phase;
 mod placing;
 pub mod queries;
 mod rolls;
+mod seeing;
 mod sound;
 mod store;
+mod upgrade;
 
-pub use store::{CreateFault, NotOpened, OpenFault, Store};
+pub use store::{CreateFault, NotOpened, OpenFault, Store, UpgradeFault};

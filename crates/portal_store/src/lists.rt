@@ -1,12 +1,10 @@
 //! A student's list and a lecturer's ranking, each put in place of any other.
 
-ghost use Rattle.std.specs.Prelude.{◌≡◌, false, OnOk, OnErr, IsTrue};
-ghost use Rattle.sqlite.specs.State.{HasCleanDisk, Survives};
+ghost use Rattle.std.specs.Prelude.{◌≡◌, false};
 ghost use Rattle.sqlite.specs.Held.{state};
 ghost use Rattle.portal_core.specs.Change.{Choices, Ranks};
-ghost use Rattle.portal_tables.specs.Own.{IsOwn};
-ghost use Rattle.portal_tables.specs.Steps.{Commits, IsAfter, LeavesOnly, Stays};
 ghost use Rattle.portal_store.specs.Kept.{Turns};
+ghost use Rattle.portal_store.specs.Ending.{Ends};
 ghost use Rattle.portal_store.specs.Putting.{TurnsThere};
 
 use portal_tables::fault::TableFault;
@@ -60,17 +58,8 @@ pub(crate) fn replace_ranking<S: Alter>(
 ) -> Result<(), TableFault>
     requires idle { conn.old.in_transaction ≡ false }
     ensures idle { conn.new.in_transaction ≡ false }
-    ensures ok { IsOwn conn.old.schema → HasCleanDisk (state S.Store conn.new)
-        → OnOk result (Commits (Turns (Ranks lecturer.now students.now)) (state S.Store conn.old)
-        (state S.Store conn.new)) }
-    ensures err { IsOwn conn.old.schema → HasCleanDisk (state S.Store conn.new)
-        → IsTrue (state S.Store conn.new).is_open
-        → OnErr result (Stays (state S.Store conn.old) (state S.Store conn.new)) }
-    ensures durable { IsOwn conn.old.schema → HasCleanDisk (state S.Store conn.new)
-        → OnOk result (LeavesOnly (state S.Store conn.new)) }
-    ensures crash { IsOwn conn.old.schema
-        → Survives (state S.Store conn.old) (state S.Store conn.new)
-        (IsAfter (Turns (Ranks lecturer.now students.now)) (state S.Store conn.old)) }
+    ensures ends { Ends (Turns (Ranks lecturer.now students.now)) result (state S.Store conn.old)
+        (state S.Store conn.new) }
 {
     let _idle = conn.is_autocommit();
     let there = read(conn, Query::LecturerByKey(lecturer.as_bytes()))?;

@@ -1,17 +1,15 @@
 //! The code of the office, of its row.
 
-ghost use Rattle.std.specs.Prelude.{◌≡◌, false, IfOk, OnOk, OnErr};
-ghost use Rattle.sqlite.specs.State.{HasCleanDisk, IsUnchanged, Survives};
+ghost use Rattle.std.specs.Prelude.{◌≡◌, false, IfOk};
 ghost use Rattle.portal_core.specs.Counting.{CountsFaults};
-ghost use Rattle.sqlite.specs.Effect.{IsDatabase};
 ghost use Rattle.sqlite.specs.Held.{state};
-ghost use Rattle.portal_tables.specs.Own.{IsOwn};
-ghost use Rattle.portal_tables.specs.Steps.{Leaves};
+ghost use Rattle.portal_tables.specs.Reading.{Asks};
 ghost use Rattle.portal_store.specs.World.{world_of};
+ghost use Rattle.portal_store.specs.Reading.{shown, OverOwn};
 
 use crate::fault::told;
 use portal_core::{Code, KeepFault};
-use portal_tables::office::office_in;
+use portal_tables::office::{VERSION, office_in};
 use sqlite::{Alter, Connection};
 use std::alloc::Global;
 
@@ -23,18 +21,12 @@ pub(crate) fn office_of<S: Alter>(
 ) -> Result<Code, KeepFault>
     requires idle { conn.old.in_transaction ≡ false }
     ensures idle { conn.new.in_transaction ≡ false }
-    ensures code { IsOwn conn.old.schema → IsDatabase (state S.Store conn.old).now
-        → HasCleanDisk (state S.Store conn.new)
-        → IfOk result (λ code. code ≡ (world_of (state S.Store conn.old).now.trees).office) }
-    ensures same { IsOwn conn.old.schema → HasCleanDisk (state S.Store conn.new)
-        → OnOk result (IsUnchanged (state S.Store conn.old) (state S.Store conn.new)) }
-    ensures err { IsOwn conn.old.schema → HasCleanDisk (state S.Store conn.new)
-        → OnErr result (Leaves (state S.Store conn.old) (state S.Store conn.new)) }
-    ensures survives { Survives (state S.Store conn.old) (state S.Store conn.new)
-        (λ _. IsOwn conn.old.schema → ⊥) }
+    ensures code { OverOwn S.Store conn.old conn.new
+        (IfOk result (λ code. code ≡ (world_of (shown S.Store conn.old)).office)) }
+    ensures asks { Asks result (state S.Store conn.old) (state S.Store conn.new) }
     ensures counts { CountsFaults result faults.old faults.new }
 {
-    match office_in(alloc, conn) {
+    match office_in(alloc, conn, VERSION) {
         Ok(office) => Ok(office.code),
         Err(fault) => Err(told(faults, fault)),
     }

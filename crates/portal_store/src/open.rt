@@ -1,50 +1,38 @@
 //! Opens a store over tables that are there.
 
-ghost use Rattle.std.specs.Prelude.{◌≡◌, ◌≢◌, ◌↔◌, ◌⊎◌, false, true, [], ◌∷◌, pos, Ok, Err, List, IfOk, IfErr, OnOk, IsTrue};
+ghost use Rattle.std.specs.Prelude.{◌≡◌, ◌≢◌, ◌↔◌, false, [], Err, IfOk, IfErr, OnOk, IsTrue, pos, ◌∷◌};
 ghost use Rattle.std.specs.List.{AllByRecursion};
-ghost use Rattle.sqlite.specs.declared.types.Value.TheVariants.{Int};
-ghost use Rattle.sqlite.specs.Order.{Row as Cells, column};
-ghost use Rattle.sqlite.specs.Tree.{Trees};
 ghost use Rattle.sqlite.specs.State.{HasCleanDisk, IsLive, IsUnchanged, Survives};
 ghost use Rattle.sqlite.specs.Held.{state};
-ghost use Rattle.sqlite.specs.Effect.{IsDatabase};
-ghost use Rattle.portal_core.specs.Good.{Good, Sound};
-ghost use Rattle.portal_tables.specs.Tables.{lecturer_tree, project_tree, student_tree, choice_tree, ranking_tree};
-ghost use Rattle.portal_tables.specs.Own.{IsOwn};
-ghost use Rattle.portal_tables.specs.Changes.{IsApart};
+ghost use Rattle.portal_core.specs.Good.{Good};
+ghost use Rattle.portal_core.specs.declared.phase.Round.TheVariants.{Second};
+ghost use Rattle.portal_tables.specs.Tables.{second_tree, choice2_tree, ranked2_tree, ranking2_tree, assigned2_tree};
+ghost use Rattle.portal_tables.specs.Own.{HasRound, IsCurrent};
+ghost use Rattle.portal_tables.specs.Rows.{second_row};
+ghost use Rattle.portal_tables.specs.Queries.{round_asked};
+ghost use Rattle.portal_tables.specs.Reading.{AsksIn};
 ghost use Rattle.portal_tables.specs.Steps.{Stays};
 ghost use Rattle.portal_list.specs.Entries.{HasEntries};
-ghost use Rattle.portal_store.specs.Kept.{Stands, IsCleanStore, kept_world};
+ghost use Rattle.portal_store.specs.Kept.{HasSecond, Stands, IsCleanStore, kept_world};
 ghost use Rattle.portal_store.specs.World.{world_of};
-ghost use Rattle.portal_tables.specs.Reading.{Asks};
-ghost use Rattle.portal_store.specs.Asked.{IsVersion1, Refutes, Admits};
+ghost use Rattle.portal_store.specs.Asked.{Denies, Refutes, Admits};
+ghost use Rattle.portal_store.specs.Reading.{ReadsAll, OverBoth, shown, table_of};
 
-use crate::fault::{load_open_fault_of, open_fault_of, table_fault_of};
-use crate::sound::load_keeper;
+use crate::fault::{load_open_fault_of, open_fault_of};
+use crate::seeing::{judge, see_first, seen};
 use crate::store::{NotOpened, OpenFault, Store};
-use portal_core::Remembered;
-use portal_list::{Entries, ListKeeper};
-use portal_tables::apart::are_apart;
+use portal_core::{Phase, Remembered};
+use portal_list::Entries;
 use portal_tables::list_table::Lists;
+use portal_tables::office::VERSION;
 use portal_tables::own::Pattern;
-use portal_tables::select::{Query, Roll, Table, read};
-use sqlite::types::ValueRef;
-use sqlite::{Alter, Connection, Error, Row};
+use portal_tables::second::second_in;
+use portal_tables::select::{Query, finds_any, read};
+use sqlite::{Alter, Connection};
 use std::alloc::Global;
 
-/// Whether a table could be queried.
-fn seen(answer: Result<Vec<Row>, Error>) -> Result<(), OpenFault>
-    ensures damaged { result ≢ Err OpenFault.Damaged }
-    ensures version { result ≢ Err OpenFault.OtherVersion }
-{
-    match answer {
-        Ok(_) => Ok(()),
-        Err(error) => Err(table_fault_of(error)),
-    }
-}
-
-/// Whether each of the six tables can be queried. Those that are the portal's own can, and are not asked.
-fn see_tables<S: Alter>(conn: &mut Connection<S>, own: bool) -> Result<(), OpenFault>
+/// Whether each of the second round's tables can be queried. Those that are the portal's own can, and are not asked.
+fn see_second_tables<S: Alter>(conn: &mut Connection<S>, own: bool) -> Result<(), OpenFault>
     requires idle { conn.old.in_transaction ≡ false }
     ensures idle { conn.new.in_transaction ≡ false }
     ensures same { IsTrue own → conn.new ≡ conn.old }
@@ -55,163 +43,113 @@ fn see_tables<S: Alter>(conn: &mut Connection<S>, own: bool) -> Result<(), OpenF
     if own {
         return Ok(());
     }
-    seen(read(conn, Query::Office))?;
-    seen(read(conn, Query::Whole(Roll::Lecturers)))?;
-    seen(read(conn, Query::Whole(Roll::Projects)))?;
-    seen(read(conn, Query::Whole(Roll::Students)))?;
-    seen(read(conn, Query::AllLists(Lists::Choices)))?;
-    seen(read(conn, Query::AllLists(Lists::Rankings)))
+    seen(read(conn, Query::Second))?;
+    seen(read(conn, Query::AllLists(Lists::SecondChoices)))?;
+    seen(read(conn, Query::SecondRanked))?;
+    seen(read(conn, Query::AllLists(Lists::SecondRankings)))?;
+    seen(read(conn, Query::SecondPlaces))
 }
 
-/// Whether the row of the office is of version 1.
-fn is_version_1(row: &Row) -> bool
-    ensures { IsTrue result ↔ (column row.now 1 ≡ Int (pos 1)) }
-{
-    matches!(row.get_ref(1), Ok(ValueRef::Int(1)))
-}
-
-/// Whether there is a row of the office, of version 1.
-fn judge_office(rows: &[Row]) -> Result<(), OpenFault>
-    ensures none { (result ≡ Err OpenFault.NotPortal) ↔ (rows.now ≡ []) }
-    ensures version { OnOk result ((row : Cells) × (rest : List Cells) × (rows.now ≡ row ∷ rest)
-        × (column row 1 ≡ Int (pos 1))) }
-    ensures there { result ≡ Err OpenFault.OtherVersion → rows.now ≢ [] }
-    ensures other { result ≡ Err OpenFault.OtherVersion → (row : Cells) → rows.now ≡ row ∷ []
-        → column row 1 ≡ Int (pos 1) → ⊥ }
-    ensures judged { IfErr result (λ fault. (fault ≡ OpenFault.Damaged) → ⊥) }
-{
-    match rows {
-        [] => Err(OpenFault::NotPortal),
-        [row, ..] => {
-            if is_version_1(row) {
-                Ok(())
-            } else {
-                Err(OpenFault::OtherVersion)
-            }
-        }
-    }
-}
-
-/// Whether `portal` has a row, of version 1.
-fn see_office<S: Alter>(conn: &mut Connection<S>) -> Result<(), OpenFault>
+/// Whether a query of a whole table shows no row.
+fn see_none<S: Alter>(conn: &mut Connection<S>, query: Query<'_>) -> Result<(), OpenFault>
     requires idle { conn.old.in_transaction ≡ false }
     ensures idle { conn.new.in_transaction ≡ false }
-    ensures asks { Asks result (state S.Store conn.old) (state S.Store conn.new) }
-    ensures refused { IsOwn conn.old.schema → HasCleanDisk (state S.Store conn.new)
-        → IfErr result (λ fault. Refutes fault (state S.Store conn.old).now.trees) }
-    ensures version { IsOwn conn.old.schema → HasCleanDisk (state S.Store conn.new)
-        → OnOk result (IsVersion1 (state S.Store conn.old).now.trees) }
+    ensures asks { AsksIn (round_asked query.entry) result (state S.Store conn.old)
+        (state S.Store conn.new) }
+    ensures refused { HasRound (round_asked query.entry) conn.old.schema
+        → HasCleanDisk (state S.Store conn.new) → ReadsAll query.entry
+        → IfErr result (λ fault. Denies fault
+        (table_of query.entry (shown S.Store conn.old) ≡ [])) }
+    ensures none { HasRound (round_asked query.entry) conn.old.schema
+        → HasCleanDisk (state S.Store conn.new) → ReadsAll query.entry
+        → OnOk result (table_of query.entry (shown S.Store conn.old) ≡ []) }
 {
-    match read(conn, Query::Office) {
-        Ok(rows) => judge_office(&rows),
+    match finds_any(conn, query) {
+        Ok(false) => Ok(()),
+        Ok(true) => Err(OpenFault::Damaged),
         Err(error) => Err(open_fault_of(error)),
     }
 }
 
-/// What the answer on the numbers of rows means: those of a sound store differ, so that all else is a fault of the store.
-fn apart(answer: Result<bool, Error>) -> Result<(), OpenFault>
-    ensures ok { OnOk result (answer ≡ Ok true) }
-    ensures refused { IfErr result (λ fault. (db : Trees) → Refutes fault db) }
-{
-    match answer {
-        Ok(true) => Ok(()),
-        Ok(false) => Err(OpenFault::Store),
-        Err(error) => Err(open_fault_of(error)),
-    }
-}
-
-/// Whether the rows of the three rolls have numbers of their own.
-fn see_rolls_apart<S: Alter>(conn: &mut Connection<S>) -> Result<(), OpenFault>
+/// Whether the row of `second` tells no phase.
+fn see_no_phase<S: Alter>(alloc: Global, conn: &mut Connection<S>) -> Result<(), OpenFault>
     requires idle { conn.old.in_transaction ≡ false }
     ensures idle { conn.new.in_transaction ≡ false }
-    ensures asks { Asks result (state S.Store conn.old) (state S.Store conn.new) }
-    ensures refused { IfErr result (λ fault. (db : Trees) → Refutes fault db) }
-    ensures apart { IsOwn conn.old.schema → HasCleanDisk (state S.Store conn.new)
-        → OnOk result (AllByRecursion (λ t. IsApart ((state S.Store conn.old).now.trees t))
-        (lecturer_tree ∷ project_tree ∷ student_tree ∷ [])) }
+    ensures asks { AsksIn Second result (state S.Store conn.old) (state S.Store conn.new) }
+    ensures refused { OverBoth S.Store conn.old conn.new
+        (IfErr result (λ fault. Denies fault (HasSecond (shown S.Store conn.old)))) }
+    ensures row { OverBoth S.Store conn.old conn.new
+        (OnOk result (shown S.Store conn.old second_tree ≡ second_row (pos 0) ∷ [])) }
 {
-    apart(are_apart(conn, Table::OfRoll(Roll::Lecturers)))?;
-    apart(are_apart(conn, Table::OfRoll(Roll::Projects)))?;
-    apart(are_apart(conn, Table::OfRoll(Roll::Students)))
-}
-
-/// Whether the rows of the lists have numbers of their own.
-fn see_lists_apart<S: Alter>(conn: &mut Connection<S>) -> Result<(), OpenFault>
-    requires idle { conn.old.in_transaction ≡ false }
-    ensures idle { conn.new.in_transaction ≡ false }
-    ensures asks { Asks result (state S.Store conn.old) (state S.Store conn.new) }
-    ensures refused { IfErr result (λ fault. (db : Trees) → Refutes fault db) }
-    ensures apart { IsOwn conn.old.schema → HasCleanDisk (state S.Store conn.new)
-        → OnOk result (AllByRecursion (λ t. IsApart ((state S.Store conn.old).now.trees t))
-        (choice_tree ∷ ranking_tree ∷ [])) }
-{
-    apart(are_apart(conn, Table::OfLists(Lists::Choices)))?;
-    apart(are_apart(conn, Table::OfLists(Lists::Rankings)))
-}
-
-/// Whether the keeper's world is good.
-fn judge_world(alloc: Global, keeper: &ListKeeper) -> Result<(), OpenFault>
-    requires { Sound keeper.now }
-    ensures good { OnOk result (Good keeper.now) }
-    ensures damaged { result ≡ Err OpenFault.Damaged → Good keeper.now → ⊥ }
-    ensures judged { IfErr result (λ fault. (fault ≡ OpenFault.Damaged)
-        ⊎ (fault ≡ OpenFault.Memory)) }
-{
-    match keeper.is_good(alloc) {
-        Ok(true) => Ok(()),
-        Ok(false) => Err(OpenFault::Damaged),
-        Err(_) => Err(OpenFault::Memory),
-    }
-}
-
-/// The entries of the world that the rows stand for, where it is good.
-fn see_world<S: Alter>(alloc: Global, conn: &mut Connection<S>) -> Result<Entries, OpenFault>
-    requires idle { conn.old.in_transaction ≡ false }
-    ensures idle { conn.new.in_transaction ≡ false }
-    ensures asks { Asks result (state S.Store conn.old) (state S.Store conn.new) }
-    ensures refused { IsOwn conn.old.schema → IsDatabase (state S.Store conn.old).now
-        → HasCleanDisk (state S.Store conn.new)
-        → IfErr result
-        (λ fault. IsVersion1 (state S.Store conn.old).now.trees
-        → Refutes fault (state S.Store conn.old).now.trees) }
-    ensures stands { IsOwn conn.old.schema → IsDatabase (state S.Store conn.old).now
-        → HasCleanDisk (state S.Store conn.new)
-        → OnOk result (Stands (state S.Store conn.old).now.trees) }
-    ensures entries { IsOwn conn.old.schema → IsDatabase (state S.Store conn.old).now
-        → HasCleanDisk (state S.Store conn.new)
-        → IfOk result (λ e. HasEntries e (world_of (state S.Store conn.old).now.trees)) }
-{
-    match load_keeper(alloc, conn) {
-        Ok(keeper) => {
-            judge_world(alloc, &keeper)?;
-            Ok(keeper.into_entries())
-        }
+    match second_in(alloc, conn) {
+        Ok(Phase::Setup) => Ok(()),
+        Ok(Phase::Choosing | Phase::Ranking | Phase::Published) => Err(OpenFault::Damaged),
         Err(fault) => Err(load_open_fault_of(fault)),
     }
 }
 
-/// What is tested of the six tables, in this order: the version, the numbers of rows, and the world, whose entries come.
-fn judge<S: Alter>(alloc: Global, conn: &mut Connection<S>) -> Result<Entries, OpenFault>
+/// Whether there are no lists of a second round.
+fn see_no_lists<S: Alter>(conn: &mut Connection<S>) -> Result<(), OpenFault>
     requires idle { conn.old.in_transaction ≡ false }
     ensures idle { conn.new.in_transaction ≡ false }
-    ensures asks { Asks result (state S.Store conn.old) (state S.Store conn.new) }
-    ensures refused { IsOwn conn.old.schema → IsLive (state S.Store conn.old)
-        → HasCleanDisk (state S.Store conn.new)
-        → IfErr result (λ fault. Refutes fault (state S.Store conn.old).now.trees) }
-    ensures admits { IsOwn conn.old.schema → IsLive (state S.Store conn.old)
-        → HasCleanDisk (state S.Store conn.new)
-        → OnOk result (Admits (state S.Store conn.old).now.trees) }
-    ensures entries { IsOwn conn.old.schema → IsLive (state S.Store conn.old)
-        → HasCleanDisk (state S.Store conn.new)
-        → IfOk result (λ e. HasEntries e (world_of (state S.Store conn.old).now.trees)) }
+    ensures asks { AsksIn Second result (state S.Store conn.old) (state S.Store conn.new) }
+    ensures refused { IsCurrent conn.old.schema → HasCleanDisk (state S.Store conn.new)
+        → IfErr result (λ fault. Denies fault (HasSecond (shown S.Store conn.old))) }
+    ensures none { IsCurrent conn.old.schema → HasCleanDisk (state S.Store conn.new)
+        → OnOk result (AllByRecursion (λ t. shown S.Store conn.old t ≡ [])
+        (choice2_tree ∷ ranking2_tree ∷ [])) }
 {
-    see_office(conn)?;
-    see_rolls_apart(conn)?;
-    see_lists_apart(conn)?;
-    see_world(alloc, conn)
+    see_none(conn, Query::AllLists(Lists::SecondChoices))?;
+    see_none(conn, Query::AllLists(Lists::SecondRankings))
 }
 
-/// Whether the tables can be queried, and what they show; `own` says that they are the portal's own. The entries of their world come.
+/// Whether nobody has a ranking or a place in a second round.
+fn see_no_places<S: Alter>(conn: &mut Connection<S>) -> Result<(), OpenFault>
+    requires idle { conn.old.in_transaction ≡ false }
+    ensures idle { conn.new.in_transaction ≡ false }
+    ensures asks { AsksIn Second result (state S.Store conn.old) (state S.Store conn.new) }
+    ensures refused { IsCurrent conn.old.schema → HasCleanDisk (state S.Store conn.new)
+        → IfErr result (λ fault. Denies fault (HasSecond (shown S.Store conn.old))) }
+    ensures none { IsCurrent conn.old.schema → HasCleanDisk (state S.Store conn.new)
+        → OnOk result (AllByRecursion (λ t. shown S.Store conn.old t ≡ [])
+        (ranked2_tree ∷ assigned2_tree ∷ [])) }
+{
+    see_none(conn, Query::SecondRanked)?;
+    see_none(conn, Query::SecondPlaces)
+}
+
+/// Whether the second round's tables say that there is none.
+fn see_second<S: Alter>(alloc: Global, conn: &mut Connection<S>) -> Result<(), OpenFault>
+    requires idle { conn.old.in_transaction ≡ false }
+    ensures idle { conn.new.in_transaction ≡ false }
+    ensures asks { AsksIn Second result (state S.Store conn.old) (state S.Store conn.new) }
+    ensures refused { OverBoth S.Store conn.old conn.new
+        (IfErr result (λ fault. Denies fault (HasSecond (shown S.Store conn.old)))) }
+    ensures second { OverBoth S.Store conn.old conn.new
+        (OnOk result (HasSecond (shown S.Store conn.old))) }
+{
+    see_no_phase(alloc, conn)?;
+    see_no_lists(conn)?;
+    see_no_places(conn)
+}
+
+/// Whether the second round's tables can be queried, and say that there is none; `own` says that they are the portal's own.
+fn see_round<S: Alter>(alloc: Global, conn: &mut Connection<S>, own: bool) -> Result<(), OpenFault>
+    requires idle { conn.old.in_transaction ≡ false }
+    ensures idle { conn.new.in_transaction ≡ false }
+    ensures asks { IsTrue own
+        → AsksIn Second result (state S.Store conn.old) (state S.Store conn.new) }
+    ensures refused { IsTrue own → OverBoth S.Store conn.old conn.new
+        (IfErr result (λ fault. Denies fault (HasSecond (shown S.Store conn.old)))) }
+    ensures second { IsTrue own → OverBoth S.Store conn.old conn.new
+        (OnOk result (HasSecond (shown S.Store conn.old))) }
+{
+    see_second_tables(conn, own)?;
+    see_second(alloc, conn)
+}
+
+/// What is tested of the tables, in this order: whether those of the first round can be queried and are of the version, whether those of
+/// the second can be, and what they show. `own` says that they are the portal's own. The entries of their world come.
 fn examine<S: Alter>(
     alloc: Global,
     conn: &mut Connection<S>,
@@ -219,46 +157,49 @@ fn examine<S: Alter>(
 ) -> Result<Entries, OpenFault>
     requires idle { conn.old.in_transaction ≡ false }
     ensures idle { conn.new.in_transaction ≡ false }
-    ensures asks { IsTrue own → Asks result (state S.Store conn.old) (state S.Store conn.new) }
-    ensures refused { IsTrue own → IsOwn conn.old.schema → IsLive (state S.Store conn.old)
+    ensures asks { IsTrue own
+        → AsksIn Second result (state S.Store conn.old) (state S.Store conn.new) }
+    ensures refused { IsTrue own → IsCurrent conn.old.schema → IsLive (state S.Store conn.old)
         → HasCleanDisk (state S.Store conn.new)
-        → IfErr result (λ fault. Refutes fault (state S.Store conn.old).now.trees) }
-    ensures admits { IsTrue own → IsOwn conn.old.schema → IsLive (state S.Store conn.old)
+        → IfErr result (λ fault. Refutes fault (shown S.Store conn.old)) }
+    ensures admits { IsTrue own → IsCurrent conn.old.schema → IsLive (state S.Store conn.old)
         → HasCleanDisk (state S.Store conn.new)
-        → OnOk result (Admits (state S.Store conn.old).now.trees) }
-    ensures entries { IsTrue own → IsOwn conn.old.schema → IsLive (state S.Store conn.old)
+        → OnOk result (Admits (shown S.Store conn.old)) }
+    ensures entries { IsTrue own → IsCurrent conn.old.schema → IsLive (state S.Store conn.old)
         → HasCleanDisk (state S.Store conn.new)
-        → IfOk result (λ e. HasEntries e (world_of (state S.Store conn.old).now.trees)) }
+        → IfOk result (λ e. HasEntries e (world_of (shown S.Store conn.old))) }
 {
-    see_tables(conn, own)?;
-    judge(alloc, conn)
+    see_first(conn, own, VERSION)?;
+    see_round(alloc, conn, own)?;
+    judge(alloc, conn, VERSION)
 }
 
 impl<S: Alter> Store<S> {
     /// Opens the portal in a database that has its tables, where they stand for a good world. A refusal hands the connection
     /// back: `NotPortal` where a table cannot be queried or `portal` has no row, `OtherVersion` where that row is of another
-    /// version, `Damaged` where it is of version 1 and the rows stand for no good world, `Store` for an error of the
+    /// version than 2, `Damaged` where it is of version 2 and the rows stand for no good world, `Store` for an error of the
     /// connection, and `Memory`. The first three tell of the tables, and never come from a fault of the device or want of
-    /// memory.
+    /// memory. The version is looked at before the tables of the second round.
     pub fn open(alloc: Global, mut conn: Connection<S>) -> Result<Store<S>, NotOpened<OpenFault, S>>
         requires idle { conn.in_transaction ≡ false }
-        ensures own { IfOk result (λ s. IsTrue s.own ↔ IsOwn conn.schema) }
-        ensures same { IfOk result (λ s. IsOwn conn.schema → HasCleanDisk (state S.Store s.conn)
+        ensures own { IfOk result (λ s. IsTrue s.own ↔ IsCurrent conn.schema) }
+        ensures same { IfOk result (λ s. IsCurrent conn.schema → HasCleanDisk (state S.Store s.conn)
             → IsUnchanged (state S.Store conn) (state S.Store s.conn)) }
-        ensures stands { IfOk result (λ s. IsOwn conn.schema → HasCleanDisk (state S.Store s.conn)
+        ensures stands { IfOk result (λ s. IsCurrent conn.schema
+            → HasCleanDisk (state S.Store s.conn)
             → Stands (state S.Store s.conn).now.trees) }
         ensures good { IfOk result (λ s. IsCleanStore S.Store s → Good (kept_world S.Store s)) }
-        ensures refused { IfErr result (λ e. IsOwn conn.schema
+        ensures refused { IfErr result (λ e. IsCurrent conn.schema
             → HasCleanDisk (state S.Store e.connection)
             → Refutes e.fault (state S.Store conn).now.trees) }
-        ensures err { IfErr result (λ e. IsOwn conn.schema
+        ensures err { IfErr result (λ e. IsCurrent conn.schema
             → HasCleanDisk (state S.Store e.connection)
             → IsTrue (state S.Store e.connection).is_open
             → Stays (state S.Store conn) (state S.Store e.connection)) }
         ensures idle { IfErr result (λ e. e.connection.in_transaction ≡ false) }
-        ensures crash_ok { IfOk result (λ s. IsOwn conn.schema
+        ensures crash_ok { IfOk result (λ s. IsCurrent conn.schema
             → Survives (state S.Store conn) (state S.Store s.conn) (λ _. ⊥)) }
-        ensures crash_err { IfErr result (λ e. IsOwn conn.schema
+        ensures crash_err { IfErr result (λ e. IsCurrent conn.schema
             → Survives (state S.Store conn) (state S.Store e.connection) (λ _. ⊥)) }
     {
         let _idle = conn.is_autocommit();

@@ -1,12 +1,10 @@
 //! The result: each student's project, and the phase.
 
-ghost use Rattle.std.specs.Prelude.{◌≡◌, false, map, IfOk, OnOk, OnErr, IsTrue, option_map};
-ghost use Rattle.sqlite.specs.State.{HasCleanDisk, Survives};
+ghost use Rattle.std.specs.Prelude.{◌≡◌, false, map, IfOk, option_map};
 ghost use Rattle.sqlite.specs.Held.{state};
 ghost use Rattle.portal_core.specs.Change.{Places, place_in};
-ghost use Rattle.portal_tables.specs.Own.{IsOwn};
-ghost use Rattle.portal_tables.specs.Steps.{Commits, IsAfter, LeavesOnly, Stays};
 ghost use Rattle.portal_store.specs.Kept.{Turns};
+ghost use Rattle.portal_store.specs.Ending.{Ends};
 ghost use Rattle.portal_store.specs.Placing.{TurnsShown, assigned_of};
 
 use portal_core::Pairs;
@@ -74,17 +72,8 @@ pub(crate) fn publish<S: Alter>(
 ) -> Result<(), TableFault>
     requires idle { conn.old.in_transaction ≡ false }
     ensures idle { conn.new.in_transaction ≡ false }
-    ensures ok { IsOwn conn.old.schema → HasCleanDisk (state S.Store conn.new)
-        → OnOk result (Commits (Turns (Places pairs.now)) (state S.Store conn.old)
-        (state S.Store conn.new)) }
-    ensures err { IsOwn conn.old.schema → HasCleanDisk (state S.Store conn.new)
-        → IsTrue (state S.Store conn.new).is_open
-        → OnErr result (Stays (state S.Store conn.old) (state S.Store conn.new)) }
-    ensures durable { IsOwn conn.old.schema → HasCleanDisk (state S.Store conn.new)
-        → OnOk result (LeavesOnly (state S.Store conn.new)) }
-    ensures crash { IsOwn conn.old.schema
-        → Survives (state S.Store conn.old) (state S.Store conn.new)
-        (IsAfter (Turns (Places pairs.now)) (state S.Store conn.old)) }
+    ensures ends { Ends (Turns (Places pairs.now)) result (state S.Store conn.old)
+        (state S.Store conn.new) }
 {
     let _idle = conn.is_autocommit();
     let rows = read(conn, Query::Whole(Roll::Students))?;

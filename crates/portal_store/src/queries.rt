@@ -1,7 +1,7 @@
 //! What a caller sees, by queries of what that caller may see.
 
-ghost use Rattle.std.specs.Prelude.{◌≡◌, ◌∷◌, [], pos, false, IfOk, OnOk, OnErr, IsTrue, None};
-ghost use Rattle.sqlite.specs.State.{HasCleanDisk, IsUnchanged, Survives};
+ghost use Rattle.std.specs.Prelude.{◌≡◌, ◌∷◌, [], pos, false, IfOk, IsTrue, None};
+ghost use Rattle.sqlite.specs.State.{HasCleanDisk};
 ghost use Rattle.sqlite.specs.Held.{state};
 ghost use Rattle.portal_core.specs.Counting.{CountsFaults};
 ghost use Rattle.portal_core.specs.Good.{Good};
@@ -10,13 +10,12 @@ ghost use Rattle.portal_core.specs.Remembered.{Remembers};
 ghost use Rattle.portal_core.specs.Words.{is};
 ghost use Rattle.portal_core.specs.View.{sight_of, caller_among, student_with, OfficeCaller};
 ghost use Rattle.portal_tables.specs.Own.{IsOwn};
-ghost use Rattle.portal_tables.specs.Tables.{portal_tree};
+ghost use Rattle.portal_tables.specs.Tables.{portal_tree, version};
 ghost use Rattle.portal_tables.specs.Rows.{portal_row};
-ghost use Rattle.portal_tables.specs.Steps.{Leaves};
 ghost use Rattle.portal_tables.specs.Office.{number_of};
 ghost use Rattle.portal_store.specs.World.{world_of};
-ghost use Rattle.portal_store.specs.Kept.{Endures, Holds};
-ghost use Rattle.portal_tables.specs.Reading.{Reads};
+ghost use Rattle.portal_store.specs.Kept.{Holds};
+ghost use Rattle.portal_tables.specs.Reading.{Asks, Reads};
 ghost use Rattle.portal_store.specs.Reading.{KeepsInMind};
 
 mod caller;
@@ -30,7 +29,7 @@ use office::office_view;
 use portal_core::{KeepFault, OfficeView, Phase, Remembered, View};
 use portal_tables::fault::TableFault;
 use portal_tables::lecturer::lecturer_view;
-use portal_tables::office::{Office, office_in};
+use portal_tables::office::{Office, VERSION, office_in};
 use portal_tables::student::student_view;
 use sqlite::{Alter, Connection};
 use std::alloc::Global;
@@ -45,7 +44,7 @@ fn office_read<S: Alter>(
     ensures shows { Holds (state S.Store conn.old).now → HasCleanDisk (state S.Store conn.new)
         → IsTrue (state S.Store conn.old).is_open
         → (state S.Store conn.old).now.trees portal_tree
-        ≡ portal_row (pos 1) (pos (number_of office.phase)) office.code ∷ []
+        ≡ portal_row (pos version) (pos (number_of office.phase)) office.code ∷ []
         → Remembers remembered.old (world_of (state S.Store conn.old).now.trees)
         → IfOk result (λ view. view
         ≡ seen.office_sees (world_of (state S.Store conn.old).now.trees)) }
@@ -70,12 +69,12 @@ fn office_sight<S: Alter>(
     ensures shows { Holds (state S.Store conn.old).now → HasCleanDisk (state S.Store conn.new)
         → IsTrue (state S.Store conn.old).is_open
         → (state S.Store conn.old).now.trees portal_tree
-        ≡ portal_row (pos 1) (pos (number_of office.phase)) office.code ∷ []
+        ≡ portal_row (pos version) (pos (number_of office.phase)) office.code ∷ []
         → Remembers remembered.old (world_of (state S.Store conn.old).now.trees)
         → IfOk result (λ view. view
         ≡ sight_of (world_of (state S.Store conn.old).now.trees) OfficeCaller) }
     ensures mind { (state S.Store conn.old).now.trees portal_tree
-        ≡ portal_row (pos 1) (pos (number_of office.phase)) office.code ∷ []
+        ≡ portal_row (pos version) (pos (number_of office.phase)) office.code ∷ []
         → KeepsInMind remembered.old remembered.new (state S.Store conn.old)
         (state S.Store conn.new) }
     ensures reads { Reads result (state S.Store conn.old) (state S.Store conn.new) }
@@ -161,13 +160,9 @@ fn sight<S: Alter>(
         ≡ seen.view (world_of (state S.Store conn.old).now.trees) code.now) }
     ensures mind { KeepsInMind remembered.old remembered.new (state S.Store conn.old)
         (state S.Store conn.new) }
-    ensures same { IsOwn conn.old.schema → HasCleanDisk (state S.Store conn.new)
-        → OnOk result (IsUnchanged (state S.Store conn.old) (state S.Store conn.new)) }
-    ensures err { IsOwn conn.old.schema → HasCleanDisk (state S.Store conn.new)
-        → OnErr result (Leaves (state S.Store conn.old) (state S.Store conn.new)) }
-    ensures endures { Endures (state S.Store conn.old) (state S.Store conn.new) }
+    ensures asks { Asks result (state S.Store conn.old) (state S.Store conn.new) }
 {
-    let office = office_in(alloc, conn)?;
+    let office = office_in(alloc, conn, VERSION)?;
     if office.code.as_bytes() == code {
         return office_sight(alloc, conn, remembered, office);
     }
@@ -191,11 +186,7 @@ pub(crate) fn view_with<S: Alter>(
         → view ≡ seen.view (world_of (state S.Store conn.old).now.trees) code.now) }
     ensures mind { KeepsInMind remembered.old remembered.new (state S.Store conn.old)
         (state S.Store conn.new) }
-    ensures same { IsOwn conn.old.schema → HasCleanDisk (state S.Store conn.new)
-        → OnOk result (IsUnchanged (state S.Store conn.old) (state S.Store conn.new)) }
-    ensures err { IsOwn conn.old.schema → HasCleanDisk (state S.Store conn.new)
-        → OnErr result (Leaves (state S.Store conn.old) (state S.Store conn.new)) }
-    ensures endures { Endures (state S.Store conn.old) (state S.Store conn.new) }
+    ensures asks { Asks result (state S.Store conn.old) (state S.Store conn.new) }
     ensures counts { CountsFaults result faults.old faults.new }
 {
     match sight(alloc, conn, remembered, code) {
@@ -221,10 +212,7 @@ pub fn view<S: Alter>(
         → IfOk result (λ view. Holds (state S.Store conn.old).now
         → Good (world_of (state S.Store conn.old).now.trees)
         → view ≡ seen.view (world_of (state S.Store conn.old).now.trees) code.now) }
-    ensures same { IsOwn conn.old.schema → HasCleanDisk (state S.Store conn.new)
-        → OnOk result (IsUnchanged (state S.Store conn.old) (state S.Store conn.new)) }
-    ensures err { IsOwn conn.old.schema → HasCleanDisk (state S.Store conn.new)
-        → OnErr result (Leaves (state S.Store conn.old) (state S.Store conn.new)) }
+    ensures asks { Asks result (state S.Store conn.old) (state S.Store conn.new) }
 {
     let mut remembered = Remembered::nothing();
     let mut faults = 0u64;

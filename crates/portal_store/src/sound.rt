@@ -1,14 +1,12 @@
 //! The world of the tables, in lists.
 
-ghost use Rattle.std.specs.Prelude.{◌≡◌, false, Err, IfOk, OnOk, OnErr};
-ghost use Rattle.sqlite.specs.State.{HasCleanDisk, IsUnchanged, Survives};
+ghost use Rattle.std.specs.Prelude.{◌≡◌, false, Err, IfOk};
 ghost use Rattle.sqlite.specs.Held.{state};
-ghost use Rattle.sqlite.specs.Effect.{IsDatabase};
 ghost use Rattle.portal_core.specs.Good.{Sound};
-ghost use Rattle.portal_tables.specs.Own.{IsOwn};
-ghost use Rattle.portal_tables.specs.Steps.{Leaves};
-ghost use Rattle.portal_store.specs.Kept.{Stands};
+ghost use Rattle.portal_tables.specs.Reading.{Asks};
+ghost use Rattle.portal_store.specs.Kept.{StandsAs};
 ghost use Rattle.portal_store.specs.Found.{Finds};
+ghost use Rattle.portal_store.specs.Reading.{shown, OverOwn};
 
 use crate::fault::rows_fault_of;
 use crate::load::load;
@@ -17,30 +15,22 @@ use portal_tables::fault::TableFault;
 use sqlite::{Alter, Connection};
 use std::alloc::Global;
 
-/// A keeper of the rows; it is sound, and may lack stability.
+/// A keeper of the rows of tables of this version; it is sound, and may lack stability.
 pub(crate) fn load_keeper<S: Alter>(
     alloc: Global,
     conn: &mut Connection<S>,
+    version: u32,
 ) -> Result<ListKeeper, TableFault>
     requires idle { conn.old.in_transaction ≡ false }
     ensures idle { conn.new.in_transaction ≡ false }
     ensures sound { IfOk result (λ keeper. Sound keeper) }
-    ensures found { IsOwn conn.old.schema → IsDatabase (state S.Store conn.old).now
-        → HasCleanDisk (state S.Store conn.new)
-        → IfOk result (λ keeper. Finds (state S.Store conn.old).now.trees keeper) }
-    ensures damaged { IsOwn conn.old.schema → IsDatabase (state S.Store conn.old).now
-        → HasCleanDisk (state S.Store conn.new) → result ≡ Err TableFault.Damaged
-        → Stands (state S.Store conn.old).now.trees → ⊥ }
-    ensures same { IsOwn conn.old.schema → HasCleanDisk (state S.Store conn.new)
-        → OnOk result (IsUnchanged (state S.Store conn.old) (state S.Store conn.new)) }
-    ensures err { IsOwn conn.old.schema → HasCleanDisk (state S.Store conn.new)
-        → OnErr result (Leaves (state S.Store conn.old) (state S.Store conn.new)) }
-    ensures crash { IsOwn conn.old.schema
-        → Survives (state S.Store conn.old) (state S.Store conn.new) (λ _. ⊥) }
-    ensures survives { Survives (state S.Store conn.old) (state S.Store conn.new)
-        (λ _. IsOwn conn.old.schema → ⊥) }
+    ensures found { OverOwn S.Store conn.old conn.new
+        (IfOk result (λ keeper. Finds version (shown S.Store conn.old) keeper)) }
+    ensures damaged { OverOwn S.Store conn.old conn.new
+        (result ≡ Err TableFault.Damaged → StandsAs version (shown S.Store conn.old) → ⊥) }
+    ensures asks { Asks result (state S.Store conn.old) (state S.Store conn.new) }
 {
-    let rows = load(alloc, conn)?;
+    let rows = load(alloc, conn, version)?;
     match ListKeeper::from_rows(alloc, rows) {
         Ok(keeper) => Ok(keeper),
         Err(fault) => Err(rows_fault_of(fault)),

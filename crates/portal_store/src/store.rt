@@ -68,6 +68,23 @@ pub enum OpenFault {
     Memory,
 }
 
+/// Why no store was made of tables of version 1.
+#[derive(Clone, Copy, Debug, Drop, PartialEq, Eq)]
+pub enum UpgradeFault {
+    /// One of the six tables cannot be queried, or there is no row of the office.
+    NotPortal,
+    /// The tables are of another version than 1.
+    OtherVersion,
+    /// The rows stand for no good world.
+    Damaged,
+    /// The store answered an error.
+    Store,
+    /// There was not enough memory.
+    Memory,
+    /// A table or a view of one of the five names is there.
+    Exists,
+}
+
 impl<S: Alter> Store<S> {
     /// The connection, as it is, in no transaction.
     pub fn into_connection(self) -> Connection<S>

@@ -12,5 +12,7 @@ mod steps;
 mod stops;
 mod streams;
 mod trial;
+mod upgrades;
+mod version1;
 mod watched;
 mod years;

@@ -8,7 +8,7 @@ ghost use Rattle.portal_core.specs.Words.{is, has};
 ghost use Rattle.portal_core.specs.World.{is_from_ranking, is_published};
 ghost use Rattle.portal_core.specs.View as seen;
 ghost use Rattle.portal_list.specs.Shown.{is_wanted};
-ghost use Rattle.portal_tables.specs.Tables.{portal_tree};
+ghost use Rattle.portal_tables.specs.Tables.{portal_tree, version};
 ghost use Rattle.portal_tables.specs.Rows.{portal_row};
 ghost use Rattle.portal_tables.specs.Office.{number_of};
 ghost use Rattle.portal_store.specs.World.{world_of};
@@ -224,7 +224,7 @@ pub(super) fn office_view<S: Alter>(
     ensures shows { Holds (state S.Store conn.old).now → HasCleanDisk (state S.Store conn.new)
         → IsTrue (state S.Store conn.old).is_open
         → (state S.Store conn.old).now.trees portal_tree
-        ≡ portal_row (pos 1) (pos (number_of office.phase)) office.code ∷ []
+        ≡ portal_row (pos version) (pos (number_of office.phase)) office.code ∷ []
         → catalogue.value.items ≡ seen.catalogue (world_of (state S.Store conn.old).now.trees)
         → IfOk result (λ v. v ≡ seen.office_sees (world_of (state S.Store conn.old).now.trees)) }
     ensures reads { Reads result (state S.Store conn.old) (state S.Store conn.new) }

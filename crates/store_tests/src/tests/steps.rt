@@ -80,6 +80,29 @@ pub(crate) fn reply(rt: &(impl Abort + AllocGlobal), status: &str, answer: &str)
     text.expect(rt, "memory")
 }
 
+/// What is asked to see a world: it tells the rolls, the phase, each list, each ranking and the result.
+pub(crate) const SEEN: &[(&str, &str)] = &[
+    ("/status", OFFICE),
+    ("/catalogue", OFFICE),
+    ("/report", OFFICE),
+    ("/ranking", LEE),
+    ("/applicants", LEE),
+    ("/ranking", MOE),
+    ("/choices", ANN),
+    ("/choices", BEA),
+    ("/me", CYR),
+];
+
+/// What a desk shows of its world.
+pub(crate) fn seen<K: Keeper>(rt: &(impl Abort + AllocGlobal), desk: &mut Desk<K>) -> Vec<u8> {
+    let mut text = String::new(rt.alloc());
+    for (path, code) in SEEN {
+        let ask = request(rt, ("GET", path, code, ""));
+        text.push_str(&ask).expect(rt, "memory");
+    }
+    written(rt, desk, text.as_bytes())
+}
+
 /// A request, on a connection of its own, gets this reply.
 pub(crate) fn asks<K: Keeper>(
     rt: &(impl Abort + AllocGlobal),

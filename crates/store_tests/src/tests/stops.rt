@@ -1,10 +1,11 @@
 //! Databases whose disk stops at a write, or fails once at a write or a read, and that are opened again.
 
-use crate::tests::steps::{ANN, BEA, CYR, LEE, MOE, OFFICE, office_code, request, written};
+use crate::tests::steps::{ANN, BEA, LEE, OFFICE, SEEN, office_code, request, seen, written};
 use crate::tests::trial::{Fault, Plan, Trial};
+use crate::tests::version1;
 use portal_core::Keeper;
 use portal_desk::{Cause, Counted, Desk};
-use portal_store::{NotOpened, OpenFault, Store};
+use portal_store::{NotOpened, OpenFault, Store, UpgradeFault};
 use sqlite::{Connection, FileStore, Files, Options};
 use sqlite_disk::{Crash, Disk, Memory};
 use std::process::Abort;
@@ -117,45 +118,59 @@ fn left_image(rt: &(impl Abort + AllocGlobal), way: usize, written: &Image, safe
     }
 }
 
-/// What is asked to see a world: it tells the rolls, the phase, each list, each ranking and the result.
-const SEEN: &[(&str, &str)] = &[
-    ("/status", OFFICE),
-    ("/catalogue", OFFICE),
-    ("/report", OFFICE),
-    ("/ranking", LEE),
-    ("/applicants", LEE),
-    ("/ranking", MOE),
-    ("/choices", ANN),
-    ("/choices", BEA),
-    ("/me", CYR),
-];
-
-/// The requests that show a world, one after the other.
-fn seeing(rt: &(impl Abort + AllocGlobal)) -> String {
-    let mut text = String::new(rt.alloc());
-    for (path, code) in SEEN {
-        let ask = request(rt, ("GET", path, code, ""));
-        text.push_str(&ask).expect(rt, "memory");
-    }
-    text
+/// What files show: whether the tables are those of version 2, and what the portal in them shows, nothing where there is none.
+#[derive(PartialEq, Drop)]
+struct Sight {
+    is_current: bool,
+    text: Option<Vec<u8>>,
 }
 
-/// What the portal in these files shows; nothing where there is none.
-fn shown(rt: &(impl Abort + AllocGlobal), image: &Image) -> Option<Vec<u8>> {
+/// What the portal shows that is made of tables of version 1.
+fn shown_upgraded(rt: &(impl Abort + AllocGlobal), conn: TrialConnection<'_>) -> Vec<u8> {
+    assert!(rt; conn.is_autocommit());
+    match Store::upgrade(rt.alloc(), conn) {
+        Ok(store) => {
+            let mut desk = Desk::new(store);
+            let text = seen(rt, &mut desk);
+            let _left = left_of(rt, desk.into_keeper().into_connection());
+            text
+        }
+        Err(
+            NotOpened {
+                fault: _,
+                connection: _,
+            },
+        ) => panic!(rt; "an upgrade"),
+    }
+}
+
+/// What these files show. Tables of version 1 are upgraded first.
+fn shown(rt: &(impl Abort + AllocGlobal), image: &Image) -> Sight {
     let plan = Plan::new(Fault::Stop);
     let conn = connected(rt, image, &plan, Options::new(7));
     assert!(rt; conn.is_autocommit());
     match Store::open(rt.alloc(), conn) {
         Ok(store) => {
             let mut desk = Desk::new(store);
-            let text = written(rt, &mut desk, seeing(rt).as_bytes());
+            let text = Some(seen(rt, &mut desk));
             let _left = left_of(rt, desk.into_keeper().into_connection());
-            Some(text)
+            Sight {
+                is_current: true,
+                text,
+            }
         }
         Err(NotOpened { fault, connection }) => {
-            let _left = left_of(rt, connection);
-            assert_eq!(rt; fault, OpenFault::NotPortal);
-            None
+            let text = if fault == OpenFault::OtherVersion {
+                Some(shown_upgraded(rt, connection))
+            } else {
+                let _left = left_of(rt, connection);
+                assert_eq!(rt; fault, OpenFault::NotPortal);
+                None
+            };
+            Sight {
+                is_current: false,
+                text,
+            }
         }
     }
 }
@@ -177,6 +192,21 @@ fn makes<'a>(
     }
 }
 
+/// The tables of version 1 in the files are upgraded, or that is refused by their fault.
+fn upgrades<'a>(
+    rt: &(impl Abort + AllocGlobal),
+    conn: TrialConnection<'a>,
+) -> (bool, TrialConnection<'a>) {
+    assert!(rt; conn.is_autocommit());
+    match Store::upgrade(rt.alloc(), conn) {
+        Ok(store) => (true, store.into_connection()),
+        Err(NotOpened { fault, connection }) => {
+            assert!(rt; fault == UpgradeFault::Store);
+            (false, connection)
+        }
+    }
+}
+
 /// The portal in the files, which is there.
 fn desk_over<'a>(
     rt: &(impl Abort + AllocGlobal),
@@ -194,34 +224,49 @@ fn desk_over<'a>(
     }
 }
 
-/// A change of what the files hold: how it is asked for, where it is not the making of the portal, and what is shown before and
-/// after it.
+/// A change of what the files hold.
+#[derive(Clone, Copy)]
+enum Ask {
+    /// The portal is made.
+    Making,
+    /// Tables of version 1 are upgraded.
+    Upgrade,
+    /// A request: method, path, code and body.
+    Request(&'static str, &'static str, &'static str, &'static str),
+}
+
+/// A change of what the files hold, and what is shown before and after it.
 #[derive(Drop)]
 struct Case {
     before: Image,
-    ask: Option<String>,
-    shown_before: Option<Vec<u8>>,
-    shown_after: Option<Vec<u8>>,
+    ask: Ask,
+    shown_before: Sight,
+    shown_after: Sight,
 }
 
 /// The change is tried, and the fault comes after so many calls: whether the change was answered as done, and what is left.
 fn tried<'a>(
     rt: &(impl Abort + AllocGlobal),
     before: &Image,
-    ask: &Option<String>,
+    ask: Ask,
     plan: &'a Plan,
     calls: u64,
 ) -> (bool, TrialConnection<'a>) {
     let conn = connected(rt, before, plan, TIGHT);
     match ask {
-        None => {
+        Ask::Making => {
             plan.arm(calls);
             makes(rt, conn)
         }
-        Some(ask) => {
+        Ask::Upgrade => {
+            plan.arm(calls);
+            upgrades(rt, conn)
+        }
+        Ask::Request(method, path, code, body) => {
             let mut desk = desk_over(rt, conn);
             plan.arm(calls);
-            let reply = written(rt, &mut desk, ask.as_bytes());
+            let bytes = request(rt, (method, path, code, body));
+            let reply = written(rt, &mut desk, bytes.as_bytes());
             let is_done = reply.starts_with(b"HTTP/1.1 200");
             assert!(rt; is_done || reply.starts_with(b"HTTP/1.1 503"));
             (is_done, desk.into_keeper().into_connection())
@@ -230,7 +275,7 @@ fn tried<'a>(
 }
 
 /// What the files may hold after the change is done without a fault, with all of it in the log.
-fn done(rt: &(impl Abort + AllocGlobal), before: &Image, ask: &Option<String>) -> Image {
+fn done(rt: &(impl Abort + AllocGlobal), before: &Image, ask: Ask) -> Image {
     let plan = Plan::new(Fault::Stop);
     let (is_done, conn) = tried(rt, before, ask, &plan, u64::MAX);
     assert!(rt; is_done);
@@ -262,7 +307,7 @@ fn survives_crashes(
 /// Whether the fault came, after so many calls; the files are opened again as they are, and as a crash may leave them.
 fn survives(rt: &(impl Abort + AllocGlobal), case: &Case, fault: Fault, calls: u64) -> bool {
     let plan = Plan::new(fault);
-    let (is_done, conn) = tried(rt, &case.before, &case.ask, &plan, calls);
+    let (is_done, conn) = tried(rt, &case.before, case.ask, &plan, calls);
     let came = plan.came();
     if !came {
         plan.arm(if fault == Fault::Stop { 0 } else { u64::MAX });
@@ -285,56 +330,45 @@ fn faults_of(rt: &(impl Abort + AllocGlobal), case: &Case, fault: Fault) -> u64 
     10_000
 }
 
-/// A change that is asked for, or the making of the portal.
-type Ask = Option<(&'static str, &'static str, &'static str, &'static str)>;
-
 /// The portal is made, and the three rolls come.
 const SETUP: &[Ask] = &[
-    None,
-    Some((
+    Ask::Making,
+    Ask::Request(
         "POST",
         "/rolls/lecturers",
         OFFICE,
         "id,name,code,capacity\nL1,Lee,lee-code-01,2\nL2,Moe,moe-code-02,1\n",
-    )),
-    Some((
+    ),
+    Ask::Request(
         "POST",
         "/rolls/projects",
         OFFICE,
         "id,lecturer,title,capacity\nP1,L1,Tides,1\nP2,L1,Kites,1\nP3,L2,Bells,1\n",
-    )),
-    Some((
+    ),
+    Ask::Request(
         "POST",
         "/rolls/students",
         OFFICE,
         "id,name,code\nS1,Ann,ann-code-1\nS2,Bea,bea-code-2\nS3,Cyr,cyr-code-3\n",
-    )),
+    ),
 ];
 
 /// A phase, two lists, and one that is replaced.
 const CHOOSING: &[Ask] = &[
-    Some(("POST", "/phase", OFFICE, r#"{"phase":"choosing"}"#)),
-    Some(("PUT", "/choices", ANN, r#"{"projects":["P1","P2"]}"#)),
-    Some(("PUT", "/choices", BEA, r#"{"projects":["P1","P3"]}"#)),
-    Some(("PUT", "/choices", ANN, r#"{"projects":["P2","P1"]}"#)),
+    Ask::Request("POST", "/phase", OFFICE, r#"{"phase":"choosing"}"#),
+    Ask::Request("PUT", "/choices", ANN, r#"{"projects":["P1","P2"]}"#),
+    Ask::Request("PUT", "/choices", BEA, r#"{"projects":["P1","P3"]}"#),
+    Ask::Request("PUT", "/choices", ANN, r#"{"projects":["P2","P1"]}"#),
 ];
 
 /// A phase, a ranking and one that is replaced, what is missing filled, and the publication.
 const RANKING: &[Ask] = &[
-    Some(("POST", "/phase", OFFICE, r#"{"phase":"ranking"}"#)),
-    Some(("PUT", "/ranking", LEE, r#"{"students":["S1","S2"]}"#)),
-    Some(("PUT", "/ranking", LEE, r#"{"students":["S2","S1"]}"#)),
-    Some(("POST", "/ranking/fill", OFFICE, "{}")),
-    Some(("POST", "/phase", OFFICE, r#"{"phase":"published"}"#)),
+    Ask::Request("POST", "/phase", OFFICE, r#"{"phase":"ranking"}"#),
+    Ask::Request("PUT", "/ranking", LEE, r#"{"students":["S1","S2"]}"#),
+    Ask::Request("PUT", "/ranking", LEE, r#"{"students":["S2","S1"]}"#),
+    Ask::Request("POST", "/ranking/fill", OFFICE, "{}"),
+    Ask::Request("POST", "/phase", OFFICE, r#"{"phase":"published"}"#),
 ];
-
-/// The bytes that ask for it.
-fn asked(rt: &(impl Abort + AllocGlobal), ask: &Ask) -> Option<String> {
-    match *ask {
-        Some(ask) => Some(request(rt, ask)),
-        None => None,
-    }
-}
 
 /// Files of an empty database.
 fn blank(rt: &(impl Abort + AllocGlobal)) -> Image {
@@ -350,7 +384,7 @@ fn blank(rt: &(impl Abort + AllocGlobal)) -> Image {
 fn after(rt: &(impl Abort + AllocGlobal), before: Image, asks: &[Ask]) -> Image {
     let mut image = before;
     for ask in asks {
-        image = done(rt, &image, &asked(rt, ask));
+        image = done(rt, &image, *ask);
     }
     image
 }
@@ -359,11 +393,10 @@ fn after(rt: &(impl Abort + AllocGlobal), before: Image, asks: &[Ask]) -> Image 
 fn case_of(
     rt: &(impl Abort + AllocGlobal),
     before: Image,
-    shown_before: Option<Vec<u8>>,
-    ask: &Ask,
+    shown_before: Sight,
+    ask: Ask,
 ) -> (Case, Image) {
-    let ask = asked(rt, ask);
-    let after = done(rt, &before, &ask);
+    let after = done(rt, &before, ask);
     let shown_after = shown(rt, &after);
     assert!(rt; shown_after != shown_before);
     let case = Case {
@@ -381,7 +414,7 @@ fn meets(rt: &(impl Abort + AllocGlobal), fault: Fault, before: Image, asks: &[A
     let mut image = before;
     let mut count = 0u64;
     for ask in asks {
-        let (case, after) = case_of(rt, image, shown_before, ask);
+        let (case, after) = case_of(rt, image, shown_before, *ask);
         count = count.saturating_add(faults_of(rt, &case, fault));
         shown_before = case.shown_after;
         image = after;
@@ -468,6 +501,44 @@ fn a_write_is_in_doubt_in_ranking(rt: HostRuntime) {
 #[test]
 fn a_read_fails_in_ranking(rt: HostRuntime) {
     comes_in_ranking(&rt, Fault::Read, 60);
+}
+
+/// Files of version 1, in which the result is published.
+fn earlier(rt: &(impl Abort + AllocGlobal)) -> Image {
+    let plan = Plan::new(Fault::Stop);
+    let mut conn = connected(rt, &blank(rt), &plan, TIGHT);
+    version1::run_all(rt, &mut conn, version1::PUBLISHED);
+    left_of(rt, conn).0
+}
+
+/// So often at least the fault comes in an upgrade, which leaves the world as it is.
+fn comes_in_an_upgrade(rt: &(impl Abort + AllocGlobal), fault: Fault, least: u64) {
+    let before = earlier(rt);
+    let found = shown(rt, &before);
+    let after = shown(rt, &done(rt, &before, Ask::Upgrade));
+    assert!(rt; !found.is_current && after.is_current && found.text == after.text);
+    let count = meets(rt, fault, before, &[Ask::Upgrade]);
+    assert!(rt; count >= least, "{count} times");
+}
+
+#[test]
+fn the_disk_stops_in_an_upgrade(rt: HostRuntime) {
+    comes_in_an_upgrade(&rt, Fault::Stop, 15);
+}
+
+#[test]
+fn a_write_is_refused_in_an_upgrade(rt: HostRuntime) {
+    comes_in_an_upgrade(&rt, Fault::Refusal, 15);
+}
+
+#[test]
+fn a_write_is_in_doubt_in_an_upgrade(rt: HostRuntime) {
+    comes_in_an_upgrade(&rt, Fault::Doubt, 15);
+}
+
+#[test]
+fn a_read_fails_in_an_upgrade(rt: HostRuntime) {
+    comes_in_an_upgrade(&rt, Fault::Read, 15);
 }
 
 /// Why the serving of these bytes stopped early, and what was written.

@@ -1,5 +1,4 @@
-use Rattle.std.proofs.Common.{List, map, arith, ap, ◌∙◌}
-use Rattle.std.proofs.lemmas.Result.{on_ok_weaker}
+use Rattle.std.proofs.Common.{rules, List, map, arith, ap, ◌∙◌}
 use Rattle.sqlite.specs.State.{HasCleanDisk}
 use Rattle.sqlite.specs.Held.{state}
 use Rattle.portal_core.specs.Words.{Key}
@@ -8,37 +7,40 @@ use Rattle.portal_core.specs.Good.{Sound}
 use Rattle.portal_store.specs.World.{world_of}
 use Rattle.portal_store.specs.Kept.{Holds, Turns}
 use Rattle.portal_store.specs.Putting.{TurnsAll}
-use Rattle.portal_tables.proofs.Asking.{commits_asked, crash_asked}
+use Rattle.portal_store.proofs.Asked.{asks_err, asks_more}
+use Rattle.portal_store.proofs.Ended.{ends_asked, ends_refused}
 use Rattle.portal_store.proofs.FillTurns.{fill_turns}
 use Rattle.portal_store.proofs.fill.fill_rankings.Goals as goal
 
-pub returns-clause-ok : goal.returns-clause-ok
-returns-clause-ok g c own clean =
+pub returns-in_err-read-clause-ends : goal.returns-in_err-read-clause-ends
+returns-in_err-read-clause-ends g c =
+    let r = c.from_residual.result in
+    let old = state g.S.Store c.args.conn.now in
+    let new = state g.S.Store c.load_entries.new.conn in
+    ends_refused (Turns Fill) r old new c.from_residual.ensures.0 c.requires.idle (λ on. c.is_autocommit-idle.ensures.settled (search rules) on)
+    (asks_err _ r old new c.from_residual.ensures.0 c.in_err-read.ensures.asks)
+
+pub returns-in_err-rankings-clause-ends : goal.returns-in_err-rankings-clause-ends
+returns-in_err-rankings-clause-ends g c =
+    let r = c.from_residual-in_err-rankings.result in
+    let old = state g.S.Store c.args.conn.now in
+    let new = state g.S.Store c.load_entries.new.conn in
+    ends_refused (Turns Fill) r old new c.from_residual-in_err-rankings.ensures.0 c.requires.idle (λ on. c.is_autocommit-idle.ensures.settled (search rules) on)
+    (asks_more c.in_ok-read.read r old new c.in_ok-read.ensures.asks)
+
+pub returns-clause-ends : goal.returns-clause-ends
+returns-clause-ends g c =
     let old = state g.S.Store c.args.conn.now in
     let mid = state g.S.Store c.load_entries.new.conn in
     let new = state g.S.Store c.commit.new.conn in
     let fs : List (Key × List Key) = map (λ f. (f.0, f.1.items)) c.deref.result.now in
     let are =
     λ (clean : HasCleanDisk mid) (holds : Holds old.now) (sound : Sound (world_of old.now.trees)).
-    ap (map {B = Key × List Key} (λ f. (f.0, f.1.items))) c.deref.ensures.value ∙ c.in_ok-rankings.ensures (world_of old.now.trees) (c.in_ok-read.ensures.entries own holds.sound clean sound) in
-    let early : HasCleanDisk mid = omega (arith, clean, c.commit.ensures.crash.clean) in
-    on_ok_weaker c.commit.result
-    (commits_asked old mid new (TurnsAll fs) (Turns Fill) (λ clean after. fill_turns fs old.now after (are clean)) early (c.in_ok-read.ensures.same own early))
-    (c.commit.ensures.ok clean)
+    ap (map {B = Key × List Key} (λ f. (f.0, f.1.items))) c.deref.ensures.value ∙ c.in_ok-rankings.ensures (world_of old.now.trees) (c.in_ok-read.ensures.entries holds.own holds.sound clean sound) in
+    ends_asked (TurnsAll fs) (Turns Fill) c.commit.result old mid new c.commit.ensures.ok c.commit.ensures.err c.commit.ensures.durable c.commit.ensures.crash
+    c.in_ok-read.read c.in_ok-read.ensures.asks (λ own clean after. fill_turns fs old.now after (are clean))
 
 pub returns-clause-entries : goal.returns-clause-entries
 returns-clause-entries g c own holds good clean was =
     let early : HasCleanDisk (state g.S.Store c.load_entries.new.conn) = omega (arith, clean, c.commit.ensures.crash.clean) in
     c.in_ok-read.ensures.entries own holds.sound early good.sound
-
-pub returns-clause-crash : goal.returns-clause-crash
-returns-clause-crash g c own =
-    let old = state g.S.Store c.args.conn.now in
-    let mid = state g.S.Store c.load_entries.new.conn in
-    let new = state g.S.Store c.commit.new.conn in
-    let fs : List (Key × List Key) = map (λ f. (f.0, f.1.items)) c.deref.result.now in
-    let are =
-    λ (clean : HasCleanDisk mid) (holds : Holds old.now) (sound : Sound (world_of old.now.trees)).
-    ap (map {B = Key × List Key} (λ f. (f.0, f.1.items))) c.deref.ensures.value ∙ c.in_ok-rankings.ensures (world_of old.now.trees) (c.in_ok-read.ensures.entries own holds.sound clean sound) in
-    crash_asked old mid new (TurnsAll fs) (Turns Fill) (λ clean after. fill_turns fs old.now after (are clean))
-    (λ clean. c.in_ok-read.ensures.same own clean) (c.load_entries.ensures.crash own) c.commit.ensures.crash

@@ -1,30 +1,27 @@
-use Rattle.std.proofs.Common.{arith}
-use Rattle.std.proofs.lemmas.Result.{on_ok_weaker}
+use Rattle.std.proofs.Common.{rules, arith}
 use Rattle.sqlite.specs.State.{HasCleanDisk}
 use Rattle.sqlite.specs.Held.{state}
 use Rattle.portal_core.specs.Change.{To}
 use Rattle.portal_store.specs.Kept.{Turns}
-use Rattle.portal_tables.proofs.Asking.{commits_asked, crash_asked}
+use Rattle.portal_store.proofs.Asked.{asks_err}
+use Rattle.portal_store.proofs.Ended.{ends_asked, ends_refused}
 use Rattle.portal_store.proofs.phase.set_phase.Goals as goal
 
-pub returns-clause-ok : goal.returns-clause-ok
-returns-clause-ok g c own clean =
+pub returns-in_err-read-clause-ends : goal.returns-in_err-read-clause-ends
+returns-in_err-read-clause-ends g c =
+    let r = c.from_residual.result in
     let old = state g.S.Store c.args.conn.now in
-    let mid = state g.S.Store c.load_entries.new.conn in
-    let new = state g.S.Store c.commit-2.new.conn in
+    let new = state g.S.Store c.load_entries.new.conn in
+    ends_refused (Turns (To c.args.phase)) r old new c.from_residual.ensures.0 c.requires.idle (λ on. c.is_autocommit-idle.ensures.settled (search rules) on)
+    (asks_err _ r old new c.from_residual.ensures.0 c.in_err-read.ensures.asks)
+
+pub returns-clause-ends : goal.returns-clause-ends
+returns-clause-ends g c =
     let made = Turns (To c.args.phase) in
-    let early : HasCleanDisk mid = omega (arith, clean, c.commit-2.ensures.crash.clean) in
-    on_ok_weaker c.commit-2.result (commits_asked old mid new made made (λ clean after turns. turns) early (c.in_ok-read.ensures.same own early)) (c.commit-2.ensures.ok clean)
+    ends_asked made made c.commit-2.result (state g.S.Store c.args.conn.now) (state g.S.Store c.load_entries.new.conn) (state g.S.Store c.commit-2.new.conn) c.commit-2.ensures.ok c.commit-2.ensures.err c.commit-2.ensures.durable c.commit-2.ensures.crash
+    c.in_ok-read.read c.in_ok-read.ensures.asks (λ own clean after turns. turns)
 
 pub returns-clause-entries : goal.returns-clause-entries
 returns-clause-entries g c own holds good clean was =
     let early : HasCleanDisk (state g.S.Store c.load_entries.new.conn) = omega (arith, clean, c.commit-2.ensures.crash.clean) in
     c.in_ok-read.ensures.entries own holds.sound early good.sound
-
-pub returns-clause-crash : goal.returns-clause-crash
-returns-clause-crash g c own =
-    let old = state g.S.Store c.args.conn.now in
-    let mid = state g.S.Store c.load_entries.new.conn in
-    let new = state g.S.Store c.commit-2.new.conn in
-    let made = Turns (To c.args.phase) in
-    crash_asked old mid new made made (λ clean after turns. turns) (λ clean. c.in_ok-read.ensures.same own clean) (c.load_entries.ensures.crash own) c.commit-2.ensures.crash

@@ -3,7 +3,7 @@ use Rattle.sqlite.specs.Effect.{Database}
 use Rattle.sqlite.specs.Held.{state}
 use Rattle.sqlite.specs.State.{HasCleanDisk, IsUnchanged}
 use Rattle.portal_core.specs.View.{catalogue, office_sees}
-use Rattle.portal_tables.specs.Tables.{portal_tree}
+use Rattle.portal_tables.specs.Tables.{portal_tree, version}
 use Rattle.portal_tables.specs.Rows.{portal_row}
 use Rattle.portal_store.specs.Kept.{Holds}
 use Rattle.portal_tables.specs.Office.{number_of}
@@ -20,7 +20,7 @@ returns-clause-shows g c holds clean on row right =
     let m : IsUnchanged a b = c.in_ok-catalogue.ensures.reads.same holds.own before on in
     let shared = c.in_ok-catalogue.catalogue in
     let office = c.args.office in
-    let there = subst (λ (x : Database). Holds x → HasCleanDisk d → x.trees portal_tree ≡ portal_row (pos 1) (pos (number_of office.phase)) office.code ∷ [] → shared.value.items ≡ catalogue (world_of x.trees) → IfOk c.office_view.result (λ v. v ≡ office_sees (world_of x.trees))) m.0.now_is
+    let there = subst (λ (x : Database). Holds x → HasCleanDisk d → x.trees portal_tree ≡ portal_row (pos version) (pos (number_of office.phase)) office.code ∷ [] → shared.value.items ≡ catalogue (world_of x.trees) → IfOk c.office_view.result (λ v. v ≡ office_sees (world_of x.trees))) m.0.now_is
     (λ holds clean. c.office_view.ensures.shows holds clean m.0.is_open) in
     there holds clean row (c.in_ok-catalogue.ensures.shows holds before on right)
 

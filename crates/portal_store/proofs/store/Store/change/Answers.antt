@@ -15,34 +15,34 @@ law g h = clean_if_open (state g.S.Store h).is_clean (state g.S.Store h).is_open
 pub invariant_of-self-2 : goal.invariant_of-self-2
 invariant_of-self-2 g c = record {
   kept = change_keeps g.S.Store (meant c.args.change.now) c.self.inside.conn c.make-made.new.conn c.self.inside.own c.self.inside.faults c.args.self.now c.self.view_is c.self.invariant.kept c.make-made.ensures.idle c.in_default.ensures (law g c.make-made.new.conn) c.requires.good c.requires.leaves_good
-      c.make-made.result c.make-made.ensures.ok c.make-made.ensures.err;
+      c.make-made.result c.make-made.ensures.ends;
   shown = change_shown g.S.Store (meant c.args.change.now) c.self.inside.conn c.make-made.new.conn c.self.inside.own c.self.inside.faults c.args.self.now c.self.view_is c.self.invariant.kept c.make-made.ensures.idle c.in_default.ensures (law g c.make-made.new.conn) c.requires.good c.requires.leaves_good
-      c.make-made.result c.make-made.ensures.ok c.make-made.ensures.err c.self.inside.mind c.follow.new.self c.self.invariant.shown c.follow.ensures.made c.follow.ensures.not_made;
+      c.make-made.result c.make-made.ensures.ends c.self.inside.mind c.follow.new.self c.self.invariant.shown c.follow.ensures.made c.follow.ensures.not_made;
   entered = change_told g.S.Store (meant c.args.change.now) c.self.inside.conn c.make-made.new.conn c.self.inside.own c.self.inside.faults c.args.self.now c.self.view_is c.self.invariant.kept c.make-made.ensures.idle c.in_default.ensures (law g c.make-made.new.conn) c.requires.good c.requires.leaves_good
-      c.make-made.result c.make-made.ensures.ok c.make-made.ensures.err c.self.inside.entries c.make-made.new.entries c.follow-2.new.entries c.self.invariant.entered c.make-made.ensures.entries c.follow-2.ensures.made c.follow-2.ensures.not_made;
+      c.make-made.result c.make-made.ensures.ends c.self.inside.entries c.make-made.new.entries c.follow-2.new.entries c.self.invariant.entered c.make-made.ensures.entries c.follow-2.ensures.made c.follow-2.ensures.not_made;
 }
 
 pub returns-clause-clean : goal.returns-clause-clean
 returns-clause-clean g c =
     change_clean g.S.Store (meant c.args.change.now) c.self.inside.conn c.make-made.new.conn c.self.inside.own c.self.inside.faults c.args.self.now c.self.view_is c.self.invariant.kept c.make-made.ensures.idle c.in_default.ensures (law g c.make-made.new.conn) c.requires.good c.requires.leaves_good
-    c.make-made.result c.make-made.ensures.ok c.make-made.ensures.err
+    c.make-made.result c.make-made.ensures.ends
 
 pub returns-clause-made : goal.returns-clause-made
 returns-clause-made g c =
     change_made g.S.Store (meant c.args.change.now) c.self.inside.conn c.make-made.new.conn c.self.inside.own c.self.inside.faults c.args.self.now c.self.view_is c.self.invariant.kept c.make-made.ensures.idle c.in_default.ensures (law g c.make-made.new.conn) c.requires.good c.requires.leaves_good
-    c.make-made.result c.make-made.ensures.ok c.make-made.ensures.err
+    c.make-made.result c.make-made.ensures.ends
 
 pub returns-clause-same : goal.returns-clause-same
 returns-clause-same g c =
     change_same g.S.Store (meant c.args.change.now) c.self.inside.conn c.make-made.new.conn c.self.inside.own c.self.inside.faults c.args.self.now c.self.view_is c.self.invariant.kept c.make-made.ensures.idle c.in_default.ensures (law g c.make-made.new.conn) c.requires.good c.requires.leaves_good
-    c.make-made.result c.make-made.ensures.ok c.make-made.ensures.err
+    c.make-made.result c.make-made.ensures.ends
 
 pub returns-clause-left : goal.returns-clause-left
 returns-clause-left g c =
     change_left g.S.Store (meant c.args.change.now) c.self.inside.conn c.make-made.new.conn c.self.inside.own c.self.inside.faults c.args.self.now c.self.view_is c.self.invariant.kept c.make-made.ensures.idle c.in_default.ensures (law g c.make-made.new.conn) c.requires.good c.requires.leaves_good
-    (g.met.S.Store.settled c.self.inside.conn.store) c.make-made.ensures.crash
+    (g.met.S.Store.settled c.self.inside.conn.store) c.make-made.ensures.ends.crash
 
 pub returns-clause-lasts : goal.returns-clause-lasts
 returns-clause-lasts g c =
     lasts_by g.S.Store c.self.inside.conn c.make-made.new.conn c.self.inside.own c.self.inside.faults c.make-made.new.faults c.args.self.now _ c.self.view_is
-    (λ mine. c.make-made.ensures.crash (subst (λ (s : Seen _). IsTrue s.own → IsOwn s.conn.schema) (sym c.self.view_is) c.in_default.ensures mine))
+    (λ mine. c.make-made.ensures.ends.crash (subst (λ (s : Seen _). IsTrue s.own → IsOwn s.conn.schema) (sym c.self.view_is) c.in_default.ensures mine))

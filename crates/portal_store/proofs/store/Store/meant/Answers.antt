@@ -16,28 +16,28 @@ law g h = clean_if_open (state g.S.Store h).is_clean (state g.S.Store h).is_open
 pub invariant_of-self-in-None : goal.invariant_of-self-in-None
 invariant_of-self-in-None g c = record {
   kept = read_keeps g.S.Store c.self.inside.conn c.instance_in.new.conn c.self.inside.own c.self.inside.faults c.args.self.now c.self.view_is c.self.invariant.kept c.instance_in.ensures.idle c.in_default.ensures (law g c.instance_in.new.conn)
-      c.instance_in.result c.instance_in.ensures.same c.instance_in.ensures.err;
+      c.instance_in.result c.instance_in.ensures.asks;
   shown = read_shown g.S.Store c.self.inside.conn c.instance_in.new.conn c.self.inside.own c.self.inside.faults c.args.self.now c.self.view_is c.self.invariant.kept c.instance_in.ensures.idle c.in_default.ensures (law g c.instance_in.new.conn)
-      c.instance_in.result c.instance_in.ensures.same c.instance_in.ensures.err c.self.inside.mind c.self.inside.mind c.self.invariant.shown (λ _ _ _ told. told);
+      c.instance_in.result c.instance_in.ensures.asks c.self.inside.mind c.self.inside.mind c.self.invariant.shown (λ _ _ _ told. told);
   entered = read_still g.S.Store c.self.inside.conn c.instance_in.new.conn c.self.inside.own c.self.inside.faults c.args.self.now c.self.view_is c.self.invariant.kept c.instance_in.ensures.idle c.in_default.ensures (law g c.instance_in.new.conn)
-      c.instance_in.result c.instance_in.ensures.same c.instance_in.ensures.err c.self.inside.entries c.self.invariant.entered;
+      c.instance_in.result c.instance_in.ensures.asks c.self.inside.entries c.self.invariant.entered;
 }
 
 pub returns-in-None-clause-clean : goal.returns-in-None-clause-clean
 returns-in-None-clause-clean g c =
     read_clean g.S.Store c.self.inside.conn c.instance_in.new.conn c.self.inside.own c.self.inside.faults c.args.self.now c.self.view_is c.self.invariant.kept c.instance_in.ensures.idle c.in_default.ensures (law g c.instance_in.new.conn)
-    c.instance_in.result c.instance_in.ensures.same c.instance_in.ensures.err
+    c.instance_in.result c.instance_in.ensures.asks
 
 pub returns-in-None-clause-same : goal.returns-in-None-clause-same
 returns-in-None-clause-same g c =
     read_same g.S.Store c.self.inside.conn c.instance_in.new.conn c.self.inside.own c.self.inside.faults c.args.self.now c.self.view_is c.self.invariant.kept c.instance_in.ensures.idle c.in_default.ensures (law g c.instance_in.new.conn)
-    c.instance_in.result c.instance_in.ensures.same c.instance_in.ensures.err
+    c.instance_in.result c.instance_in.ensures.asks
 
 pub returns-in-None-clause-instance : goal.returns-in-None-clause-instance
 returns-in-None-clause-instance g c =
     when_ok _ _ _ c.instance_in.result
     (λ on. read_holds g.S.Store c.self.inside.conn c.instance_in.new.conn c.self.inside.own c.self.inside.faults c.args.self.now c.self.view_is c.self.invariant.kept c.instance_in.ensures.idle c.in_default.ensures (law g c.instance_in.new.conn)
-    c.instance_in.result c.instance_in.ensures.same c.instance_in.ensures.err _ (λ own clean holds. c.instance_in.ensures.instance own holds.sound clean) on)
+    c.instance_in.result c.instance_in.ensures.asks _ (λ own clean holds. c.instance_in.ensures.instance own holds.sound clean) on)
     (λ i meant on good. meant on (subst (λ s. Good (kept_world g.S.Store s)) (sym c.self.view_is) good).sound ∙ ap (λ s. instance (kept_world g.S.Store s)) c.self.view_is)
 
 -- of the entries that are remembered
@@ -54,4 +54,4 @@ returns-in-Some-clause-instance g c =
 pub returns-in-None-clause-lasts : goal.returns-in-None-clause-lasts
 returns-in-None-clause-lasts g c =
     lasts_by g.S.Store c.self.inside.conn c.instance_in.new.conn c.self.inside.own c.self.inside.faults c.instance_in.new.faults c.args.self.now _ c.self.view_is
-    (λ mine. c.instance_in.ensures.survives)
+    (λ mine. c.instance_in.ensures.asks.crash)

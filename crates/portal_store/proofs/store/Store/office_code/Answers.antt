@@ -14,30 +14,30 @@ law g h = clean_if_open (state g.S.Store h).is_clean (state g.S.Store h).is_open
 pub invariant_of-self-2 : goal.invariant_of-self-2
 invariant_of-self-2 g c = record {
   kept = read_keeps g.S.Store c.self.inside.conn c.office_of.new.conn c.self.inside.own c.self.inside.faults c.args.self.now c.self.view_is c.self.invariant.kept c.office_of.ensures.idle c.in_default.ensures (law g c.office_of.new.conn)
-      c.office_of.result c.office_of.ensures.same c.office_of.ensures.err;
+      c.office_of.result c.office_of.ensures.asks;
   shown = read_shown g.S.Store c.self.inside.conn c.office_of.new.conn c.self.inside.own c.self.inside.faults c.args.self.now c.self.view_is c.self.invariant.kept c.office_of.ensures.idle c.in_default.ensures (law g c.office_of.new.conn)
-      c.office_of.result c.office_of.ensures.same c.office_of.ensures.err c.self.inside.mind c.self.inside.mind c.self.invariant.shown (λ _ _ _ told. told);
+      c.office_of.result c.office_of.ensures.asks c.self.inside.mind c.self.inside.mind c.self.invariant.shown (λ _ _ _ told. told);
   entered = read_still g.S.Store c.self.inside.conn c.office_of.new.conn c.self.inside.own c.self.inside.faults c.args.self.now c.self.view_is c.self.invariant.kept c.office_of.ensures.idle c.in_default.ensures (law g c.office_of.new.conn)
-      c.office_of.result c.office_of.ensures.same c.office_of.ensures.err c.self.inside.entries c.self.invariant.entered;
+      c.office_of.result c.office_of.ensures.asks c.self.inside.entries c.self.invariant.entered;
 }
 
 pub returns-clause-clean : goal.returns-clause-clean
 returns-clause-clean g c =
     read_clean g.S.Store c.self.inside.conn c.office_of.new.conn c.self.inside.own c.self.inside.faults c.args.self.now c.self.view_is c.self.invariant.kept c.office_of.ensures.idle c.in_default.ensures (law g c.office_of.new.conn)
-    c.office_of.result c.office_of.ensures.same c.office_of.ensures.err
+    c.office_of.result c.office_of.ensures.asks
 
 pub returns-clause-same : goal.returns-clause-same
 returns-clause-same g c =
     read_same g.S.Store c.self.inside.conn c.office_of.new.conn c.self.inside.own c.self.inside.faults c.args.self.now c.self.view_is c.self.invariant.kept c.office_of.ensures.idle c.in_default.ensures (law g c.office_of.new.conn)
-    c.office_of.result c.office_of.ensures.same c.office_of.ensures.err
+    c.office_of.result c.office_of.ensures.asks
 
 pub returns-clause-code : goal.returns-clause-code
 returns-clause-code g c on =
     IfOk-weaker c.office_of.result _ _ (λ code is. is ∙ ap (λ s. (kept_world g.S.Store s).office) c.self.view_is)
     (read_holds g.S.Store c.self.inside.conn c.office_of.new.conn c.self.inside.own c.self.inside.faults c.args.self.now c.self.view_is c.self.invariant.kept c.office_of.ensures.idle c.in_default.ensures (law g c.office_of.new.conn)
-    c.office_of.result c.office_of.ensures.same c.office_of.ensures.err _ (λ own clean holds. c.office_of.ensures.code own holds.sound clean) on)
+    c.office_of.result c.office_of.ensures.asks _ (λ own clean holds. c.office_of.ensures.code own holds.sound clean) on)
 
 pub returns-clause-lasts : goal.returns-clause-lasts
 returns-clause-lasts g c =
     lasts_by g.S.Store c.self.inside.conn c.office_of.new.conn c.self.inside.own c.self.inside.faults c.office_of.new.faults c.args.self.now _ c.self.view_is
-    (λ mine. c.office_of.ensures.survives)
+    (λ mine. c.office_of.ensures.asks.crash)

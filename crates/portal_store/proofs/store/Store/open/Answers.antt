@@ -17,11 +17,11 @@ pub invariant_of-result : goal.invariant_of-result
 invariant_of-result g c =
     let new = c.examine.new.conn in
     record {
-      kept = opened_kept g.S.Store c.fits-own.result c.args.conn new c.examine.ensures.idle c.fits-own.ensures.0 (c.is_autocommit-idle.ensures.settled (c.is_autocommit-idle.ensures.value ∙ ap not c.requires.idle)) c.schema-live.ensures.live
-          (λ mine on. ((c.in-Ok-examine.ensures.asks mine).same (c.fits-own.ensures.0 mine) (law g new on), c.in-Ok-examine.ensures.admits mine (c.fits-own.ensures.0 mine) c.schema-live.ensures.live (law g new on)));
+      kept = opened_kept g.S.Store c.fits-own.result c.args.conn new c.examine.ensures.idle c.fits-own.ensures.current.0 (c.is_autocommit-idle.ensures.settled (c.is_autocommit-idle.ensures.value ∙ ap not c.requires.idle)) c.schema-live.ensures.live
+          (λ mine on. ((c.in-Ok-examine.ensures.asks mine).same (c.fits-own.ensures.current.0 mine) (law g new on), c.in-Ok-examine.ensures.admits mine (c.fits-own.ensures.current.0 mine) c.schema-live.ensures.live (law g new on)));
       shown = λ on. c.nothing.ensures _;
       entered = λ on.
-          let own = c.fits-own.ensures.0 on.0 in
+          let own = c.fits-own.ensures.current.0 on.0 in
           let same = (c.in-Ok-examine.ensures.asks on.0).same own (law g new on.1) in
           subst (λ (d : Database). HasEntries c.in-Ok-examine.entries (world_of d.trees)) (sym same.0.now_is) (c.in-Ok-examine.ensures.entries on.0 own c.schema-live.ensures.live (law g new on.1));
     }
@@ -29,6 +29,6 @@ invariant_of-result g c =
 pub returns-clause-good : goal.returns-clause-good
 returns-clause-good g c on =
     let new = c.examine.new.conn in
-    let own = c.fits-own.ensures.0 on.0 in
+    let own = c.fits-own.ensures.current.0 on.0 in
     let same = (c.in-Ok-examine.ensures.asks on.0).same own (law g new on.1) in
-    subst (λ (d : Database). Good (world_of d.trees)) (sym same.0.now_is) (c.in-Ok-examine.ensures.admits on.0 own c.schema-live.ensures.live (law g new on.1)).stands.good
+    subst (λ (d : Database). Good (world_of d.trees)) (sym same.0.now_is) (c.in-Ok-examine.ensures.admits on.0 own c.schema-live.ensures.live (law g new on.1)).stands.first.good

@@ -1,7 +1,7 @@
 use Rattle.std.proofs.Common.{true}
 use Rattle.sqlite.specs.Held.{state}
 use Rattle.portal_store.proofs.Asked.{asks_after, asks_err, asks_so}
-use Rattle.portal_store.proofs.open.see_rolls_apart.Goals as goal
+use Rattle.portal_store.proofs.seeing.see_rolls_apart.Goals as goal
 
 pub returns-in_err-apart-2-clause-asks : goal.returns-in_err-apart-2-clause-asks
 returns-in_err-apart-2-clause-asks g c =

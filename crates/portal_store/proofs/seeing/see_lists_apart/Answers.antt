@@ -1,7 +1,7 @@
 use Rattle.std.proofs.Common.{true}
 use Rattle.sqlite.specs.Held.{state}
 use Rattle.portal_store.proofs.Asked.{asks_after, asks_so}
-use Rattle.portal_store.proofs.open.see_lists_apart.Goals as goal
+use Rattle.portal_store.proofs.seeing.see_lists_apart.Goals as goal
 
 pub returns-clause-asks : goal.returns-clause-asks
 returns-clause-asks g c =

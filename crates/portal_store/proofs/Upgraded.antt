@@ -1,0 +1,147 @@
+-- Tables of version 1 that were upgraded stand for the world that they stood for.
+use Rattle.std.proofs.Common.{◌≡◌, pos, Bool, false, ◌||◌, IsTrue, List, [], ◌∷◌, map, slice_index_or, refl, sym, ap, subst, ◌∙◌}
+use Rattle.std.specs.List.{AllZip, list_any}
+use Rattle.sqlite.specs.Order.{column, bytes}
+use Rattle.sqlite.specs.Effect.{Database}
+use Rattle.sqlite.specs.Store.{Ghosts}
+use Rattle.sqlite.specs.Held.{Held, state}
+use Rattle.sqlite_trees.specs.Objects.{number_in}
+use Rattle.sqlite.specs.Table.{Table}
+use Rattle.sqlite.specs.Schema.{Schema}
+use Rattle.sqlite_tied.specs.Compute.{everything}
+use Rattle.portal_core.specs.declared.phase.Round.TheVariants.{First}
+use Rattle.portal_core.specs.Good.{Good}
+use Rattle.portal_core.specs.Words.{put_all}
+use Rattle.portal_core.specs.World.{lecturer_key, project_key, student_key}
+use Rattle.portal_tables.specs.Tables.{portal_tree, version, first_version, first_schema}
+use Rattle.portal_tables.specs.Own.{IsFirst, SameTable}
+use Rattle.portal_tables.specs.Changes.{IsApart}
+use Rattle.portal_tables.specs.Making.{Upgraded, Upgrades}
+use Rattle.portal_tables.specs.Names.{has_name, has_names, is_named_table, is_named_view}
+use Rattle.portal_tables.specs.declared.names.Names.{Names}
+use Rattle.portal_tables.specs.declared.names.Names.TheVariants.{OfSecond}
+use Rattle.portal_tables.specs.Office.{HasOffice, number_of}
+use Rattle.portal_tables.specs.Rows.{portal_row}
+use Rattle.portal_tables.specs.Steps.{Commits}
+use Rattle.portal_tables.proofs.Keeping.{apart_one}
+use Rattle.portal_tables.proofs.Owned.{current_own}
+use Rattle.portal_store.specs.World.{world_of, phase_of, lecturer_of, project_row, student_of}
+use Rattle.portal_store.specs.Kept.{HasSecond, Holds, IsKept, Stands, StandsAs}
+use Rattle.portal_store.specs.Asked.{AdmitsAs}
+use Rattle.portal_store.proofs.Asked.{apart_all}
+use Rattle.portal_store.proofs.Holding.{whole_same}
+
+module _ (old new : Database) (office : HasOffice first_version (old.trees portal_tree)) (up : Upgraded (pos (number_of office.phase)) office.office old new) where
+  lecturers : new.trees 1 ≡ old.trees 1
+  lecturers = up.others.1.0 (λ e. absurd (cc))
+
+  projects : new.trees 4 ≡ old.trees 4
+  projects = up.others.1.1.0 (λ e. absurd (cc))
+
+  students : new.trees 6 ≡ old.trees 6
+  students = up.others.1.1.1.0 (λ e. absurd (cc))
+
+  choices : new.trees 9 ≡ old.trees 9
+  choices = up.others.1.1.1.1.0 (λ e. absurd (cc))
+
+  rankings : new.trees 12 ≡ old.trees 12
+  rankings = up.others.1.1.1.1.1.0 (λ e. absurd (cc))
+
+  pub upgraded_world : world_of new.trees ≡ world_of old.trees
+  unfolding world_of
+  upgraded_world =
+      let phases : column (slice_index_or (new.trees 0) 0 []) 3 ≡ column (slice_index_or (old.trees 0) 0 []) 3 =
+      ap (λ rows. column (slice_index_or rows 0 []) 3) up.portal ∙ sym (ap (λ rows. column (slice_index_or rows 0 []) 3) office.is) in
+      let codes : column (slice_index_or (new.trees 0) 0 []) 4 ≡ column (slice_index_or (old.trees 0) 0 []) 4 =
+      ap (λ rows. column (slice_index_or rows 0 []) 4) up.portal ∙ sym (ap (λ rows. column (slice_index_or rows 0 []) 4) office.is) in
+      λ i. record {
+        round = First;
+        phase = phase_of (number_in (phases i));
+        office = bytes (codes i);
+        lecturers = put_all lecturer_key (map (lecturer_of (rankings i)) (lecturers i)) [];
+        projects = put_all project_key (map project_row (projects i)) [];
+        students = put_all student_key (map (student_of (choices i)) (students i)) [];
+      }
+
+  second : HasSecond new.trees
+  second = record { is = up.second; says = up.empty }
+
+  first_stands : StandsAs first_version old.trees → StandsAs version new.trees
+  first_stands was = record {
+    office = record { phase = office.phase; office = office.office; is = up.portal };
+    whole = whole_same old.trees new.trees lecturers students choices rankings was.whole;
+    good = subst Good (sym upgraded_world) was.good;
+  }
+
+  admits : AdmitsAs first_version old.trees → AdmitsAs version new.trees
+  admits was = record {
+    apart = (
+      apart_one (new.trees 0) (portal_row (pos version) (pos (number_of office.phase)) office.office) (pos 1) refl up.portal,
+      (
+        subst IsApart (sym lecturers) was.apart.1.0,
+        (
+          subst IsApart (sym projects) was.apart.1.1.0,
+          (subst IsApart (sym students) was.apart.1.1.1.0, (subst IsApart (sym choices) was.apart.1.1.1.1.0, (subst IsApart (sym rankings) was.apart.1.1.1.1.1.0, tt))),
+        ),
+      ),
+    );
+    stands = first_stands was.stands;
+  }
+
+  upgraded_holds : AdmitsAs first_version old.trees → Holds new
+  upgraded_holds was = record {
+    current = up.current;
+    own = current_own new.schema up.current;
+    sound = up.sound;
+    apart = apart_all new.trees version (admits was) second;
+    office = record { phase = office.phase; office = office.office; is = up.portal };
+    second = second;
+    whole = (admits was).stands.whole;
+  }
+
+pub upgraded_stands : (old new : Database) (was : StandsAs first_version old.trees) → Upgraded (pos (number_of was.office.phase)) was.office.office old new → Stands new.trees
+upgraded_stands old new was up = record { first = first_stands old new was.office up was; second = second old new was.office up }
+
+-- none of the six tables has a name of the second round's
+
+named_alike : (names : Names) (ts us : List Table) → AllZip SameTable ts us → list_any (is_named_table names) ts ≡ list_any (is_named_table names) us
+named_alike names [] [] h = refl
+named_alike names [] (u ∷ us) h = absurd h
+named_alike names (t ∷ ts) [] h = absurd h
+named_alike names (t ∷ ts) (u ∷ us) h = λ i. has_name names (h.0.name i) || named_alike names ts us h.1 i
+
+none_named : has_names OfSecond first_schema ≡ false
+unfolding everything
+none_named = refl
+
+pub first_untaken : (s : Schema) → IsFirst s → has_names OfSecond s ≡ false
+first_untaken s h = (λ i. named_alike OfSecond s.tables first_schema.tables h.tables i || list_any (is_named_view OfSecond) (h.no_views i)) ∙ none_named
+
+pub not_taken : (b : Bool) → b ≡ false → IsTrue b → ⊥
+not_taken b e taken = cc
+
+-- a store over them
+module _
+    {S : Type 0}
+    (g : Ghosts S)
+    (own : Bool)
+    (old new : Held S)
+    (is_first : IsTrue own → IsFirst old.schema)
+    (done : IsTrue own → IsTrue (state g new).is_open → Commits Upgrades (state g old) (state g new) × AdmitsAs first_version (state g old).now.trees) where
+  made : (mine : IsTrue own) (on : IsTrue (state g new).is_open)
+      → Upgraded (pos (number_of (done mine on).1.stands.office.phase)) (done mine on).1.stands.office.office (state g old).now (state g new).now
+  made mine on = let d = done mine on in d.0.changed (is_first mine) _ _ d.1.stands.office.is
+
+  pub upgraded_kept : new.in_transaction ≡ false → IsKept g new own
+  upgraded_kept idle = record {
+    idle = idle;
+    ready = λ mine on.
+        let d = done mine on in
+        record { settled = d.0.settled; holds = upgraded_holds (state g old).now (state g new).now d.1.stands.office (made mine on) d.1 };
+  }
+
+  pub same_world : IsTrue own → IsTrue (state g new).is_open → world_of (state g new).now.trees ≡ world_of (state g old).now.trees
+  same_world mine on = upgraded_world (state g old).now (state g new).now (done mine on).1.stands.office (made mine on)
+
+  pub still_good : IsTrue own → IsTrue (state g new).is_open → Good (world_of (state g new).now.trees)
+  still_good mine on = subst Good (sym (same_world mine on)) (done mine on).1.stands.good

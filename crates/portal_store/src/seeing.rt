@@ -1,0 +1,230 @@
+//! What is seen of tables that are there, of either version.
+
+ghost use Rattle.std.specs.Prelude.{◌≡◌, ◌≢◌, ◌↔◌, ◌⊎◌, false, true, [], ◌∷◌, pos, Ok, Err, List, IfOk, IfErr, OnOk, IsTrue};
+ghost use Rattle.std.specs.List.{AllByRecursion};
+ghost use Rattle.sqlite.specs.declared.types.Value.TheVariants.{Int};
+ghost use Rattle.sqlite.specs.Order.{Row as Cells, column};
+ghost use Rattle.sqlite.specs.State.{HasCleanDisk};
+ghost use Rattle.sqlite.specs.Held.{state};
+ghost use Rattle.portal_core.specs.Good.{Good, Sound};
+ghost use Rattle.portal_tables.specs.Tables.{lecturer_tree, project_tree, student_tree, choice_tree, ranking_tree};
+ghost use Rattle.portal_tables.specs.Own.{IsOwn};
+ghost use Rattle.portal_tables.specs.Changes.{IsApart};
+ghost use Rattle.portal_tables.specs.Reading.{Asks};
+ghost use Rattle.portal_list.specs.Entries.{HasEntries};
+ghost use Rattle.portal_store.specs.Kept.{StandsAs};
+ghost use Rattle.portal_store.specs.World.{world_of};
+ghost use Rattle.portal_store.specs.Asked.{HasVersion, Denies, SaysNothing, Blames, AdmitsAs};
+ghost use Rattle.portal_store.specs.Reading.{shown, OverOwn, OverLive};
+
+use crate::fault::{load_open_fault_of, open_fault_of, table_fault_of};
+use crate::sound::load_keeper;
+use crate::store::OpenFault;
+use portal_list::{Entries, ListKeeper};
+use portal_tables::apart::are_apart;
+use portal_tables::list_table::Lists;
+use portal_tables::select::{Query, Roll, Table, read};
+use sqlite::types::ValueRef;
+use sqlite::{Alter, Connection, Error, Row};
+use std::alloc::Global;
+
+/// Whether a table could be queried.
+pub(crate) fn seen(answer: Result<Vec<Row>, Error>) -> Result<(), OpenFault>
+    ensures damaged { result ≢ Err OpenFault.Damaged }
+    ensures version { result ≢ Err OpenFault.OtherVersion }
+{
+    match answer {
+        Ok(_) => Ok(()),
+        Err(error) => Err(table_fault_of(error)),
+    }
+}
+
+/// Whether each of the first round's tables can be queried. Those that are the portal's own can, and are not asked.
+fn see_tables<S: Alter>(conn: &mut Connection<S>, own: bool) -> Result<(), OpenFault>
+    requires idle { conn.old.in_transaction ≡ false }
+    ensures idle { conn.new.in_transaction ≡ false }
+    ensures same { IsTrue own → conn.new ≡ conn.old }
+    ensures none { IsTrue own → IfErr result (λ _. ⊥) }
+    ensures damaged { result ≢ Err OpenFault.Damaged }
+    ensures version { result ≢ Err OpenFault.OtherVersion }
+{
+    if own {
+        return Ok(());
+    }
+    seen(read(conn, Query::Office))?;
+    seen(read(conn, Query::Whole(Roll::Lecturers)))?;
+    seen(read(conn, Query::Whole(Roll::Projects)))?;
+    seen(read(conn, Query::Whole(Roll::Students)))?;
+    seen(read(conn, Query::AllLists(Lists::Choices)))?;
+    seen(read(conn, Query::AllLists(Lists::Rankings)))
+}
+
+/// Whether the row of the office is of this version.
+fn is_of(row: &Row, version: u32) -> bool
+    ensures { IsTrue result ↔ (column row.now 1 ≡ Int (pos version)) }
+{
+    match row.get_ref(1) {
+        Ok(ValueRef::Int(found)) => found == i64::from(version),
+        _ => false,
+    }
+}
+
+/// Whether there is a row of the office, of this version.
+fn judge_office(rows: &[Row], version: u32) -> Result<(), OpenFault>
+    ensures none { (result ≡ Err OpenFault.NotPortal) ↔ (rows.now ≡ []) }
+    ensures version { OnOk result ((row : Cells) × (rest : List Cells) × (rows.now ≡ row ∷ rest)
+        × (column row 1 ≡ Int (pos version))) }
+    ensures there { result ≡ Err OpenFault.OtherVersion → rows.now ≢ [] }
+    ensures other { result ≡ Err OpenFault.OtherVersion → (row : Cells) → rows.now ≡ row ∷ []
+        → column row 1 ≡ Int (pos version) → ⊥ }
+    ensures judged { IfErr result (λ fault. (fault ≡ OpenFault.Damaged) → ⊥) }
+{
+    match rows {
+        [] => Err(OpenFault::NotPortal),
+        [row, ..] => {
+            if is_of(row, version) {
+                Ok(())
+            } else {
+                Err(OpenFault::OtherVersion)
+            }
+        }
+    }
+}
+
+/// Whether `portal` has a row, of this version.
+fn see_office<S: Alter>(conn: &mut Connection<S>, version: u32) -> Result<(), OpenFault>
+    requires idle { conn.old.in_transaction ≡ false }
+    ensures idle { conn.new.in_transaction ≡ false }
+    ensures asks { Asks result (state S.Store conn.old) (state S.Store conn.new) }
+    ensures refused { IsOwn conn.old.schema → HasCleanDisk (state S.Store conn.new)
+        → IfErr result (λ fault. Blames fault version (StandsAs version (shown S.Store conn.old))
+        (shown S.Store conn.old)) }
+    ensures version { IsOwn conn.old.schema → HasCleanDisk (state S.Store conn.new)
+        → OnOk result (HasVersion version (shown S.Store conn.old)) }
+{
+    match read(conn, Query::Office) {
+        Ok(rows) => judge_office(&rows, version),
+        Err(error) => Err(open_fault_of(error)),
+    }
+}
+
+/// Whether the first round's tables can be queried, and are of this version; `own` says that they are the portal's own.
+pub(crate) fn see_first<S: Alter>(
+    conn: &mut Connection<S>,
+    own: bool,
+    version: u32,
+) -> Result<(), OpenFault>
+    requires idle { conn.old.in_transaction ≡ false }
+    ensures idle { conn.new.in_transaction ≡ false }
+    ensures asks { IsTrue own → Asks result (state S.Store conn.old) (state S.Store conn.new) }
+    ensures refused { IsTrue own → IsOwn conn.old.schema → HasCleanDisk (state S.Store conn.new)
+        → IfErr result (λ fault. Blames fault version (StandsAs version (shown S.Store conn.old))
+        (shown S.Store conn.old)) }
+    ensures version { IsTrue own → IsOwn conn.old.schema → HasCleanDisk (state S.Store conn.new)
+        → OnOk result (HasVersion version (shown S.Store conn.old)) }
+{
+    see_tables(conn, own)?;
+    see_office(conn, version)
+}
+
+/// What the answer on the numbers of rows means: those of a sound store differ, so that all else is a fault of the store.
+fn apart(answer: Result<bool, Error>) -> Result<(), OpenFault>
+    ensures ok { OnOk result (answer ≡ Ok true) }
+    ensures refused { IfErr result SaysNothing }
+{
+    match answer {
+        Ok(true) => Ok(()),
+        Ok(false) => Err(OpenFault::Store),
+        Err(error) => Err(open_fault_of(error)),
+    }
+}
+
+/// Whether the rows of the three rolls have numbers of their own.
+fn see_rolls_apart<S: Alter>(conn: &mut Connection<S>) -> Result<(), OpenFault>
+    requires idle { conn.old.in_transaction ≡ false }
+    ensures idle { conn.new.in_transaction ≡ false }
+    ensures asks { Asks result (state S.Store conn.old) (state S.Store conn.new) }
+    ensures refused { IfErr result SaysNothing }
+    ensures apart { IsOwn conn.old.schema → HasCleanDisk (state S.Store conn.new)
+        → OnOk result (AllByRecursion (λ t. IsApart (shown S.Store conn.old t))
+        (lecturer_tree ∷ project_tree ∷ student_tree ∷ [])) }
+{
+    apart(are_apart(conn, Table::OfRoll(Roll::Lecturers)))?;
+    apart(are_apart(conn, Table::OfRoll(Roll::Projects)))?;
+    apart(are_apart(conn, Table::OfRoll(Roll::Students)))
+}
+
+/// Whether the rows of the lists of the first round have numbers of their own.
+fn see_lists_apart<S: Alter>(conn: &mut Connection<S>) -> Result<(), OpenFault>
+    requires idle { conn.old.in_transaction ≡ false }
+    ensures idle { conn.new.in_transaction ≡ false }
+    ensures asks { Asks result (state S.Store conn.old) (state S.Store conn.new) }
+    ensures refused { IfErr result SaysNothing }
+    ensures apart { IsOwn conn.old.schema → HasCleanDisk (state S.Store conn.new)
+        → OnOk result (AllByRecursion (λ t. IsApart (shown S.Store conn.old t))
+        (choice_tree ∷ ranking_tree ∷ [])) }
+{
+    apart(are_apart(conn, Table::OfLists(Lists::Choices)))?;
+    apart(are_apart(conn, Table::OfLists(Lists::Rankings)))
+}
+
+/// Whether the keeper's world is good.
+fn judge_world(alloc: Global, keeper: &ListKeeper) -> Result<(), OpenFault>
+    requires { Sound keeper.now }
+    ensures good { OnOk result (Good keeper.now) }
+    ensures damaged { result ≡ Err OpenFault.Damaged → Good keeper.now → ⊥ }
+    ensures judged { IfErr result (λ fault. (fault ≡ OpenFault.Damaged)
+        ⊎ (fault ≡ OpenFault.Memory)) }
+{
+    match keeper.is_good(alloc) {
+        Ok(true) => Ok(()),
+        Ok(false) => Err(OpenFault::Damaged),
+        Err(_) => Err(OpenFault::Memory),
+    }
+}
+
+/// The entries of the world that the rows stand for, where it is good.
+fn see_world<S: Alter>(
+    alloc: Global,
+    conn: &mut Connection<S>,
+    version: u32,
+) -> Result<Entries, OpenFault>
+    requires idle { conn.old.in_transaction ≡ false }
+    ensures idle { conn.new.in_transaction ≡ false }
+    ensures asks { Asks result (state S.Store conn.old) (state S.Store conn.new) }
+    ensures refused { OverOwn S.Store conn.old conn.new
+        (IfErr result (λ fault. Denies fault (StandsAs version (shown S.Store conn.old)))) }
+    ensures stands { OverOwn S.Store conn.old conn.new
+        (OnOk result (StandsAs version (shown S.Store conn.old))) }
+    ensures entries { OverOwn S.Store conn.old conn.new
+        (IfOk result (λ e. HasEntries e (world_of (shown S.Store conn.old)))) }
+{
+    match load_keeper(alloc, conn, version) {
+        Ok(keeper) => {
+            judge_world(alloc, &keeper)?;
+            Ok(keeper.into_entries())
+        }
+        Err(fault) => Err(load_open_fault_of(fault)),
+    }
+}
+
+/// What is tested of the first round's tables, of this version, in this order: the numbers of rows, and the world, whose entries come.
+pub(crate) fn judge<S: Alter>(
+    alloc: Global,
+    conn: &mut Connection<S>,
+    version: u32,
+) -> Result<Entries, OpenFault>
+    requires idle { conn.old.in_transaction ≡ false }
+    ensures idle { conn.new.in_transaction ≡ false }
+    ensures asks { Asks result (state S.Store conn.old) (state S.Store conn.new) }
+    ensures refused { OverLive S.Store conn.old conn.new
+        (IfErr result (λ fault. Denies fault (StandsAs version (shown S.Store conn.old)))) }
+    ensures admits { OverLive S.Store conn.old conn.new
+        (OnOk result (AdmitsAs version (shown S.Store conn.old))) }
+    ensures entries { OverLive S.Store conn.old conn.new
+        (IfOk result (λ e. HasEntries e (world_of (shown S.Store conn.old)))) }
+{
+    see_rolls_apart(conn)?;
+    see_lists_apart(conn)?;
+    see_world(alloc, conn, version)
+}

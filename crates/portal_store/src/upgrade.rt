@@ -1,0 +1,169 @@
+//! Makes a store of the tables of version 1.
+
+ghost use Rattle.std.specs.Prelude.{◌≡◌, ◌↔◌, ◌⊎◌, false, Err, IfOk, IfErr, OnOk, OnErr, IsTrue};
+ghost use Rattle.sqlite.specs.State.{HasCleanDisk, Survives};
+ghost use Rattle.sqlite.specs.Held.{state};
+ghost use Rattle.portal_core.specs.Good.{Good};
+ghost use Rattle.portal_tables.specs.Tables.{first_version};
+ghost use Rattle.portal_tables.specs.Own.{IsFirst, IsOwn};
+ghost use Rattle.portal_tables.specs.Making.{Upgrades};
+ghost use Rattle.portal_tables.specs.Names.{has_names};
+ghost use Rattle.portal_tables.specs.declared.names.Names.TheVariants.{OfSecond};
+ghost use Rattle.portal_tables.specs.Reading.{Asks};
+ghost use Rattle.portal_tables.specs.Steps.{Commits, IsAfter, LeavesOnly, Stays};
+ghost use Rattle.portal_list.specs.Entries.{HasEntries};
+ghost use Rattle.portal_store.specs.Kept.{StandsAs, IsCleanStore, kept_world};
+ghost use Rattle.portal_store.specs.World.{world_of};
+ghost use Rattle.portal_store.specs.Asked.{Blames, Bars, AdmitsAs};
+ghost use Rattle.portal_store.specs.Reading.{shown, OverLive};
+
+use crate::fault::{open_fault_of, upgrade_fault_of, upgrading_fault_of};
+use crate::seeing::{judge, see_first};
+use crate::store::{NotOpened, OpenFault, Store, UpgradeFault};
+use portal_core::Remembered;
+use portal_list::Entries;
+use portal_tables::names::{Names, is_there};
+use portal_tables::office::FIRST_VERSION;
+use portal_tables::own::Pattern;
+use portal_tables::upgrade::upgrade_tables;
+use sqlite::{Alter, Connection};
+use std::alloc::Global;
+
+/// What is tested of the tables of version 1, in this order: whether they can be queried and are of the version, and what they show. `own`
+/// says that they are the portal's own. The entries of their world come.
+fn examine_first<S: Alter>(
+    alloc: Global,
+    conn: &mut Connection<S>,
+    own: bool,
+) -> Result<Entries, OpenFault>
+    requires idle { conn.old.in_transaction ≡ false }
+    ensures idle { conn.new.in_transaction ≡ false }
+    ensures asks { IsTrue own → Asks result (state S.Store conn.old) (state S.Store conn.new) }
+    ensures refused { IsTrue own → OverLive S.Store conn.old conn.new
+        (IfErr result (λ fault. Blames fault first_version
+        (StandsAs first_version (shown S.Store conn.old)) (shown S.Store conn.old))) }
+    ensures admits { IsTrue own → OverLive S.Store conn.old conn.new
+        (OnOk result (AdmitsAs first_version (shown S.Store conn.old))) }
+    ensures entries { IsTrue own → OverLive S.Store conn.old conn.new
+        (IfOk result (λ e. HasEntries e (world_of (shown S.Store conn.old)))) }
+{
+    see_first(conn, own, FIRST_VERSION)?;
+    judge(alloc, conn, FIRST_VERSION)
+}
+
+/// Upgrades the tables where they pass and no name is taken; the entries of their world come. `own` says that they are the portal's own.
+fn upgraded<S: Alter>(
+    alloc: Global,
+    conn: &mut Connection<S>,
+    own: bool,
+    is_taken: bool,
+) -> Result<Entries, UpgradeFault>
+    requires idle { conn.old.in_transaction ≡ false }
+    ensures idle { conn.new.in_transaction ≡ false }
+    ensures made { IsTrue own → IsOwn conn.old.schema → HasCleanDisk (state S.Store conn.new)
+        → OnOk result (Commits Upgrades (state S.Store conn.old) (state S.Store conn.new)) }
+    ensures admits { IsTrue own → OverLive S.Store conn.old conn.new
+        (OnOk result (AdmitsAs first_version (shown S.Store conn.old))) }
+    ensures entries { IsTrue own → OverLive S.Store conn.old conn.new
+        (IfOk result (λ e. HasEntries e (world_of (shown S.Store conn.old)))) }
+    ensures refused { IsTrue own → OverLive S.Store conn.old conn.new
+        (IfErr result (λ fault. (fault ≡ UpgradeFault.Exists)
+        ⊎ Bars fault (shown S.Store conn.old))) }
+    ensures exists { result ≡ Err UpgradeFault.Exists → IsTrue is_taken }
+    ensures free { OnOk result (is_taken ≡ false) }
+    ensures err { IsTrue own → IsOwn conn.old.schema → HasCleanDisk (state S.Store conn.new)
+        → IsTrue (state S.Store conn.new).is_open
+        → OnErr result (Stays (state S.Store conn.old) (state S.Store conn.new)) }
+    ensures durable { HasCleanDisk (state S.Store conn.new)
+        → OnOk result (LeavesOnly (state S.Store conn.new)) }
+    ensures crash { IsTrue own → IsOwn conn.old.schema
+        → Survives (state S.Store conn.old) (state S.Store conn.new)
+        (IsAfter Upgrades (state S.Store conn.old)) }
+{
+    let _idle = conn.is_autocommit();
+    let entries = match examine_first(alloc, conn, own) {
+        Ok(entries) => entries,
+        Err(fault) => return Err(upgrade_fault_of(fault)),
+    };
+    if is_taken {
+        return Err(UpgradeFault::Exists);
+    }
+    match upgrade_tables(alloc, conn) {
+        Ok(()) => Ok(entries),
+        Err(fault) => Err(upgrading_fault_of(fault)),
+    }
+}
+
+impl<S: Alter> Store<S> {
+    /// Makes the tables of version 2 of those of version 1, in one transaction, where they stand for a good world, which stays. A refusal
+    /// hands the connection back, and the file holds what it held where the connection is clean: `NotPortal` where a table of version 1
+    /// cannot be queried or `portal` has no row, `OtherVersion` where that row is of another version than 1, `Damaged` where it is of
+    /// version 1 and the rows stand for no good world, `Exists` where a table or a view of one of the five new names is there, `Store`
+    /// for an error of the connection, and `Memory`. The first four come in this order, and never from a fault of the device or want of
+    /// memory.
+    pub fn upgrade(
+        alloc: Global,
+        mut conn: Connection<S>,
+    ) -> Result<Store<S>, NotOpened<UpgradeFault, S>>
+        requires idle { conn.in_transaction ≡ false }
+        ensures own { IfOk result (λ s. IsTrue s.own ↔ IsFirst conn.schema) }
+        ensures made { IfOk result (λ s. IsFirst conn.schema → HasCleanDisk (state S.Store s.conn)
+            → Commits Upgrades (state S.Store conn) (state S.Store s.conn)) }
+        ensures stands { IfOk result (λ s. IsFirst conn.schema
+            → HasCleanDisk (state S.Store s.conn)
+            → StandsAs first_version (state S.Store conn).now.trees) }
+        ensures world { IfOk result (λ s. IsCleanStore S.Store s
+            → kept_world S.Store s ≡ world_of (state S.Store conn).now.trees) }
+        ensures good { IfOk result (λ s. IsCleanStore S.Store s → Good (kept_world S.Store s)) }
+        ensures durable { IfOk result (λ s. HasCleanDisk (state S.Store s.conn)
+            → LeavesOnly (state S.Store s.conn)) }
+        ensures refused { IfErr result (λ e. IsFirst conn.schema
+            → HasCleanDisk (state S.Store e.connection)
+            → Bars e.fault (state S.Store conn).now.trees) }
+        ensures exists { IfErr result (λ e. e.fault ≡ UpgradeFault.Exists
+            → IsTrue (has_names OfSecond conn.schema)) }
+        ensures free { IfOk result (λ _. has_names OfSecond conn.schema ≡ false) }
+        ensures err { IfErr result (λ e. IsFirst conn.schema
+            → HasCleanDisk (state S.Store e.connection)
+            → IsTrue (state S.Store e.connection).is_open
+            → Stays (state S.Store conn) (state S.Store e.connection)) }
+        ensures idle { IfErr result (λ e. e.connection.in_transaction ≡ false) }
+        ensures crash_ok { IfOk result (λ s. IsFirst conn.schema
+            → Survives (state S.Store conn) (state S.Store s.conn)
+            (IsAfter Upgrades (state S.Store conn))) }
+        ensures crash_err { IfErr result (λ e. IsFirst conn.schema
+            → Survives (state S.Store conn) (state S.Store e.connection)
+            (IsAfter Upgrades (state S.Store conn))) }
+    {
+        let _idle = conn.is_autocommit();
+        let _live = conn.schema();
+        let pattern = match Pattern::new(alloc) {
+            Ok(pattern) => pattern,
+            Err(error) => {
+                return Err(NotOpened {
+                    fault: upgrade_fault_of(open_fault_of(error)),
+                    connection: conn,
+                });
+            }
+        };
+        let own = pattern.fits_first(&conn);
+        let is_taken = is_there(conn.schema(), Names::OfSecond);
+        let entries = match upgraded(alloc, &mut conn, own, is_taken) {
+            Ok(entries) => entries,
+            Err(fault) => {
+                return Err(NotOpened {
+                    fault,
+                    connection: conn,
+                });
+            }
+        };
+        Ok(Store {
+            conn,
+            own,
+            pattern,
+            mind: Remembered::nothing(),
+            entries: Some(entries),
+            faults: 0,
+        })
+    }
+}
