@@ -7,8 +7,8 @@ _portal() {
     --port | --connections) return ;;
   esac
   case $command in
-    '') mapfile -t COMPREPLY < <(compgen -W 'check solve init serve pipe report help --help --version' -- "$word") ;;
-    help) mapfile -t COMPREPLY < <(compgen -W 'check solve init serve pipe report' -- "$word") ;;
+    '') mapfile -t COMPREPLY < <(compgen -W 'check solve init serve pipe report upgrade help --help --version' -- "$word") ;;
+    help) mapfile -t COMPREPLY < <(compgen -W 'check solve init serve pipe report upgrade' -- "$word") ;;
     serve)
       if [[ $word == -* ]]; then
         mapfile -t COMPREPLY < <(compgen -W '--port --connections --help' -- "$word")

@@ -26,7 +26,7 @@ cut_answer task b t h = elim (cases_lt 4194304 (length b)) [
 pub said_bound : (a n : ℕ) → (a ≡ n) ⊎ (a ≡ 3) → n ≤ 2 → a ≤ 3
 said_bound a n h small = elim h [ inl e ↦ omega (arith, e) | inr e ↦ omega (arith, e) ]
 
-said_status : (a n : ℕ) → (a ≡ n) ⊎ (a ≡ 3) → a < 3 → a ≡ n
+pub said_status : (a n : ℕ) → (a ≡ n) ⊎ (a ≡ 3) → a < 3 → a ≡ n
 said_status a n h small = elim h [ inl e ↦ e | inr e ↦ absurd (omega (arith, e)) ]
 
 -- a text that was said with its status, or the status 3

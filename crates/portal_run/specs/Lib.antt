@@ -1,2 +1,3 @@
 pub mod Taken
 pub mod Run
+pub mod Lines

@@ -27,3 +27,8 @@ abbrev pub IsOfFile : Command → Type 0
 IsOfFile (command.Check file) = Unit {0}
 IsOfFile (command.Solve file) = Unit {0}
 IsOfFile _ = ⊥
+
+-- the command brings a database to version 2
+abbrev pub IsUpgrade : Command → Type 0
+IsUpgrade (command.Upgrade database) = Unit {0}
+IsUpgrade _ = ⊥

@@ -3,12 +3,13 @@
 ghost use Rattle.std.specs.Prelude.{◌≡◌, ◌*◌, ◌<◌, ◌≤◌, ◌⊎◌, ◌∷◌, [], codes, drop, map, None, IfSome, IfOk, IsErr, IsTrue};
 ghost use Rattle.clap.specs.Words.{Text};
 ghost use Rattle.portal_words.specs.Line.{is_file_word};
-ghost use Rattle.portal_run.specs.Run.{Answers, AnswersSome, IsOfFile, task_of};
+ghost use Rattle.portal_run.specs.Run.{Answers, AnswersSome, IsOfFile, IsUpgrade, task_of};
+ghost use Rattle.portal_run.specs.Lines.{SaysUpgrade};
 ghost use Rattle.portal_desk.specs.Devices.{TakesAtMost as TakesFew};
 ghost use Rattle.portal_run.specs.Taken.{TakesAtMost};
 
 use crate::input::{InputFault, bytes_of};
-use crate::making::init;
+use crate::making::{init, upgrade_database};
 use crate::saying::{say, say_memory, say_read};
 use crate::year::{pipe_database, report_database, serve_database};
 use portal_answer::{Task, answer_to};
@@ -84,7 +85,8 @@ fn answer_file<R: Read, W: Write>(
 }
 
 /// Does a command, and gives the exit status. What `check` and `solve` write of a file that is named is the answer, by that
-/// command's own task, to what the opened file gave; 3 where it could not be read or written.
+/// command's own task, to what the opened file gave; 3 where it could not be read or written. `upgrade` says in one line, with its
+/// own status, that it is done or why it is not.
 #[tactic(auto, using(crate::proofs::Taken::few_taken, crate::proofs::Taken::same_left))]
 pub fn perform<R: Read, W: Write>(
     rt: &HostRuntime,
@@ -105,6 +107,8 @@ pub fn perform<R: Read, W: Write>(
     ensures solve { command.entry ≡ Command.Solve None → result < 3
         → Answers Task.Solve (R.remaining reader.old) result (W.contents writer.old)
         (W.contents writer.new) }
+    ensures upgrade { IsUpgrade command.entry → result < 3
+        → SaysUpgrade result (W.contents writer.old) (W.contents writer.new) }
 {
     match command {
         Command::Check(file) => answer_file(rt, Task::Check, file, reader, writer),
@@ -117,6 +121,7 @@ pub fn perform<R: Read, W: Write>(
         } => serve_database(rt, database, port, connections, writer),
         Command::Pipe(database) => pipe_database(rt, database, reader, writer),
         Command::Report(database) => report_database(rt, database, writer),
+        Command::Upgrade(database) => upgrade_database(rt, database, writer),
     }
 }
 

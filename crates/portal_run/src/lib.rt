@@ -5,6 +5,7 @@ mod commands;
 mod database;
 mod input;
 mod making;
+mod refusal;
 mod saying;
 mod year;
 

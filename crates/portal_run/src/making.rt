@@ -1,13 +1,15 @@
-//! Makes a database.
+//! Makes a database, or brings one of version 1 to version 2.
 
-ghost use Rattle.std.specs.Prelude.{◌≡◌, ◌≤◌};
+ghost use Rattle.std.specs.Prelude.{◌<◌, ◌≡◌, ◌≤◌};
+ghost use Rattle.portal_run.specs.Lines.{SaysUpgrade};
 ghost use Rattle.portal_run.specs.Taken.{TakesAtMost};
 
-use crate::database::{NoConnection, connect};
+use crate::database::{close, connect, connect_there};
 use crate::input::{InputFault, first_bytes};
-use crate::saying::{say, say_memory, say_read, say_store};
+use crate::refusal::{Refusal, not_made, not_upgraded, say_done};
+use crate::saying::{say, say_memory, say_read};
 use portal_core::{Code, CodeFault};
-use portal_store::{CreateFault, NotOpened, Store};
+use portal_store::{NotOpened, Store};
 use std::alloc::Global;
 use std::io::{Read, Write};
 
@@ -58,29 +60,19 @@ fn code_of<R: Read>(alloc: Global, reader: &mut R) -> Result<Code, NoCode>
 }
 
 /// Makes the portal's tables in a file.
-fn create<W: Write>(rt: &HostRuntime, path: &str, office: Code, writer: &mut W) -> u8
-    ensures { result ≤ 3 }
-{
-    let conn = match connect(rt, path) {
-        Ok(conn) => conn,
-        Err(NoConnection::Store) => return say_store(writer),
-        Err(NoConnection::Memory) => return say_memory(writer),
-    };
+fn create(rt: &HostRuntime, path: &str, office: Code) -> Result<(), Refusal> {
+    let conn = connect(rt, path)?;
     match Store::create(rt.alloc(), conn, office) {
         Ok(store) => {
-            let _ = store.into_connection().close();
-            say(writer, b"made\n", 0)
+            close(store);
+            Ok(())
         }
         Err(
             NotOpened {
                 fault,
                 connection: _,
             },
-        ) => match fault {
-            CreateFault::Exists => say(writer, b"refused exists\n", 2),
-            CreateFault::Store => say_store(writer),
-            CreateFault::Memory => say_memory(writer),
-        },
+        ) => Err(not_made(fault)),
     }
 }
 
@@ -96,9 +88,35 @@ pub(crate) fn init<R: Read, W: Write>(
     ensures takes { TakesAtMost 64 (R.remaining reader.old) (R.remaining reader.new) }
 {
     match code_of(rt.alloc(), reader) {
-        Ok(office) => create(rt, path, office, writer),
+        Ok(office) => say_done(writer, create(rt, path, office), b"made\n"),
         Err(NoCode::Bad) => say(writer, b"refused bad_code\n", 2),
         Err(NoCode::Read) => say_read(writer),
         Err(NoCode::Memory) => say_memory(writer),
     }
+}
+
+/// Brings the tables of a file that is there from version 1 to version 2.
+fn upgrade(rt: &HostRuntime, path: &str) -> Result<(), Refusal> {
+    let conn = connect_there(rt, path)?;
+    match Store::upgrade(rt.alloc(), conn) {
+        Ok(store) => {
+            close(store);
+            Ok(())
+        }
+        Err(
+            NotOpened {
+                fault,
+                connection: _,
+            },
+        ) => Err(not_upgraded(fault)),
+    }
+}
+
+/// Brings the database of a file from version 1 to version 2.
+pub(crate) fn upgrade_database<W: Write>(rt: &HostRuntime, path: &str, writer: &mut W) -> u8
+    ensures bound { result ≤ 3 }
+    ensures says { result < 3
+        → SaysUpgrade result (W.contents writer.old) (W.contents writer.new) }
+{
+    say_done(writer, upgrade(rt, path), b"upgraded\n")
 }

@@ -3,7 +3,8 @@
 ghost use Rattle.std.specs.Prelude.{◌≡◌, ◌*◌, ◌≤◌};
 ghost use Rattle.portal_desk.specs.Devices.{TakesAtMost as TakesFew};
 
-use crate::database::{FileDesk, close, open, refuse};
+use crate::database::{FileDesk, close, open};
+use crate::refusal::refuse;
 use crate::saying::{say, say_memory, say_read, say_store, say_write};
 use portal_core::KeepFault;
 use portal_desk::Cause;
@@ -72,7 +73,7 @@ pub(crate) fn serve_database<W: Write>(
     match open(rt, path) {
         Ok(mut desk) => {
             let status = listen(rt, &mut desk, port, connections, writer);
-            close(desk);
+            close(desk.into_keeper());
             status
         }
         Err(fault) => refuse(writer, fault),
@@ -115,7 +116,7 @@ pub(crate) fn pipe_database<R: Read, W: Write>(
     match open(rt, path) {
         Ok(mut desk) => {
             let ended = pipe(rt.alloc(), &mut desk, reader, writer);
-            close(desk);
+            close(desk.into_keeper());
             match ended {
                 Ok(_) => flush(writer),
                 Err(fault) => say_cause(writer, fault.cause),
@@ -133,7 +134,7 @@ fn report_of(alloc: Global, desk: FileDesk) -> Result<Vec<u8>, Unreported> {
         Err(KeepFault::Store) => Err(Unreported::Store),
         Err(KeepFault::Memory) => Err(Unreported::Memory),
     };
-    let _ = store.into_connection().close();
+    close(store);
     told
 }
 

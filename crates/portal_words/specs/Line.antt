@@ -40,8 +40,8 @@ files_app = with_subcommand (with_subcommand top_app (file_app (codes "check")).
 -- the whole command line
 abbrev pub portal_app : App
 portal_app =
-    with_subcommand (with_subcommand (with_subcommand (with_subcommand files_app (database_app (codes "init")).top) serve_app.top)
-    (database_app (codes "pipe")).top) (database_app (codes "report")).top
+    with_subcommand (with_subcommand (with_subcommand (with_subcommand (with_subcommand files_app (database_app (codes "init")).top) serve_app.top)
+    (database_app (codes "pipe")).top) (database_app (codes "report")).top) (database_app (codes "upgrade")).top
 
 -- a command that reads its words as this one does, with no global argument
 pub record Reads (c : Command) (a : App) : Type 0 where

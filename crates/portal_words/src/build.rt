@@ -32,6 +32,9 @@ const REPORT_PRINTS: &str =
     "Prints the texts of /report and, once it is published, of the allocation.
 Exit status: 0 printed, 2 the database is refused, 3 a device or memory failed.";
 
+const UPGRADE_PRINTS: &str = "Prints `upgraded`.
+Exit status: 0 upgraded, 2 the database is refused, 3 a device or memory failed.";
+
 // A command with one optional file; `prints` says what it prints, and with which exit status.
 fn of_file<'a>(
     alloc: Global,
@@ -152,9 +155,16 @@ pub(crate) fn portal<'a>(alloc: Global) -> Result<Command<'a>, AllocError>
         "Print where the year stands, and the allocation once it is published",
         REPORT_PRINTS,
     )?;
+    let upgrade = of_database(
+        alloc,
+        "upgrade",
+        "Bring a database of version 1 to version 2",
+        UPGRADE_PRINTS,
+    )?;
     with_files(alloc)?
         .subcommand(init)?
         .subcommand(serve(alloc)?)?
         .subcommand(pipe)?
-        .subcommand(report)
+        .subcommand(report)?
+        .subcommand(upgrade)
 }

@@ -30,6 +30,8 @@ pub enum Command<'a> {
     Pipe(&'a str),
     /// Print where the year stands in a database.
     Report(&'a str),
+    /// Bring a database of version 1 to version 2.
+    Upgrade(&'a str),
 }
 
 /// What the words ask for: a command, or a text and the status that goes with it.
@@ -62,6 +64,7 @@ fn named<'a>(name: &str, matches: &ArgMatches<'a>) -> Option<Command<'a>>
         "serve" => listening(matches),
         "pipe" => Some(Command::Pipe(matches.get_str("DB")?)),
         "report" => Some(Command::Report(matches.get_str("DB")?)),
+        "upgrade" => Some(Command::Upgrade(matches.get_str("DB")?)),
         _ => None,
     }
 }

@@ -1,4 +1,4 @@
-//! Instance files that are named on the command line.
+//! Instance files and databases that are named on the command line.
 
 use portal_run::run;
 use std::fs;
@@ -41,5 +41,35 @@ fn a_named_file_is_refused_as_the_input_is(rt: HostRuntime) -> Result<(), Fail> 
         assert!(rt; status == 2);
         assert!(rt; text.as_slice() == b"refused no_header\n".as_slice());
     }
+    Ok(())
+}
+
+/// What a command tells of the database of this name for an input, and its status.
+fn told_of_database(rt: &HostRuntime, command: &str, path: &str, input: &[u8]) -> (u8, Vec<u8>) {
+    let mut out = Vec::new(rt.alloc());
+    let mut input = input;
+    let status = run(rt, &["portal", command, path], &mut input, &mut out);
+    (status, out)
+}
+
+#[test]
+fn what_is_not_of_version_1_is_not_upgraded(rt: HostRuntime) -> Result<(), Fail> {
+    for (command, want, said) in [
+        ("upgrade", 2, b"refused not_portal\n".as_slice()),
+        ("report", 2, b"refused not_portal\n".as_slice()),
+        ("init", 0, b"made\n".as_slice()),
+        ("init", 2, b"refused exists\n".as_slice()),
+        ("upgrade", 2, b"refused other_version\n".as_slice()),
+        (
+            "report",
+            0,
+            b"phase           setup\nlecturers            0\nprojects             0\nstudents             0\nwithout list         0\nstill to rank        0\n".as_slice(),
+        ),
+    ] {
+        let (status, text) = told_of_database(&rt, command, "year.db", b"office-code-0\n");
+        assert!(rt; status == want, "{command}");
+        assert!(rt; text.as_slice() == said, "{command}");
+    }
+    fs::remove_file(&rt, "year.db")?;
     Ok(())
 }

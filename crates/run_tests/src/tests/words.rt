@@ -37,6 +37,12 @@ fn commands(rt: HostRuntime) -> Result<(), Fail> {
             Asked::Do(Command::Report("year.db"))
         )
     );
+    assert!(rt;
+        matches!(
+            command_of(alloc, &["portal", "upgrade", "year.db"])?,
+            Asked::Do(Command::Upgrade("year.db"))
+        )
+    );
     Ok(())
 }
 
@@ -113,6 +119,8 @@ fn texts(rt: HostRuntime) -> Result<(), Fail> {
         (["portal", "bake"].as_slice(), 2),
         (["portal", "check", "a", "b"].as_slice(), 2),
         (["portal", "init"].as_slice(), 2),
+        (["portal", "upgrade"].as_slice(), 2),
+        (["portal", "upgrade", "a", "b"].as_slice(), 2),
         (["portal", "serve", "a", "--port", "x"].as_slice(), 2),
         (["portal", "--help"].as_slice(), 0),
     ] {

@@ -1,0 +1,96 @@
+//! Why a command did nothing with a database, and what is said then.
+
+ghost use Rattle.std.specs.Prelude.{◌≡◌, ◌↔◌, IfErr, IfOk};
+ghost use Rattle.portal_run.specs.Lines.{Says, line_of, status_of};
+
+use crate::saying::{say, say_memory, say_store};
+use portal_store::{CreateFault, OpenFault, UpgradeFault};
+use std::io::Write;
+
+/// Why a command did nothing with a database.
+#[derive(Clone, Copy, Debug, Drop, PartialEq, Eq)]
+pub(crate) enum Refusal {
+    NotPortal,
+    OtherVersion,
+    Damaged,
+    Exists,
+    Store,
+    Memory,
+}
+
+/// Why a database was not opened.
+pub(crate) fn not_opened(fault: OpenFault) -> Refusal
+    ensures not_portal { (result ≡ Refusal.NotPortal) ↔ (fault ≡ OpenFault.NotPortal) }
+    ensures version { (result ≡ Refusal.OtherVersion) ↔ (fault ≡ OpenFault.OtherVersion) }
+    ensures damaged { (result ≡ Refusal.Damaged) ↔ (fault ≡ OpenFault.Damaged) }
+    ensures store { (result ≡ Refusal.Store) ↔ (fault ≡ OpenFault.Store) }
+    ensures memory { (result ≡ Refusal.Memory) ↔ (fault ≡ OpenFault.Memory) }
+{
+    match fault {
+        OpenFault::NotPortal => Refusal::NotPortal,
+        OpenFault::OtherVersion => Refusal::OtherVersion,
+        OpenFault::Damaged => Refusal::Damaged,
+        OpenFault::Store => Refusal::Store,
+        OpenFault::Memory => Refusal::Memory,
+    }
+}
+
+/// Why a database was not made.
+pub(crate) fn not_made(fault: CreateFault) -> Refusal
+    ensures exists { (result ≡ Refusal.Exists) ↔ (fault ≡ CreateFault.Exists) }
+    ensures store { (result ≡ Refusal.Store) ↔ (fault ≡ CreateFault.Store) }
+    ensures memory { (result ≡ Refusal.Memory) ↔ (fault ≡ CreateFault.Memory) }
+{
+    match fault {
+        CreateFault::Exists => Refusal::Exists,
+        CreateFault::Store => Refusal::Store,
+        CreateFault::Memory => Refusal::Memory,
+    }
+}
+
+/// Why a database was not brought to version 2.
+pub(crate) fn not_upgraded(fault: UpgradeFault) -> Refusal
+    ensures not_portal { (result ≡ Refusal.NotPortal) ↔ (fault ≡ UpgradeFault.NotPortal) }
+    ensures version { (result ≡ Refusal.OtherVersion) ↔ (fault ≡ UpgradeFault.OtherVersion) }
+    ensures damaged { (result ≡ Refusal.Damaged) ↔ (fault ≡ UpgradeFault.Damaged) }
+    ensures store { (result ≡ Refusal.Store) ↔ (fault ≡ UpgradeFault.Store) }
+    ensures memory { (result ≡ Refusal.Memory) ↔ (fault ≡ UpgradeFault.Memory) }
+    ensures exists { (result ≡ Refusal.Exists) ↔ (fault ≡ UpgradeFault.Exists) }
+{
+    match fault {
+        UpgradeFault::NotPortal => Refusal::NotPortal,
+        UpgradeFault::OtherVersion => Refusal::OtherVersion,
+        UpgradeFault::Damaged => Refusal::Damaged,
+        UpgradeFault::Store => Refusal::Store,
+        UpgradeFault::Memory => Refusal::Memory,
+        UpgradeFault::Exists => Refusal::Exists,
+    }
+}
+
+/// Says why a command did nothing with a database.
+pub(crate) fn refuse<W: Write>(writer: &mut W, why: Refusal) -> u8
+    ensures { Says (line_of why) (status_of why) result (W.contents writer.old)
+        (W.contents writer.new) }
+{
+    match why {
+        Refusal::NotPortal => say(writer, b"refused not_portal\n", 2),
+        Refusal::OtherVersion => say(writer, b"refused other_version\n", 2),
+        Refusal::Damaged => say(writer, b"refused damaged\n", 2),
+        Refusal::Exists => say(writer, b"refused exists\n", 2),
+        Refusal::Store => say_store(writer),
+        Refusal::Memory => say_memory(writer),
+    }
+}
+
+/// Says that something was done with a database, by its own line, or why it was not.
+pub(crate) fn say_done<W: Write>(writer: &mut W, done: Result<(), Refusal>, line: &[u8]) -> u8
+    ensures done { IfOk done (λ _. Says line.now 0 result (W.contents writer.old)
+        (W.contents writer.new)) }
+    ensures refused { IfErr done (λ why. Says (line_of why) (status_of why) result
+        (W.contents writer.old) (W.contents writer.new)) }
+{
+    match done {
+        Ok(()) => say(writer, line, 0),
+        Err(why) => refuse(writer, why),
+    }
+}
