@@ -10,7 +10,7 @@ import sys
 
 sys.path.insert(0, os.path.join(os.path.dirname(os.path.dirname(os.path.dirname(os.path.abspath(__file__)))), "checks", "plain"))
 from asking import OFFICE, PHASES  # noqa: E402
-from tables import TABLES  # noqa: E402
+from tables import FIRST  # noqa: E402
 from year import best  # noqa: E402
 
 
@@ -272,7 +272,7 @@ def serve_plain(path, port):
 def main():
     path, port = sys.argv[1], int(sys.argv[2])
     db = sqlite3.connect(path)
-    db.executescript(TABLES)
+    db.executescript(FIRST)
     db.execute("INSERT INTO portal VALUES (1, 1, 0, ?)", (OFFICE.decode(),))
     db.commit()
     db.close()

@@ -1,5 +1,6 @@
-"""What the scripts share that ask the built program: the program itself, requests, replies, the small world of the documents, and
+"""What the scripts share that ask the built program: the program itself, requests, replies, the small world of the documents, files of it, and
 the rows of a file."""
+import contextlib
 import os
 import shutil
 import socket
@@ -50,6 +51,13 @@ YEAR = {
 }
 
 
+# what the command `report` prints of the small year in the end: the state, and the result behind it
+REPORT = (b"phase           published\nlecturers            2\nprojects             3\nstudents             3\nwithout list         1\n"
+          b"still to rank        0\nassigned             2\n\n")
+RESULT = (b"S1                P2                L1\nS2                P1                L1\nS3                (none)\n\n"
+          b"P1                 1 of    1\nP2                 1 of    1\nP3                 0 of    1\n\nassigned 2 of 3\n")
+
+
 def year_until(phase):
     """The requests of the small year as far as this phase, with what is done in it."""
     return [one for name in PHASES[:PHASES.index(phase) + 1] for one in YEAR[name]]
@@ -60,6 +68,22 @@ def made(program, path, requests=()):
     subprocess.run([program, "init", path], input=OFFICE, stdout=subprocess.PIPE, check=True)
     done = subprocess.run([program, "pipe", path], input=b"".join(requests), stdout=subprocess.PIPE, check=True)
     assert [status for status, _ in replies(done.stdout)] == [200] * len(requests), done.stdout
+
+
+def made_in_version_1(path, name, journal="WAL"):
+    """Makes a file of version 1, by python's sqlite3, of what the last program of that version left in this phase, with its kind of journal or
+    another."""
+    with open(os.path.join(TOP, "checks", "version1", name + ".sql"), encoding="utf-8") as source:
+        changed(path, f"PRAGMA journal_mode = {journal};\n" + source.read())
+
+
+def changed(path, statements):
+    """A file is changed by python's sqlite3, or made, with the checks off as far as it asks them."""
+    with contextlib.closing(sqlite3.connect(path)) as connection:
+        connection.execute("PRAGMA foreign_keys = OFF")
+        connection.execute("PRAGMA ignore_check_constraints = ON")
+        connection.executescript(statements)
+        connection.commit()
 
 
 def replies(data):
@@ -77,7 +101,7 @@ def replies(data):
 
 
 def rows(path):
-    """All rows of the six tables of a file, read from a copy by python's sqlite3, which looks at its integrity too."""
+    """All rows of the tables of a file, read from a copy by python's sqlite3, which looks at its integrity too."""
     copy = path + ".copy"
     for end in ("", "-wal", "-journal", "-shm"):
         if os.path.exists(copy + end):

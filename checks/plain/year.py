@@ -229,14 +229,19 @@ class Year:
         return out + ("\n" + self.report()[1] if self.phase == 3 else "")
 
     def rows(self):
-        """The rows of the six tables, as `asking.rows` gives them."""
+        """The rows of the eleven tables, as `asking.rows` gives them."""
         found = {
-            "portal": [(1, 1, self.phase, self.office)],
+            "portal": [(1, 2, self.phase, self.office)],
             "lecturer": [(key, *row, int(key in self.rankings)) for key, row in self.lecturers.items()],
             "project": [(key, *row) for key, row in self.projects.items()],
             "student": [(key, *row, self.result.get(key)) for key, row in self.students.items()],
             "choice": [(key, at, one) for key, listed in self.choices.items() for at, one in enumerate(listed, 1)],
             "ranking": [(key, at, one) for key, listed in self.rankings.items() for at, one in enumerate(listed, 1)],
+            "second": [(1, 0)],
+            "choice2": [],
+            "ranked2": [],
+            "ranking2": [],
+            "assigned2": [],
         }
         return {name: sorted(those, key=repr) for name, those in found.items()}
 

@@ -1,0 +1,15 @@
+CREATE TABLE portal (id INTEGER NOT NULL PRIMARY KEY CHECK (id = 1), version INTEGER NOT NULL, phase INTEGER NOT NULL, office TEXT NOT NULL) STRICT;
+INSERT INTO portal VALUES(1,1,0,'office-code-0');
+CREATE TABLE lecturer (key TEXT NOT NULL PRIMARY KEY, name TEXT NOT NULL, code TEXT NOT NULL UNIQUE, capacity INTEGER NOT NULL CHECK (capacity >= 1 AND capacity <= 200), ranked INTEGER NOT NULL CHECK (ranked = 0 OR ranked = 1)) STRICT;
+INSERT INTO lecturer VALUES('L1','Lee','lee-code-01',2,0);
+INSERT INTO lecturer VALUES('L2','Moe','moe-code-02',1,0);
+CREATE TABLE project (key TEXT NOT NULL PRIMARY KEY, lecturer TEXT NOT NULL REFERENCES lecturer (key), title TEXT NOT NULL, capacity INTEGER NOT NULL CHECK (capacity >= 1 AND capacity <= 200)) STRICT;
+INSERT INTO project VALUES('P1','L1','Tides',1);
+INSERT INTO project VALUES('P2','L1','Kites',1);
+INSERT INTO project VALUES('P3','L2','Bells',1);
+CREATE TABLE student (key TEXT NOT NULL PRIMARY KEY, name TEXT NOT NULL, code TEXT NOT NULL UNIQUE, assigned TEXT REFERENCES project (key)) STRICT;
+INSERT INTO student VALUES('S1','Ann','ann-code-1',NULL);
+INSERT INTO student VALUES('S2','Roe, Bea','bea-code-2',NULL);
+INSERT INTO student VALUES('S3','Cyr','cyr-code-3',NULL);
+CREATE TABLE choice (student TEXT NOT NULL REFERENCES student (key), place INTEGER NOT NULL, project TEXT NOT NULL REFERENCES project (key), PRIMARY KEY (student, place), UNIQUE (project, student)) STRICT;
+CREATE TABLE ranking (lecturer TEXT NOT NULL REFERENCES lecturer (key), place INTEGER NOT NULL, student TEXT NOT NULL REFERENCES student (key), PRIMARY KEY (lecturer, place), UNIQUE (student, lecturer)) STRICT;
