@@ -93,8 +93,8 @@ impl Step for MakePortal<'_> {
     }
 }
 
-/// Makes the portal's tables, the row of the office and that of no second round in a transaction of their own. After an error nothing is there of
-/// them, and it is `Memory` for want of memory, else `Store`; after Ok a crash leaves them alone.
+/// Makes the portal's tables, the row of the office and that of no second round in a transaction of their own. After an error
+/// nothing is there of them, and it is `Memory` for want of memory, else `Store`; after Ok a crash leaves them alone.
 pub fn create_portal<S: Alter>(
     alloc: Global,
     conn: &mut Connection<S>,
