@@ -20,11 +20,15 @@ use portal_core::Keeper;
 /// but for the replies to a student's own list.
 pub fn same_bytes()
     ensures replies { (c : Key) (w v : World) (visits others : List Visit) (items : List Item)
-        → AreVisits w visits → AreAnswered visits → Hears c w visits items → AreVisits v others → AreAnswered others → Hears c v others items → view w c ≡ view v c
-        → (replies_in c visits ≡ replies_in c others) × (view (end_of w (worlds_of visits)) c ≡ view (end_of v (worlds_of others)) c) }
+        → AreVisits w visits → AreAnswered visits → Hears c w visits items
+        → AreVisits v others → AreAnswered others → Hears c v others items → view w c ≡ view v c
+        → (replies_in c visits ≡ replies_in c others)
+        × (view (end_of w (worlds_of visits)) c ≡ view (end_of v (worlds_of others)) c) }
     ensures places { (w v : World) (visits others : List Visit)
-        → SameButPlaces w v → AllZip SameRequest (asked_in (exchanges_of visits)) (asked_in (exchanges_of others))
-        → AreVisits w visits → AreAnswered visits → AreVisits v others → AreAnswered others → AlikeTexts (exchanges_of visits) (exchanges_of others) }
+        → SameButPlaces w v
+        → AllZip SameRequest (asked_in (exchanges_of visits)) (asked_in (exchanges_of others))
+        → AreVisits w visits → AreAnswered visits → AreVisits v others → AreAnswered others
+        → AlikeTexts (exchanges_of visits) (exchanges_of others) }
 {}
 
 /// What `serve` tells of streams that were served one after another over a clean keeper are visits.
@@ -38,8 +42,11 @@ pub fn served_is_visit<K: Keeper>()
 /// the same in both, the replies to that caller are equal byte for byte.
 pub fn equal_byte_for_byte<K: Keeper, L: Keeper>()
     ensures { (c : Key) (k : K) (l : L) (sessions : List (Session K)) (others : List (Session L))
-        → AreServed K.clean K.world k sessions → AreServed L.clean L.world l others → view (K.world k) c ≡ view (L.world l) c
-        → (first second : List Visit) × AllTellOf sessions first × AreVisits (K.world k) first × AllTellOf others second × AreVisits (L.world l) second
-        × ((items : List Item) → AreAnswered first → AreAnswered second → Hears c (K.world k) first items → Hears c (L.world l) second items
+        → AreServed K.clean K.world k sessions → AreServed L.clean L.world l others
+        → view (K.world k) c ≡ view (L.world l) c
+        → (first second : List Visit) × AllTellOf sessions first × AreVisits (K.world k) first
+        × AllTellOf others second × AreVisits (L.world l) second
+        × ((items : List Item) → AreAnswered first → AreAnswered second
+        → Hears c (K.world k) first items → Hears c (L.world l) second items
         → replies_in c first ≡ replies_in c second) }
 {}

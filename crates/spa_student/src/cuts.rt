@@ -51,8 +51,11 @@ impl Progress {
         requires in_range { s < length instance.now.choices }
         ensures from { slice_index self.now.cursors.items s ≤ result }
         ensures to { result ≤ length (choices_of instance.now s) }
-        ensures cut { (k : ℕ) → slice_index self.now.cursors.items s ≤ k → k < result → IsPastCut instance.now self.now s (slice_index (choices_of instance.now s) k) }
-        ensures uncut { result < length (choices_of instance.now s) → IsPastCut instance.now self.now s (slice_index (choices_of instance.now s) result) → ⊥ }
+        ensures cut { (k : ℕ) → slice_index self.now.cursors.items s ≤ k → k < result
+            → IsPastCut instance.now self.now s (slice_index (choices_of instance.now s) k) }
+        ensures uncut { result < length (choices_of instance.now s)
+            → IsPastCut instance.now self.now s (slice_index (choices_of instance.now s) result)
+            → ⊥ }
     {
         let list = instance.choices(s);
         for k in self.cursors[s]..list.len() {
@@ -94,7 +97,8 @@ impl Progress {
         requires in_range { p < length instance.now.lecturers }
         requires some { (s : ℕ) × (project_of self.now.projects.items s ≡ Some p) }
         ensures in_range { result < length (ranking_of instance.now (lecturer_of instance.now p)) }
-        ensures worst { IsWorstAt instance.now self.now.projects.items p (slice_index (ranking_of instance.now (lecturer_of instance.now p)) result) }
+        ensures worst { IsWorstAt instance.now self.now.projects.items p
+            (slice_index (ranking_of instance.now (lecturer_of instance.now p)) result) }
     {
         let _lawful = instance.students();
         let ranking = instance.ranking(instance.lecturer_of(p));
@@ -113,7 +117,8 @@ impl Progress {
         requires in_range { p < length instance.now.lecturers }
         requires some { (s : ℕ) × IsWith instance.now self.now.projects.items (lecturer_of instance.now p) s }
         ensures in_range { result < length (ranking_of instance.now (lecturer_of instance.now p)) }
-        ensures worst { IsWorstWith instance.now self.now.projects.items (lecturer_of instance.now p) (slice_index (ranking_of instance.now (lecturer_of instance.now p)) result) }
+        ensures worst { IsWorstWith instance.now self.now.projects.items (lecturer_of instance.now p)
+            (slice_index (ranking_of instance.now (lecturer_of instance.now p)) result) }
     {
         let _lawful = instance.students();
         let l = instance.lecturer_of(p);
@@ -156,7 +161,9 @@ impl Progress {
         requires some { (s : ℕ) × (project_of self.old.projects.items s ≡ Some p) }
         ensures worst { IsWorstAt instance.now self.old.projects.items p result }
         ensures leaves { Leaves result self.old self.new }
-        ensures project_cuts { self.new.project_cuts.items ≡ slice_set self.old.project_cuts.items p (rank_of instance.now (lecturer_of instance.now p) result) }
+        ensures project_cuts { self.new.project_cuts.items
+            ≡ slice_set self.old.project_cuts.items p
+            (rank_of instance.now (lecturer_of instance.now p) result) }
         ensures lecturer_cuts { self.new.lecturer_cuts.items ≡ self.old.lecturer_cuts.items }
         ensures marks { AreMarks instance.now self.new }
         ensures counts { AreCounts instance.now self.new }
@@ -179,7 +186,9 @@ impl Progress {
         ensures worst { IsWorstWith instance.now self.old.projects.items (lecturer_of instance.now p) result }
         ensures leaves { Leaves result self.old self.new }
         ensures project_cuts { self.new.project_cuts.items ≡ self.old.project_cuts.items }
-        ensures lecturer_cuts { self.new.lecturer_cuts.items ≡ slice_set self.old.lecturer_cuts.items (lecturer_of instance.now p) (rank_of instance.now (lecturer_of instance.now p) result) }
+        ensures lecturer_cuts { self.new.lecturer_cuts.items
+            ≡ slice_set self.old.lecturer_cuts.items (lecturer_of instance.now p)
+            (rank_of instance.now (lecturer_of instance.now p) result) }
         ensures marks { AreMarks instance.now self.new }
         ensures counts { AreCounts instance.now self.new }
     {
@@ -238,7 +247,8 @@ impl Progress {
         requires in_range { s < length instance.now.choices }
         requires free { project_of self.old.projects.items s ≡ None }
         ensures state { IsUnderWay instance.now self.new }
-        ensures settled { (x : ℕ) → result ≢ Some x → (x ≡ s) ⊎ IsSettled instance.now self.old x → IsSettled instance.now self.new x }
+        ensures settled { (x : ℕ) → result ≢ Some x → (x ≡ s) ⊎ IsSettled instance.now self.old x
+            → IsSettled instance.now self.new x }
         ensures free { IfSome result (λ w. (w < length instance.now.choices) × (project_of self.new.projects.items w ≡ None)) }
         ensures moves { IfSome result (λ w. sum self.old.cursors.items < sum self.new.cursors.items) }
     {
