@@ -118,6 +118,7 @@ module _ (w w' : World) (c : Key) where
         choosing = λ named at calm. cc;
         ranking = λ named at calm. cc;
         published = λ named at none calm. cc;
+        opened = λ one at calm. cc;
         filled = λ now some calm done. ap (λ u. view u c) done ∙ view_filled w c e;
         sheets = λ ask text sheet quiet calm. stays OfficeCaller e;
       }) ask
@@ -140,6 +141,7 @@ own_move (Office v) ask =
       choosing = λ named at e. refl;
       ranking = λ named at e. refl;
       published = λ named at none e. refl;
+      opened = λ one at e. refl;
       filled = λ now some e. cc;
       sheets = λ ask text sheet calm e. refl;
     }) ask

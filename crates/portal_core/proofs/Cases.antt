@@ -11,13 +11,13 @@ use Rattle.portal_core.specs.declared.rows.LecturerRow.{LecturerRow}
 use Rattle.portal_core.specs.declared.rows.ProjectRow.{ProjectRow}
 use Rattle.portal_core.specs.declared.rows.StudentRow.{StudentRow}
 use Rattle.portal_core.specs.declared.decision.Sheet.{Sheet}
-use Rattle.portal_core.specs.Change.{Change, Choices, Ranks, Lecturers, Projects, Students, To, Fill}
+use Rattle.portal_core.specs.Change.{Change, Choices, Ranks, Lecturers, Projects, Students, To, Fill, SecondRound}
 use Rattle.portal_core.specs.Sight.{StudentSees, LecturerSees, OfficeSees}
 use Rattle.portal_core.specs.Ask.{Ask}
 use Rattle.portal_core.specs.Bodies.{projects_body, students_body, phase_body, roll_body, filled_body}
 use Rattle.portal_core.specs.Faults.{ListFault, choice_fault, ranking_fault}
 use Rattle.portal_core.specs.Rolls.{Taken, Faulty, Took, take_rows, lecturer_roll, project_roll, student_roll}
-use Rattle.portal_core.specs.Answer.{Answer, Said, Decision, Nothing, Apply, Publish, answered, refuses, applies, renders, only, unless, already_placed, added, is_open_to_rolls, moves_on, moves_in, to_student, to_lecturer, to_office}
+use Rattle.portal_core.specs.Answer.{Answer, Said, Decision, Nothing, Apply, Publish, answered, refuses, applies, renders, only, unless, already_placed, added, is_open_to_rolls, moves_on, opens, moves_in, to_student, to_lecturer, to_office}
 use Rattle.portal_core.specs.Run.{Calls}
 use Rattle.portal_core.specs.Heard.{is_move_or_add}
 
@@ -42,6 +42,7 @@ pub record Runs (P : Ask → Decision → Type 0) (v : OfficeSees) : Type 0 wher
   pub ranking : (named : Option Round) → v.phase ≡ Choosing → P (Ask.Move Ranking named) (applies (phase_body v.round Ranking) (To Ranking))
   pub published : (named : Option Round) → v.phase ≡ Ranking → is_empty v.still_to_rank ≡ true
       → P (Ask.Move Published named) (record { reply = answered 200 (phase_body v.round Published); act = Publish })
+  pub opened : v.round ≡ First → v.phase ≡ Published → P (Ask.Move Choosing (Some Second)) (applies (phase_body Second Choosing) SecondRound)
   pub filled : is_ranking v.phase ≡ true → is_empty v.still_to_rank ≡ false → P Ask.FillRankings (applies (filled_body v.still_to_rank) Fill)
   pub sheets : (ask : Ask) (text : Said) (sheet : Sheet) → is_move_or_add (Calls ask) ≡ false → P ask (renders text sheet)
 
@@ -102,15 +103,19 @@ module _ (P : Ask → Decision → Type 0) (idle : (ask : Ask) (reply : Answer) 
     moved named Published Published at = idle _ _
     moved named p q at = idle _ _
 
-    moved_in : (r s : Round) (q : Phase) → P (Ask.Move q (Some s)) (moves_in v r s q)
-    moved_in First First q = moved (Some First) v.phase q refl
-    moved_in Second Second q = moved (Some Second) v.phase q refl
-    moved_in First Second q = idle _ _
-    moved_in Second First q = idle _ _
+    opening : v.round ≡ First → (p q : Phase) → v.phase ≡ p → P (Ask.Move q (Some Second)) (opens p q)
+    opening one Published Choosing at = does.opened one at
+    opening one p q at = idle _ _
+
+    moved_in : (r s : Round) (q : Phase) → v.round ≡ r → P (Ask.Move q (Some s)) (moves_in v r s q)
+    moved_in First First q one = moved (Some First) v.phase q refl
+    moved_in Second Second q one = moved (Some Second) v.phase q refl
+    moved_in First Second q one = opening one v.phase q refl
+    moved_in Second First q one = idle _ _
 
     pub by_office : (ask : Ask) → P ask (to_office v ask)
     by_office (Ask.Move phase None) = moved None v.phase phase refl
-    by_office (Ask.Move phase (Some round)) = moved_in v.round round phase
+    by_office (Ask.Move phase (Some round)) = moved_in v.round round phase refl
     by_office (Ask.AddLecturers rs) = gate _ _ (is_open_to_rolls v.round v.phase) _ refl (λ now. taken _ Lecturers _ _ refl (λ new n e. does.lecturers rs new n now e))
     by_office (Ask.AddProjects rs) = gate _ _ (is_open_to_rolls v.round v.phase) _ refl (λ now. taken _ Projects _ _ refl (λ new n e. does.projects rs new n now e))
     by_office (Ask.AddStudents rs) = gate _ _ (is_open_to_rolls v.round v.phase) _ refl (λ now. taken _ Students _ _ refl (λ new n e. does.students rs new n now e))

@@ -96,6 +96,7 @@ publishes_opens (Office v) ask =
       choosing = λ named at e. cc;
       ranking = λ named at e. cc;
       published = λ named at none e. refl;
+      opened = λ one at e. cc;
       filled = λ now some e. cc;
       sheets = λ ask text sheet calm e. cc;
     }) ask

@@ -5,6 +5,7 @@ use Rattle.std.specs.List.{AllByRecursion}
 use Rattle.std.proofs.lemmas.Bool.Decides.{nat_tests}
 use Rattle.portal_core.specs.declared.phase.Phase.{Phase}
 use Rattle.portal_core.specs.declared.phase.Phase.TheVariants.{Setup, Choosing, Ranking, Published}
+use Rattle.portal_core.specs.declared.phase.Round.TheVariants.{Second}
 use Rattle.spa_model.specs.declared.letter.Letter.{Letter}
 use Rattle.spa_model.specs.declared.letter.Letter.TheVariants.{A, B, C}
 use Rattle.spa_model.specs.Spa.{Spa, IsStable, IsBest, IsAsGood, IsOn, IsAcceptable, project_of, choices_of, at_project, at_lecturer, capacity_of, limit_of, Wants, Blocks, place}
@@ -14,7 +15,6 @@ use Rattle.portal_core.specs.Good.{Good, Sound, IsChoice, IsRanking}
 use Rattle.portal_core.specs.Change.{Choices, Fill, changed}
 use Rattle.portal_core.specs.Ask.{Ask}
 use Rattle.portal_core.specs.Worked.{worked, again, again_ranking, again_published, cyr, office}
-use Rattle.portal_core.proofs.Opened.{begun_good}
 use Rattle.portal_core.proofs.Steps.{step_good}
 use Rattle.portal_core.proofs.Texts.{ascii_text}
 
@@ -222,7 +222,7 @@ small_best =
     as_good (suc s) (Some q) on = let listed = on q refl in absurd (omega arith)
 
 pub again_good : Good again
-again_good = begun_good (worked Published) (worked_good Published) refl refl
+again_good = step_good (worked Published) again office (Ask.Move Choosing (Some Second)) _ (worked_good Published) (record { form = tt; told = refl; left = refl })
 
 pub again_ranking_good : Good again_ranking
 again_ranking_good =

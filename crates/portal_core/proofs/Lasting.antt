@@ -5,7 +5,7 @@ use Rattle.std.specs.List.{filter_map, cons_option, AllByRecursion}
 use Rattle.std.proofs.lemmas.List.Elements.{All-contains, All-from_recursion}
 use Rattle.portal_core.specs.Words.{Key, is, is_before, put, put_all}
 use Rattle.portal_core.specs.World as rows
-use Rattle.portal_core.specs.World.{World, first, first_placed, first_published, is_at, is_choosing, is_published, shown_place, pairs_of, placed_at, projects_of, lecturer_key, project_key, student_key}
+use Rattle.portal_core.specs.World.{World, first, first_placed, first_published, is_at, is_choosing, is_published, is_second, shown_place, pairs_of, placed_at, projects_of, lecturer_key, project_key, student_key}
 use Rattle.portal_core.specs.declared.phase.Phase.{Phase}
 use Rattle.portal_core.specs.declared.phase.Phase.TheVariants.{Setup, Choosing, Ranking, Published}
 use Rattle.portal_core.specs.declared.phase.Round.{Round}
@@ -16,7 +16,7 @@ use Rattle.portal_core.specs.declared.rows.ProjectRow.{ProjectRow}
 use Rattle.portal_core.specs.declared.rows.StudentRow.{StudentRow}
 use Rattle.portal_core.specs.declared.view.View.{View as Sight}
 use Rattle.portal_core.specs.declared.view.View.TheVariants.{Nobody, Office, Lecturer, Student}
-use Rattle.portal_core.specs.Change.{Choices, To, Places, changed, with_choice, with_ranking, with_place, with_fill, new_lecturer, new_student, with_lecturers, with_students, in_first}
+use Rattle.portal_core.specs.Change.{Choices, To, Places, SecondRound, changed, ranked_before, placed_before, with_choice, with_ranking, with_place, with_fill, new_lecturer, new_student, with_lecturers, with_students, in_first}
 use Rattle.portal_core.specs.View.{Caller, NoCaller, OfficeCaller, LecturerCaller, StudentCaller, caller, sight_of, view, office_sees, lecturer_sees, student_sees, persons, lecturer_with, student_with}
 use Rattle.portal_core.specs.Ask.{Ask}
 use Rattle.portal_core.specs.Answer.{Answer, Decision, decision}
@@ -24,11 +24,12 @@ use Rattle.portal_core.specs.Good.{Good}
 use Rattle.portal_core.specs.Run.{Leaves, Step, Request, Wish, Calls, Refused, Answers, Serves, Run}
 use Rattle.portal_core.specs.Results.{IsShownAt, ShowsStill}
 use Rattle.portal_core.proofs.Keys.{is_same, found_passes, found_all, all_unmap}
-use Rattle.portal_core.proofs.AllLaws.{all_map, all_weaker}
+use Rattle.portal_core.proofs.AllLaws.{all_map, all_weaker, all_both}
 use Rattle.portal_core.proofs.Acts.{choice_row, ranking_row}
 use Rattle.portal_core.proofs.InPlay.{fill_row}
 use Rattle.portal_core.proofs.Unseen.{choosing_open, lecturer_found, student_found, office_not, person_of}
 use Rattle.portal_core.proofs.Kept.{choice_first, place_row, place_first}
+use Rattle.portal_core.proofs.Opened.{opens_to}
 use Rattle.portal_core.proofs.Named.{office_named, lecturers_named, students_named}
 use Rattle.portal_core.proofs.Steps.{step_good}
 use Rattle.portal_core.proofs.Runs.{served_good}
@@ -234,6 +235,23 @@ module _ (w : World) where
       (renewed _ (with_place pairs)
       (λ s. (place_row pairs s, lasts w.phase Published (ap is_published at) s (with_place pairs s) (ap (λ x. x.placed) (place_first pairs s)))) w.students)
 
+  -- the place of the first round is shown on in the second
+  second : Good w → w.round ≡ First → w.phase ≡ Published → Grows w (changed w SecondRound)
+  second good one out =
+      subst (Grows w) (sym (opens_to w one out))
+      (record {
+        office = refl;
+        lecturers = renewed SameLecturer ranked_before (λ l. refl) w.lecturers;
+        projects = contained w.projects;
+        students = all_weaker _ _ (λ s h. (placed_before s, mapped placed_before w.students s h.0, (refl, λ p e. shown s h.1.1 p e))) w.students
+            (all_both _ _ w.students (contained w.students) (good.sound.no_earlier_lists (ap is_second one)));
+      })
+    where
+      shown : (s : rows.Student) → s.earlier_place ≡ None → (p : Key) → shown_place w.phase s ≡ Some p → shown_place Choosing (placed_before s) ≡ Some p
+      shown s none p e =
+          let at : s.placed ≡ Some p = sym (λ i. cond (is_none (none i)) (cond (is_published (out i)) s.placed None) (none i)) ∙ e in
+          ap (λ o. cond (is_none o) None o) at
+
   -- new rows
   more_lecturers : (rs : List LecturerRow) → Grows w (with_lecturers w rs)
   more_lecturers rs = other_lecturers _ (all_weaker _ _ (λ l there. (l, there, refl)) w.lecturers (all_beside lecturer_key (map new_lecturer rs) w.lecturers))
@@ -241,7 +259,7 @@ module _ (w : World) where
   more_students : (rs : List StudentRow) → Grows w (with_students w rs)
   more_students rs = other_students w.phase _ (all_weaker _ _ (λ s there. (s, there, (refl, λ p e. e))) w.students (all_beside student_key (map new_student rs) w.students))
 
-module _ (w v : World) where
+module _ (w v : World) (good : Good w) where
   becomes : (u : World) → Grows w u → v ≡ u → Grows w v
   becomes u g e = subst (Grows w) (sym e) g
 
@@ -263,12 +281,13 @@ module _ (w v : World) where
         choosing = λ named at. becomes _ (to_phase w Setup Choosing at refl);
         ranking = λ named at. becomes _ (to_phase w Choosing Ranking at refl);
         published = λ named at none left. becomes _ (published w left.0 at) left.1;
+        opened = λ one at. becomes _ (second w good one at);
         filled = λ now some. becomes _ (other_lecturers w _ (renewed SameLecturer (with_fill w) (fill_row w) w.lecturers));
         sheets = λ ask text sheet calm. becomes w (whole w);
       }) ask
 
 pub step_still : (w v : World) (c code : Key) (ask : Ask) (reply : Answer) → Good w → Step w code ask reply v → ShowsStill (view w c) (view v c)
-step_still w v c code ask reply g s = still w v (grows w v (caller w code) ask s.left) (step_good w v code ask reply g s) c (caller w c) refl
+step_still w v c code ask reply g s = still w v (grows w v g (caller w code) ask s.left) (step_good w v code ask reply g s) c (caller w c) refl
 
 -- a run
 

@@ -21,6 +21,7 @@ pub mod Enrol
 pub mod Steps
 mod Runs
 mod Lasting
+mod Opening
 pub mod Once
 pub mod Whole
 pub mod Renewed

@@ -19,7 +19,7 @@ use Rattle.portal_core.specs.Json.{texts_or_null, text_or_null, dictionary, seve
 use Rattle.portal_core.specs.Bodies.{listing, person, round_member, phase_body, status_body, unassigned, applicants_body, placed_body, allocation_body}
 use Rattle.portal_core.specs.Faults.{ListFault, choice_fault, ranking_fault}
 use Rattle.portal_core.specs.Rolls.{Taken, Faulty, Took, take_rows, lecturer_roll, project_roll, student_roll}
-use Rattle.portal_core.specs.Answer.{Said, Act, Nothing, Apply, Publish, Render, Decision, only, unless, added, row_fault, already_placed, moves_on, moves_in, moves, publishes, to_student, to_lecturer, to_office, unwritten, emptied, IsWhole}
+use Rattle.portal_core.specs.Answer.{Said, Act, Nothing, Apply, Publish, Render, Decision, only, unless, added, row_fault, already_placed, moves_on, opens, moves_in, moves, publishes, to_student, to_lecturer, to_office, unwritten, emptied, IsWhole}
 
 -- no body has a number that is not whole
 
@@ -121,10 +121,14 @@ moved_whole v Ranking Ranking = phase_whole v.round Ranking
 moved_whole v Published Published = phase_whole v.round Published
 moved_whole v _ _ = refl
 
+opens_whole : (old new : Phase) → IsWhole (opens old new).reply.body
+opens_whole Published Choosing = refl
+opens_whole _ _ = refl
+
 named_whole : (v : OfficeSees) (old new : Round) (phase : Phase) → IsWhole (moves_in v old new phase).reply.body
 named_whole v First First phase = moved_whole v v.phase phase
 named_whole v Second Second phase = moved_whole v v.phase phase
-named_whole v First Second phase = refl
+named_whole v First Second phase = opens_whole v.phase phase
 named_whole v Second First phase = refl
 
 moves_whole : (v : OfficeSees) (phase : Phase) (round : Option Round) → IsWhole (moves v phase round).reply.body

@@ -1,4 +1,4 @@
--- The second round: what it begins with, and that the first stays as it was published.
+-- The second round: what it opens with, and that the first stays as it was published.
 use Rattle.std.proofs.Common.{◌≡◌, Bool, true, false, cond, List, [], ◌∷◌, ◌++◌, length, refl, sym, ◌∙◌, ap, subst, arith}
 use Rattle.std.specs.Prelude.{map, Option, Some, None, IfSome, is_none}
 use Rattle.std.specs.List.{find, AllByRecursion}
@@ -6,13 +6,12 @@ use Rattle.std.proofs.lemmas.List.{length-map}
 use Rattle.portal_core.specs.Words.{Key, is, has, is_before, Rise, AreDistinct}
 use Rattle.portal_core.specs.World as rows
 use Rattle.portal_core.specs.World.{World, lecturer_key, project_key, student_key, applicants_of, is_published, is_second, is_left, in_play, first, first_placed, first_published, shown_place}
-use Rattle.portal_core.specs.Change.{Choices, Ranks, Fill, changed, with_choice, with_ranking, with_fill}
+use Rattle.portal_core.specs.Change.{Choices, Ranks, Fill, SecondRound, changed, opened, ranked_before, placed_before, with_choice, with_ranking, with_fill}
 use Rattle.portal_core.specs.declared.phase.Phase.{Phase}
 use Rattle.portal_core.specs.declared.phase.Phase.TheVariants.{Published}
 use Rattle.portal_core.specs.declared.phase.Round.TheVariants.{First}
 use Rattle.portal_core.specs.Instance.{project_keys}
 use Rattle.portal_core.specs.Good.{Good, IsRound, Sound, IsChoice, IsRanking, IsLecturer, IsStudent}
-use Rattle.portal_core.specs.Worked.{ranked_before, placed_before, begun}
 use Rattle.portal_core.proofs.Keys.{is_same, not_before_itself, found_all, all_unmap}
 use Rattle.portal_core.proofs.AllLaws.{all_map, all_weaker, map_same}
 use Rattle.portal_core.proofs.InPlay.{fill_row}
@@ -33,7 +32,7 @@ first_filled w = λ i. record (first w) { lecturers = map_same first_published (
     same : (l : rows.Lecturer) → first_published (with_fill w l) ≡ first_published l
     same l = λ i. record { row = fill_row w l i; ranking = fill_first w l i; earlier_ranking = None }
 
--- what was before the second round began
+-- what was before the second round opened
 
 back_lecturers : (ls : List rows.Lecturer) → AllByRecursion (λ l. l.earlier_ranking ≡ None) ls → map first_published (map ranked_before ls) ≡ ls
 back_lecturers [] all = refl
@@ -43,7 +42,7 @@ back_students : (ss : List rows.Student) → AllByRecursion (λ s. (s.earlier_ch
 back_students [] all = refl
 back_students (s ∷ ss) all = λ i. record s { earlier_choice = sym all.0.0 i; earlier_place = sym all.0.1 i } ∷ back_students ss all.1 i
 
-first_back : (w : World) → Sound w → w.round ≡ First → w.phase ≡ Published → first (begun w) ≡ w
+pub first_back : (w : World) → Sound w → w.round ≡ First → w.phase ≡ Published → first (opened First Published w) ≡ w
 first_back w g one out = λ i. record w {
   round = sym one i;
   phase = sym out i;
@@ -55,15 +54,15 @@ all_of : {X : Type 0} (P : X → Type 0) → ((x : X) → P x) → (xs : List X)
 all_of P k [] = tt
 all_of P k (x ∷ xs) = (k x, all_of P k xs)
 
-begun_sound : (w : World) → Sound w → Sound (begun w)
-begun_sound w g =
+opened_sound : (w : World) → Sound w → Sound (opened First Published w)
+opened_sound w g =
     let students : map student_key (map placed_before w.students) ≡ map student_key w.students = map_same student_key placed_before (λ s. refl) w.students in
     let lecturers : map lecturer_key (map ranked_before w.lecturers) ≡ map lecturer_key w.lecturers = map_same lecturer_key ranked_before (λ l. refl) w.lecturers in
     let student_codes : map (λ (s : rows.Student). s.row.code) (map placed_before w.students) ≡ map (λ s. s.row.code) w.students = map_same _ placed_before (λ s. refl) w.students in
     let lecturer_codes : map (λ (l : rows.Lecturer). l.row.code) (map ranked_before w.lecturers) ≡ map (λ l. l.row.code) w.lecturers = map_same _ ranked_before (λ l. refl) w.lecturers in
     let many : length (map placed_before w.students) ≡ length w.students = length-map w.students placed_before in
     let staff : length (map ranked_before w.lecturers) ≡ length w.lecturers = length-map w.lecturers ranked_before in
-    let keys : List Key = project_keys (in_play (begun w)) in
+    let keys : List Key = project_keys (in_play (opened First Published w)) in
     record {
       lecturers_rise = subst Rise (sym lecturers) g.lecturers_rise;
       projects_rise = g.projects_rise;
@@ -81,7 +80,7 @@ begun_sound w g =
       choices = all_map (λ (s : rows.Student). IsChoice keys s.choice) placed_before w.students (all_of _ (λ s. record { few = omega arith; known = tt; once = tt }) w.students);
       no_choices_yet = λ h. cc;
       no_rankings_yet = λ h. all_map (λ (l : rows.Lecturer). l.ranking ≡ None) ranked_before w.lecturers (all_of _ (λ l. refl) w.lecturers);
-      rankings = all_map (λ (l : rows.Lecturer). IfSome l.ranking (IsRanking (map student_key (applicants_of (begun w) l.row.key)))) ranked_before w.lecturers (all_of _ (λ l. tt) w.lecturers);
+      rankings = all_map (λ (l : rows.Lecturer). IfSome l.ranking (IsRanking (map student_key (applicants_of (opened First Published w) l.row.key)))) ranked_before w.lecturers (all_of _ (λ l. tt) w.lecturers);
       no_result_yet = λ h. all_map (λ (s : rows.Student). s.placed ≡ None) placed_before w.students (all_of _ (λ s. refl) w.students);
       all_ranked = λ h. cc;
       no_earlier_lists = λ h. cc;
@@ -90,13 +89,17 @@ begun_sound w g =
       only_left = all_map (λ (s : rows.Student). is_left s ≡ false → (s.choice ≡ []) × (s.placed ≡ None)) placed_before w.students (all_of _ (λ s h. (refl, refl)) w.students);
     }
 
-pub begun_good : (w : World) → Good w → w.round ≡ First → w.phase ≡ Published → Good (begun w)
-begun_good w g one out =
+pub opened_good : (w : World) → Good w → w.round ≡ First → w.phase ≡ Published → Good (opened First Published w)
+opened_good w g one out =
     record {
-      sound = begun_sound w g.sound;
+      sound = opened_sound w g.sound;
       stable = λ h. cc;
       before = λ h. subst IsRound (sym (first_back w g.sound one out)) (record { sound = g.sound; stable = g.stable });
     }
+
+-- where the first round is published the second opens
+pub opens_to : (w : World) → w.round ≡ First → w.phase ≡ Published → changed w SecondRound ≡ opened First Published w
+opens_to w one out = λ i. opened (one i) (out i) w
 
 -- where keys rise, a key is of the one row that was found
 

@@ -36,6 +36,7 @@ module _ (w : World) where
         choosing = λ named at e. cc;
         ranking = λ named at e. cc;
         published = λ named at none e. record { phase = at; all_ranked = all_ranked w (ap is_from_ranking at) none };
+        opened = λ one at e. cc;
         filled = λ now some e. cc;
         sheets = λ ask text sheet calm e. cc;
       }) ask

@@ -8,9 +8,10 @@ use Rattle.portal_core.specs.World.{World, lecturer_key, project_key, student_ke
 use Rattle.portal_core.specs.declared.phase.Round.{Round}
 use Rattle.portal_core.specs.declared.phase.Round.TheVariants.{First, Second}
 use Rattle.portal_core.specs.declared.phase.Phase.{Phase}
+use Rattle.portal_core.specs.declared.phase.Phase.TheVariants.{Published}
 use Rattle.portal_core.specs.declared.rows.ProjectRow.{ProjectRow}
 use Rattle.spa_model.proofs.PairFaults.{count_by-map}
-use Rattle.portal_core.specs.Change.{Change, Choices, Ranks, Lecturers, Projects, Students, To, Places, Fill, changed, in_first, with_lecturers, with_projects, with_students, with_choice, with_ranking, with_place, with_fill, place_in, new_lecturer, new_student}
+use Rattle.portal_core.specs.Change.{Change, Choices, Ranks, Lecturers, Projects, Students, To, Places, Fill, SecondRound, changed, opened, ranked_before, placed_before, in_first, with_lecturers, with_projects, with_students, with_choice, with_ranking, with_place, with_fill, place_in, new_lecturer, new_student}
 use Rattle.portal_core.specs.declared.rows.Person.{Person}
 use Rattle.portal_core.specs.declared.view.View.{View as Sight}
 use Rattle.portal_core.specs.declared.view.View.TheVariants.{Office, Lecturer, Student}
@@ -214,6 +215,27 @@ both_choose v w k ks ls r s = record { round = s.round; phase = s.phase; office 
 both_first : (v w p q : World) → SameButPlaces v w → SameButPlaces p q → SameButPlaces (in_first v.round p v) (in_first w.round q w)
 both_first v w p q s t = subst (λ r. SameButPlaces (in_first v.round p v) (in_first r q w)) s.round (elim v.round as (λ r. SameButPlaces (in_first r p v) (in_first r q w)) [ First ↦ t | Second ↦ s ])
 
+-- the second round of both
+both_opened : (v w : World) → SameButPlaces v w → SameButPlaces (opened v.round v.phase v) (opened w.round w.phase w)
+both_opened v w s =
+    subst (λ r. SameButPlaces (opened v.round v.phase v) (opened r w.phase w)) s.round
+    (subst (λ p. SameButPlaces (opened v.round v.phase v) (opened v.round p w)) s.phase (go v.round v.phase))
+  where
+    each : (s t : rows.Student) → SameStudent s t → SameStudent (placed_before s) (placed_before t)
+    each s t same =
+        record {
+          row = same.row;
+          choice = reordered_itself [];
+          placed = refl;
+          earlier_choice = same.choice;
+          earlier_place = ap (λ o. (placed_before (record s { placed = o })).earlier_place) same.placed;
+        }
+
+    go : (r : Round) (p : Phase) → SameButPlaces (opened r p v) (opened r p w)
+    go First Published = record { round = refl; phase = refl; office = s.office; lecturers = ap (map ranked_before) s.lecturers; projects = s.projects; students = zip_with placed_before placed_before each v.students w.students s.students }
+    go First _ = s
+    go Second _ = s
+
 pub both_changed : (v w : World) (change : Change) → SameButPlaces v w → SameButPlaces (changed v change) (changed w change)
 both_changed v w (Choices k list) s = both_choose v w k list list (reordered_itself list) s
 both_changed v w (Ranks k list) s = record { round = s.round; phase = s.phase; office = s.office; lecturers = ap (map (with_ranking k list)) s.lecturers; projects = s.projects; students = s.students }
@@ -230,6 +252,7 @@ both_changed v w Fill s =
       projects = s.projects;
       students = s.students;
     }
+both_changed v w SecondRound s = both_opened v w s
 both_changed v w (Places pairs) s = record { round = s.round; phase = refl; office = s.office; lecturers = s.lecturers; projects = s.projects; students = zip_with (with_place pairs) (with_place pairs) each v.students w.students s.students }
   where
     each : (s t : rows.Student) → SameStudent s t → SameStudent (with_place pairs s) (with_place pairs t)

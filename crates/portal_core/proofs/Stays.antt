@@ -1,5 +1,5 @@
 -- The second round changes nothing of the first.
-use Rattle.std.proofs.Common.{◌≡◌, true, false, refl, ◌∙◌, ap, subst}
+use Rattle.std.proofs.Common.{◌≡◌, true, false, refl, sym, ◌∙◌, ap, subst}
 use Rattle.portal_core.specs.Words.{Key}
 use Rattle.portal_core.specs.World.{World, first, is_second}
 use Rattle.portal_core.specs.Change.{Fill, changed}
@@ -37,6 +37,7 @@ module _ (w v : World) (second : w.round ≡ Second) where
         choosing = λ named at. keeps _ refl refl;
         ranking = λ named at. keeps _ refl refl;
         published = λ named at none left. keeps _ refl (first_kept w left.0) left.1;
+        opened = λ one at. let none : First ≡ Second = sym one ∙ second in cc;
         filled = λ now some. keeps (changed w Fill) refl (first_filled w);
         sheets = λ ask text sheet calm. keeps w refl refl;
       }) ask

@@ -4,7 +4,7 @@ use Rattle.portal_core.specs.Words.{Key}
 use Rattle.portal_core.specs.World.{World, is_setup, is_ranking, is_published, is_from_ranking, is_second}
 use Rattle.portal_core.specs.declared.phase.Round.{Round}
 use Rattle.portal_core.specs.declared.phase.Round.TheVariants.{First, Second}
-use Rattle.portal_core.specs.Change.{Choices, Ranks, To, Places, Fill, changed, in_first, with_lecturers, with_projects, with_students}
+use Rattle.portal_core.specs.Change.{Choices, Ranks, To, Places, Fill, changed, opened, in_first, with_lecturers, with_projects, with_students}
 use Rattle.portal_core.specs.declared.phase.Phase.{Phase}
 use Rattle.portal_core.specs.declared.phase.Phase.TheVariants.{Setup, Choosing, Ranking, Published}
 use Rattle.portal_core.specs.View.{Caller, NoCaller, OfficeCaller, LecturerCaller, StudentCaller, caller, sight_of, office_sees, lecturer_sees, student_sees}
@@ -19,7 +19,7 @@ use Rattle.portal_core.proofs.Unseen.{choosing_open, student_found}
 use Rattle.portal_core.proofs.Kept.{not_published, to_choosing, to_ranking, to_published, all_ranked, choosing, ranking}
 use Rattle.portal_core.proofs.Fills.{filling}
 use Rattle.portal_core.proofs.Enrol.{open_phase, lecturers_added, projects_added, students_added}
-use Rattle.portal_core.proofs.Opened.{first_chosen, first_ranked, first_filled, alone_left}
+use Rattle.portal_core.proofs.Opened.{opened_good, opens_to, first_chosen, first_ranked, first_filled, alone_left}
 
 ranking_open : (phase : Phase) → is_ranking phase ≡ true → is_published phase ≡ false
 ranking_open Setup e = refl
@@ -89,6 +89,7 @@ module _ (w v : World) (code : Key) (g : Good w) where
             becomes (changed w (Places left.0))
             (to_published w left.0 g (ap is_setup at) (all_ranked w (ap is_from_ranking at) none) (subst (λ u. IsBest (instance w) (matching_of u)) left.1 left.2))
             left.1;
+        opened = λ one at form left. becomes (opened First Published w) (opened_good w g one at) (left ∙ opens_to w one at);
         filled = λ now some form. becomes _ (not_published (changed w Fill) (filling w g.sound now) (ranking_open w.phase now) (λ h. subst IsRound (sym (first_filled w)) (g.before h)));
         sheets = λ ask text sheet calm form left. same left;
       }) ask

@@ -8,7 +8,7 @@ use Rattle.portal_core.specs.declared.phase.Round.{Round}
 use Rattle.portal_core.specs.declared.phase.Round.TheVariants.{First, Second}
 use Rattle.portal_core.specs.Words.{Key, is_empty}
 use Rattle.portal_core.specs.World.{is_choosing, is_ranking, is_from_ranking, has_result}
-use Rattle.portal_core.specs.Change.{Change, Choices, Ranks, Lecturers, Projects, Students, To, Fill}
+use Rattle.portal_core.specs.Change.{Change, Choices, Ranks, Lecturers, Projects, Students, To, Fill, SecondRound}
 use Rattle.portal_core.specs.Sight.{StudentSees, LecturerSees, OfficeSees}
 use Rattle.portal_core.specs.declared.view.View.{View as Sight}
 use Rattle.portal_core.specs.declared.view.View.TheVariants.{Nobody, Office, Lecturer, Student}
@@ -153,11 +153,16 @@ moves_on v Ranking Published = publishes v
 moves_on v Published Published = shows (phase_body v.round Published)
 moves_on v _ _ = wrong_phase
 
--- a round that is named has to be the current one
+-- once the first round is published the second opens, with choosing
+abbrev pub opens : Phase → Phase → Decision
+opens Published Choosing = applies (phase_body Second Choosing) SecondRound
+opens _ _ = wrong_phase
+
+-- a round that is named is the current one, or the second, which opens by its name alone
 abbrev pub moves_in : OfficeSees → Round → Round → Phase → Decision
 moves_in v First First phase = moves_on v v.phase phase
 moves_in v Second Second phase = moves_on v v.phase phase
-moves_in v First Second phase = wrong_phase
+moves_in v First Second phase = opens v.phase phase
 moves_in v Second First phase = wrong_phase
 
 -- where no round is named, the current one is meant

@@ -2,7 +2,7 @@
 use Rattle.std.specs.Prelude.{if◌then◌else◌, List, [], map, Option, Some, None, option_map}
 use Rattle.std.specs.List.{find}
 use Rattle.portal_core.specs.declared.phase.Phase.{Phase}
-use Rattle.portal_core.specs.declared.phase.Phase.TheVariants.{Published}
+use Rattle.portal_core.specs.declared.phase.Phase.TheVariants.{Choosing, Published}
 use Rattle.portal_core.specs.declared.phase.Round.{Round}
 use Rattle.portal_core.specs.declared.phase.Round.TheVariants.{First, Second}
 use Rattle.portal_core.specs.declared.rows.LecturerRow.{LecturerRow}
@@ -12,7 +12,7 @@ use Rattle.portal_core.specs.Words.{Key, is, put_all}
 use Rattle.portal_core.specs.World.{World, Lecturer, Student, is_left, lecturer_key, project_key, student_key, applicants_of, is_still_to_rank}
 
 -- a student's list; a lecturer's ranking; new rows of a roll; the phase; the result, as pairs of a student and a project;
--- the missing rankings
+-- the missing rankings; the second round
 pub data Change : Type 0 where
   Choices : Key → List Key → Change
   Ranks : Key → List Key → Change
@@ -22,6 +22,7 @@ pub data Change : Type 0 where
   To : Phase → Change
   Places : List (Key × Key) → Change
   Fill : Change
+  SecondRound : Change
 
 abbrev pub with_choice : Key → List Key → Student → Student
 with_choice k list s = if is s.row.key k then record s { choice = list } else s
@@ -57,6 +58,18 @@ with_projects w rows = record w { projects = put_all project_key rows w.projects
 abbrev pub with_students : World → List StudentRow → World
 with_students w rows = record w { students = put_all student_key (map new_student rows) w.students }
 
+-- where the second round opens, what there is becomes the first round's
+abbrev pub ranked_before : Lecturer → Lecturer
+ranked_before l = record { row = l.row; ranking = None; earlier_ranking = l.ranking }
+
+abbrev pub placed_before : Student → Student
+placed_before s = record { row = s.row; choice = []; placed = None; earlier_choice = s.choice; earlier_place = s.placed }
+
+-- a published first round is followed by the second, and any other world stays as it is
+abbrev pub opened : Round → Phase → World → World
+opened First Published w = record w { round = Second; phase = Choosing; lecturers = map ranked_before w.lecturers; students = map placed_before w.students }
+opened _ _ w = w
+
 -- the second round takes no new rows, and stays as it is
 abbrev pub in_first : Round → World → World → World
 in_first First new old = new
@@ -72,3 +85,4 @@ changed w (Students rows) = in_first w.round (with_students w rows) w
 changed w (To phase) = record w { phase = phase }
 changed w (Places pairs) = record w { phase = Published; students = map (with_place pairs) w.students }
 changed w Fill = record w { lecturers = map (with_fill w) w.lecturers }
+changed w SecondRound = opened w.round w.phase w

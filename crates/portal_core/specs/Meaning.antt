@@ -15,7 +15,7 @@ use Rattle.portal_core.specs.declared.decision.Change.TheVariants as change
 use Rattle.portal_core.specs.declared.decision.Act as done
 use Rattle.portal_core.specs.declared.decision.Act.TheVariants as act
 use Rattle.portal_core.specs.declared.decision.Decision as taken
-use Rattle.portal_core.specs.Change.{Change, Choices, Ranks, Lecturers, Projects, Students, To, Places, Fill}
+use Rattle.portal_core.specs.Change.{Change, Choices, Ranks, Lecturers, Projects, Students, To, Places, Fill, SecondRound}
 use Rattle.portal_core.specs.Ask.{Ask}
 use Rattle.portal_core.specs.Answer.{Answer, Said, Json, Csv, Plain, Unavailable, Act, Nothing, Apply, Publish, Render, Decision}
 
@@ -64,6 +64,7 @@ meant (change.Students rows) = Students rows.items
 meant (change.Phase phase) = To phase
 meant (change.Result pairs) = Places pairs.items
 meant change.Fill = Fill
+meant change.SecondRound = SecondRound
 
 abbrev pub does : done.Act → Act
 does act.Nothing = Nothing

@@ -8,8 +8,8 @@ use Rattle.portal_core.specs.declared.phase.Round.TheVariants.{First, Second}
 use Rattle.portal_core.specs.declared.rows.ProjectRow.{ProjectRow}
 use Rattle.portal_core.specs.declared.rows.StudentRow.{StudentRow}
 use Rattle.portal_core.specs.Words.{Key, is}
-use Rattle.portal_core.specs.World.{World, Lecturer, Student, is_setup, is_published}
-use Rattle.portal_core.specs.Change.{Choices, Ranks, To, Places, Fill, changed}
+use Rattle.portal_core.specs.World.{World, Lecturer, is_setup, is_published}
+use Rattle.portal_core.specs.Change.{Choices, Ranks, To, Places, Fill, SecondRound, changed}
 use Rattle.portal_core.specs.View.{view}
 use Rattle.portal_core.specs.Ask.{Ask}
 use Rattle.portal_core.specs.Json.{dictionary, several, texts, count}
@@ -226,20 +226,10 @@ pub record TellsFill : Type 0 where
   pub too_early : reply Choosing office Ask.FillRankings ≡ refusal 409 (word (codes "wrong_phase") ∷ [])
   pub by_a_lecturer : reply Ranking lee Ask.FillRankings ≡ refusal 403 (word (codes "not_yours") ∷ [])
 
--- a second round that begins where the first was published: what is there becomes the first round's
-abbrev pub ranked_before : Lecturer → Lecturer
-ranked_before l = record { row = l.row; ranking = None; earlier_ranking = l.ranking }
-
-abbrev pub placed_before : Student → Student
-placed_before s = record { row = s.row; choice = []; placed = None; earlier_choice = s.choice; earlier_place = s.placed }
-
-abbrev pub begun : World → World
-begun w = record w { round = Second; phase = Choosing; lecturers = map ranked_before w.lecturers; students = map placed_before w.students }
-
 -- the second round of the small world, step by step
 
 abbrev pub again : World
-again = begun (worked Published)
+again = changed (worked Published) SecondRound
 
 abbrev pub again_ranking : World
 again_ranking = changed (changed again (Choices (codes "S3") (codes "P3" ∷ []))) (To Ranking)
@@ -256,10 +246,10 @@ with_room l = if is l.row.key (codes "L1") then record l { row = record l.row { 
 
 abbrev pub again_with : (Lecturer → Lecturer) → World
 again_with change =
-    begun (record (worked Published) {
+    changed (record (worked Published) {
       lecturers = map change (worked Published).lecturers;
       projects = map with_room_at (worked Published).projects;
-    })
+    }) SecondRound
 
 abbrev pub second_round : List ℕ × Data
 second_round = (codes "round", count 2)
@@ -267,14 +257,19 @@ second_round = (codes "round", count 2)
 abbrev pub wrong_phase : Answer
 wrong_phase = refusal 409 (word (codes "wrong_phase") ∷ [])
 
--- it is for those without a project and for the room that is left; a round that is named is the current one
+-- it opens by its name alone, once the first is published, for those without a project and the room that is left
 pub record TellsOpening : Type 0 where
   pub unnamed : reply Published office (Ask.Move Choosing None) ≡ wrong_phase
   pub of_the_first : reply Published office (Ask.Move Choosing (Some First)) ≡ wrong_phase
+  pub opened : reply Published office (Ask.Move Choosing (Some Second)) ≡ body ((codes "phase", string (codes "choosing")) ∷ second_round ∷ [])
   pub of_the_second : reply Choosing office (Ask.Move Ranking (Some Second)) ≡ wrong_phase
+  pub too_early : reply Ranking office (Ask.Move Choosing (Some Second)) ≡ wrong_phase
+  pub too_far : reply Published office (Ask.Move Ranking (Some Second)) ≡ wrong_phase
+  pub by_a_student : reply Published ann (Ask.Move Choosing (Some Second)) ≡ refusal 403 (word (codes "not_yours") ∷ [])
   pub current : answer (view again office) (Ask.Move Choosing None) ≡ body ((codes "phase", string (codes "choosing")) ∷ second_round ∷ [])
   pub named : answer (view again office) (Ask.Move Ranking (Some Second)) ≡ body ((codes "phase", string (codes "ranking")) ∷ second_round ∷ [])
   pub back : answer (view again office) (Ask.Move Published (Some First)) ≡ wrong_phase
+  pub again_opened : answer (view again office) (Ask.Move Choosing (Some Second)) ≡ body ((codes "phase", string (codes "choosing")) ∷ second_round ∷ [])
   pub office_me : answer (view again office) Ask.Me
       ≡ body ((codes "phase", string (codes "choosing")) ∷ (codes "role", string (codes "office")) ∷ second_round ∷ [])
   pub lecturer_me : answer (view again lee) Ask.Me

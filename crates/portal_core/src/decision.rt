@@ -56,6 +56,8 @@ pub enum Change {
     Result(Vec<(Key, Key)>),
     /// Each lecturer still to rank gets the applicants in the order of their keys.
     Fill,
+    /// The second round opens, where the first is published: its lists, rankings and places are laid by.
+    SecondRound,
 }
 
 /// What shows the result to the office.

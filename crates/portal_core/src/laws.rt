@@ -22,6 +22,10 @@ ghost use Rattle.portal_core.specs.declared.rows.ProjectRow.{ProjectRow};
 ghost use Rattle.portal_core.specs.Run.{Request, Step, Serves, Calls, Run, AllAnswered, end_of};
 ghost use Rattle.portal_core.specs.Heard.{IsMember, IsIdle, is_move_or_add, Item, Heard, replies_to};
 ghost use Rattle.portal_core.specs.Results.{ShowsStill};
+ghost use Rattle.portal_core.specs.Change.{SecondRound, changed};
+ghost use Rattle.portal_core.specs.Opening.{OpensSecond, OpensOnce};
+ghost use Rattle.portal_core.specs.declared.phase.Phase.TheVariants.{Choosing, Published};
+ghost use Rattle.portal_core.specs.declared.phase.Round.TheVariants.{First, Second};
 ghost use Rattle.portal_core.specs.Places.{SameButPlaces, SameRequest, AlikeUntilPublished};
 ghost use Rattle.std.specs.List.{AllZip, AllByRecursion};
 ghost use Rattle.portal_core.specs.Worked.{worked, again, again_ranking, again_published, TellsWho, TellsApplicants, TellsLists, TellsMoves, TellsResult, TellsSheets, TellsFill, TellsOpening, TellsSecond};
@@ -97,6 +101,23 @@ pub fn results_stay()
         (after : List World) → Good w → Run w asked told after
         → AllByRecursion (λ v. ShowsStill (view w c) (view v c)) after }
     ensures first { (w : World) (c : Key) → Good w → ShowsStill (view (first w) c) (view w c) }
+{}
+
+/// The round changes by one request alone: once the first round is published, the office moves to
+/// choosing and names the second. It is answered with that phase and that round, and leaves the second
+/// round, in which the first is kept as it was published. Any other request leaves the round as it was,
+/// and of a run the second round lasts to the end.
+pub fn round_opens()
+    ensures step { (w v : World) (code : Key) (ask : Ask) (reply : Answer)
+        → Step w code ask reply v
+        → (v.round ≡ w.round) ⊎ OpensSecond w code (Calls ask) reply v }
+    ensures run { (w : World) (asked : List Request) (told : List Answer) (after : List World)
+        → Run w asked told after → OpensOnce w asked told after }
+    ensures opens { (w v : World) (reply : Answer) → w.round ≡ First → w.phase ≡ Published
+        → Step w w.office (Ask.Move Choosing (Some Second)) reply v
+        → OpensSecond w w.office (Calls (Ask.Move Choosing (Some Second))) reply v }
+    ensures kept { (w : World) → Good w → w.round ≡ First → w.phase ≡ Published
+        → first (changed w SecondRound) ≡ w }
 {}
 
 /// A step has one reply and leaves one world.

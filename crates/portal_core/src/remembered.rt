@@ -37,14 +37,16 @@ impl Remembered {
     }
 
     /// Keeps of what is remembered what still holds after the change: the catalogue unless it is one of a roll that is shown in
-    /// it, and what the office sees where the change tells it.
+    /// it or the second round opens, and what the office sees where the change tells it.
     fn renew(&mut self, change: &Change)
         ensures { (w : World) → Remembers self.old w
             → Remembers self.new (changed w (meant change.now)) }
     {
         self.office = office_after(self.office.take(), change);
         match change {
-            Change::Lecturers(_) | Change::Projects(_) => self.catalogue = None,
+            Change::Lecturers(_) | Change::Projects(_) | Change::SecondRound => {
+                self.catalogue = None;
+            }
             Change::Choices { .. } => {}
             Change::Ranking { .. } => {}
             Change::Students(_) => {}
@@ -128,6 +130,7 @@ fn office_after(seen: Option<OfficeView>, change: &Change) -> Option<OfficeView>
         | Change::Projects(_)
         | Change::Students(_)
         | Change::Phase(_)
-        | Change::Result(_) => None,
+        | Change::Result(_)
+        | Change::SecondRound => None,
     }
 }

@@ -12,7 +12,7 @@ ghost use Rattle.portal_core.specs.Bodies as shown;
 ghost use Rattle.portal_core.specs.Rolls as rolls;
 ghost use Rattle.portal_core.specs.Rolls.{Took};
 ghost use Rattle.portal_core.specs.Answer as answer;
-ghost use Rattle.portal_core.specs.Answer.{Nothing, Apply, only, row_fault, publishes, moves_on, moves_in, moves, to_office, blank, emptied};
+ghost use Rattle.portal_core.specs.Answer.{Nothing, Apply, only, row_fault, publishes, moves_on, opens, moves_in, moves, to_office, blank, emptied};
 ghost use Rattle.portal_core.specs.Change.{Fill};
 ghost use Rattle.portal_core.specs.Meaning.{asked, told, does, decided};
 
@@ -325,7 +325,20 @@ fn move_on(alloc: Global, view: &OfficeView, phase: Phase) -> Result<Decision, A
     }
 }
 
-/// Moves to a phase of the round that is named, which has to be the current one.
+/// Opens the second round, with choosing, once the first is published.
+fn open_second(alloc: Global, view: &OfficeView, phase: Phase) -> Result<Decision, AllocError>
+    ensures { IfOk result (λ decision. decided decision ≡ opens view.now.phase phase) }
+{
+    match (view.phase, phase) {
+        (Phase::Published, Phase::Choosing) => {
+            let body = phase_body(alloc, Round::Second, phase)?;
+            Ok(applies(body, Change::SecondRound))
+        }
+        _ => wrong_phase(alloc),
+    }
+}
+
+/// Moves to a phase of the round that is named: the current one, or the second, which opens by its name alone.
 fn move_in(
     alloc: Global,
     view: &OfficeView,
@@ -339,7 +352,8 @@ fn move_in(
         (Round::First, Round::First) | (Round::Second, Round::Second) => {
             move_on(alloc, view, phase)
         }
-        (Round::First, Round::Second) | (Round::Second, Round::First) => wrong_phase(alloc),
+        (Round::First, Round::Second) => open_second(alloc, view, phase),
+        (Round::Second, Round::First) => wrong_phase(alloc),
     }
 }
 
