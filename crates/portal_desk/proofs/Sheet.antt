@@ -15,7 +15,7 @@ use Rattle.portal_core.specs.declared.view.View.TheVariants.{Nobody, Office, Lec
 use Rattle.portal_core.specs.Ask.{Ask}
 use Rattle.portal_core.specs.Faults.{ListFault, choice_fault, ranking_fault}
 use Rattle.portal_core.specs.Rolls.{Taken, Faulty, Took, take_rows, lecturer_roll, project_roll, student_roll}
-use Rattle.portal_core.specs.Answer.{Answer, Said, Json, Unavailable, Nothing, Apply, Decision, decision, emptied, only, unless, added, row_fault, already_placed, moves_on, moves_in, moves, publishes, is_open_to_rolls, to_student, to_lecturer, to_office}
+use Rattle.portal_core.specs.Answer.{Answer, Said, Json, Unavailable, Nothing, Apply, Decision, decision, emptied, only, unless, added, row_fault, already_placed, moves_on, opens, moves_in, moves, publishes, is_open_to_rolls, to_student, to_lecturer, to_office}
 use Rattle.portal_desk.specs.Play.{with_sheet}
 
 -- another body than that of 503
@@ -124,10 +124,14 @@ moved_filled v Published Choosing = (refl, tt)
 moved_filled v Published Ranking = (refl, tt)
 moved_filled v Published Published = (refl, tt)
 
+opens_filled : (v : OfficeSees) (old new : Phase) → IsFilled (Office v) (opens old new)
+opens_filled v Published Choosing = (refl, tt)
+opens_filled v _ _ = (refl, tt)
+
 named_filled : (v : OfficeSees) (old new : Round) (phase : Phase) → IsFilled (Office v) (moves_in v old new phase)
 named_filled v First First phase = moved_filled v v.phase phase
 named_filled v Second Second phase = moved_filled v v.phase phase
-named_filled v First Second phase = (refl, tt)
+named_filled v First Second phase = opens_filled v v.phase phase
 named_filled v Second First phase = (refl, tt)
 
 moves_filled : (v : OfficeSees) (phase : Phase) (round : Option Round) → IsFilled (Office v) (moves v phase round)

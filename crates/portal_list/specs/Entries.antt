@@ -2,7 +2,7 @@
 use Rattle.std.specs.Prelude.{◌≡◌, Bool, true, false, List}
 use Rattle.portal_core.specs.World.{World, Lecturer, Student}
 use Rattle.portal_core.specs.declared.phase.Round.{Round}
-use Rattle.portal_core.specs.Change.{Change, Choices, Ranks, Lecturers, Projects, Students, To, Places, Fill}
+use Rattle.portal_core.specs.Change.{Change, Choices, Ranks, Lecturers, Projects, Students, To, Places, Fill, SecondRound}
 use Rattle.portal_core.specs.declared.rows.ProjectRow.{ProjectRow}
 
 pub record AllEntries : Type 0 where
@@ -22,7 +22,7 @@ pub record HasEntries (entries : AllEntries) (w : World) : Type 0 where
 abbrev pub entries_of : Round → List Lecturer → List ProjectRow → List Student → AllEntries
 entries_of round lecturers projects students = record { round = round; lecturers = lecturers; projects = projects; students = students }
 
--- the changes that entries follow: all but those of rolls and the result
+-- the changes that entries follow: all but those of rolls, the result and the second round
 abbrev pub is_followed : Change → Bool
 is_followed (Choices student list) = true
 is_followed (Ranks lecturer list) = true
@@ -32,3 +32,4 @@ is_followed (Lecturers rows) = false
 is_followed (Projects rows) = false
 is_followed (Students rows) = false
 is_followed (Places pairs) = false
+is_followed SecondRound = false

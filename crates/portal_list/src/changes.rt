@@ -6,12 +6,14 @@ ghost use Rattle.portal_core.specs.World.{student_key, lecturer_key};
 ghost use Rattle.portal_core.specs.Change.{with_choice, with_ranking};
 
 mod fill;
+mod opening;
 mod places;
 mod rolls;
 
 use crate::by_key::place_of;
 use crate::entries::{LecturerEntry, StudentEntry};
 pub(crate) use fill::{applicants_by_key, fill_rankings};
+pub(crate) use opening::{lay_by_lists, lay_by_rankings};
 pub(crate) use places::place_all;
 use portal_core::copy_keys;
 pub(crate) use rolls::{add_lecturers, add_projects, add_students};

@@ -67,8 +67,8 @@ impl Model for Entries {
 }
 
 impl Entries {
-    /// Follows a change of a list, a ranking, the phase, or a fill, and says so. New rolls and the result are not followed; then, and where
-    /// memory is short, all stays as it was.
+    /// Follows a change of a list, a ranking, the phase, or a fill, and says so. New rolls, the result and the second round are not
+    /// followed; then, and where memory is short, all stays as it was.
     pub fn follow(&mut self, alloc: Global, change: &Change) -> Result<bool, AllocError>
         ensures followed { IfOk result (λ yes. yes ≡ is_followed (meant change.now)) }
         ensures made { result ≡ Ok true → (w : World) → Sound w → HasEntries self.old w
@@ -90,8 +90,11 @@ impl Entries {
                 Ok(true)
             }
             Change::Phase(_) => Ok(true),
-            Change::Lecturers(_) | Change::Projects(_) | Change::Students(_) | Change::Result(_) =>
-                Ok(false),
+            Change::Lecturers(_)
+            | Change::Projects(_)
+            | Change::Students(_)
+            | Change::Result(_)
+            | Change::SecondRound => Ok(false),
         }
     }
 }

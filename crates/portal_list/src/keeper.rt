@@ -6,12 +6,12 @@ ghost use Rattle.portal_core.specs.Good.{Good, CanPublish};
 ghost use Rattle.portal_core.specs.Words.{Rise};
 ghost use Rattle.portal_core.specs.Instance as meant_by;
 ghost use Rattle.portal_core.specs.Instance.{lecturer_keys, student_keys};
-ghost use Rattle.portal_core.specs.Change.{changed, Lecturers, Projects, Students};
+ghost use Rattle.portal_core.specs.Change.{changed, Lecturers, Projects, Students, SecondRound};
 ghost use Rattle.portal_core.specs.Meaning.{meant};
 
 use crate::changes::{
-    add_lecturers, add_projects, add_students, fill_rankings, place_all, replace_choice,
-    replace_ranking,
+    add_lecturers, add_projects, add_students, fill_rankings, lay_by_lists, lay_by_rankings,
+    place_all, replace_choice, replace_ranking,
 };
 use crate::entries::{LecturerEntry, StudentEntry};
 use crate::instance::instance_of;
@@ -182,6 +182,22 @@ impl ListKeeper {
         }
     }
 
+    /// Opens the second round, where the first is published. It takes no memory.
+    fn open_second(&mut self, alloc: Global)
+        ensures { self.new ≡ changed self.old SecondRound }
+    {
+        match (self.round, self.phase) {
+            (Round::First, Phase::Published) => {
+                self.catalogue = None;
+                lay_by_rankings(&mut self.lecturers);
+                lay_by_lists(alloc, &mut self.students);
+                self.round = Round::Second;
+                self.phase = Phase::Choosing;
+            }
+            _ => {}
+        }
+    }
+
     /// Makes one change, or leaves all as it was where memory is short.
     pub(crate) fn make(&mut self, alloc: Global, change: &Change) -> Result<(), AllocError>
         requires lecturers { Rise (lecturer_keys self.old) }
@@ -214,6 +230,10 @@ impl ListKeeper {
                 &self.projects,
                 &self.students,
             ),
+            Change::SecondRound => {
+                self.open_second(alloc);
+                Ok(())
+            }
         }
     }
 }

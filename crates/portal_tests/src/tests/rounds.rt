@@ -1,8 +1,8 @@
-//! The second round of a small department, from the rows of a file.
+//! The second round of a small department, which the office opens, or from the rows of a file.
 
 use crate::tests::portal::{OFFICE, Portal};
 use crate::tests::rows::{Sketch, after_first, fault_of, opened, rows_of};
-use portal_core::{Call, Phase};
+use portal_core::{Call, Phase, Round};
 use portal_list::{ListKeeper, RowsFault};
 use std::alloc::Global;
 use std::process::Abort;
@@ -30,12 +30,41 @@ fn list(alloc: Global, keys: &[&str]) -> Result<Vec<Vec<u8>>, Fail> {
     Ok(texts)
 }
 
-#[test]
-fn what_is_left_is_offered(rt: HostRuntime) -> Result<(), Fail> {
-    let mut portal = portal(&rt, opened())?;
+/// The office moves to this phase of this round, and is refused.
+fn is_refused(
+    rt: &(impl Abort + AllocGlobal),
+    portal: &mut Portal,
+    phase: Phase,
+    round: Option<Round>,
+) {
+    portal.answers(
+        rt,
+        OFFICE,
+        &Call::Move { phase, round },
+        409,
+        "{\"error\":\"wrong_phase\"}",
+    );
+}
+
+/// The office moves to choosing of the second round.
+fn opens(rt: &(impl Abort + AllocGlobal), portal: &mut Portal) {
+    portal.answers(
+        rt,
+        OFFICE,
+        &Call::Move {
+            phase: Phase::Choosing,
+            round: Some(Round::Second),
+        },
+        200,
+        "{\"phase\":\"choosing\",\"round\":2}",
+    );
+}
+
+/// What everybody is told where the second round begins.
+fn is_offered(rt: &(impl Abort + AllocGlobal), portal: &mut Portal) {
     for code in [OFFICE, L1, S1, S3] {
         portal.answers(
-            &rt,
+            rt,
             code,
             &Call::Catalogue,
             200,
@@ -43,43 +72,65 @@ fn what_is_left_is_offered(rt: HostRuntime) -> Result<(), Fail> {
         );
     }
     portal.answers(
-        &rt,
+        rt,
         S3,
         &Call::Me,
         200,
         "{\"key\":\"S3\",\"name\":\"Cyr\",\"phase\":\"choosing\",\"role\":\"student\",\"round\":2}",
     );
-    portal.answers(&rt, S1, &Call::Result, 200, "{\"project\":\"P2\"}");
-    portal.answers(&rt, S1, &Call::ShowChoices, 200, "{\"projects\":[]}");
-    portal.answers(&rt, S3, &Call::Result, 200, "{\"project\":null}");
+    portal.answers(rt, S1, &Call::Result, 200, "{\"project\":\"P2\"}");
+    portal.answers(rt, S1, &Call::ShowChoices, 200, "{\"projects\":[]}");
+    portal.answers(rt, S3, &Call::Result, 200, "{\"project\":null}");
     portal.answers(
-        &rt,
+        rt,
         L1,
         &Call::Me,
         200,
         "{\"capacity\":2,\"key\":\"L1\",\"name\":\"Lee\",\"phase\":\"choosing\",\"role\":\"lecturer\",\"round\":2}",
     );
     portal.answers(
-        &rt,
+        rt,
         L1,
         &Call::Result,
         200,
         "{\"projects\":[{\"id\":\"P1\",\"students\":[{\"key\":\"S2\",\"name\":\"Roe, Bea\"}]},{\"id\":\"P2\",\"students\":[{\"key\":\"S1\",\"name\":\"Ann\"}]}]}",
     );
     portal.answers(
-        &rt,
+        rt,
         OFFICE,
         &Call::Status,
         200,
         "{\"assigned\":2,\"lecturers\":2,\"phase\":\"choosing\",\"projects\":3,\"round\":2,\"still_to_rank\":[],\"students\":3,\"unassigned\":[\"S3\"],\"without_list\":[\"S3\"]}",
     );
+}
+
+#[test]
+fn what_is_left_is_offered(rt: HostRuntime) -> Result<(), Fail> {
+    let mut portal = portal(&rt, opened())?;
+    is_offered(&rt, &mut portal);
+    Ok(())
+}
+
+#[test]
+fn the_office_opens_the_second_round(rt: HostRuntime) -> Result<(), Fail> {
+    let mut portal = portal(&rt, after_first())?;
+    is_refused(&rt, &mut portal, Phase::Choosing, None);
+    is_refused(&rt, &mut portal, Phase::Choosing, Some(Round::First));
+    is_refused(&rt, &mut portal, Phase::Ranking, Some(Round::Second));
+    is_refused(&rt, &mut portal, Phase::Published, Some(Round::Second));
+    opens(&rt, &mut portal);
+    is_offered(&rt, &mut portal);
+    is_refused(&rt, &mut portal, Phase::Published, None);
+    is_refused(&rt, &mut portal, Phase::Published, Some(Round::First));
+    opens(&rt, &mut portal);
     Ok(())
 }
 
 #[test]
 fn the_second_round_is_played(rt: HostRuntime) -> Result<(), Fail> {
     let alloc = rt.alloc();
-    let mut portal = portal(&rt, opened())?;
+    let mut portal = portal(&rt, after_first())?;
+    opens(&rt, &mut portal);
     let none = Call::SetChoices(list(alloc, &[])?);
     portal.answers(&rt, S1, &none, 409, "{\"error\":\"already_placed\"}");
     let taken = Call::SetChoices(list(alloc, &["P1"])?);

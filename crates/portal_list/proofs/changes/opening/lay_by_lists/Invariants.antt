@@ -1,0 +1,6 @@
+use Rattle.std.proofs.Common.{◌≡◌, ◌++◌, take, drop, map}
+use Rattle.portal_core.specs.Change.{placed_before}
+use Rattle.portal_list.proofs.changes.opening.lay_by_lists.Given as goal
+
+abbrev pub invariant-loop-student : goal.invariant-loop-student
+invariant-loop-student l = l.students ≡ map placed_before (take l.student-index l.initial.students) ++ drop l.student-index l.initial.students

@@ -1,0 +1,41 @@
+//! What there is becomes the first round's, where the second opens.
+
+ghost use Rattle.std.specs.Prelude.{◌≡◌, map};
+ghost use Rattle.portal_core.specs.Change.{ranked_before, placed_before};
+
+use crate::entries::{LecturerEntry, StudentEntry};
+use std::alloc::Global;
+use std::mem;
+
+/// The lecturer's ranking becomes the first round's.
+fn lay_by_ranking(lecturer: &mut LecturerEntry)
+    ensures { lecturer.new ≡ ranked_before lecturer.old }
+{
+    lecturer.earlier_ranking = lecturer.ranking.take();
+}
+
+/// The student's list and place become the first round's.
+fn lay_by_list(alloc: Global, student: &mut StudentEntry)
+    ensures { student.new ≡ placed_before student.old }
+{
+    student.earlier_choice = mem::replace(&mut student.choice, Vec::new(alloc));
+    student.earlier_place = student.placed.take();
+}
+
+/// The rankings become the first round's.
+pub(crate) fn lay_by_rankings(lecturers: &mut [LecturerEntry])
+    ensures { lecturers.new ≡ map ranked_before lecturers.old }
+{
+    for lecturer in lecturers.iter_mut() {
+        lay_by_ranking(lecturer);
+    }
+}
+
+/// The lists and places become the first round's. It takes no memory.
+pub(crate) fn lay_by_lists(alloc: Global, students: &mut [StudentEntry])
+    ensures { students.new ≡ map placed_before students.old }
+{
+    for student in students.iter_mut() {
+        lay_by_list(alloc, student);
+    }
+}
