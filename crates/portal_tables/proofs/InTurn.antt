@@ -1,6 +1,7 @@
 -- Several readings in turn.
 use Rattle.std.specs.Prelude.{◌≡◌}
-use Rattle.portal_tables.proofs.Base.{IsErr, List, IfOk, inl, inr, IsTrue, Ok, Err, Result, OnOk, refl, sym, subst, ◌∙◌, Database, State, HasCleanDisk, IsUnchanged, Survives, survives_then, survives_weaker, Round, First, IsOwn, HasRound, Leaves, on_ok_weaker, on_err_weaker, AsksIn, ReadsIn}
+use Rattle.portal_tables.proofs.Base.{IsErr, List, Lists, subst₂, IfOk, inl, inr, IsTrue, Ok, Err, Result, OnOk, refl, sym, subst, ◌∙◌, Database, State, HasCleanDisk, IsUnchanged, Survives, survives_then, survives_weaker, Round, IsOwn, HasRound, Leaves, on_ok_weaker, on_err_weaker, AsksIn, Reads, ReadsIn}
+use Rattle.portal_tables.proofs.Owned.{round_own}
 use Rattle.std.proofs.Common.{arith}
 
 pub unchanged_then : (a b c : State) → IsUnchanged a b → IsUnchanged b c → IsUnchanged a c
@@ -86,6 +87,21 @@ pub wholly : {V E : Type 0} (r : Result V E) (A B : Type 0) → (A → B) → If
 wholly (Ok v) A B more h = more h
 wholly (Err e) A B more h = tt
 
+-- what holds anyway holds at an answer
+pub on_ok : {V E A : Type 0} (r : Result V E) → A → OnOk r A
+on_ok (Ok v) h = h
+on_ok (Err e) h = tt
+
+-- what reads the first round's tables reads tables of either round
+pub reads_in : {V E : Type 0} (round : Round) (r : Result V E) (a b : State) → Reads r a b → ReadsIn round r a b
+reads_in round r a b h = record {
+  same = λ own. h.same (round_own round a.now.schema own);
+  err = λ own. h.err (round_own round a.now.schema own);
+  now = λ own. h.now (round_own round a.now.schema own);
+  mode = h.mode;
+  crash = survives_weaker a b _ _ (λ clean db no own. no (round_own round a.now.schema own)) h.crash;
+}
+
 -- an error that is handed on
 pub reads_handed : {round : Round} {V E : Type 0} {U : Type 0} (e : E) (r : Result V E) (a b : State) → IsErr r → ReadsIn round {V = U} {E = E} (Err e) a b → ReadsIn round r a b
 reads_handed e (Ok v) a b is h = absurd (cc)
@@ -94,3 +110,11 @@ reads_handed e (Err f) a b is h = reads_fail e f a b h
 pub reads_failed : {round : Round} {V U D E : Type 0} (d : D) (r : Result V E) (a b : State) → IsErr r → ReadsIn round {V = U} {E = D} (Err d) a b → ReadsIn round r a b
 reads_failed d (Ok v) a b is h = absurd (cc)
 reads_failed d (Err f) a b is h = reads_fail d f a b h
+
+-- what is known by the round, the table, the database and the rows that were given is so of those that are meant
+pub shifted : {round there : Round} {lists which : Lists} {now db : Database} {X : Type 0} {rows owners : X} (P : Round → Lists → Database → X → Type 0) → there ≡ round → lists ≡ which → now ≡ db → rows ≡ owners
+    → P there lists now rows → P round which db owners
+shifted {round} {there} {lists} {which} {now} {db} {X} {rows} {owners} P a b c d h = subst₂ (λ x y. P round which x y) c d (subst₂ (λ x y. P x y now rows) a b h)
+
+pub reads_shifted : {round there : Round} {V E : Type 0} (r : Result V E) (a b : State) → there ≡ round → ReadsIn there r a b → ReadsIn round r a b
+reads_shifted r a b same h = subst (λ x. ReadsIn x r a b) same h

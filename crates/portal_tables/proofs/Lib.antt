@@ -18,7 +18,6 @@ pub mod InTurn
 pub mod Decoded
 pub mod Listed
 pub mod OfficeRow
-pub mod RollRows
 pub mod Sorted
 pub mod Texts
 pub mod Asking
@@ -30,6 +29,8 @@ pub mod NamedRows
 pub mod OneFound
 pub mod Choosers
 pub mod OneKey
+pub mod OwnProjects
 pub mod LineRows
 pub mod Assigning
 pub mod SecondRound
+pub mod SecondRows

@@ -1,6 +1,6 @@
 -- The rows of the office and of the second round, as their queries show them.
 use Rattle.std.specs.Prelude.{◌≡◌, ◌&&◌, ◌∷◌}
-use Rattle.portal_tables.proofs.Base.{ℕ, ℤ, pos, Bool, true, false, drop, length, Some, List, [], map, refl, sym, ap, subst, ◌∙◌, AllByRecursion, IsPermutation, length_permutation, and_parts, Value, Null, Int, Real, Blob, Words, Row, column, Database, IsDatabase, Datatype, are_typed, is_of, Integer, is_null, Phase, Key, First, Second, portal_tree, portal, second_tree, second, IsOwn, IsCurrent, portal_row, second_row, ListsBy, every, columns, number_of, HasOffice, IsOffice, IsSecond}
+use Rattle.portal_tables.proofs.Base.{ℕ, ℤ, pos, true, false, drop, Some, List, [], map, refl, sym, ap, subst, ◌∙◌, AllByRecursion, IsPermutation, length_permutation, and_parts, Value, Null, Int, Real, Blob, Words, Row, column, Database, IsDatabase, Datatype, are_typed, is_of, Integer, is_null, Phase, Key, First, Second, portal_tree, portal, second_tree, second, IsOwn, IsCurrent, portal_row, second_row, ListsBy, every, columns, number_of, HasOffice, IsOffice, IsSecond}
 use Rattle.std.proofs.Common.{arith}
 use Rattle.sqlite.specs.Kind.TheVariants.{Text}
 use Rattle.portal_tables.proofs.Lists.{filter_all}

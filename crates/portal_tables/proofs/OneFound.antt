@@ -6,15 +6,15 @@ use Rattle.portal_tables.proofs.Sorted.{permutes, map_alike, map_twice}
 
 -- the first that passes is the only one that passes
 
-abbrev first_of : {X : Type 0} → List X → Option X
+abbrev pub first_of : {X : Type 0} → List X → Option X
 first_of [] = None
 first_of (x ∷ xs) = Some x
 
-find_is : {X : Type 0} (p : X → Bool) (xs : List X) → find p xs ≡ first_of (filter p xs)
+pub find_is : {X : Type 0} (p : X → Bool) (xs : List X) → find p xs ≡ first_of (filter p xs)
 find_is p [] = refl
 find_is p (x ∷ xs) = elim (p x) as (λ b. cond b (Some x) (find p xs) ≡ first_of (cond b (x ∷ filter p xs) (filter p xs))) [ true ↦ refl | false ↦ find_is p xs ]
 
-first_back : {X : Type 0} (o : Option X) → first_of (as_list o) ≡ o
+pub first_back : {X : Type 0} (o : Option X) → first_of (as_list o) ≡ o
 first_back None = refl
 first_back (Some x) = refl
 
@@ -22,7 +22,7 @@ no_more : {X : Type 0} (xs : List X) → IsPermutation [] xs → xs ≡ []
 no_more [] same = refl
 no_more (x ∷ xs) same = absurd (let e = length_permutation [] (x ∷ xs) same in cc)
 
-only_one : {X : Type 0} (o : Option X) (xs : List X) → IsPermutation (as_list o) xs → xs ≡ as_list o
+pub only_one : {X : Type 0} (o : Option X) (xs : List X) → IsPermutation (as_list o) xs → xs ≡ as_list o
 only_one None xs same = no_more xs same
 only_one (Some x) xs same = one_permutation x xs same
 

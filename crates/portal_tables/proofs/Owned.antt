@@ -28,16 +28,17 @@ first_of ts [] vs h = tt
 first_of [] (u ∷ us) vs h = absurd h
 first_of (t ∷ ts) (u ∷ us) vs h = (h.0, first_of ts us vs h.1)
 
--- all tables, and those of the first round alone, are read as those of the first round
+-- all tables are read as those of the first round
 pub current_own : (s : Schema) → IsCurrent s → IsOwn s
 current_own s h = record { tables = first_of s.tables first_schema.tables _ h.tables; no_views = h.no_views }
-
-pub first_own : (s : Schema) → IsFirst s → IsOwn s
-first_own s h = record { tables = first_of s.tables first_schema.tables [] h.tables; no_views = h.no_views }
 
 pub has_round : (round : Round) (s : Schema) → IsCurrent s → HasRound round s
 has_round First s h = current_own s h
 has_round Second s h = h
+
+pub round_own : (round : Round) (s : Schema) → HasRound round s → IsOwn s
+round_own First s h = h
+round_own Second s h = current_own s h
 
 -- what a crash leaves has one schema, whoever opens it
 pub one_schema : (left found : Database) → IsDatabase left → IsDatabase found → found.trees ≡ left.trees → found.schema ≡ left.schema

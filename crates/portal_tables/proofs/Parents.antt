@@ -1,8 +1,8 @@
 -- Whom a row names is on the roll, by the foreign keys of the tables.
 use Rattle.std.specs.Prelude.{◌≡◌, ◌&&◌, ◌||◌, ◌∷◌}
-use Rattle.portal_tables.proofs.Base.{ℤ, inl, inr, ℕ, Bool, true, false, cond, map, List, [], refl, sym, ap, subst, ◌∙◌, and_parts, cases_Bool, AllByRecursion, list_any, is_eq, or-true, Value, Null, Int, Real, Blob, Words, Binary, Row, column, bytes, value_cmp, Database, IsDatabase, Trees, ForeignKey, passes, equal, Key, is, has, is_same, is_own, list_table, lecturer_tree, project_tree, student_tree, round_of, names, tree_of, Lists, Choices, Rankings, SecondChoices, SecondRankings, HasRound, IsApart, has_text, everything, place_cells, row_key, of_key, named_by}
-use Rattle.portal_tables.proofs.Weak.{Open, schema_with, with_checks, own_is}
-use Rattle.portal_tables.proofs.Shapes.{IsPlace, place_rows_formed, kept, at_list, text_equals}
+use Rattle.portal_tables.proofs.Base.{ℤ, inl, inr, ℕ, Bool, true, false, cond, map, List, [], refl, sym, ap, subst, ◌∙◌, and_parts, cases_Bool, AllByRecursion, list_any, is_eq, or-true, Value, Null, Int, Real, Blob, Words, Binary, Row, column, bytes, value_cmp, Database, IsDatabase, Trees, ForeignKey, OfLists, equal, Key, is, has, is_same, is_own, lecturer_tree, project_tree, student_tree, round_of, tree_of, Lists, Choices, Rankings, SecondChoices, SecondRankings, HasRound, IsApart, has_text, everything, place_cells, row_key, of_key, named_by}
+use Rattle.portal_tables.proofs.Weak.{Open, own_is}
+use Rattle.portal_tables.proofs.Shapes.{IsPlace, Follows, followed, place_rows_formed, text_equals}
 use Rattle.portal_tables.proofs.Sorted.{all_two}
 use Rattle.portal_tables.proofs.Tests.{equals_text}
 
@@ -38,11 +38,7 @@ items_of Rankings = student_tree
 items_of SecondChoices = project_tree
 items_of SecondRankings = student_tree
 
--- the rule, of a row of a list
-abbrev pub Follows : (l : Lists) → Open → Trees → Row → Bool
-Follows l o db r = passes ForeignKey (schema_with (round_of l) o) db (with_checks o.checks o.terms (list_table (names l) (tree_of l))) r
-
-both_found : (l : Lists) (o : Open) (db : Trees) (n : ℤ) (k : Key) (p : ℤ) (m : Key) → Follows l o db (Int n ∷ place_cells k p m) ≡ (Found (db (owners_of l)) k && (Found (db (items_of l)) m && true))
+both_found : (l : Lists) (o : Open) (db : Trees) (n : ℤ) (k : Key) (p : ℤ) (m : Key) → Follows ForeignKey (OfLists l) o db (Int n ∷ place_cells k p m) ≡ (Found (db (owners_of l)) k && (Found (db (items_of l)) m && true))
 unfolding everything
 both_found Choices o db n k p m = refl
 both_found Rankings o db n k p m = refl
@@ -60,16 +56,16 @@ on_roll (r ∷ roll) k h = elim (cases_Bool (has_text 1 k r)) [
 pub place_parents : (db : Database) (l : Lists) → HasRound (round_of l) db.schema → IsDatabase db → IsApart (db.trees (tree_of l))
     → AllByRecursion (λ r. OnRoll (db.trees (owners_of l)) (row_key r) × OnRoll (db.trees (items_of l)) (named_by r)) (db.trees (tree_of l))
 place_parents db l own sound apart =
-    let w = own_is (round_of l) db.schema own in
     let owners = db.trees (owners_of l) in
     let items = db.trees (items_of l) in
-    all_two IsPlace (λ r. Follows l w.o db.trees r ≡ true) (λ r. OnRoll owners (row_key r) × OnRoll items (named_by r))
+    let o = (own_is (round_of l) db.schema own).o in
+    all_two IsPlace (λ r. Follows ForeignKey (OfLists l) o db.trees r ≡ true) (λ r. OnRoll owners (row_key r) × OnRoll items (named_by r))
     (λ r f pass.
-    let two = and_parts (Found owners f.owner) (Found items f.item && true) (sym (both_found l w.o db.trees f.number f.owner f.place f.item) ∙ subst (λ x. Follows l w.o db.trees x ≡ true) f.is pass) in (
+    let two = and_parts (Found owners f.owner) (Found items f.item && true) (sym (both_found l o db.trees f.number f.owner f.place f.item) ∙ subst (λ x. Follows ForeignKey (OfLists l) o db.trees x ≡ true) f.is pass) in (
       subst (λ x. OnRoll owners (row_key x)) (sym f.is) (on_roll owners f.owner two.0),
       subst (λ x. OnRoll items (named_by x)) (sym f.is) (on_roll items f.item (and_parts (Found items f.item) true two.1).0),
     ))
-    (db.trees (tree_of l)) (place_rows_formed db l own sound apart) (at_list l w.o ForeignKey db.trees (kept (round_of l) db sound ForeignKey w))
+    (db.trees (tree_of l)) (place_rows_formed db l own sound apart) (followed db (OfLists l) own sound ForeignKey)
 
 -- who is not on the roll has no row
 pub none_of : (Q : Row → Type 0) (roll : List Row) (k : Key) (rows : List Row) → AllByRecursion (λ r. OnRoll roll (row_key r) × Q r) rows → has (map row_key roll) k ≡ false → of_key k rows ≡ []

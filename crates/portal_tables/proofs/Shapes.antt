@@ -1,7 +1,9 @@
 -- The shapes of the rows of the portal's own tables, by the rules that a database obeys.
 use Rattle.std.specs.Prelude.{◌≡◌, ◌⊎◌, ◌&&◌, ◌∷◌, ◌+◌}
-use Rattle.portal_tables.proofs.Base.{inl, inr, ℕ, ℤ, Bool, true, false, not, codes, drop, None, List, [], refl, sym, ap, subst, ◌∙◌, AllByRecursion, and_parts, is_eq, texts_ties, Value, Null, Int, Real, Blob, Words, Row, column, value_cmp, Trees, rowid, id_in, Database, IsDatabase, Column, Constraint, Datatype, NotNull, Keeps, passes, are_typed, are_present, is_of, is_null, Integer, Key, is, column_of, list_table, lecturer_tree, student_tree, lecturer, student, round_of, names, tree_of, Lists, Choices, Rankings, SecondChoices, SecondRankings, Round, First, IsOwn, HasRound, IsApart, has_text, lecturer_cells, place_cells, row_key}
+use Rattle.portal_tables.proofs.Base.{inl, inr, ℕ, ℤ, Bool, true, false, not, codes, drop, None, List, [], refl, sym, ap, subst, ◌∙◌, AllByRecursion, and_parts, is_eq, texts_ties, Value, Null, Int, Real, Blob, Words, Row, column, value_cmp, Trees, rowid, id_in, Database, IsDatabase, Column, Constraint, Datatype, NotNull, Keeps, passes, are_typed, are_present, is_of, is_null, Integer, Key, is, column_of, list_table, lecturer_tree, project_tree, student_tree, ranked2_tree, assigned2_tree, lecturer, project, student, ranked2, assigned2, round_of, names, tree_of, table_round, table_tree, Lists, Choices, Rankings, SecondChoices, SecondRankings, OfRoll, OfLists, OfRanked, OfPlaces, Lecturers, Projects, Students, Table, Round, IsOwn, HasRound, IsApart, has_text, lecturer_cells, place_cells, row_key}
 use Rattle.sqlite.specs.Kind.TheVariants.{Text}
+use Rattle.portal_tables.specs.declared.select.Table.{Table as Named}
+use Rattle.portal_tables.proofs.Listed.{IsText}
 use Rattle.portal_tables.proofs.Weak.{Open, schema_with, with_checks, IsWith, own_is}
 
 -- a test of a text
@@ -124,6 +126,14 @@ student_form n cells typed present =
     let end = last_cell (codes "assigned") 3 rest2 typed2 in
     record { number = n; key = key; name = name; code = code; last = rest2; is = refl; few = end.0; assigned = end.1 })) a3) p2.0 p3.0
 
+-- the lecturer of a project is a text
+project_form : (n : ℤ) (cells : Row) → are_typed None 0 (project 4).columns cells ≡ true → are_present None 0 (project 4).columns (Int n ∷ cells) ≡ true → IsText (column (Int n ∷ cells) 2)
+project_form n cells typed present =
+    let p1 = and_parts _ _ present in
+    let p2 = and_parts _ _ p1.1 in
+    text_first (λ x. Present 2 (Int n ∷ x) → IsText (column (Int n ∷ x) 2)) (codes "key") 0 (column_of (codes "lecturer") Text true ∷ column_of (codes "title") Text true ∷ column_of (codes "capacity") Integer true ∷ []) cells typed p1.0 (λ key rest0 typed0 a2.
+    text_first (λ x. IsText (column (Int n ∷ Words key ∷ x) 2)) (codes "lecturer") 1 (column_of (codes "title") Text true ∷ column_of (codes "capacity") Integer true ∷ []) rest0 typed0 a2 (λ lecturer rest1 typed1. (lecturer, refl))) p2.0
+
 place_form : (n : ℤ) (k l m : List ℕ) (cells : Row) → are_typed None 0 (column_of k Text true ∷ column_of l Integer true ∷ column_of m Text true ∷ []) cells ≡ true
     → are_present None 0 (column_of k Text true ∷ column_of l Integer true ∷ column_of m Text true ∷ []) (Int n ∷ cells) ≡ true → IsPlace (Int n ∷ cells)
 place_form n k l m cells typed present =
@@ -148,33 +158,58 @@ formed P typed present form [] apart t p = tt
 formed P typed present form (r ∷ rows) apart t p =
     (with_number P typed present form r apart.0 (and_parts _ _ t.0).0 p.0, formed P typed present form rows apart.2 t.1 p.1)
 
--- a rule of all tables is one of a table of lists
-pub at_list : (l : Lists) (o : Open) (rule : Constraint) (db : Trees) → Keeps rule (schema_with (round_of l) o) db
-    → AllByRecursion (λ row. passes rule (schema_with (round_of l) o) db (with_checks o.checks o.terms (list_table (names l) (tree_of l))) row ≡ true) (db (tree_of l))
-at_list Choices o rule db all = all.1.1.1.1.0
-at_list Rankings o rule db all = all.1.1.1.1.1.0
-at_list SecondChoices o rule db all = all.1.1.1.1.1.1.1.0
-at_list SecondRankings o rule db all = all.1.1.1.1.1.1.1.1.1.0
+-- what is understood of a table
+abbrev pub form_of : Named → Table
+form_of (OfRoll Lecturers) = lecturer lecturer_tree
+form_of (OfRoll Projects) = project project_tree
+form_of (OfRoll Students) = student student_tree
+form_of (OfLists l) = list_table (names l) (tree_of l)
+form_of OfRanked = ranked2 ranked2_tree
+form_of OfPlaces = assigned2 assigned2_tree
 
--- what the rules say of tables that are read as those of a round
+-- a rule, of a row of the table
+abbrev pub Follows : Constraint → (t : Named) → Open → Trees → Row → Bool
+Follows rule t o db row = passes rule (schema_with (table_round t) o) db (with_checks o.checks o.terms (form_of t)) row
+
+-- a rule of all tables is one of each
+at_table : (t : Named) (o : Open) (rule : Constraint) (db : Trees) → Keeps rule (schema_with (table_round t) o) db → AllByRecursion (λ row. Follows rule t o db row ≡ true) (db (table_tree t))
+at_table (OfRoll Lecturers) o rule db all = all.1.0
+at_table (OfRoll Projects) o rule db all = all.1.1.0
+at_table (OfRoll Students) o rule db all = all.1.1.1.0
+at_table (OfLists Choices) o rule db all = all.1.1.1.1.0
+at_table (OfLists Rankings) o rule db all = all.1.1.1.1.1.0
+at_table (OfLists SecondChoices) o rule db all = all.1.1.1.1.1.1.1.0
+at_table OfRanked o rule db all = all.1.1.1.1.1.1.1.1.0
+at_table (OfLists SecondRankings) o rule db all = all.1.1.1.1.1.1.1.1.1.0
+at_table OfPlaces o rule db all = all.1.1.1.1.1.1.1.1.1.1.0
+
+-- what the rules say of the tables of a sound database that are read as those of a round, and of one of them
 pub kept : (round : Round) (db : Database) → IsDatabase db → (rule : Constraint) (w : IsWith round db.schema) → Keeps rule (schema_with round w.o) db.trees
 kept round db sound rule w = subst (λ s. Keeps rule s db.trees) w.is (sound.obeys.rules rule)
 
-module _ (db : Database) (own : IsOwn db.schema) (sound : IsDatabase db) where
-  w : IsWith First db.schema
-  w = own_is First db.schema own
+pub followed : (db : Database) (t : Named) (own : HasRound (table_round t) db.schema) → IsDatabase db → (rule : Constraint)
+    → AllByRecursion (λ row. Follows rule t (own_is (table_round t) db.schema own).o db.trees row ≡ true) (db.trees (table_tree t))
+followed db t own sound rule =
+    let w = own_is (table_round t) db.schema own in
+    at_table t w.o rule db.trees (kept (table_round t) db sound rule w)
 
-  pub lecturer_rows_formed : IsApart (db.trees lecturer_tree) → AllByRecursion IsLecturerRow (db.trees lecturer_tree)
-  lecturer_rows_formed apart =
-      formed IsLecturerRow (are_typed None 0 (lecturer 1).columns) (are_present None 0 (lecturer 1).columns) lecturer_form (db.trees lecturer_tree) apart (kept First db sound Datatype w).1.0 (kept First db sound NotNull w).1.0
+pub lecturer_rows_formed : (db : Database) → IsOwn db.schema → IsDatabase db → IsApart (db.trees lecturer_tree) → AllByRecursion IsLecturerRow (db.trees lecturer_tree)
+lecturer_rows_formed db own sound apart =
+    formed IsLecturerRow (are_typed None 0 (lecturer 1).columns) (are_present None 0 (lecturer 1).columns) lecturer_form (db.trees lecturer_tree) apart
+    (followed db (OfRoll Lecturers) own sound Datatype) (followed db (OfRoll Lecturers) own sound NotNull)
 
-  pub student_rows_formed : IsApart (db.trees student_tree) → AllByRecursion IsStudentRow (db.trees student_tree)
-  student_rows_formed apart =
-      formed IsStudentRow (are_typed None 0 (student 6).columns) (are_present None 0 (student 6).columns) student_form (db.trees student_tree) apart (kept First db sound Datatype w).1.1.1.0 (kept First db sound NotNull w).1.1.1.0
+pub student_rows_formed : (db : Database) → IsOwn db.schema → IsDatabase db → IsApart (db.trees student_tree) → AllByRecursion IsStudentRow (db.trees student_tree)
+student_rows_formed db own sound apart =
+    formed IsStudentRow (are_typed None 0 (student 6).columns) (are_present None 0 (student 6).columns) student_form (db.trees student_tree) apart
+    (followed db (OfRoll Students) own sound Datatype) (followed db (OfRoll Students) own sound NotNull)
+
+pub project_rows_formed : (db : Database) → IsOwn db.schema → IsDatabase db → IsApart (db.trees project_tree) → AllByRecursion (λ r. IsText (column r 2)) (db.trees project_tree)
+project_rows_formed db own sound apart =
+    formed (λ r. IsText (column r 2)) (are_typed None 0 (project 4).columns) (are_present None 0 (project 4).columns) project_form (db.trees project_tree) apart
+    (followed db (OfRoll Projects) own sound Datatype) (followed db (OfRoll Projects) own sound NotNull)
 
 pub place_rows_formed : (db : Database) (l : Lists) → HasRound (round_of l) db.schema → IsDatabase db → IsApart (db.trees (tree_of l)) → AllByRecursion IsPlace (db.trees (tree_of l))
 place_rows_formed db l own sound apart =
-    let w = own_is (round_of l) db.schema own in
     let cs = (list_table (names l) (tree_of l)).columns in
     formed IsPlace (are_typed None 0 cs) (are_present None 0 cs) (λ n cells t p. place_form n (names l).owner (codes "place") (names l).item cells t p) (db.trees (tree_of l)) apart
-    (at_list l w.o Datatype db.trees (kept (round_of l) db sound Datatype w)) (at_list l w.o NotNull db.trees (kept (round_of l) db sound NotNull w))
+    (followed db (OfLists l) own sound Datatype) (followed db (OfLists l) own sound NotNull)

@@ -1,6 +1,6 @@
 -- What each query's text is understood as, whatever the checks are, and so what the query shows and leaves.
 use Rattle.std.specs.Prelude.{◌≡◌, ◌∷◌}
-use Rattle.portal_tables.proofs.Base.{ℕ, List, [], false, map, Option, Some, None, refl, sym, ap, subst, subst₂, ◌∙◌, Ok, Result, OnOk, OnErr, Row, column, Term, col, Schema, Database, Answers, Command, Program, Compiled, State, Shown, HasCleanDisk, IsUnchanged, Survives, Select, everything, understood, reads_listing, lets_of, Ends, IsPlain, EndsIn, command_of, reads_as, survives_weaker, Choices, Whole, LecturerByCode, StudentByCode, LecturerByKey, StudentTold, AllLists, ListOf, Choosers, Listed, SecondPlaceOf, Numbers, Lecturers, OfRoll, OfLists, ListsBy, columns, HasRound, selection, round_asked, text_of, given, AsksIn, Leaves}
+use Rattle.portal_tables.proofs.Base.{ℕ, List, [], false, map, Option, Some, None, refl, sym, ap, subst, subst₂, ◌∙◌, Ok, Result, OnOk, OnErr, Row, column, Term, col, Schema, Database, Answers, Command, Program, Compiled, State, Shown, HasCleanDisk, IsUnchanged, Survives, Select, everything, understood, reads_listing, lets_of, Ends, IsPlain, EndsIn, command_of, reads_as, survives_weaker, Choices, Whole, LecturerByCode, StudentByCode, LecturerByKey, StudentTold, AllLists, ListOf, Choosers, Listed, ProjectsOf, First, SecondRankedBy, SecondPlaceOf, Numbers, Lecturers, OfRoll, OfLists, ListsBy, columns, HasRound, selection, round_asked, text_of, given, AsksIn, Leaves}
 use Rattle.sqlite.specs.Effect.{Reads}
 use Rattle.portal_tables.specs.declared.select.Query.{Query}
 use Rattle.portal_tables.specs.Queries.{Shows}
@@ -16,8 +16,10 @@ tests (StudentByCode code) = has_key 3
 tests (LecturerByKey key) = has_key 1
 tests (StudentTold key) = has_key 1
 tests (ListOf lists owner) = has_key 1
-tests (Choosers project) = has_key 3
-tests Listed = is_number 2 1
+tests (Choosers round project) = has_key 3
+tests (ProjectsOf lecturer) = has_key 2
+tests (Listed round) = is_number 2 1
+tests (SecondRankedBy lecturer) = has_key 1
 tests (SecondPlaceOf student) = has_key 1
 tests _ = []
 
@@ -27,8 +29,10 @@ tested (StudentByCode code) = same_key 3 code.now
 tested (LecturerByKey key) = same_key 1 key.now
 tested (StudentTold key) = same_key 1 key.now
 tested (ListOf lists owner) = same_key 1 owner.now
-tested (Choosers project) = same_key 3 project.now
-tested Listed = same_number 2 1 []
+tested (Choosers round project) = same_key 3 project.now
+tested (ProjectsOf lecturer) = same_key 2 lecturer.now
+tested (Listed round) = same_number 2 1 []
+tested (SecondRankedBy lecturer) = same_key 1 lecturer.now
 tested (SecondPlaceOf student) = same_key 1 student.now
 tested _ = refl
 
@@ -53,6 +57,8 @@ unfolding understood everything
 is (Whole Lecturers) o = (refl, (refl, refl), refl)
 is (AllLists Choices) o = (refl, (refl, refl), refl)
 is (ListOf Choices owner) o = (refl, (refl, refl), refl)
+is (Choosers First project) o = (refl, (refl, refl), refl)
+is (Listed First) o = (refl, (refl, refl), refl)
 is (Numbers (OfRoll Lecturers)) o = (refl, (refl, refl), refl)
 is (Numbers (OfLists Choices)) o = (refl, (refl, refl), refl)
 is _ o = (refl, (refl, refl), refl)

@@ -39,6 +39,11 @@ has_of (l ∷ ks) k (inl e) = ap (λ b. b || has ks k) (subst (λ m. is k m ≡ 
 has_of (l ∷ ks) k (inr h) = elim (is k l) as (λ b. (b || has ks k) ≡ true) [ true ↦ refl | false ↦ has_of ks k h ]
 
 module _ {X : Type 0} (key : X → Key) where
+  -- one more is put last
+  pub put_all_more : (xs : List X) (x : X) (ys : List X) → put_all key (xs ++ x ∷ []) ys ≡ put key x (put_all key xs ys)
+  put_all_more [] x ys = refl
+  put_all_more (z ∷ zs) x ys = put_all_more zs x (put key z ys)
+
   -- putting rows loses none and makes none
   pub permutes_one : (x : X) (ys : List X) → IsPermutation (x ∷ ys) (put key x ys)
   permutes_one x [] = IsPermutation-refl (x ∷ [])

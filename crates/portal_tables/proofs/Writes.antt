@@ -5,7 +5,6 @@ use Rattle.portal_tables.proofs.Base.{inl, inr, ℕ, ℤ, List, [], map, slice_g
 use Rattle.sqlite.specs.Kind.TheVariants as kind
 use Rattle.sqlite.specs.Edit.{numbered}
 use Rattle.sqlite.specs.Does.{Does}
-use Rattle.portal_tables.proofs.Weak.{portal_with}
 use Rattle.portal_tables.proofs.Query.{one_table, passes, shown_as}
 use Rattle.portal_tables.proofs.Lists.{looped, not_true, filter_same, without_is, found_once, apart_filter}
 use Rattle.portal_tables.proofs.Keeping.{rows_put}

@@ -1,9 +1,10 @@
 -- The rows of the rolls and lists, of the rolls that queries show and the lists in the tables.
-use Rattle.portal_tables.specs.Base.{List, map, AllByRecursion, filter_map, Row, Trees, IsLecturer, IsProject, IsStudent, Key, LecturerRow, ProjectRow, StudentRow}
+use Rattle.portal_tables.specs.Base.{List, None, map, AllByRecursion, filter_map, Row, Trees, Round, IsLecturer, IsProject, IsStudent, Key, LecturerRow, ProjectRow, StudentRow}
 use Rattle.portal_tables.specs.Owners.{entry, with_list, IsRead, IsFine}
-use Rattle.portal_tables.specs.Shown.{shown_lecturer, shown_project, shown_student, shown_pair, HasPlace}
+use Rattle.portal_tables.specs.ListTables.{choices_of, rankings_of}
+use Rattle.portal_tables.specs.Places.{pair_shown, HasPlace}
+use Rattle.portal_tables.specs.Shown.{shown_lecturer, shown_project, shown_student}
 use Rattle.portal_tables.specs.declared.contents.Contents.{Contents}
-use Rattle.portal_tables.specs.declared.list_table.Lists.TheVariants.{Choices, Rankings}
 
 pub record AllRows : Type 0 where
   pub lecturers : List LecturerRow
@@ -28,28 +29,28 @@ rows_held c =
       pairs = c.pairs.items;
     }
 
--- those of shown rows and the lists in the tables
-abbrev pub rows_from : Trees → List Row → List Row → List Row → AllRows
-rows_from db lecturers projects students =
+-- those of shown rows, with the lists and places of a round in the tables
+abbrev pub rows_from : Round → Trees → List Row → List Row → List Row → AllRows
+rows_from round db lecturers projects students =
     record {
       lecturers = map shown_lecturer lecturers;
       projects = map shown_project projects;
       students = map shown_student students;
-      choices = filter_map (entry Choices db) students;
-      rankings = filter_map (entry Rankings db) lecturers;
-      pairs = filter_map shown_pair students;
+      choices = filter_map (entry (choices_of round) db) students;
+      rankings = filter_map (entry (rankings_of round) db) lecturers;
+      pairs = filter_map (pair_shown round None db) students;
     }
 
 -- what was found while they were read
-pub record AreRead (db : Trees) (lecturers students : List Row) : Type 0 where
-  pub choices : AllByRecursion (IsRead Choices db) students
-  pub rankings : AllByRecursion (IsRead Rankings db) lecturers
+pub record AreRead (round : Round) (db : Trees) (lecturers students : List Row) : Type 0 where
+  pub choices : AllByRecursion (IsRead (choices_of round) db) students
+  pub rankings : AllByRecursion (IsRead (rankings_of round) db) lecturers
 
 -- what the decoding of shown rows asks
-pub record AreFine (db : Trees) (lecturers projects students : List Row) : Type 0 where
+pub record AreFine (round : Round) (db : Trees) (lecturers projects students : List Row) : Type 0 where
   pub lecturer_forms : AllByRecursion (λ c. IsLecturer (shown_lecturer c)) lecturers
   pub project_forms : AllByRecursion (λ c. IsProject (shown_project c)) projects
   pub student_forms : AllByRecursion (λ c. IsStudent (shown_student c)) students
-  pub places : AllByRecursion HasPlace students
-  pub choices : AllByRecursion (IsFine Choices db) students
-  pub rankings : AllByRecursion (IsFine Rankings db) lecturers
+  pub places : AllByRecursion (HasPlace round db) students
+  pub choices : AllByRecursion (IsFine (choices_of round) db) students
+  pub rankings : AllByRecursion (IsFine (rankings_of round) db) lecturers

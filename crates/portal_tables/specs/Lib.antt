@@ -14,6 +14,7 @@ pub mod Queries
 pub mod Decoding
 pub mod Rolls
 pub mod Shown
+pub mod Places
 pub mod Owners
 pub mod Names
 pub mod Putting

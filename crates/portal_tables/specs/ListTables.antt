@@ -30,6 +30,15 @@ tree_of Rankings = ranking_tree
 tree_of SecondChoices = choice2_tree
 tree_of SecondRankings = ranking2_tree
 
+-- those of a round
+abbrev pub choices_of : Round → Lists
+choices_of First = Choices
+choices_of Second = SecondChoices
+
+abbrev pub rankings_of : Round → Lists
+rankings_of First = Rankings
+rankings_of Second = SecondRankings
+
 -- the text that takes the rows of one owner away
 abbrev pub clear_text : ListTable → List ℕ
 clear_text t = codes "DELETE FROM " ++ t.name ++ codes " WHERE " ++ t.owner ++ codes " = ?1"

@@ -1,6 +1,6 @@
 -- Which tables are the portal's own: the same but for their checks and the terms of their defaults.
 use Rattle.std.specs.Prelude.{◌≡◌}
-use Rattle.portal_tables.specs.Base.{[], take, AllZip, Table, Schema, Database, Round, First, Second}
+use Rattle.portal_tables.specs.Base.{[], take, AllZip, Table, Schema, Round, First, Second}
 use Rattle.portal_tables.specs.Tables.{first_schema, portal_schema}
 
 pub record SameRules (a b : Table) : Type 0 where
@@ -46,6 +46,3 @@ pub record IsOwn (schema : Schema) : Type 0 where
 abbrev pub HasRound : Round → Schema → Type 0
 HasRound First = IsOwn
 HasRound Second = IsCurrent
-
-abbrev pub HasOwn : Database → Type 0
-HasOwn db = IsOwn db.schema

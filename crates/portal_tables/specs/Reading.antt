@@ -1,6 +1,6 @@
 -- What queries leave, and what they tell.
 use Rattle.std.specs.Prelude.{◌≡◌}
-use Rattle.portal_tables.specs.Base.{false, IsTrue, Result, IfOk, OnOk, OnErr, Database, Held, state, State, HasCleanDisk, IsUnchanged, Survives, Ghosts, Round, First}
+use Rattle.portal_tables.specs.Base.{false, IsTrue, Result, IfOk, OnOk, OnErr, Database, IsDatabase, Held, state, State, HasCleanDisk, IsUnchanged, Survives, Ghosts, Round, First}
 use Rattle.portal_tables.specs.Own.{IsOwn, HasRound}
 use Rattle.portal_tables.specs.Steps.{Leaves}
 
@@ -23,6 +23,10 @@ pub record ReadsIn (round : Round) {V E : Type 0} (result : Result V E) (old new
 abbrev pub TellsIn : {S V E : Type 0} → Round → Ghosts S → Held S → Held S → Result V E → (Database → V → Type 0) → Type 0
 TellsIn round g old new result P = HasRound round old.schema → HasCleanDisk (state g new) → IfOk result (P (state g old).now)
 
+-- the same of a sound database
+abbrev pub TellsSound : {S V E : Type 0} → Round → Ghosts S → Held S → Held S → Result V E → (Database → V → Type 0) → Type 0
+TellsSound round g old new result P = HasRound round old.schema → IsDatabase (state g old).now → HasCleanDisk (state g new) → IfOk result (P (state g old).now)
+
 -- of the first round's tables
 abbrev pub Asks : {V E : Type 0} → Result V E → State → State → Type 0
 Asks result old new = AsksIn First result old new
@@ -33,6 +37,6 @@ Reads result old new = ReadsIn First result old new
 abbrev pub Tells : {S V E : Type 0} → Ghosts S → Held S → Held S → Result V E → (Database → V → Type 0) → Type 0
 Tells g old new result P = IsOwn old.schema → HasCleanDisk (state g new) → IfOk result (P (state g old).now)
 
--- after several queries, where the connection was open: of a database of which this holds the answer is that
+-- after several queries: of a database of which this holds the answer is that
 abbrev pub TellsOf : {S V E : Type 0} → (Database → Type 0) → Ghosts S → Held S → Held S → Result V E → (Database → V → Type 0) → Type 0
-TellsOf Holds g old new result P = Holds (state g old).now → HasCleanDisk (state g new) → IsTrue (state g old).is_open → IfOk result (P (state g old).now)
+TellsOf Holds g old new result P = Holds (state g old).now → HasCleanDisk (state g new) → IfOk result (P (state g old).now)

@@ -1,6 +1,6 @@
 -- What the rows that a query shows are decoded to: the cells of a roll or of a list, without the number of the row.
-use Rattle.std.specs.Prelude.{◌≡◌, ◌∷◌}
-use Rattle.portal_tables.specs.Base.{ℕ, true, List, [], Option, Some, None, option_map, IfSome, Value, Null, Int, Real, Blob, Words, Row, column, bytes, number_in, is_key, Key, LecturerRow, ProjectRow, StudentRow}
+use Rattle.std.specs.Prelude.{◌∷◌}
+use Rattle.portal_tables.specs.Base.{ℕ, List, [], Option, Some, None, Value, Null, Int, Real, Blob, Words, Row, column, bytes, number_in, Key, LecturerRow, ProjectRow, StudentRow}
 
 -- the text in a cell, if it is not NULL
 abbrev pub text_or_none : Value → Option Key
@@ -28,21 +28,9 @@ shown_project c = record { key = first c; lecturer = bytes (column c 1); title =
 abbrev pub shown_student : Row → StudentRow
 shown_student c = record { key = first c; name = bytes (column c 1); code = bytes (column c 2) }
 
--- the pair of the result that a student's row tells
-abbrev pub shown_pair : Row → Option (Key × Key)
-shown_pair c = option_map (λ p. (first c, p)) (text_or_none (column c 3))
-
--- the pair that a row of the second round's result tells
-abbrev pub told_pair : Row → Key × Key
-told_pair c = (first c, bytes (column c 1))
-
 -- the place and the key that a row of a list shows
 abbrev pub shown_place : Row → ℕ
 shown_place c = number_in (column c 0)
 
 abbrev pub shown_name : Row → Key
 shown_name c = bytes (column c 1)
-
--- what is assigned has the form of a key
-abbrev pub HasPlace : Row → Type 0
-HasPlace c = IfSome (text_or_none (column c 3)) (λ p. is_key p ≡ true)

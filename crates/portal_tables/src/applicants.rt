@@ -1,16 +1,19 @@
 //! Applicants and placed students of a lecturer's projects.
 
 ghost use Rattle.std.specs.Prelude.{◌≡◌, ◌∷◌, ◌++◌};
-ghost use Rattle.portal_tables.specs.Base.{[], IfOk, OnOk, map, filter, state, is_at, is_from_ranking};
-ghost use Rattle.portal_tables.specs.Callers.{with_persons, lines_shown, placed_among, applicants_told, placed_told};
+ghost use Rattle.portal_tables.specs.Base.{[], IfOk, OnOk, map, state, is_at, is_from_ranking};
+ghost use Rattle.portal_tables.specs.Callers.{with_persons, lines_shown, persons_at, placed_among, persons_before, placed_shown, applicants_told, placed_told};
 ghost use Rattle.portal_tables.specs.Lines.{HasTables};
-ghost use Rattle.portal_tables.specs.Reading.{Reads, TellsOf};
+ghost use Rattle.portal_tables.specs.Reading.{ReadsIn, TellsOf};
+ghost use Rattle.portal_tables.specs.Shown.{first};
 
+use crate::cells::key_at;
 use crate::fault::TableFault;
 use crate::lines::{Line, lines_to, persons_of};
-use portal_core::{Person, Phase};
+use crate::persons::put_persons;
+use portal_core::{Person, Phase, Round};
 use spa_rows::Key;
-use sqlite::{Alter, Connection};
+use sqlite::{Alter, Connection, Row};
 use std::alloc::{AllocError, Global};
 
 /// Whether the students' lists are closed.
@@ -27,15 +30,16 @@ pub fn are_closed(phase: Phase) -> bool
 fn lines_in<S: Alter>(
     alloc: Global,
     conn: &mut Connection<S>,
+    round: Round,
     phase: Phase,
     project: &Key,
 ) -> Result<Vec<Line>, TableFault>
     ensures told { TellsOf HasTables S.Store conn.old conn.new result
-        (λ db v. v.items ≡ lines_shown db.trees phase project.now) }
-    ensures reads { Reads result (state S.Store conn.old) (state S.Store conn.new) }
+        (λ db v. v.items ≡ lines_shown round db.trees phase project.now) }
+    ensures reads { ReadsIn round result (state S.Store conn.old) (state S.Store conn.new) }
 {
     if are_closed(phase) {
-        return lines_to(alloc, conn, project);
+        return lines_to(alloc, conn, round, project);
     }
     Ok(Vec::new(alloc))
 }
@@ -52,8 +56,7 @@ fn is_placed_at(placed: &Option<Key>, project: &Key) -> bool
 
 /// The students on the lines whom the result places at the project.
 fn placed_at(alloc: Global, lines: &[Line], project: &Key) -> Result<Vec<Person>, AllocError>
-    ensures { IfOk result (λ v. v.items
-        ≡ map (λ l. l.person) (filter (λ l. is_at project.now l.placed) lines.now)) }
+    ensures { IfOk result (λ v. v.items ≡ persons_at project.now lines.now) }
 {
     let mut found = Vec::new(alloc);
     for line in lines {
@@ -79,6 +82,45 @@ fn placed_in(
     }
 }
 
+/// The students whom the round before placed at the project.
+fn before_in<S: Alter>(
+    alloc: Global,
+    conn: &mut Connection<S>,
+    round: Round,
+    project: &Key,
+) -> Result<Vec<Person>, TableFault>
+    ensures told { TellsOf HasTables S.Store conn.old conn.new result
+        (λ db v. v.items ≡ persons_before round db.trees project.now) }
+    ensures reads { ReadsIn round result (state S.Store conn.old) (state S.Store conn.new) }
+{
+    match round {
+        Round::First => Ok(Vec::new(alloc)),
+        Round::Second => {
+            let lines = lines_to(alloc, conn, Round::First, project)?;
+            Ok(placed_at(alloc, &lines, project)?)
+        }
+    }
+}
+
+/// The students whom the results that are shown place at the project, by the lines of its applicants.
+fn placed_with<S: Alter>(
+    alloc: Global,
+    conn: &mut Connection<S>,
+    round: Round,
+    phase: Phase,
+    project: &Key,
+    lines: &[Line],
+) -> Result<Vec<Person>, TableFault>
+    ensures told { TellsOf HasTables S.Store conn.old conn.new result
+        (λ db v. v.items ≡ placed_shown round db.trees phase project.now lines.now) }
+    ensures reads { ReadsIn round result (state S.Store conn.old) (state S.Store conn.new) }
+{
+    let mut placed = before_in(alloc, conn, round, project)?;
+    let more = placed_in(alloc, phase, lines, project)?;
+    put_persons(&mut placed, more)?;
+    Ok(placed)
+}
+
 /// What is told of a lecturer's projects.
 #[derive(Drop)]
 pub(crate) struct Told {
@@ -87,50 +129,52 @@ pub(crate) struct Told {
 }
 
 impl Told {
-    /// Tells of one project more, by the lines of its applicants.
+    /// Tells of one project more, by the lines of its applicants and who is placed at it.
     fn add(
         &mut self,
         alloc: Global,
-        phase: Phase,
-        project: &Key,
+        project: Key,
         lines: &[Line],
+        placed: Vec<Person>,
     ) -> Result<(), AllocError>
         ensures applicants { OnOk result (map with_persons self.new.applicants.items
             ≡ map with_persons self.old.applicants.items
-            ++ ((project.now, map (λ l. l.person) lines.now) ∷ [])) }
+            ++ ((project, map (λ l. l.person) lines.now) ∷ [])) }
         ensures placed { OnOk result (map with_persons self.new.placed.items
-            ≡ map with_persons self.old.placed.items
-            ++ ((project.now, placed_among phase project.now lines.now) ∷ [])) }
+            ≡ map with_persons self.old.placed.items ++ ((project, placed.items) ∷ [])) }
     {
         let applicants = persons_of(alloc, lines)?;
-        let placed = placed_in(alloc, phase, lines, project)?;
         self.applicants.push((project.copy(alloc)?, applicants))?;
-        self.placed.push((project.copy(alloc)?, placed))?;
+        self.placed.push((project, placed))?;
         Ok(())
     }
 }
 
-/// What is told of the projects in the phase.
+/// What is told in the phase of the projects with whose keys the rows begin.
 pub(crate) fn told_in<S: Alter>(
     alloc: Global,
     conn: &mut Connection<S>,
+    round: Round,
     phase: Phase,
-    projects: &[Key],
+    projects: &[Row],
 ) -> Result<Told, TableFault>
     ensures applicants { TellsOf HasTables S.Store conn.old conn.new result
         (λ db t. map with_persons t.applicants.items
-        ≡ applicants_told db.trees phase projects.now) }
+        ≡ applicants_told round db.trees phase (map first projects.now)) }
     ensures placed { TellsOf HasTables S.Store conn.old conn.new result
-        (λ db t. map with_persons t.placed.items ≡ placed_told db.trees phase projects.now) }
-    ensures reads { Reads result (state S.Store conn.old) (state S.Store conn.new) }
+        (λ db t. map with_persons t.placed.items
+        ≡ placed_told round db.trees phase (map first projects.now)) }
+    ensures reads { ReadsIn round result (state S.Store conn.old) (state S.Store conn.new) }
 {
     let mut told = Told {
         applicants: Vec::new(alloc),
         placed: Vec::new(alloc),
     };
-    for project in projects {
-        let lines = lines_in(alloc, conn, phase, project)?;
-        told.add(alloc, phase, project, &lines)?;
+    for row in projects {
+        let project = key_at(alloc, row, 0)?;
+        let lines = lines_in(alloc, conn, round, phase, &project)?;
+        let placed = placed_with(alloc, conn, round, phase, &project, &lines)?;
+        told.add(alloc, project, &lines, placed)?;
     }
     Ok(told)
 }

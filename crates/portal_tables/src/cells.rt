@@ -1,6 +1,6 @@
 //! From one cell of a row that a query shows to a key, a name, a code or a number.
 
-ghost use Rattle.std.specs.Prelude.{◌≡◌, ◌≤◌};
+ghost use Rattle.std.specs.Prelude.{◌≡◌, ◌≤◌, is_none};
 ghost use Rattle.portal_tables.specs.Base.{true, false, Err, IfOk, IfSome, column, bytes, number_in, is_key, is_code, is_name};
 ghost use Rattle.portal_tables.specs.Shown.{text_or_none};
 
@@ -96,5 +96,15 @@ pub fn assigned_at(alloc: Global, row: &Row, at: usize) -> Result<Option<Key>, T
             Err(KeyFault::Memory) => Err(TableFault::Memory),
         },
         Ok(_) => Err(TableFault::Damaged),
+    }
+}
+
+/// Whether a cell that may hold a key is NULL.
+pub fn is_null(row: &Row, at: usize) -> bool
+    ensures { result ≡ is_none (text_or_none (column row.now at)) }
+{
+    match row.get_ref(at) {
+        Ok(ValueRef::Null) | Err(_) => true,
+        Ok(_) => false,
     }
 }

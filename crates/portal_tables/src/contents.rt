@@ -1,24 +1,26 @@
-//! The rows of the rolls and lists: all that the tables hold but the office's row, read and decoded.
+//! The rows of the rolls and of a round's lists and result, read and decoded.
 
 ghost use Rattle.std.specs.Prelude.{◌≡◌};
-ghost use Rattle.portal_tables.specs.Base.{false, Err, IfOk, OnOk, IsTrue, map, AllByRecursion, filter_map, HasCleanDisk, IsDatabase, state, IsLecturer, IsProject, IsStudent};
-ghost use Rattle.portal_tables.specs.Own.{IsOwn};
+ghost use Rattle.portal_tables.specs.Base.{false, Err, IfOk, OnOk, map, AllByRecursion, HasCleanDisk, IsDatabase, state, IsLecturer, IsProject, IsStudent};
+ghost use Rattle.portal_tables.specs.Own.{HasRound};
 ghost use Rattle.portal_tables.specs.Contents.{rows_held, rows_from, AreRead, AreFine};
+ghost use Rattle.portal_tables.specs.ListTables.{choices_of, rankings_of};
 ghost use Rattle.portal_tables.specs.Owners.{AreOwned, with_list};
-ghost use Rattle.portal_tables.specs.Reading.{Reads};
+ghost use Rattle.portal_tables.specs.Reading.{ReadsIn, TellsSound};
 ghost use Rattle.portal_tables.specs.Rolls.{lecturers_shown, projects_shown, students_shown, RollsRise};
-ghost use Rattle.portal_tables.specs.Shown.{shown_lecturer, shown_project, shown_student, shown_pair, HasPlace};
+ghost use Rattle.portal_tables.specs.Shown.{shown_lecturer, shown_project, shown_student};
 
 use crate::entries::entries_in;
 use crate::fault::TableFault;
 use crate::list_table::Lists;
+use crate::places::pairs_in;
 use crate::rolls::{Rolls, parts_of, rolls_in};
-use portal_core::{LecturerRow, ProjectRow, StudentRow};
+use portal_core::{LecturerRow, ProjectRow, Round, StudentRow};
 use spa_rows::Key;
 use sqlite::{Alter, Connection};
 use std::alloc::Global;
 
-/// The rows of the rolls and lists.
+/// The rows of the rolls, and of the lists and the result of a round.
 #[derive(Drop)]
 pub struct Contents {
     pub lecturers: Vec<LecturerRow>,
@@ -32,20 +34,20 @@ pub struct Contents {
     pub pairs: Vec<(Key, Key)>,
 }
 
-/// The rolls decoded, with the lists.
+/// The rolls decoded, with the lists and the result.
 fn put_together(
     alloc: Global,
     rolls: &Rolls,
     choices: Vec<(Key, Vec<Key>)>,
     rankings: Vec<(Key, Vec<Key>)>,
+    pairs: Vec<(Key, Key)>,
 ) -> Result<Contents, TableFault>
     ensures rows { IfOk result (λ rows. rows_held rows
-        ≡ record { lecturers = map shown_lecturer rolls.now.lecturers.items; projects = map shown_project rolls.now.projects.items; students = map shown_student rolls.now.students.items; choices = map with_list choices.items; rankings = map with_list rankings.items; pairs = filter_map shown_pair rolls.now.students.items }) }
+        ≡ record { lecturers = map shown_lecturer rolls.now.lecturers.items; projects = map shown_project rolls.now.projects.items; students = map shown_student rolls.now.students.items; choices = map with_list choices.items; rankings = map with_list rankings.items; pairs = pairs.items }) }
     ensures damaged { result ≡ Err TableFault.Damaged
         → AllByRecursion (λ c. IsLecturer (shown_lecturer c)) rolls.now.lecturers.items
         → AllByRecursion (λ c. IsProject (shown_project c)) rolls.now.projects.items
-        → AllByRecursion (λ c. IsStudent (shown_student c)) rolls.now.students.items
-        → AllByRecursion HasPlace rolls.now.students.items → ⊥ }
+        → AllByRecursion (λ c. IsStudent (shown_student c)) rolls.now.students.items → ⊥ }
 {
     let parts = parts_of(alloc, rolls)?;
     Ok(Contents {
@@ -54,64 +56,64 @@ fn put_together(
         students: parts.students,
         choices,
         rankings,
-        pairs: parts.pairs,
+        pairs,
     })
 }
 
-/// The rows of the rolls that were read, and of their lists.
+/// The rows of the rolls that were read, and of their lists and places in a round.
 fn rows_in<S: Alter>(
     alloc: Global,
     conn: &mut Connection<S>,
+    round: Round,
     rolls: Rolls,
 ) -> Result<Contents, TableFault>
-    ensures rows { IsOwn conn.old.schema → HasCleanDisk (state S.Store conn.new)
-        → IsTrue (state S.Store conn.old).is_open
-        → IfOk result (λ rows. rows_held rows
-        ≡ rows_from (state S.Store conn.old).now.trees rolls.lecturers.items rolls.projects.items rolls.students.items) }
-    ensures read { IsOwn conn.old.schema → HasCleanDisk (state S.Store conn.new)
-        → IsTrue (state S.Store conn.old).is_open
-        → OnOk result (AreRead
+    ensures rows { TellsSound round S.Store conn.old conn.new result
+        (λ db rows. rows_held rows
+        ≡ rows_from round db.trees rolls.lecturers.items rolls.projects.items rolls.students.items) }
+    ensures read { HasRound round conn.old.schema → IsDatabase (state S.Store conn.old).now
+        → HasCleanDisk (state S.Store conn.new)
+        → OnOk result (AreRead round
         (state S.Store conn.old).now.trees rolls.lecturers.items rolls.students.items) }
-    ensures damaged { IsOwn conn.old.schema → HasCleanDisk (state S.Store conn.new)
-        → IsTrue (state S.Store conn.old).is_open → result ≡ Err TableFault.Damaged
-        → AreOwned Lists.Choices (state S.Store conn.old).now.trees rolls.students.items
-        → AreOwned Lists.Rankings (state S.Store conn.old).now.trees rolls.lecturers.items
-        → AreFine (state S.Store conn.old).now.trees rolls.lecturers.items rolls.projects.items rolls.students.items → ⊥ }
-    ensures reads { Reads result (state S.Store conn.old) (state S.Store conn.new) }
+    ensures damaged { HasRound round conn.old.schema → IsDatabase (state S.Store conn.old).now
+        → HasCleanDisk (state S.Store conn.new)
+        → result ≡ Err TableFault.Damaged
+        → AreOwned (choices_of round) (state S.Store conn.old).now.trees rolls.students.items
+        → AreOwned (rankings_of round) (state S.Store conn.old).now.trees rolls.lecturers.items
+        → AreFine round (state S.Store conn.old).now.trees rolls.lecturers.items rolls.projects.items rolls.students.items → ⊥ }
+    ensures reads { ReadsIn round result (state S.Store conn.old) (state S.Store conn.new) }
 {
-    let choices = entries_in(alloc, conn, Lists::Choices, &rolls.students)?;
-    let rankings = entries_in(alloc, conn, Lists::Rankings, &rolls.lecturers)?;
-    put_together(alloc, &rolls, choices, rankings)
+    let choices = entries_in(alloc, conn, Lists::choices_of(round), &rolls.students)?;
+    let rankings = entries_in(alloc, conn, Lists::rankings_of(round), &rolls.lecturers)?;
+    let pairs = pairs_in(alloc, conn, round, None, &rolls.students)?;
+    put_together(alloc, &rolls, choices, rankings, pairs)
 }
 
-/// The rows of the rolls and lists, by a query of each roll and table of lists and one for each owner of a list. The fault is `Damaged` where
-/// the keys of a roll do not rise, a row of a list is of nobody, a cell has not its form or a list is not one that `list_in` would give,
-/// `Store` where the store answered an error, `Memory` where there is not enough memory.
+/// The rows of the rolls, and of the lists and the result of a round, by a query of each roll and table of lists and one for each owner of a
+/// list. The fault is `Damaged` where the keys of a roll do not rise, a row of a list is of nobody, a cell has not its form, a list is not one
+/// that `list_in` would give or a student has two places, `Store` where the store answered an error, `Memory` where there is not enough memory.
 pub fn contents_in<S: Alter>(
     alloc: Global,
     conn: &mut Connection<S>,
+    round: Round,
 ) -> Result<Contents, TableFault>
-    ensures rows { IsOwn conn.old.schema → IsDatabase (state S.Store conn.old).now
-        → HasCleanDisk (state S.Store conn.new) → IsTrue (state S.Store conn.old).is_open
-        → IfOk result (λ rows. rows_held rows
-        ≡ rows_from (state S.Store conn.old).now.trees
-        (lecturers_shown (state S.Store conn.old).now.trees)
-        (projects_shown (state S.Store conn.old).now.trees)
-        (students_shown (state S.Store conn.old).now.trees)) }
-    ensures read { IsOwn conn.old.schema → IsDatabase (state S.Store conn.old).now
-        → HasCleanDisk (state S.Store conn.new) → IsTrue (state S.Store conn.old).is_open
-        → OnOk result (AreRead (state S.Store conn.old).now.trees
+    ensures rows { TellsSound round S.Store conn.old conn.new result
+        (λ db rows. rows_held rows
+        ≡ rows_from round db.trees
+        (lecturers_shown db.trees) (projects_shown db.trees) (students_shown db.trees)) }
+    ensures read { HasRound round conn.old.schema → IsDatabase (state S.Store conn.old).now
+        → HasCleanDisk (state S.Store conn.new)
+        → OnOk result (AreRead round (state S.Store conn.old).now.trees
         (lecturers_shown (state S.Store conn.old).now.trees)
         (students_shown (state S.Store conn.old).now.trees)) }
-    ensures damaged { IsOwn conn.old.schema → IsDatabase (state S.Store conn.old).now
-        → HasCleanDisk (state S.Store conn.new) → IsTrue (state S.Store conn.old).is_open
+    ensures damaged { HasRound round conn.old.schema → IsDatabase (state S.Store conn.old).now
+        → HasCleanDisk (state S.Store conn.new)
         → result ≡ Err TableFault.Damaged → RollsRise (state S.Store conn.old).now.trees
-        → AreFine (state S.Store conn.old).now.trees
+        → AreFine round (state S.Store conn.old).now.trees
         (lecturers_shown (state S.Store conn.old).now.trees)
         (projects_shown (state S.Store conn.old).now.trees)
         (students_shown (state S.Store conn.old).now.trees) → ⊥ }
-    ensures reads { Reads result (state S.Store conn.old) (state S.Store conn.new) }
+    ensures reads { ReadsIn round result (state S.Store conn.old) (state S.Store conn.new) }
 {
     let rolls = rolls_in(alloc, conn)?;
-    rows_in(alloc, conn, rolls)
+    rows_in(alloc, conn, round, rolls)
 }

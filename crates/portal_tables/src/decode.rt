@@ -1,11 +1,11 @@
 //! From the rows that queries show to the rows of rolls, lists and pairs.
 
-ghost use Rattle.std.specs.Prelude.{◌≡◌, ◌↔◌};
-ghost use Rattle.portal_tables.specs.Base.{true, Err, IfOk, IsTrue, map, ⊤, AllByRecursion, filter_map, Cells, is_key, IsLecturer, IsProject, IsStudent, Rise, is_before};
+ghost use Rattle.std.specs.Prelude.{◌≡◌, ◌↔◌, ◌≤◌};
+ghost use Rattle.portal_tables.specs.Base.{true, Err, IfOk, IsTrue, length, map, ⊤, AllByRecursion, Cells, is_key, IsLecturer, IsProject, IsStudent, Rise, is_before};
 ghost use Rattle.portal_tables.specs.Lists.{CountUp};
-ghost use Rattle.portal_tables.specs.Shown.{as_list, first, shown_lecturer, shown_project, shown_student, shown_pair, told_pair, shown_place, shown_name, HasPlace};
+ghost use Rattle.portal_tables.specs.Shown.{as_list, first, shown_lecturer, shown_project, shown_student, shown_place, shown_name};
 
-use crate::cells::{assigned_at, bytes_at, capacity_at, code_at, key_at, name_at, number_at};
+use crate::cells::{bytes_at, capacity_at, code_at, key_at, name_at, number_at};
 use crate::fault::TableFault;
 use portal_core::{LecturerRow, ProjectRow, StudentRow};
 use spa_rows::Key;
@@ -82,17 +82,6 @@ impl FromCells for Key {
     }
 }
 
-/// A pair of the second round's result.
-impl FromCells for (Key, Key) {
-    ghost shown = { told_pair };
-
-    ghost is_fine = { λ c. (is_key (told_pair c).0 ≡ true) × (is_key (told_pair c).1 ≡ true) };
-
-    fn from_cells(alloc: Global, row: &Row) -> Result<(Key, Key), TableFault> {
-        Ok((key_at(alloc, row, 0)?, key_at(alloc, row, 1)?))
-    }
-}
-
 /// A row that is looked at further is kept as it is.
 impl FromCells for Row {
     ghost shown = { λ c. c };
@@ -119,7 +108,8 @@ pub fn decoded<T: FromCells>(alloc: Global, rows: &[Row]) -> Result<Vec<T>, Tabl
 
 /// The row, or what it is decoded to, if there is one. The fault is `Damaged` where there are more.
 pub fn only<T: Drop>(mut rows: Vec<T>) -> Result<Option<T>, TableFault>
-    ensures { IfOk result (λ row. as_list row ≡ rows.items) }
+    ensures ok { IfOk result (λ row. as_list row ≡ rows.items) }
+    ensures damaged { result ≡ Err TableFault.Damaged → length rows.items ≤ 1 → ⊥ }
 {
     if rows.len() > 1 {
         return Err(TableFault::Damaged);
@@ -164,33 +154,4 @@ pub fn list_from(alloc: Global, rows: &[Row]) -> Result<Vec<Key>, TableFault>
         return Err(TableFault::Damaged);
     }
     decoded(alloc, rows)
-}
-
-/// The pair of the result that a student's row tells.
-fn pair_from(alloc: Global, row: &Row) -> Result<Option<(Key, Key)>, TableFault>
-    ensures ok { IfOk result (λ pair. pair ≡ shown_pair row.now) }
-    ensures damaged { result ≡ Err TableFault.Damaged → IsStudent (shown_student row.now)
-        → HasPlace row.now → ⊥ }
-{
-    match assigned_at(alloc, row, 3)? {
-        Some(project) => Ok(Some((key_at(alloc, row, 0)?, project))),
-        None => Ok(None),
-    }
-}
-
-/// The result that the students' rows tell: the pairs of a student and the assigned project. The fault is `Damaged` where a
-/// key or what is assigned has not the form of a key.
-pub fn pairs_from(alloc: Global, rows: &[Row]) -> Result<Vec<(Key, Key)>, TableFault>
-    ensures ok { IfOk result (λ v. v.items ≡ filter_map shown_pair rows.now) }
-    ensures damaged { result ≡ Err TableFault.Damaged
-        → AllByRecursion (λ c. IsStudent (shown_student c)) rows.now
-        → AllByRecursion HasPlace rows.now → ⊥ }
-{
-    let mut pairs = Vec::new(alloc);
-    for row in rows {
-        if let Some(pair) = pair_from(alloc, row)? {
-            pairs.push(pair)?;
-        }
-    }
-    Ok(pairs)
 }

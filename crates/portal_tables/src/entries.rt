@@ -1,10 +1,10 @@
 //! The lists of the owners whose rows are shown: one owner's by a query, or several in turn.
 
 ghost use Rattle.std.specs.Prelude.{◌≡◌, ◌↔◌, ◌∷◌, if◌then◌else◌};
-ghost use Rattle.portal_tables.specs.Base.{[], false, true, Ok, Err, IfOk, OnOk, IsTrue, Some, None, option_map, map, AllByRecursion, filter_map, HasCleanDisk, state, is_key, has, Rise};
+ghost use Rattle.portal_tables.specs.Base.{[], false, true, Ok, Err, IfOk, OnOk, IsTrue, Some, None, option_map, map, AllByRecursion, filter_map, HasCleanDisk, IsDatabase, state, is_key, has, Rise};
 ghost use Rattle.portal_tables.specs.Own.{HasRound};
 ghost use Rattle.portal_tables.specs.Lists.{of_key, IsWhole, chosen};
-ghost use Rattle.portal_tables.specs.Reading.{ReadsIn};
+ghost use Rattle.portal_tables.specs.Reading.{ReadsIn, TellsIn, TellsSound};
 ghost use Rattle.portal_tables.specs.ListTables.{round_of, tree_of};
 ghost use Rattle.portal_tables.specs.Owners.{AreOwned, has_list, entry, with_list, IsRead, IsFine};
 ghost use Rattle.portal_tables.specs.Shown.{first};
@@ -14,7 +14,7 @@ use crate::decode::{do_rise, list_from};
 use crate::fault::TableFault;
 use crate::list_table::Lists;
 use crate::named::is_named;
-use crate::select::{Query, read_rows};
+use crate::select::{Query, finds_any, read_rows};
 use spa_rows::Key;
 use sqlite::{Alter, Connection, Row};
 use std::alloc::Global;
@@ -27,10 +27,8 @@ pub fn list_in<S: Alter>(
     lists: Lists,
     owner: &Key,
 ) -> Result<Vec<Key>, TableFault>
-    ensures names { HasRound (round_of lists) conn.old.schema
-        → HasCleanDisk (state S.Store conn.new)
-        → IfOk result (λ v. v.items
-        ≡ chosen ((state S.Store conn.old).now.trees (tree_of lists)) owner.now) }
+    ensures names { TellsIn (round_of lists) S.Store conn.old conn.new result
+        (λ db v. v.items ≡ chosen (db.trees (tree_of lists)) owner.now) }
     ensures whole { HasRound (round_of lists) conn.old.schema
         → HasCleanDisk (state S.Store conn.new)
         → OnOk result (IsWhole
@@ -43,36 +41,43 @@ pub fn list_in<S: Alter>(
         (chosen ((state S.Store conn.old).now.trees (tree_of lists)) owner.now) → ⊥ }
     ensures reads { ReadsIn (round_of lists) result
         (state S.Store conn.old) (state S.Store conn.new) }
-    ensures mode { conn.old.in_transaction ≡ false → conn.new.in_transaction ≡ false }
 {
     let rows = read_rows(alloc, conn, Query::ListOf(lists, owner.as_bytes()))?;
     list_from(alloc, &rows)
 }
 
-/// Whether the owner has a list: the row of a lecturer says whether a ranking of the first round is there.
-fn has_list(lists: Lists, row: &Row) -> bool
-    ensures { result ≡ has_list lists row.now }
+/// Whether the owner whose row this is has a list. A query is made for a ranking of the second round alone. The fault is that of the store.
+pub fn has_list_in<S: Alter>(
+    conn: &mut Connection<S>,
+    lists: Lists,
+    row: &Row,
+) -> Result<bool, TableFault>
+    ensures told { TellsSound (round_of lists) S.Store conn.old conn.new result
+        (λ db b. b ≡ has_list lists db.trees row.now) }
+    ensures undamaged { result ≡ Err TableFault.Damaged → ⊥ }
+    ensures reads { ReadsIn (round_of lists) result
+        (state S.Store conn.old) (state S.Store conn.new) }
 {
     match lists {
-        Lists::Rankings => number_at(row, 4) == 1,
-        Lists::Choices | Lists::SecondChoices | Lists::SecondRankings => true,
+        Lists::Choices | Lists::SecondChoices => Ok(true),
+        Lists::Rankings => Ok(number_at(row, 4) == 1),
+        Lists::SecondRankings => Ok(finds_any(conn, Query::SecondRankedBy(bytes_at(row, 0)))?),
     }
 }
 
-/// The list of the owner whose row this is, if the owner is to have one.
+/// The owner's list, if the owner is to have one.
 fn kept_entry(
-    lists: Lists,
-    row: &Row,
+    is_there: bool,
     owner: Key,
     list: Vec<Key>,
 ) -> Result<Option<(Key, Vec<Key>)>, TableFault>
     ensures ok { IfOk result (λ found. option_map with_list found
-        ≡ (if has_list lists row.now then Some (owner, list.items) else None)) }
-    ensures none { OnOk result (has_list lists row.now ≡ false → list.items ≡ []) }
+        ≡ (if is_there then Some (owner, list.items) else None)) }
+    ensures none { OnOk result (is_there ≡ false → list.items ≡ []) }
     ensures damaged { result ≡ Err TableFault.Damaged
-        → (has_list lists row.now ≡ false → list.items ≡ []) → ⊥ }
+        → (is_there ≡ false → list.items ≡ []) → ⊥ }
 {
-    if has_list(lists, row) {
+    if is_there {
         return Ok(Some((owner, list)));
     }
     if !list.is_empty() {
@@ -82,28 +87,28 @@ fn kept_entry(
 }
 
 /// The list of the owner whose row this is, if the owner is to have one.
-fn entry_in<S: Alter>(
+pub(crate) fn entry_in<S: Alter>(
     alloc: Global,
     conn: &mut Connection<S>,
     lists: Lists,
     owner: &Row,
 ) -> Result<Option<(Key, Vec<Key>)>, TableFault>
-    ensures ok { HasRound (round_of lists) conn.old.schema → HasCleanDisk (state S.Store conn.new)
-        → IfOk result (λ found. option_map with_list found
-        ≡ entry lists (state S.Store conn.old).now.trees owner.now) }
-    ensures read { HasRound (round_of lists) conn.old.schema → HasCleanDisk (state S.Store conn.new)
+    ensures ok { TellsSound (round_of lists) S.Store conn.old conn.new result
+        (λ db found. option_map with_list found ≡ entry lists db.trees owner.now) }
+    ensures read { HasRound (round_of lists) conn.old.schema
+        → IsDatabase (state S.Store conn.old).now → HasCleanDisk (state S.Store conn.new)
         → OnOk result (IsRead lists (state S.Store conn.old).now.trees owner.now) }
     ensures damaged { HasRound (round_of lists) conn.old.schema
-        → HasCleanDisk (state S.Store conn.new)
+        → IsDatabase (state S.Store conn.old).now → HasCleanDisk (state S.Store conn.new)
         → result ≡ Err TableFault.Damaged
         → IsFine lists (state S.Store conn.old).now.trees owner.now → ⊥ }
     ensures reads { ReadsIn (round_of lists) result
         (state S.Store conn.old) (state S.Store conn.new) }
-    ensures mode { conn.old.in_transaction ≡ false → conn.new.in_transaction ≡ false }
 {
     let key = key_at(alloc, owner, 0)?;
     let list = list_in(alloc, conn, lists, &key)?;
-    kept_entry(lists, owner, key, list)
+    let is_there = has_list_in(conn, lists, owner)?;
+    kept_entry(is_there, key, list)
 }
 
 /// The lists of the owners whose rows are shown, by a query for each. The fault is `Damaged` where an owner's key is none, a list is not one
@@ -114,19 +119,18 @@ fn entries_each<S: Alter>(
     lists: Lists,
     owners: &[Row],
 ) -> Result<Vec<(Key, Vec<Key>)>, TableFault>
-    ensures ok { HasRound (round_of lists) conn.old.schema → HasCleanDisk (state S.Store conn.new)
-        → IfOk result (λ v. map with_list v.items
-        ≡ filter_map (entry lists (state S.Store conn.old).now.trees) owners.now) }
-    ensures read { HasRound (round_of lists) conn.old.schema → HasCleanDisk (state S.Store conn.new)
+    ensures ok { TellsSound (round_of lists) S.Store conn.old conn.new result
+        (λ db v. map with_list v.items ≡ filter_map (entry lists db.trees) owners.now) }
+    ensures read { HasRound (round_of lists) conn.old.schema
+        → IsDatabase (state S.Store conn.old).now → HasCleanDisk (state S.Store conn.new)
         → OnOk result (AllByRecursion
         (IsRead lists (state S.Store conn.old).now.trees) owners.now) }
     ensures damaged { HasRound (round_of lists) conn.old.schema
-        → HasCleanDisk (state S.Store conn.new)
+        → IsDatabase (state S.Store conn.old).now → HasCleanDisk (state S.Store conn.new)
         → result ≡ Err TableFault.Damaged
         → AllByRecursion (IsFine lists (state S.Store conn.old).now.trees) owners.now → ⊥ }
     ensures reads { ReadsIn (round_of lists) result
         (state S.Store conn.old) (state S.Store conn.new) }
-    ensures mode { conn.old.in_transaction ≡ false → conn.new.in_transaction ≡ false }
 {
     let mut entries = Vec::new(alloc);
     for owner in owners {
@@ -187,14 +191,14 @@ pub fn entries_in<S: Alter>(
     lists: Lists,
     owners: &[Row],
 ) -> Result<Vec<(Key, Vec<Key>)>, TableFault>
-    ensures ok { HasRound (round_of lists) conn.old.schema → HasCleanDisk (state S.Store conn.new)
-        → IfOk result (λ v. map with_list v.items
-        ≡ filter_map (entry lists (state S.Store conn.old).now.trees) owners.now) }
-    ensures read { HasRound (round_of lists) conn.old.schema → HasCleanDisk (state S.Store conn.new)
+    ensures ok { TellsSound (round_of lists) S.Store conn.old conn.new result
+        (λ db v. map with_list v.items ≡ filter_map (entry lists db.trees) owners.now) }
+    ensures read { HasRound (round_of lists) conn.old.schema
+        → IsDatabase (state S.Store conn.old).now → HasCleanDisk (state S.Store conn.new)
         → OnOk result (AllByRecursion
         (IsRead lists (state S.Store conn.old).now.trees) owners.now) }
     ensures damaged { HasRound (round_of lists) conn.old.schema
-        → HasCleanDisk (state S.Store conn.new)
+        → IsDatabase (state S.Store conn.old).now → HasCleanDisk (state S.Store conn.new)
         → result ≡ Err TableFault.Damaged
         → AreOwned lists (state S.Store conn.old).now.trees owners.now
         → AllByRecursion (IsFine lists (state S.Store conn.old).now.trees) owners.now → ⊥ }

@@ -22,6 +22,8 @@ pub mod names;
 pub mod offers;
 pub mod office;
 pub mod own;
+mod persons;
+pub mod places;
 pub mod put;
 pub mod rolls;
 mod run;

@@ -2,16 +2,18 @@
 //! asked for by key.
 
 ghost use Rattle.std.specs.Prelude.{◌≡◌, ◌∷◌};
-ghost use Rattle.portal_tables.specs.Base.{[], IfOk, Some, map, column, bytes, HasCleanDisk, state, Rise};
-ghost use Rattle.portal_tables.specs.Reading.{Reads, TellsOf};
+ghost use Rattle.portal_tables.specs.Base.{[], IfOk, Some, map, column, bytes, state};
+ghost use Rattle.portal_tables.specs.Reading.{ReadsIn, TellsOf, TellsSound};
 ghost use Rattle.portal_tables.specs.Shown.{first};
-ghost use Rattle.portal_tables.specs.Lines.{HasTables, told_line, line_at, applicant_lines};
+ghost use Rattle.portal_tables.specs.Lines.{HasTables, told_line, in_round, line_at, applicant_lines};
 
 use crate::cells::{assigned_at, bytes_at, key_at, name_at};
-use crate::decode::{FromCells, do_rise, only};
+use crate::decode::{FromCells, only};
 use crate::fault::TableFault;
-use crate::select::{Query, read_each, read_rows};
-use portal_core::Person;
+use crate::places::second_place_in;
+use crate::rolls::rising;
+use crate::select::{Query, read_each};
+use portal_core::{Person, Round};
 use spa_rows::Key;
 use sqlite::{Alter, Connection, Row};
 use std::alloc::{AllocError, Global};
@@ -61,67 +63,77 @@ fn only_line(lines: Vec<Line>) -> Result<Line, TableFault>
     }
 }
 
+/// The line with the place in the round, in place of the assigned project.
+fn line_of_round<S: Alter>(
+    alloc: Global,
+    conn: &mut Connection<S>,
+    round: Round,
+    line: Line,
+) -> Result<Line, TableFault>
+    ensures told { TellsSound round S.Store conn.old conn.new result
+        (λ db l. l ≡ in_round round db.trees line) }
+    ensures reads { ReadsIn round result (state S.Store conn.old) (state S.Store conn.new) }
+{
+    match round {
+        Round::First => Ok(line),
+        Round::Second => {
+            let placed = second_place_in(alloc, conn, line.person.key.as_bytes())?;
+            Ok(Line {
+                person: line.person,
+                placed,
+            })
+        }
+    }
+}
+
 /// The line of the student with the key.
 fn line_in<S: Alter>(
     alloc: Global,
     conn: &mut Connection<S>,
+    round: Round,
     key: &[u8],
 ) -> Result<Line, TableFault>
-    ensures told { HasTables (state S.Store conn.old).now → HasCleanDisk (state S.Store conn.new)
-        → IfOk result (λ l. Some l ≡ line_at (state S.Store conn.old).now.trees key.now) }
-    ensures reads { Reads result (state S.Store conn.old) (state S.Store conn.new) }
+    ensures told { TellsOf HasTables S.Store conn.old conn.new result
+        (λ db l. Some l ≡ line_at round db.trees key.now) }
+    ensures reads { ReadsIn round result (state S.Store conn.old) (state S.Store conn.new) }
 {
     let lines = read_each(alloc, conn, Query::StudentTold(key))?;
-    only_line(lines)
+    let line = only_line(lines)?;
+    line_of_round(alloc, conn, round, line)
 }
 
 /// The lines of the students with whose keys the rows begin.
 fn lines_from<S: Alter>(
     alloc: Global,
     conn: &mut Connection<S>,
+    round: Round,
     rows: &[Row],
 ) -> Result<Vec<Line>, TableFault>
     ensures told { TellsOf HasTables S.Store conn.old conn.new result
-        (λ db v. map Some v.items ≡ map (λ c. line_at db.trees (first c)) rows.now) }
-    ensures reads { Reads result (state S.Store conn.old) (state S.Store conn.new) }
+        (λ db v. map Some v.items ≡ map (λ c. line_at round db.trees (first c)) rows.now) }
+    ensures reads { ReadsIn round result (state S.Store conn.old) (state S.Store conn.new) }
 {
     let mut lines = Vec::new(alloc);
     for row in rows {
-        lines.push(line_in(alloc, conn, bytes_at(row, 0))?)?;
+        lines.push(line_in(alloc, conn, round, bytes_at(row, 0))?)?;
     }
     Ok(lines)
 }
 
-/// The same, where the keys of the rows rise.
-fn rising_lines<S: Alter>(
-    alloc: Global,
-    conn: &mut Connection<S>,
-    rows: &[Row],
-) -> Result<Vec<Line>, TableFault>
-    ensures rise { IfOk result (λ v. Rise (map first rows.now)) }
-    ensures told { TellsOf HasTables S.Store conn.old conn.new result
-        (λ db v. map Some v.items ≡ map (λ c. line_at db.trees (first c)) rows.now) }
-    ensures reads { Reads result (state S.Store conn.old) (state S.Store conn.new) }
-{
-    if !do_rise(rows) {
-        return Err(TableFault::Damaged);
-    }
-    lines_from(alloc, conn, rows)
-}
-
-/// The lines of the students whose list holds the project, by their keys. The fault is `Damaged` where rows are not as the portal
-/// writes them, `Store` where the store answered an error, `Memory` where there is not enough memory.
+/// The lines of the students whose list of the round holds the project, by their keys. The fault is `Damaged` where rows are not as the
+/// portal writes them, `Store` where the store answered an error, `Memory` where there is not enough memory.
 pub fn lines_to<S: Alter>(
     alloc: Global,
     conn: &mut Connection<S>,
+    round: Round,
     project: &Key,
 ) -> Result<Vec<Line>, TableFault>
     ensures told { TellsOf HasTables S.Store conn.old conn.new result
-        (λ db v. v.items ≡ applicant_lines db.trees project.now) }
-    ensures reads { Reads result (state S.Store conn.old) (state S.Store conn.new) }
+        (λ db v. v.items ≡ applicant_lines round db.trees project.now) }
+    ensures reads { ReadsIn round result (state S.Store conn.old) (state S.Store conn.new) }
 {
-    let rows = read_rows(alloc, conn, Query::Choosers(project.as_bytes()))?;
-    rising_lines(alloc, conn, &rows)
+    let rows = rising(alloc, conn, Query::Choosers(round, project.as_bytes()))?;
+    lines_from(alloc, conn, round, &rows)
 }
 
 /// The persons of the lines, in their order. The error is want of memory.

@@ -1,7 +1,10 @@
 //! The tables of lists.
 
 ghost use Rattle.std.specs.Prelude.{◌≡◌};
-ghost use Rattle.portal_tables.specs.ListTables.{names, clear_text};
+ghost use Rattle.portal_tables.specs.ListTables as meant;
+ghost use Rattle.portal_tables.specs.ListTables.{names, round_of};
+
+use portal_core::Round;
 
 /// The tables of lists.
 #[derive(Clone, Copy, Drop)]
@@ -17,9 +20,31 @@ pub enum Lists {
 }
 
 impl Lists {
+    /// The students' lists of a round.
+    pub fn choices_of(round: Round) -> Lists
+        ensures is { result ≡ meant.choices_of round }
+        ensures round { round_of result ≡ round }
+    {
+        match round {
+            Round::First => Lists::Choices,
+            Round::Second => Lists::SecondChoices,
+        }
+    }
+
+    /// The rankings of a round.
+    pub fn rankings_of(round: Round) -> Lists
+        ensures is { result ≡ meant.rankings_of round }
+        ensures round { round_of result ≡ round }
+    {
+        match round {
+            Round::First => Lists::Rankings,
+            Round::Second => Lists::SecondRankings,
+        }
+    }
+
     /// The text that takes the rows of one owner away.
     pub(crate) fn clear_text(self) -> &'static str
-        ensures { result.now ≡ clear_text (names self) }
+        ensures { result.now ≡ meant.clear_text (names self) }
     {
         match self {
             Lists::Choices => "DELETE FROM choice WHERE student = ?1",

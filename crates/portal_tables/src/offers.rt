@@ -3,8 +3,7 @@
 ghost use Rattle.std.specs.Prelude.{◌≡◌};
 ghost use Rattle.portal_tables.specs.Base.{IfOk, option_map, map, state, listing_with};
 ghost use Rattle.portal_tables.specs.Offers.{name_of, offered, catalogue_shown};
-ghost use Rattle.portal_tables.specs.Own.{HasOwn};
-ghost use Rattle.portal_tables.specs.Reading.{Reads, TellsOf};
+ghost use Rattle.portal_tables.specs.Reading.{Reads, Tells};
 ghost use Rattle.portal_tables.specs.Shown.{shown_lecturer, shown_project};
 
 use crate::decode::decoded;
@@ -76,7 +75,7 @@ pub fn catalogue_in<S: Alter>(
     alloc: Global,
     conn: &mut Connection<S>,
 ) -> Result<Rc<Vec<Listing>>, TableFault>
-    ensures shows { TellsOf HasOwn S.Store conn.old conn.new result
+    ensures shows { Tells S.Store conn.old conn.new result
         (λ db shared. shared.value.items ≡ catalogue_shown db.trees) }
     ensures reads { Reads result (state S.Store conn.old) (state S.Store conn.new) }
 {

@@ -1,17 +1,17 @@
 //! The three rolls of the portal, read by key and decoded.
 
 ghost use Rattle.std.specs.Prelude.{◌≡◌};
-ghost use Rattle.portal_tables.specs.Base.{Err, IfOk, IsTrue, map, AllByRecursion, filter_map, HasCleanDisk, IsDatabase, state, IsLecturer, IsProject, IsStudent, Rise};
-ghost use Rattle.portal_tables.specs.Own.{IsOwn, HasOwn};
-ghost use Rattle.portal_tables.specs.Reading.{Reads, Tells, TellsOf};
+ghost use Rattle.portal_tables.specs.Base.{Err, IfOk, List, Cells, map, AllByRecursion, HasCleanDisk, IsDatabase, state, IsLecturer, IsProject, IsStudent, Rise};
+ghost use Rattle.portal_tables.specs.Own.{IsOwn, HasRound};
+ghost use Rattle.portal_tables.specs.Queries.{Shows, round_asked};
+ghost use Rattle.portal_tables.specs.Reading.{Reads, ReadsIn, Tells, TellsIn};
 ghost use Rattle.portal_tables.specs.Rolls.{roll_rows, RollRises, lecturers_shown, projects_shown, students_shown, RollsRise};
-ghost use Rattle.portal_tables.specs.Shown.{first, shown_lecturer, shown_project, shown_student, shown_pair, HasPlace};
+ghost use Rattle.portal_tables.specs.Shown.{first, shown_lecturer, shown_project, shown_student};
 
-use crate::decode::{decoded, do_rise, pairs_from};
+use crate::decode::{decoded, do_rise};
 use crate::fault::TableFault;
 use crate::select::{Query, Roll, read_rows};
 use portal_core::{LecturerRow, ProjectRow, StudentRow};
-use spa_rows::Key;
 use sqlite::{Alter, Connection, Row};
 use std::alloc::Global;
 
@@ -38,6 +38,27 @@ fn risen(rows: Vec<Row>) -> Result<Vec<Row>, TableFault>
     }
 }
 
+/// The rows that a query shows, if the keys that they begin with rise. The fault is `Damaged` where they do not, `Store` where the store
+/// answered an error, `Memory` where there is not enough memory.
+pub(crate) fn rising<S: Alter>(
+    alloc: Global,
+    conn: &mut Connection<S>,
+    query: Query<'_>,
+) -> Result<Vec<Row>, TableFault>
+    ensures rows { TellsIn (round_asked query.entry) S.Store conn.old conn.new result
+        (λ db rows. Shows query.entry db.trees rows.items) }
+    ensures rise { IfOk result (λ rows. Rise (map first rows.items)) }
+    ensures damaged { HasRound (round_asked query.entry) conn.old.schema
+        → HasCleanDisk (state S.Store conn.new) → result ≡ Err TableFault.Damaged
+        → ((rows : List Cells) → Shows query.entry (state S.Store conn.old).now.trees rows
+        → Rise (map first rows)) → ⊥ }
+    ensures reads { ReadsIn (round_asked query.entry) result
+        (state S.Store conn.old) (state S.Store conn.new) }
+{
+    let rows = read_rows(alloc, conn, query)?;
+    risen(rows)
+}
+
 /// A roll by key. The fault is `Damaged` where the keys do not rise, `Store` where the store answered an error.
 pub(crate) fn roll_in<S: Alter>(
     alloc: Global,
@@ -51,21 +72,20 @@ pub(crate) fn roll_in<S: Alter>(
         → RollRises roll (state S.Store conn.old).now.trees → ⊥ }
     ensures reads { Reads result (state S.Store conn.old) (state S.Store conn.new) }
 {
-    let rows = read_rows(alloc, conn, Query::Whole(roll))?;
-    risen(rows)
+    rising(alloc, conn, Query::Whole(roll))
 }
 
 /// The three rolls by key, or the fault of the first that cannot be read.
 pub fn rolls_in<S: Alter>(alloc: Global, conn: &mut Connection<S>) -> Result<Rolls, TableFault>
-    ensures lecturers { TellsOf HasOwn S.Store conn.old conn.new result
+    ensures lecturers { Tells S.Store conn.old conn.new result
         (λ db r. r.lecturers.items ≡ lecturers_shown db.trees) }
-    ensures projects { TellsOf HasOwn S.Store conn.old conn.new result
+    ensures projects { Tells S.Store conn.old conn.new result
         (λ db r. r.projects.items ≡ projects_shown db.trees) }
-    ensures students { TellsOf HasOwn S.Store conn.old conn.new result
+    ensures students { Tells S.Store conn.old conn.new result
         (λ db r. r.students.items ≡ students_shown db.trees) }
     ensures damaged { IsOwn conn.old.schema → IsDatabase (state S.Store conn.old).now
-        → HasCleanDisk (state S.Store conn.new) → IsTrue (state S.Store conn.old).is_open
-        → result ≡ Err TableFault.Damaged → RollsRise (state S.Store conn.old).now.trees → ⊥ }
+        → HasCleanDisk (state S.Store conn.new) → result ≡ Err TableFault.Damaged
+        → RollsRise (state S.Store conn.old).now.trees → ⊥ }
     ensures reads { Reads result (state S.Store conn.old) (state S.Store conn.new) }
 {
     let lecturers = roll_in(alloc, conn, Roll::Lecturers)?;
@@ -78,13 +98,12 @@ pub fn rolls_in<S: Alter>(alloc: Global, conn: &mut Connection<S>) -> Result<Rol
     })
 }
 
-/// What the rows of the rolls are decoded to, in their order; the pairs are those of the students with a place.
+/// What the rows of the rolls are decoded to, in their order.
 #[derive(Drop)]
 pub struct Parts {
     pub lecturers: Vec<LecturerRow>,
     pub projects: Vec<ProjectRow>,
     pub students: Vec<StudentRow>,
-    pub pairs: Vec<(Key, Key)>,
 }
 
 /// The rows of the rolls, decoded. The fault is `Damaged` where a cell has not the form that it is to have.
@@ -95,18 +114,14 @@ pub fn parts_of(alloc: Global, rolls: &Rolls) -> Result<Parts, TableFault>
         ≡ map shown_project rolls.now.projects.items) }
     ensures students { IfOk result (λ p. p.students.items
         ≡ map shown_student rolls.now.students.items) }
-    ensures pairs { IfOk result (λ p. p.pairs.items
-        ≡ filter_map shown_pair rolls.now.students.items) }
     ensures damaged { result ≡ Err TableFault.Damaged
         → AllByRecursion (λ c. IsLecturer (shown_lecturer c)) rolls.now.lecturers.items
         → AllByRecursion (λ c. IsProject (shown_project c)) rolls.now.projects.items
-        → AllByRecursion (λ c. IsStudent (shown_student c)) rolls.now.students.items
-        → AllByRecursion HasPlace rolls.now.students.items → ⊥ }
+        → AllByRecursion (λ c. IsStudent (shown_student c)) rolls.now.students.items → ⊥ }
 {
     Ok(Parts {
         lecturers: decoded(alloc, &rolls.lecturers)?,
         projects: decoded(alloc, &rolls.projects)?,
         students: decoded(alloc, &rolls.students)?,
-        pairs: pairs_from(alloc, &rolls.students)?,
     })
 }

@@ -11,6 +11,7 @@ use crate::decode::FromCells;
 use crate::fault::TableFault;
 use crate::list_table::Lists;
 use crate::run;
+use portal_core::Round;
 use sqlite::types::ValueRef;
 use sqlite::{Alter, Connection, Error, Row};
 use std::alloc::Global;
@@ -57,14 +58,18 @@ pub enum Query<'a> {
     AllLists(Lists),
     /// One owner's list by place: place and name.
     ListOf(Lists, &'a [u8]),
-    /// The students whose lists name a project, by key.
-    Choosers(&'a [u8]),
-    /// The students who have a list, by key: those of the first rows of lists.
-    Listed,
+    /// The students whose lists of a round name a project, by key.
+    Choosers(Round, &'a [u8]),
+    /// The students who have a list of a round, by key: those of the first rows of lists.
+    Listed(Round),
+    /// The keys of a lecturer's projects, by key.
+    ProjectsOf(&'a [u8]),
     /// The row of the second round: id and phase.
     Second,
     /// The lecturers with a ranking in the second round, by key.
     SecondRanked,
+    /// Of those the lecturer with a key, where there is one.
+    SecondRankedBy(&'a [u8]),
     /// The result of the second round by student: student and project.
     SecondPlaces,
     /// Of that the row of one student, where there is one.
@@ -116,10 +121,24 @@ impl<'a> Query<'a> {
             Query::ListOf(Lists::SecondRankings, _) => {
                 "SELECT place, student FROM ranking2 WHERE lecturer = ?1 ORDER BY place"
             }
-            Query::Choosers(_) => "SELECT student FROM choice WHERE project = ?1 ORDER BY student",
-            Query::Listed => "SELECT student FROM choice WHERE place = 1 ORDER BY student",
+            Query::Choosers(Round::First, _) => {
+                "SELECT student FROM choice WHERE project = ?1 ORDER BY student"
+            }
+            Query::Choosers(Round::Second, _) => {
+                "SELECT student FROM choice2 WHERE project = ?1 ORDER BY student"
+            }
+            Query::Listed(Round::First) => {
+                "SELECT student FROM choice WHERE place = 1 ORDER BY student"
+            }
+            Query::Listed(Round::Second) => {
+                "SELECT student FROM choice2 WHERE place = 1 ORDER BY student"
+            }
+            Query::ProjectsOf(_) => "SELECT key FROM project WHERE lecturer = ?1 ORDER BY key",
             Query::Second => "SELECT id, phase FROM second ORDER BY id",
             Query::SecondRanked => "SELECT lecturer FROM ranked2 ORDER BY lecturer",
+            Query::SecondRankedBy(_) => {
+                "SELECT lecturer FROM ranked2 WHERE lecturer = ?1 ORDER BY lecturer"
+            }
             Query::SecondPlaces => "SELECT student, project FROM assigned2 ORDER BY student",
             Query::SecondPlaceOf(_) => {
                 "SELECT student, project FROM assigned2 WHERE student = ?1 ORDER BY student"
@@ -160,12 +179,14 @@ impl<'a> Query<'a> {
             | Query::LecturerByKey(key)
             | Query::StudentTold(key)
             | Query::ListOf(_, key)
-            | Query::Choosers(key)
+            | Query::Choosers(_, key)
+            | Query::ProjectsOf(key)
+            | Query::SecondRankedBy(key)
             | Query::SecondPlaceOf(key) => Some(ValueRef::Text(key)),
             Query::Office
             | Query::Whole(_)
             | Query::AllLists(_)
-            | Query::Listed
+            | Query::Listed(_)
             | Query::Second
             | Query::SecondRanked
             | Query::SecondPlaces
@@ -184,7 +205,6 @@ fn values<'a>(value: &'a Option<ValueRef<'a>>) -> &'a [ValueRef<'a>]
 }
 
 /// The rows that a query shows, or the store's own error.
-
 pub fn read<S: Alter>(conn: &mut Connection<S>, query: Query<'_>) -> Result<Vec<Row>, Error>
     ensures rows { TellsIn (round_asked query.entry) S.Store conn.old conn.new result
         (λ db rows. Shows query.entry db.trees rows.items) }

@@ -1,68 +1,61 @@
-//! What a student sees, by a query of the own list.
+//! What a student sees, by queries of the own list and place.
 
-ghost use Rattle.std.specs.Prelude.{◌≡◌, if◌then◌else◌};
-ghost use Rattle.portal_tables.specs.Base.{IfOk, None, column, bytes, state, is_published};
+ghost use Rattle.std.specs.Prelude.{◌≡◌};
+ghost use Rattle.portal_tables.specs.Base.{IfOk, column, bytes, state};
 ghost use Rattle.portal_tables.specs.Callers.{student_with, student_shown};
-ghost use Rattle.portal_tables.specs.Reading.{Reads, Tells};
-ghost use Rattle.portal_tables.specs.Shown.{text_or_none, first};
+ghost use Rattle.portal_tables.specs.Reading.{ReadsIn, TellsSound};
 
-use crate::cells::{assigned_at, key_at};
+use crate::cells::key_at;
 use crate::entries::list_in;
 use crate::fault::TableFault;
 use crate::lines::person_at;
 use crate::list_table::Lists;
+use crate::places::result_in;
 use portal_core::{Listing, Phase, Round, StudentView};
 use spa_rows::Key;
 use sqlite::{Alter, Connection, Row};
 use std::alloc::Global;
 use std::rc::Rc;
 
-/// The student's project, once the result is shown.
-fn result_at(alloc: Global, phase: Phase, row: &Row) -> Result<Option<Key>, TableFault>
-    ensures { IfOk result (λ p. p
-        ≡ (if is_published phase then text_or_none (column row.now 3) else None)) }
-{
-    match phase {
-        Phase::Published => assigned_at(alloc, row, 3),
-        Phase::Setup | Phase::Choosing | Phase::Ranking => Ok(None),
-    }
-}
-
 /// What was read, put together.
 fn put_together(
     alloc: Global,
+    round: Round,
     phase: Phase,
     row: &Row,
     catalogue: Rc<Vec<Listing>>,
     choices: Vec<Key>,
+    place: Option<Key>,
 ) -> Result<StudentView, TableFault>
     ensures { IfOk result (λ v. v
-        ≡ student_with phase row.now catalogue.value.items choices.items) }
+        ≡ student_with round phase row.now catalogue.value.items choices.items place) }
 {
     Ok(StudentView {
-        round: Round::First,
+        round,
         phase,
         me: person_at(alloc, row)?,
         catalogue,
         choices,
-        result: result_at(alloc, phase, row)?,
+        result: place,
     })
 }
 
-/// What the student sees whose row this is, with the catalogue. The fault is `Damaged` where rows are not as the portal writes them,
-/// `Store` where the store answered an error, `Memory` where there is not enough memory.
+/// What the student sees whose row this is, in this round and phase, with the catalogue. The fault is `Damaged` where rows are not as the
+/// portal writes them, `Store` where the store answered an error, `Memory` where there is not enough memory.
 pub fn student_view<S: Alter>(
     alloc: Global,
     conn: &mut Connection<S>,
+    round: Round,
     phase: Phase,
     row: &Row,
     catalogue: Rc<Vec<Listing>>,
 ) -> Result<StudentView, TableFault>
-    ensures shows { Tells S.Store conn.old conn.new result
-        (λ db v. v ≡ student_shown db.trees phase row.now catalogue.value.items) }
-    ensures reads { Reads result (state S.Store conn.old) (state S.Store conn.new) }
+    ensures shows { TellsSound round S.Store conn.old conn.new result
+        (λ db v. v ≡ student_shown round db.trees phase row.now catalogue.value.items) }
+    ensures reads { ReadsIn round result (state S.Store conn.old) (state S.Store conn.new) }
 {
     let student = key_at(alloc, row, 0)?;
-    let choices = list_in(alloc, conn, Lists::Choices, &student)?;
-    put_together(alloc, phase, row, catalogue, choices)
+    let choices = list_in(alloc, conn, Lists::choices_of(round), &student)?;
+    let place = result_in(alloc, conn, round, phase, row)?;
+    put_together(alloc, round, phase, row, catalogue, choices, place)
 }

@@ -1,21 +1,24 @@
 //! The tables of the second round, and the upgrade of a file that has them not.
 
-use crate::tests::{creates, department, key, shows, tells};
-use portal_core::Phase;
+use crate::tests::{change, creates, department, key, put_key, shows, tells};
+use portal_core::{LecturerView, Person, Phase, Round};
 use portal_tables::apart::are_apart;
 use portal_tables::fault::TableFault;
+use portal_tables::lecturer::lecturer_view;
 use portal_tables::list_table::Lists;
 use portal_tables::names::{Names, is_there};
 use portal_tables::office::{FIRST_VERSION, VERSION, office_in};
 use portal_tables::own::Pattern;
+use portal_tables::places::result_in;
 use portal_tables::put::put_list;
 use portal_tables::second::{put_places, rank_second, second_in, set_second};
-use portal_tables::select::{Query, Roll, Table, read, read_each, read_rows};
+use portal_tables::select::{Query, Roll, Table, read, read_rows};
 use portal_tables::upgrade::upgrade_tables;
 use spa_rows::Key;
 use sqlite::{Connection, Error, MemStore};
 use std::alloc::Global;
 use std::process::Abort;
+use std::rc::Rc;
 use std::test::Fail;
 
 /// The first four tables of version 1, as a program of that version makes them.
@@ -207,14 +210,79 @@ fn the_second_result_is_put(rt: HostRuntime) {
         2,
         "",
     );
-    let pairs: Result<Vec<(Key, Key)>, TableFault> = read_each(
-        rt.alloc(),
-        &mut conn,
-        Query::SecondPlaces,
-    );
-    let Ok(pairs) = pairs else {
-        panic!(&rt; "no pairs");
+    shows(&rt, read(&mut conn, Query::SecondPlaces), 2, "S2 P2 /");
+}
+
+/// What Lee sees in the second round, published.
+fn seen_by_lee(rt: &(impl Abort + AllocGlobal), conn: &mut Connection<MemStore>) -> LecturerView {
+    let alloc = rt.alloc();
+    let rows = read(conn, Query::LecturerByCode(b"lee-code-1")).expect(rt, "a row");
+    let [lee] = rows.as_slice() else {
+        panic!(rt; "no row");
     };
-    assert_eq!(rt; pairs.len(), 1);
-    assert_eq!(rt; pairs[0].1.as_str(), "P2");
+    let catalogue = Rc::new(alloc, Vec::new(alloc)).expect(rt, "memory");
+    let view = lecturer_view(alloc, conn, Round::Second, Phase::Published, lee, catalogue);
+    let Ok(view) = view else {
+        panic!(rt; "no view");
+    };
+    view
+}
+
+/// The projects have these persons, each with a stroke behind all of its own.
+fn are_at(rt: &(impl Abort + AllocGlobal), projects: &[(Key, Vec<Person>)], wanted: &str) {
+    let mut text = String::new(rt.alloc());
+    for (project, persons) in projects {
+        put_key(rt, &mut text, project);
+        for person in persons {
+            put_key(rt, &mut text, &person.key);
+        }
+        text.push('/').expect(rt, "memory");
+    }
+    assert_eq!(rt; text.as_str(), wanted);
+}
+
+#[test]
+fn the_second_round_is_seen(rt: HostRuntime) {
+    let mut conn = department(&rt);
+    change(&mut conn).expect(&rt, "the first result");
+    write_second(&rt, &mut conn).expect(&rt, "rows");
+    let one = [(key(&rt, b"S1"), key(&rt, b"P1"))];
+    write_places(&mut conn, rt.alloc(), &one).expect(&rt, "rows");
+    shows(
+        &rt,
+        read(&mut conn, Query::ProjectsOf(b"L1")),
+        1,
+        "P1 /P2 /",
+    );
+    shows(&rt, read(&mut conn, Query::ProjectsOf(b"S1")), 1, "");
+    shows(
+        &rt,
+        read(&mut conn, Query::Listed(Round::Second)),
+        1,
+        "S1 /",
+    );
+    let view = seen_by_lee(&rt, &mut conn);
+    are_at(&rt, &view.applicants, "P1 S1 /P2 /");
+    are_at(&rt, &view.placed, "P1 S1 S2 /P2 /");
+}
+
+#[test]
+fn the_place_shown_is_the_first(rt: HostRuntime) {
+    let mut conn = department(&rt);
+    change(&mut conn).expect(&rt, "the first result");
+    let one = [(key(&rt, b"S1"), key(&rt, b"P2"))];
+    write_places(&mut conn, rt.alloc(), &one).expect(&rt, "rows");
+    let rows = read(&mut conn, Query::Whole(Roll::Students)).expect(&rt, "rows");
+    for (phase, wanted) in [(Phase::Ranking, "- P1 "), (Phase::Published, "P2 P1 ")] {
+        let mut text = String::new(rt.alloc());
+        for row in &rows {
+            let place = result_in(rt.alloc(), &mut conn, Round::Second, phase, row);
+            match place {
+                Ok(Some(place)) => put_key(&rt, &mut text, &place),
+                Ok(None) => text.push_str("- ").expect(&rt, "memory"),
+                Err(_) => panic!(&rt; "no place"),
+            }
+        }
+        assert_eq!(&rt; text.as_str(), wanted);
+    }
 }

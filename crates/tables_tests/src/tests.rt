@@ -1,6 +1,6 @@
 //! Each statement and each query once, over a small department.
 
-use portal_core::{Code, LecturerRow, Name, ProjectRow, StudentRow};
+use portal_core::{Code, LecturerRow, Name, ProjectRow, Round, StudentRow};
 use portal_tables::apart;
 use portal_tables::assign::{Assignment, assign_all};
 use portal_tables::entries::entries_in;
@@ -72,7 +72,7 @@ fn are_told(rt: &(impl Abort + AllocGlobal), lines: Result<Vec<Line>, TableFault
     assert_eq!(rt; text.as_str(), wanted);
 }
 
-fn put_key(rt: &impl Abort, text: &mut String, key: &Key) {
+pub(crate) fn put_key(rt: &impl Abort, text: &mut String, key: &Key) {
     text.push_str(key.as_str()).expect(rt, "memory");
     text.push(' ').expect(rt, "memory");
 }
@@ -215,7 +215,8 @@ fn set_all(tx: &mut Transaction<'_, MemStore>) -> Result<(), Error> {
     Ok(())
 }
 
-fn change(conn: &mut Connection<MemStore>) -> Result<(), Error> {
+/// The result of the first round is there.
+pub(crate) fn change(conn: &mut Connection<MemStore>) -> Result<(), Error> {
     if !conn.is_autocommit() {
         return Ok(());
     }
@@ -541,13 +542,13 @@ fn rows_are_found(rt: HostRuntime) {
     let mut conn = department(&rt);
     shows(
         &rt,
-        read_rows(rt.alloc(), &mut conn, Query::Choosers(b"P1")),
+        read_rows(rt.alloc(), &mut conn, Query::Choosers(Round::First, b"P1")),
         1,
         "S1 /S2 /",
     );
     shows(
         &rt,
-        read_rows(rt.alloc(), &mut conn, Query::Listed),
+        read_rows(rt.alloc(), &mut conn, Query::Listed(Round::First)),
         1,
         "S1 /S2 /",
     );
@@ -580,11 +581,11 @@ fn rows_are_found(rt: HostRuntime) {
         "",
     );
     assert_eq!(rt;
-        finds_any(&mut conn, Query::Choosers(b"P1")).expect(&rt, "an answer"),
+        finds_any(&mut conn, Query::Choosers(Round::First, b"P1")).expect(&rt, "an answer"),
         true
     );
     assert_eq!(rt;
-        finds_any(&mut conn, Query::Choosers(b"P3")).expect(&rt, "an answer"),
+        finds_any(&mut conn, Query::Choosers(Round::First, b"P3")).expect(&rt, "an answer"),
         false
     );
 }
@@ -619,7 +620,7 @@ fn changes_are_shown(rt: HostRuntime) {
     );
     shows(
         &rt,
-        read_rows(rt.alloc(), &mut conn, Query::Listed),
+        read_rows(rt.alloc(), &mut conn, Query::Listed(Round::First)),
         1,
         "S2 /",
     );

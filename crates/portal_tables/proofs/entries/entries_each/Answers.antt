@@ -1,5 +1,5 @@
 use Rattle.std.specs.Prelude.{◌≡◌, ◌+◌, ◌++◌, ◌∷◌}
-use Rattle.portal_tables.proofs.Base.{[], map, take, option_map, sym, ap, ap₂, subst, ◌∙◌, AllByRecursion, filter_map, cons_option, take_more, filter_map-append, Database, HasCleanDisk, state, all_append, HasRound, round_of, entry, with_list, IsRead}
+use Rattle.portal_tables.proofs.Base.{[], map, take, option_map, sym, ap, ap₂, subst, ◌∙◌, AllByRecursion, filter_map, cons_option, take_more, filter_map-append, Database, HasCleanDisk, IsDatabase, state, all_append, HasRound, round_of, entry, with_list, IsRead}
 use Rattle.std.proofs.Common.{arith}
 use Rattle.std.proofs.lemmas.Grind.{common_steps}
 use Rattle.portal_tables.proofs.InTurn.{reads_then, reads_more, reads_handed, clean_before}
@@ -26,22 +26,21 @@ loop-owner-preserved g c =
     let next : take (i + 1) c.args.owners.now ≡ take i c.args.owners.now ++ owner ∷ [] =
     take_more c.args.owners.now i owner c.loop-owner-test.true ∙ ap (λ x. take i c.args.owners.now ++ x ∷ []) (sym c.owner-item.is) in
     record {
-      told = λ own clean.
+      told = λ own sound clean.
           let f = entry lists a.now.trees in
           let here : option_map with_list c.in_ok-entry.field-0 ≡ f owner =
-          subst (λ (x : Database). HasRound (round_of lists) x.schema → HasCleanDisk d → option_map with_list c.in_ok-entry.field-0 ≡ entry lists x.trees owner)
-          (inv.reads.now own (back clean)) e.ok own clean in
+          subst (λ (x : Database). HasRound (round_of lists) x.schema → IsDatabase x → HasCleanDisk d → option_map with_list c.in_ok-entry.field-0 ≡ entry lists x.trees owner)
+          (inv.reads.now own (back clean)) e.ok own sound clean in
           let more : map with_list c.loop-owner.entries.items ++ cons_option (option_map with_list c.in_ok-entry.field-0) [] ≡ filter_map f (take (i + 1) c.args.owners.now) =
-          ap₂ (λ l o. l ++ cons_option o []) (inv.told own (back clean)) here
+          ap₂ (λ l o. l ++ cons_option o []) (inv.told own sound (back clean)) here
           ∙ sym (ap (filter_map f) next ∙ filter_map-append f (take i c.args.owners.now) (owner ∷ [])) in
           elim c.match-branch-2.branch [
             | in-Some+in_ok-push w ↦ grind (arith, common_steps, more)
             | in_default w ↦ grind (arith, common_steps, more)
           ];
-      read = λ own clean.
-          let here = subst (λ (x : Database). HasRound (round_of lists) x.schema → HasCleanDisk d → IsRead lists x.trees owner) (inv.reads.now own (back clean)) e.read own clean in
+      read = λ own sound clean.
+          let here = subst (λ (x : Database). HasRound (round_of lists) x.schema → IsDatabase x → HasCleanDisk d → IsRead lists x.trees owner) (inv.reads.now own (back clean)) e.read own sound clean in
           subst (AllByRecursion (IsRead lists a.now.trees)) (sym next)
-          (all_append (IsRead lists a.now.trees) (take i c.args.owners.now) (owner ∷ []) (inv.read own (back clean)) (here, tt));
+          (all_append (IsRead lists a.now.trees) (take i c.args.owners.now) (owner ∷ []) (inv.read own sound (back clean)) (here, tt));
       reads = reads_more c.in_ok-entry.field-0 _ a d (reads_then c.loop-owner.entries _ a b d inv.reads e.reads);
-      mode = λ idle. e.mode (inv.mode idle);
     }

@@ -1,13 +1,12 @@
 use Rattle.std.specs.Prelude.{◌≡◌}
-use Rattle.portal_tables.proofs.Base.{false, Ok, map, take, AllByRecursion, filter_map, HasCleanDisk, state, HasRound, round_of, entry, with_list, IsRead, ReadsIn, TableFault}
+use Rattle.portal_tables.proofs.Base.{Ok, map, take, AllByRecursion, filter_map, HasCleanDisk, IsDatabase, state, HasRound, round_of, entry, with_list, IsRead, ReadsIn, TableFault}
 use Rattle.portal_tables.proofs.entries.entries_each.Given as goal
 
 abbrev pub invariant-loop-owner : goal.invariant-loop-owner
 invariant-loop-owner g l = record {
-  told : HasRound (round_of l.lists) l.fn.conn.schema → HasCleanDisk (state g.S.Store l.conn)
+  told : HasRound (round_of l.lists) l.fn.conn.schema → IsDatabase (state g.S.Store l.fn.conn).now → HasCleanDisk (state g.S.Store l.conn)
       → map with_list l.entries.items ≡ filter_map (entry l.lists (state g.S.Store l.fn.conn).now.trees) (take l.owner-index l.owners);
-  read : HasRound (round_of l.lists) l.fn.conn.schema → HasCleanDisk (state g.S.Store l.conn)
+  read : HasRound (round_of l.lists) l.fn.conn.schema → IsDatabase (state g.S.Store l.fn.conn).now → HasCleanDisk (state g.S.Store l.conn)
       → AllByRecursion (IsRead l.lists (state g.S.Store l.fn.conn).now.trees) (take l.owner-index l.owners);
   reads : ReadsIn (round_of l.lists) {E = TableFault} (Ok l.entries) (state g.S.Store l.fn.conn) (state g.S.Store l.conn);
-  mode : l.fn.conn.in_transaction ≡ false → l.conn.in_transaction ≡ false;
 }

@@ -1,4 +1,4 @@
-use Rattle.portal_tables.proofs.Base.{subst, ap, ◌∙◌, sym, flat_map, take_all, bound, Does, Ran}
+use Rattle.portal_tables.proofs.Base.{subst, ap, ◌∙◌, flat_map, take_all, bound, Does, Ran}
 use Rattle.std.proofs.Common.{arith}
 use Rattle.portal_tables.proofs.insert.write_rows.Goals as goal
 

@@ -1,33 +1,48 @@
 use Rattle.std.specs.Prelude.{◌≡◌}
-use Rattle.portal_tables.proofs.Base.{◌∙◌, IsTrue, List, ap, map, subst, Vec, Global, Database, state, HasCleanDisk, IsUnchanged, IfOk-weaker, Listing, with_persons, applicants_told, placed_told, own_keys, lecturer_shown, HasTables, first}
-use Rattle.portal_tables.proofs.InTurn.{reads_then, reads_more, reads_handed, clean_before}
+use Rattle.portal_tables.proofs.Base.{Ok, ◌∙◌, List, ap, map, option_map, subst, Row, Database, IsDatabase, state, HasCleanDisk, IfOk-weaker, with_persons, applicants_told, placed_told, ranking_shown, own_keys, lecturer_shown, HasRound, HasTables, ReadsIn, TableFault, first}
+use Rattle.portal_tables.proofs.InTurn.{reads_in, reads_then, reads_more, reads_handed, clean_before}
+use Rattle.portal_tables.proofs.Owned.{has_round}
 use Rattle.portal_tables.proofs.lecturer.lecturer_view.Goals as goal
 
-pub returns-in_err-told-clause-reads : goal.returns-in_err-told-clause-reads
-returns-in_err-told-clause-reads g c = reads_handed c.in_err-told.field-0.0 c.from_residual-in_err-told.result _ _ c.from_residual-in_err-told.ensures.0 (reads_then c.in_ok-ranking.ranking _ _ _ _ c.in_ok-ranking.ensures.reads c.in_err-told.ensures.reads)
+pub returns-in_err-own-clause-reads : goal.returns-in_err-own-clause-reads
+returns-in_err-own-clause-reads g c = reads_in c.args.round _ _ _ (reads_handed c.in_err-own.field-0.0 c.from_residual.result _ _ c.from_residual.ensures.0 c.in_err-own.ensures.reads)
 
-pub returns-clause-shows : goal.returns-clause-shows
-returns-clause-shows g c tables clean on =
-    let a = state g.S.Store c.args.conn.now in
-    let b = state g.S.Store c.ranking_in.new.conn in
-    let d = state g.S.Store c.told_in.new.conn in
-    let before = clean_before b d _ c.in_ok-told.ensures.reads.crash clean in
-    let m : IsUnchanged a b = c.in_ok-ranking.ensures.reads.same tables.own before on in
-    let db = a.now.trees in
-    let phase = c.args.phase in
-    let row = c.args.row.now in
-    let offers = c.args.catalogue.value.items in
-    let told = c.in_ok-told.told in
-    let keys = c.deref-3.result.now in
-    let own : keys ≡ own_keys offers (first row) =
-    c.deref-3.ensures.value ∙ c.in_ok-own.ensures ∙ ap (λ (ps : List Listing). own_keys ps (first row)) (c.deref-2.ensures.value ∙ ap (λ (v : Vec Listing Global). v.items) c.deref.ensures) in
-    let there_applicants = subst (λ (x : Database). HasTables x → HasCleanDisk d → IsTrue b.is_open → map with_persons told.applicants.items ≡ applicants_told x.trees phase keys) m.0.now_is c.in_ok-told.ensures.applicants in
-    let there_placed = subst (λ (x : Database). HasTables x → HasCleanDisk d → IsTrue b.is_open → map with_persons told.placed.items ≡ placed_told x.trees phase keys) m.0.now_is c.in_ok-told.ensures.placed in
-    let applicants = there_applicants tables clean m.0.is_open ∙ ap (applicants_told db phase) own in
-    let placed = there_placed tables clean m.0.is_open ∙ ap (placed_told db phase) own in
-    let ranking = c.in_ok-ranking.ensures.names tables.own before in
-    let from = lecturer_shown db phase row offers in
-    IfOk-weaker c.put_together.result _ _ (λ v is. is ∙ (λ i. record from { applicants = applicants i; ranking = ranking i; placed = placed i })) c.put_together.ensures
+pub returns-in_err-ranking-clause-reads : goal.returns-in_err-ranking-clause-reads
+returns-in_err-ranking-clause-reads g c =
+    reads_then c.in_ok-own.own _ _ _ _ (reads_in c.args.round (Ok c.in_ok-own.own) _ _ c.in_ok-own.ensures.reads)
+    (reads_handed c.in_err-ranking.field-0.0 c.from_residual-in_err-ranking.result _ _ c.from_residual-in_err-ranking.ensures.0 c.in_err-ranking.ensures.reads)
+
+pub returns-in_err-told-clause-reads : goal.returns-in_err-told-clause-reads
+returns-in_err-told-clause-reads g c =
+    reads_then c.in_ok-own.own _ _ _ _ (reads_in c.args.round (Ok c.in_ok-own.own) _ _ c.in_ok-own.ensures.reads)
+    (reads_then c.in_ok-ranking.ranking _ _ _ _ c.in_ok-ranking.ensures.reads (reads_handed c.in_err-told.field-0.0 c.from_residual-in_err-told.result _ _ c.from_residual-in_err-told.ensures.0 c.in_err-told.ensures.reads))
 
 pub returns-clause-reads : goal.returns-clause-reads
-returns-clause-reads g c = reads_more c.in_ok-told.told c.put_together.result _ _ (reads_then c.in_ok-ranking.ranking _ _ _ _ c.in_ok-ranking.ensures.reads c.in_ok-told.ensures.reads)
+returns-clause-reads g c =
+    reads_then c.in_ok-own.own _ _ _ _ (reads_in c.args.round (Ok c.in_ok-own.own) _ _ c.in_ok-own.ensures.reads)
+    (reads_then c.in_ok-ranking.ranking _ _ _ _ c.in_ok-ranking.ensures.reads (reads_more c.in_ok-told.told c.put_together.result _ _ c.in_ok-told.ensures.reads))
+
+pub returns-clause-shows : goal.returns-clause-shows
+returns-clause-shows g c tables clean =
+    let a = state g.S.Store c.args.conn.now in
+    let b = state g.S.Store c.own_projects.new.conn in
+    let d = state g.S.Store c.ranking_in.new.conn in
+    let e = state g.S.Store c.told_in.new.conn in
+    let db = a.now.trees in
+    let round = c.args.round in
+    let phase = c.args.phase in
+    let row = c.args.row.now in
+    let told = c.in_ok-told.told in
+    let rows = c.deref.result.now in
+    let current = has_round round a.now.schema tables.current in
+    let first_read : ReadsIn round {E = TableFault} (Ok c.in_ok-own.own) a b = reads_in round (Ok c.in_ok-own.own) a b c.in_ok-own.ensures.reads in
+    let clean_d = clean_before d e _ c.in_ok-told.ensures.reads.crash clean in
+    let clean_b = clean_before b d _ c.in_ok-ranking.ensures.reads.crash clean_d in
+    let same_b = first_read.now current clean_b in
+    let same_d = (reads_then c.in_ok-own.own (Ok c.in_ok-ranking.ranking) a b d first_read c.in_ok-ranking.ensures.reads).now current clean_d in
+    let own : map first rows ≡ own_keys db (first row) = ap (λ (rs : List Row). map first rs) c.deref.ensures.value ∙ c.in_ok-own.ensures.keys tables clean_b ∙ ap (own_keys db) c.bytes_at.ensures in
+    let ranking = subst (λ (x : Database). HasRound round x.schema → IsDatabase x → HasCleanDisk d → option_map (λ v. v.items) c.in_ok-ranking.ranking ≡ ranking_shown round x.trees row) same_b c.in_ok-ranking.ensures.names current tables.sound clean_d in
+    let applicants = subst (λ (x : Database). HasTables x → HasCleanDisk e → map with_persons told.applicants.items ≡ applicants_told round x.trees phase (map first rows)) same_d c.in_ok-told.ensures.applicants tables clean ∙ ap (applicants_told round db phase) own in
+    let placed = subst (λ (x : Database). HasTables x → HasCleanDisk e → map with_persons told.placed.items ≡ placed_told round x.trees phase (map first rows)) same_d c.in_ok-told.ensures.placed tables clean ∙ ap (placed_told round db phase) own in
+    let from = lecturer_shown round db phase row c.args.catalogue.value.items in
+    IfOk-weaker c.put_together.result _ _ (λ v is. is ∙ (λ i. record from { applicants = applicants i; ranking = ranking i; placed = placed i })) c.put_together.ensures

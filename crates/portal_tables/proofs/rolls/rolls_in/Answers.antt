@@ -1,4 +1,4 @@
-use Rattle.portal_tables.proofs.Base.{Ok, state}
+use Rattle.portal_tables.proofs.Base.{Ok}
 use Rattle.portal_tables.proofs.InTurn.{reads_then, reads_more, reads_handed}
 use Rattle.portal_tables.proofs.rolls.rolls_in.Goals as goal
 
