@@ -6,23 +6,24 @@ use Rattle.std.specs.List.{AllByRecursion}
 use Rattle.std.proofs.lemmas.List.Sorted.{length_permutation}
 use Rattle.sqlite.specs.Order.{Row, bytes}
 use Rattle.sqlite.specs.Effect.{Database}
-use Rattle.portal_core.specs.declared.phase.Round.TheVariants.{First}
+use Rattle.portal_core.specs.declared.phase.Round.{Round}
 use Rattle.portal_core.specs.Words.{Key, is, has, put_all}
 use Rattle.portal_core.specs.World.{Lecturer, lecturer_key}
 use Rattle.portal_core.specs.Change.{Ranks, with_ranking}
 use Rattle.portal_core.proofs.Keys.{is_own}
-use Rattle.portal_tables.specs.Tables.{lecturer_tree, ranking_tree}
+use Rattle.portal_tables.specs.Tables.{lecturer_tree}
 use Rattle.portal_tables.specs.Changes.{ListsBy, columns, has_text}
 use Rattle.portal_list.proofs.Replaced.{ranking_elsewhere}
 use Rattle.portal_tables.specs.Rolls.{row_key}
-use Rattle.portal_store.specs.World.{world_of, lecturer_of}
-use Rattle.portal_store.specs.Kept.{Turns}
+use Rattle.portal_store.specs.World.{world_in, lecturer_in}
+use Rattle.portal_store.specs.Kept.{TurnsIn}
 use Rattle.portal_store.specs.Putting.{TurnsThere}
 use Rattle.portal_tables.proofs.Sorted.{put_all_map, map_twice}
 use Rattle.portal_tables.proofs.Shapes.{IsLecturerRow, lecturer_rows_formed}
 use Rattle.portal_tables.proofs.Parents.{text_there}
 use Rattle.portal_tables.proofs.Listed.{all_map_on}
 use Rattle.portal_store.proofs.RankTurns.{key_test, same_key}
+use Rattle.portal_store.proofs.Rounds.{key_in}
 
 -- a query shows as many rows as pass
 as_many : (keys : List ℕ) (p : Row → Bool) (show : Row → Row) (table shown : List Row) → ListsBy keys p show table shown
@@ -60,35 +61,35 @@ nobody k (r ∷ table) all none = go (has_text 1 k r) refl none (nobody k table 
     go true so none later = absurd (cc)
     go false other none later = (sym (key_test k r all.0) ∙ other, later none)
 
-ranks_nobody : (k : Key) (list : List Key) (db : Database) → length (filter (has_text 1 k) (db.trees lecturer_tree)) ≡ 0 → Turns (Ranks k list) db db
-unfolding world_of
-ranks_nobody k list db none holds good then =
-    let show : Row → Lecturer = lecturer_of (db.trees ranking_tree) in
+ranks_nobody : (round : Round) (k : Key) (list : List Key) (db : Database) → length (filter (has_text 1 k) (db.trees lecturer_tree)) ≡ 0 → TurnsIn round (Ranks k list) db db
+unfolding world_in
+ranks_nobody round k list db none holds good then =
+    let show : Row → Lecturer = lecturer_in round db.trees in
     let rows = db.trees lecturer_tree in
     let all = nobody k rows (lecturer_rows_formed db holds.own holds.sound holds.apart.1.0) none in
     let turn : Lecturer → Lecturer = with_ranking k list in
     let still : map show rows ≡ map turn (map show rows) =
-    all_map_on (λ r. is (row_key r) k ≡ false) show (λ r. turn (show r)) rows all (λ r other. sym (ranking_elsewhere k list (show r) other)) ∙ map_twice turn show rows in
+    all_map_on (λ r. is (row_key r) k ≡ false) show (λ r. turn (show r)) rows all (λ r other. sym (ranking_elsewhere k list (show r) (ap (λ key. is key k) (key_in round db.trees r) ∙ other))) ∙ map_twice turn show rows in
     let roll : put_all lecturer_key (map show rows) [] ≡ map turn (put_all lecturer_key (map show rows) []) =
     ap (λ l. put_all lecturer_key l []) still ∙ put_all_map lecturer_key lecturer_key turn (same_key k list) (map show rows) [] in
-    let w = world_of db.trees in
-    record { holds = holds; world = λ i. record { round = First; phase = w.phase; office = w.office; lecturers = roll i; projects = w.projects; students = w.students } }
+    let w = world_in round db.trees in
+    record { holds = holds; world = λ i. record { round = round; phase = w.phase; office = w.office; lecturers = roll i; projects = w.projects; students = w.students } }
 
 -- where the lecturer is on the roll of a good world
-turns_there : (k : Key) (list : List Key) (first now : Database) → length (filter (has_text 1 k) (first.trees lecturer_tree)) ≢ 0
-    → TurnsThere k list first now → Turns (Ranks k list) first now
-turns_there k list first now some turns holds good then = turns (there_if k (first.trees lecturer_tree) some) holds good.sound.lecturers_rise
+turns_there : (round : Round) (k : Key) (list : List Key) (first now : Database) → length (filter (has_text 1 k) (first.trees lecturer_tree)) ≢ 0
+    → TurnsThere round k list first now → TurnsIn round (Ranks k list) first now
+turns_there round k list first now some turns holds good then = turns (there_if k (first.trees lecturer_tree) some) holds good.sound.lecturers_rise
 
 -- the same, where a query for the lecturer showed a row
-pub turns_shown : (k asked : Key) (list : List Key) (show : Row → Row) (rows : List Row) (first now : Database) → asked ≡ k → length rows ≢ 0
-    → ListsBy (1 ∷ []) (has_text 1 asked) show (first.trees lecturer_tree) rows → TurnsThere k list first now → Turns (Ranks k list) first now
-turns_shown k asked list show rows first now same some shown =
-    turns_there k list first now
+pub turns_shown : (round : Round) (k asked : Key) (list : List Key) (show : Row → Row) (rows : List Row) (first now : Database) → asked ≡ k → length rows ≢ 0
+    → ListsBy (1 ∷ []) (has_text 1 asked) show (first.trees lecturer_tree) rows → TurnsThere round k list first now → TurnsIn round (Ranks k list) first now
+turns_shown round k asked list show rows first now same some shown =
+    turns_there round k list first now
     (λ none. some (as_many (1 ∷ []) (has_text 1 asked) show (first.trees lecturer_tree) rows shown ∙ ap (λ t. length (filter (has_text 1 t) (first.trees lecturer_tree))) same ∙ none))
 
 -- where it showed none
-pub turns_none : (k asked : Key) (list : List Key) (show : Row → Row) (rows : List Row) (db : Database) → asked ≡ k → length rows ≡ 0
-    → ListsBy (1 ∷ []) (has_text 1 asked) show (db.trees lecturer_tree) rows → Turns (Ranks k list) db db
-turns_none k asked list show rows db same none shown =
-    ranks_nobody k list db
+pub turns_none : (round : Round) (k asked : Key) (list : List Key) (show : Row → Row) (rows : List Row) (db : Database) → asked ≡ k → length rows ≡ 0
+    → ListsBy (1 ∷ []) (has_text 1 asked) show (db.trees lecturer_tree) rows → TurnsIn round (Ranks k list) db db
+turns_none round k asked list show rows db same none shown =
+    ranks_nobody round k list db
     (ap (λ t. length (filter (has_text 1 t) (db.trees lecturer_tree))) (sym same) ∙ sym (as_many (1 ∷ []) (has_text 1 asked) show (db.trees lecturer_tree) rows shown) ∙ none)

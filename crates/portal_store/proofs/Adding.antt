@@ -11,7 +11,7 @@ use Rattle.sqlite.specs.Edit.{next_rowid}
 use Rattle.sqlite.specs.Tree.{put_row}
 use Rattle.sqlite.specs.Effect.{Database, IsDatabase}
 use Rattle.sqlite_trees.specs.Objects.{number_in}
-use Rattle.portal_core.specs.declared.phase.Round.TheVariants.{First}
+use Rattle.portal_core.specs.declared.phase.Round.TheVariants.{First, Second}
 use Rattle.portal_core.specs.declared.rows.LecturerRow.{LecturerRow}
 use Rattle.portal_core.specs.declared.rows.ProjectRow.{ProjectRow}
 use Rattle.portal_core.specs.declared.rows.StudentRow.{StudentRow}
@@ -27,11 +27,12 @@ use Rattle.portal_tables.proofs.Keeping.{puts_apart}
 use Rattle.portal_tables.proofs.Writes.{unnumbered}
 use Rattle.portal_tables.proofs.Lists.{put_splits}
 use Rattle.portal_tables.specs.Office.{HasOffice}
-use Rattle.portal_store.specs.Kept.{Holds, Turned, Turns}
+use Rattle.portal_store.specs.Kept.{HoldsIn, TurnedIn, TurnsIn}
 use Rattle.portal_tables.specs.Lists.{of_key, IsWhole, list_of}
 use Rattle.portal_tables.specs.Rolls.{row_key}
 use Rattle.portal_store.proofs.Still.{kept_at, holds_after}
-use Rattle.portal_store.specs.World.{world_of, phase_of, is_ranked, lecturer_of, project_row, student_of}
+use Rattle.portal_store.specs.World.{world_in, phase_of, project_row}
+use Rattle.portal_store.proofs.FirstRows.{has_ranking, lecturer_of, student_of}
 use Rattle.portal_tables.proofs.Sorted.{permutes, permutes_more, more_put, rise_distinct, all_permuted, distinct_permuted, map_twice, map_alike}
 use Rattle.portal_tables.proofs.Listed.{all_map_on}
 use Rattle.portal_tables.proofs.Parents.{none_of, place_parents}
@@ -79,7 +80,7 @@ key_bare : (r : Row) → row_key (bare r) ≡ row_key r
 key_bare [] = refl
 key_bare (v ∷ r) = refl
 
-ranked_bare : (r : Row) → is_ranked (bare r) ≡ is_ranked r
+ranked_bare : (r : Row) → has_ranking (bare r) ≡ has_ranking r
 ranked_bare [] = refl
 ranked_bare (v ∷ r) = refl
 
@@ -136,9 +137,9 @@ module _ {X : Type 0} (key : X → Key) where
       fresh_from news olds (distinct_permuted key (put_all key news (put_all key olds [])) (news ++ olds)
       (IsPermutation-sym _ _ (IsPermutation-trans _ _ _ (IsPermutation-append_right news _ _ (permutes key olds)) (permutes_more key news (put_all key olds [])))) (rise_distinct _ up))
 
-module _ (rows : List LecturerRow) (old new : Database) (was : Holds old) (better : Good (changed (world_of old.trees) (Lecturers rows))) (a : Added lecturer_tree (map lecturer_new rows) old new) where
+module _ (rows : List LecturerRow) (old new : Database) (was : HoldsIn First old) (better : Good (changed (world_in First old.trees) (Lecturers rows))) (a : Added lecturer_tree (map lecturer_new rows) old new) where
   lecturers_up : Rise (map lecturer_key (put_all lecturer_key (map new_lecturer rows) (put_all lecturer_key (map (lecturer_of (old.trees ranking_tree)) (old.trees lecturer_tree)) [])))
-  unfolding world_of
+  unfolding world_in
   lecturers_up = better.sound.lecturers_rise
 
   unranked_yet : AllByRecursion (λ r. of_key r.key (old.trees ranking_tree) ≡ []) rows
@@ -150,8 +151,8 @@ module _ (rows : List LecturerRow) (old new : Database) (was : Holds old) (bette
       go [] h = tt
       go (r ∷ rs) h = (none_of _ (old.trees lecturer_tree) r.key (old.trees ranking_tree) (place_parents old which.Rankings was.own was.sound was.apart.1.1.1.1.1.0) h.0, go rs h.1)
 
-  lecturers_turned : Turned (Lecturers rows) old new
-  unfolding world_of
+  lecturers_turned : TurnedIn First (Lecturers rows) old new
+  unfolding world_in
   lecturers_turned =
       let portal : new.trees portal_tree ≡ old.trees portal_tree = kept_at lecturer_tree old new a.others portal_tree refl refl in
       let projects : new.trees project_tree ≡ old.trees project_tree = kept_at lecturer_tree old new a.others project_tree refl refl in
@@ -173,10 +174,10 @@ module _ (rows : List LecturerRow) (old new : Database) (was : Holds old) (bette
               (all_added (λ r. IsWhole (of_key (row_key r) (old.trees ranking_tree))) lecturer_tree (map lecturer_new rows) old new
               (λ r h. subst (λ k. IsWhole (of_key k (old.trees ranking_tree))) (sym (key_bare r)) h) (λ r h. subst (λ k. IsWhole (of_key k (old.trees ranking_tree))) (key_bare r) h) a
               (all_map (λ c. IsWhole (of_key (row_key (unnumbered c)) (old.trees ranking_tree))) lecturer_new rows (whole_yet rows unranked_yet)) was.whole.rankings);
-          ranked = subst (λ y. AllByRecursion (λ r. is_ranked r ≡ false → of_key (row_key r) y ≡ []) (new.trees lecturer_tree)) (sym rankings)
-              (all_added (λ r. is_ranked r ≡ false → of_key (row_key r) (old.trees ranking_tree) ≡ []) lecturer_tree (map lecturer_new rows) old new
+          ranked = subst (λ y. AllByRecursion (λ r. has_ranking r ≡ false → of_key (row_key r) y ≡ []) (new.trees lecturer_tree)) (sym rankings)
+              (all_added (λ r. has_ranking r ≡ false → of_key (row_key r) (old.trees ranking_tree) ≡ []) lecturer_tree (map lecturer_new rows) old new
               (λ r h e. ap (λ k. of_key k (old.trees ranking_tree)) (key_bare r) ∙ h (sym (ranked_bare r) ∙ e)) (λ r h e. sym (ap (λ k. of_key k (old.trees ranking_tree)) (key_bare r)) ∙ h (ranked_bare r ∙ e)) a
-              (all_map (λ c. is_ranked (unnumbered c) ≡ false → of_key (row_key (unnumbered c)) (old.trees ranking_tree) ≡ []) lecturer_new rows (none_yet rows unranked_yet)) was.whole.ranked);
+              (all_map (λ c. has_ranking (unnumbered c) ≡ false → of_key (row_key (unnumbered c)) (old.trees ranking_tree) ≡ []) lecturer_new rows (none_yet rows unranked_yet)) was.whole.ranked);
         });
         world = λ i. record {
           round = First;
@@ -192,20 +193,20 @@ module _ (rows : List LecturerRow) (old new : Database) (was : Holds old) (bette
       whole_yet [] h = tt
       whole_yet (r ∷ rs) h = (subst IsWhole (sym h.0) tt, whole_yet rs h.1)
 
-      none_yet : (rs : List LecturerRow) → AllByRecursion (λ r. of_key r.key (old.trees ranking_tree) ≡ []) rs → AllByRecursion (λ r. is_ranked (unnumbered (lecturer_new r)) ≡ false → of_key r.key (old.trees ranking_tree) ≡ []) rs
+      none_yet : (rs : List LecturerRow) → AllByRecursion (λ r. of_key r.key (old.trees ranking_tree) ≡ []) rs → AllByRecursion (λ r. has_ranking (unnumbered (lecturer_new r)) ≡ false → of_key r.key (old.trees ranking_tree) ≡ []) rs
       none_yet [] h = tt
       none_yet (r ∷ rs) h = (λ _. h.0, none_yet rs h.1)
 
-pub lecturers_turn : (rows : List LecturerRow) (old new : Database) → Adds lecturer_tree (map lecturer_new rows) old new → Turns (Lecturers rows) old new
+pub lecturers_turn : (rows : List LecturerRow) (old new : Database) → Adds lecturer_tree (map lecturer_new rows) old new → TurnsIn First (Lecturers rows) old new
 lecturers_turn rows old new adds was good better = lecturers_turned rows old new was better (added_of _ _ old new (adds was.current))
 
-module _ (rows : List ProjectRow) (old new : Database) (was : Holds old) (better : Good (changed (world_of old.trees) (Projects rows))) (a : Added project_tree (map project_new rows) old new) where
+module _ (rows : List ProjectRow) (old new : Database) (was : HoldsIn First old) (better : Good (changed (world_in First old.trees) (Projects rows))) (a : Added project_tree (map project_new rows) old new) where
   projects_up : Rise (map project_key (put_all project_key rows (put_all project_key (map project_row (old.trees project_tree)) [])))
-  unfolding world_of
+  unfolding world_in
   projects_up = better.sound.projects_rise
 
-  projects_turned : Turned (Projects rows) old new
-  unfolding world_of
+  projects_turned : TurnedIn First (Projects rows) old new
+  unfolding world_in
   projects_turned =
       let portal : new.trees portal_tree ≡ old.trees portal_tree = kept_at project_tree old new a.others portal_tree refl refl in
       let lecturers : new.trees lecturer_tree ≡ old.trees lecturer_tree = kept_at project_tree old new a.others lecturer_tree refl refl in
@@ -234,12 +235,12 @@ module _ (rows : List ProjectRow) (old new : Database) (was : Holds old) (better
       map_itself [] = refl
       map_itself (r ∷ rs) = ap (λ l. r ∷ l) (map_itself rs)
 
-pub projects_turn : (rows : List ProjectRow) (old new : Database) → Adds project_tree (map project_new rows) old new → Turns (Projects rows) old new
+pub projects_turn : (rows : List ProjectRow) (old new : Database) → Adds project_tree (map project_new rows) old new → TurnsIn First (Projects rows) old new
 projects_turn rows old new adds was good better = projects_turned rows old new was better (added_of _ _ old new (adds was.current))
 
-module _ (rows : List StudentRow) (old new : Database) (was : Holds old) (better : Good (changed (world_of old.trees) (Students rows))) (a : Added student_tree (map student_new rows) old new) where
+module _ (rows : List StudentRow) (old new : Database) (was : HoldsIn First old) (better : Good (changed (world_in First old.trees) (Students rows))) (a : Added student_tree (map student_new rows) old new) where
   students_up : Rise (map student_key (put_all student_key (map new_student rows) (put_all student_key (map (student_of (old.trees choice_tree)) (old.trees student_tree)) [])))
-  unfolding world_of
+  unfolding world_in
   students_up = better.sound.students_rise
 
   unlisted_yet : AllByRecursion (λ r. of_key r.key (old.trees choice_tree) ≡ []) rows
@@ -251,8 +252,8 @@ module _ (rows : List StudentRow) (old new : Database) (was : Holds old) (better
       go [] h = tt
       go (r ∷ rs) h = (none_of _ (old.trees student_tree) r.key (old.trees choice_tree) (place_parents old which.Choices was.own was.sound was.apart.1.1.1.1.0) h.0, go rs h.1)
 
-  students_turned : Turned (Students rows) old new
-  unfolding world_of
+  students_turned : TurnedIn First (Students rows) old new
+  unfolding world_in
   students_turned =
       let portal : new.trees portal_tree ≡ old.trees portal_tree = kept_at student_tree old new a.others portal_tree refl refl in
       let lecturers : new.trees lecturer_tree ≡ old.trees lecturer_tree = kept_at student_tree old new a.others lecturer_tree refl refl in
@@ -276,7 +277,7 @@ module _ (rows : List StudentRow) (old new : Database) (was : Holds old) (better
               (λ r h. subst (λ k. IsWhole (of_key k (old.trees choice_tree))) (sym (key_bare r)) h) (λ r h. subst (λ k. IsWhole (of_key k (old.trees choice_tree))) (key_bare r) h) a
               (all_map (λ c. IsWhole (of_key (row_key (unnumbered c)) (old.trees choice_tree))) student_new rows (whole_yet rows unlisted_yet)) was.whole.choices);
           rankings = subst₂ (λ x y. AllByRecursion (λ r. IsWhole (of_key (row_key r) y)) x) (sym lecturers) (sym rankings) was.whole.rankings;
-          ranked = subst₂ (λ x y. AllByRecursion (λ r. is_ranked r ≡ false → of_key (row_key r) y ≡ []) x) (sym lecturers) (sym rankings) was.whole.ranked;
+          ranked = subst₂ (λ x y. AllByRecursion (λ r. has_ranking r ≡ false → of_key (row_key r) y ≡ []) x) (sym lecturers) (sym rankings) was.whole.ranked;
         });
         world = λ i. record {
           round = First;
@@ -292,5 +293,18 @@ module _ (rows : List StudentRow) (old new : Database) (was : Holds old) (better
       whole_yet [] h = tt
       whole_yet (r ∷ rs) h = (subst IsWhole (sym h.0) tt, whole_yet rs h.1)
 
-pub students_turn : (rows : List StudentRow) (old new : Database) → Adds student_tree (map student_new rows) old new → Turns (Students rows) old new
+pub students_turn : (rows : List StudentRow) (old new : Database) → Adds student_tree (map student_new rows) old new → TurnsIn First (Students rows) old new
 students_turn rows old new adds was good better = students_turned rows old new was better (added_of _ _ old new (adds was.current))
+
+-- in the second round none come
+pub no_lecturers : (rows : List LecturerRow) (db : Database) → TurnsIn Second (Lecturers rows) db db
+unfolding world_in
+no_lecturers rows db holds good then = record { holds = holds; world = refl }
+
+pub no_projects : (rows : List ProjectRow) (db : Database) → TurnsIn Second (Projects rows) db db
+unfolding world_in
+no_projects rows db holds good then = record { holds = holds; world = refl }
+
+pub no_students : (rows : List StudentRow) (db : Database) → TurnsIn Second (Students rows) db db
+unfolding world_in
+no_students rows db holds good then = record { holds = holds; world = refl }

@@ -6,7 +6,7 @@ use Rattle.portal_core.specs.Good.{Good}
 use Rattle.portal_tables.specs.Tables.{first_version}
 use Rattle.portal_tables.specs.Own.{IsFirst, IsCurrent}
 use Rattle.portal_tables.proofs.Owned.{own_again}
-use Rattle.portal_store.specs.World.{world_of}
+use Rattle.portal_store.specs.World.{world_in, world_of}
 use Rattle.portal_store.specs.Kept.{Stands, StandsAs, Holds}
 use Rattle.portal_store.specs.Asked.{Refutes, Bars}
 use Rattle.portal_store.specs.Crash.{Reopens, OpensAgain, OpensFresh, UpgradesAgain}
@@ -15,11 +15,13 @@ use Rattle.portal_store.specs.declared.store.OpenFault.TheVariants as opening
 use Rattle.portal_store.specs.declared.store.UpgradeFault.{UpgradeFault}
 use Rattle.portal_store.specs.declared.store.UpgradeFault.TheVariants as upgrading
 use Rattle.portal_store.proofs.First.{first_holds, first_is, first_is_good}
-use Rattle.portal_store.proofs.Upgraded.{upgraded_stands, upgraded_world}
+use Rattle.portal_store.proofs.Upgraded.{second, upgraded_stands, upgraded_world}
+use Rattle.portal_store.proofs.Rounds.{world_told}
+use Rattle.portal_core.specs.declared.phase.Round.TheVariants.{First}
 
 only_store : (db : Trees) → Stands db → (fault : OpenFault) → Refutes fault db → (fault ≡ opening.Store) ⊎ (fault ≡ opening.Memory)
-only_store db stands opening.NotPortal none = absurd (let e = sym stands.first.office.is ∙ none in cc)
-only_store db stands opening.OtherVersion not_so = absurd (not_so.other _ stands.first.office.is refl)
+only_store db stands opening.NotPortal none = absurd (let e = sym stands.1.office.is ∙ none in cc)
+only_store db stands opening.OtherVersion not_so = absurd (not_so.other _ stands.1.office.is refl)
 only_store db stands opening.Damaged not_so = absurd (not_so.1 stands)
 only_store db stands opening.Store told = inl refl
 only_store db stands opening.Memory told = inr refl
@@ -31,7 +33,9 @@ reopens left found current sound stands_there same is =
 
 holds_again : (left found : Database) → Holds left → Good (world_of left.trees) → found.trees ≡ left.trees → IsDatabase found → Reopens found
 holds_again left found holds good =
-    reopens left found holds.current holds.sound (record { first = record { office = holds.office; whole = holds.whole; good = good }; second = holds.second })
+    let h = holds.1 in
+    reopens left found h.current h.sound
+    (holds.0, record { office = h.office; second = h.second; whole = h.whole; good = subst Good (world_told holds.0 left.trees h.second) good })
 
 pub opens_again : OpensAgain
 opens_again change old found holds good leaves (inl same) is = (holds_again old found holds good same is, inl (ap world_of same))
@@ -54,8 +58,8 @@ pub upgrades_again : UpgradesAgain
 upgrades_again old found first sound stands is = (
   λ same.
       let there : StandsAs first_version found.trees = subst (StandsAs first_version) (sym same) stands in
-      (record { first = own_again IsFirst old found sound is same first; stands = there; faults = none_but_store found.trees there }, ap world_of same),
+      (record { first = own_again IsFirst old found sound is same first; stands = there; faults = none_but_store found.trees there }, ap (world_in First) same),
   λ after upgrades same.
       let up = upgrades first _ _ stands.office.is in
-      (reopens after found up.current up.sound (upgraded_stands old after stands up) same is, ap world_of same ∙ upgraded_world old after stands.office up),
+      (reopens after found up.current up.sound (upgraded_stands old after stands up) same is, ap world_of same ∙ world_told First after.trees (second old after stands.office up) ∙ upgraded_world old after stands.office up),
 )

@@ -1,63 +1,88 @@
 -- Applicants and placed students, of what queries show.
-use Rattle.std.proofs.Common.{◌≡◌, Bool, true, false, List, [], ◌∷◌, map, filter, Option, refl, sym, ap, subst, ◌∙◌}
-use Rattle.std.specs.Prelude.{if◌then◌else◌, cond, IfSome, None, Some}
+use Rattle.std.proofs.Common.{◌≡◌, Bool, true, false, ◌&&◌, ◌||◌, List, [], ◌∷◌, ◌++◌, map, filter, Option, refl, sym, ap, subst, ◌∙◌}
+use Rattle.std.specs.Prelude.{if◌then◌else◌, cond, is_none, IfSome, None, Some}
+use Rattle.std.proofs.Math.Bool.{and-false}
 use Rattle.std.specs.List.{AllByRecursion}
-use Rattle.sqlite.specs.Order.{Row}
+use Rattle.std.specs.List.Sorted.{IsPermutation}
+use Rattle.std.proofs.lemmas.List.Sorted.{IsPermutation-cons, IsPermutation-middle, IsPermutation-refl, IsPermutation-sym, IsPermutation-trans}
+use Rattle.sqlite.specs.Order.{Row, column, bytes}
 use Rattle.sqlite.specs.Tree.{Trees}
 use Rattle.sqlite.specs.Effect.{Database}
 use Rattle.sqlite_trees.proofs.ListLemmas.{filter-map, map-map, all_of}
 use Rattle.portal_core.specs.declared.phase.Phase.{Phase}
 use Rattle.portal_core.specs.declared.phase.Phase.TheVariants.{Setup, Choosing, Ranking, Published}
-use Rattle.portal_core.specs.declared.phase.Round.TheVariants.{First}
+use Rattle.portal_core.specs.declared.phase.Round.{Round}
+use Rattle.portal_core.specs.declared.phase.Round.TheVariants.{First, Second}
 use Rattle.portal_core.specs.declared.rows.Listing.{Listing}
+use Rattle.portal_core.specs.declared.rows.Person.{Person}
 use Rattle.portal_core.specs.declared.rows.ProjectRow.{ProjectRow}
-use Rattle.portal_core.specs.Words.{Key, has}
-use Rattle.portal_core.specs.World.{World, Student, project_key, projects_of, applicants_to, placed_at, is_at, is_from_ranking, is_published}
+use Rattle.portal_core.specs.Words.{Key, Rise, is, has, put_all}
+use Rattle.portal_core.specs.World.{World, Student, first_placed, project_key, student_key, projects_of, applicants_to, placed_at, is_at, is_left, is_from_ranking, is_published, is_second, shown_place}
 use Rattle.portal_core.specs.View.{persons, catalogue, lecturer_sees}
 use Rattle.portal_core.specs.Good.{Good}
 use Rattle.portal_core.proofs.Keys.{is_same}
+use Rattle.portal_core.proofs.Fills.{rise_kept}
 use Rattle.portal_core.proofs.AllLaws.{all_weaker, all_map}
-use Rattle.portal_tables.specs.Tables.{student_tree, choice_tree}
 use Rattle.portal_tables.specs.Changes.{ListsBy, columns, has_text}
+use Rattle.portal_tables.specs.ListTables.{choices_of, tree_of}
+use Rattle.portal_tables.specs.Tables.{project_tree, student_tree}
 use Rattle.portal_tables.specs.declared.lines.Line.{Line}
-use Rattle.portal_store.specs.Kept.{Holds}
-use Rattle.portal_tables.specs.Lists.{chosen}
+use Rattle.portal_store.specs.Kept.{HasSecond, HoldsIn}
 use Rattle.portal_tables.specs.Lines.{shown_line, applicant_lines}
+use Rattle.portal_tables.specs.Owners.{choice_shown}
 use Rattle.portal_tables.specs.Rolls.{row_key, by_key, roll_columns}
-use Rattle.portal_store.specs.World.{world_of, student_of}
+use Rattle.portal_store.specs.World.{world_in, student_in, project_row}
 use Rattle.portal_tables.specs.Shown.{first}
-use Rattle.portal_tables.specs.Callers.{lines_shown, placed_among, applicants_told, placed_told, own_keys, lecturer_shown}
+use Rattle.portal_tables.specs.Callers.{person_key, lines_shown, persons_at, persons_before, placed_among, placed_shown, applicants_told, placed_told, own_keys, lecturer_shown}
 use Rattle.portal_store.specs.Queried.{lecturer_from}
 use Rattle.portal_tables.proofs.Choosers.{chooser}
+use Rattle.portal_tables.proofs.Sorted.{distinct_permuted, map_alike, one_rise, permutes_more, put_all_map, rise_distinct, rise_put_all}
 use Rattle.portal_store.proofs.Holding.{has_tables}
-use Rattle.portal_store.proofs.Loaded.{students_are, world_first}
-use Rattle.portal_store.proofs.InFirst.{none_earlier, placed_shown}
-use Rattle.portal_store.proofs.Fine.{placed_listed}
-use Rattle.portal_store.proofs.Remembered.{own_listed}
+use Rattle.portal_store.proofs.Loaded.{none_earlier, projects_by_key, students_by_key}
+use Rattle.portal_store.proofs.Fine.{first_left, good_before, placed_on_lists}
 
 -- a student of the world is among those who name the project where the student's list names it
-pub choosers : (db : Database) → Holds db → (p : Key) (shown : List Row) → ListsBy (1 ∷ []) (has_text 3 p) (columns (1 ∷ [])) (db.trees choice_tree) shown
-    → AllByRecursion (λ (s : Student). has (map first shown) s.row.key ≡ has s.choice p) (world_of db.trees).students
-unfolding world_of
-choosers db holds p shown lists =
-    subst (AllByRecursion (λ (s : Student). has (map first shown) s.row.key ≡ has s.choice p)) (sym (students_are db.trees))
-    (all_map (λ (s : Student). has (map first shown) s.row.key ≡ has s.choice p) (student_of (db.trees choice_tree)) (by_key (db.trees student_tree))
-    (all_of _ (λ r. chooser db (has_tables db holds) p shown lists (row_key r)) (by_key (db.trees student_tree))))
+pub choosers : (round : Round) (db : Database) → HoldsIn round db → (p : Key) (shown : List Row) → ListsBy (1 ∷ []) (has_text 3 p) (columns (1 ∷ [])) (db.trees (tree_of (choices_of round))) shown
+    → AllByRecursion (λ (s : Student). has (map first shown) s.row.key ≡ has s.choice p) (world_in round db.trees).students
+unfolding world_in
+choosers round db holds p shown lists =
+    subst (AllByRecursion (λ (s : Student). has (map first shown) s.row.key ≡ has s.choice p)) (sym (students_by_key round db.trees))
+    (all_map (λ (s : Student). has (map first shown) s.row.key ≡ has s.choice p) (student_in round db.trees) (by_key (db.trees student_tree))
+    (all_of _ (λ r. chooser round db (has_tables db holds) p shown lists (row_key r)) (by_key (db.trees student_tree))))
+
+-- the own projects
+
+own_told : (round : Round) (db : Trees) (k : Key) → own_keys db k ≡ map project_key (projects_of (world_in round db) k)
+unfolding world_in
+own_told round db k =
+    let rows = by_key (db project_tree) in
+    ap (map first) (filter-map (λ c. is (bytes (column c 1)) k) roll_columns rows) ∙ map-map first roll_columns (filter (λ r. is (bytes (column r 2)) k) rows)
+    ∙ sym (ap (λ ps. map project_key (filter (λ (p : ProjectRow). is p.lecturer k) ps)) (projects_by_key round db)
+    ∙ ap (map project_key) (filter-map (λ (p : ProjectRow). is p.lecturer k) project_row rows) ∙ map-map project_key project_row (filter (λ r. is (bytes (column r 2)) k) rows))
+
+-- the lines of applicants
+
+abbrev person_of : Student → Person
+person_of s = record { key = s.row.key; name = s.row.name }
 
 -- what a lecturer may be told of a student
 abbrev line_of : Student → Line
 line_of s = record { person = record { key = s.row.key; name = s.row.name }; placed = s.placed }
 
+line_is : (round : Round) (db : Trees) (r : Row) → shown_line round db (roll_columns r) ≡ line_of (student_in round db r)
+line_is First db r = refl
+line_is Second db r = refl
+
 -- the lines that the tables tell of a project are those of its applicants
-lines_told : (db : Trees) (p : Key) → applicant_lines db p ≡ map line_of (applicants_to (world_of db) p)
-unfolding world_of
-lines_told db p =
+lines_told : (round : Round) (db : Trees) (p : Key) → applicant_lines round db p ≡ map line_of (applicants_to (world_in round db) p)
+unfolding world_in
+lines_told round db p =
     let rows = by_key (db student_tree) in
-    let of : Row → Student = student_of (db choice_tree) in
+    let of : Row → Student = student_in round db in
     let q : Student → Bool = λ s. has s.choice p in
-    ap (map shown_line) (filter-map (λ c. has (chosen (db choice_tree) (first c)) p) roll_columns rows)
-    ∙ map-map shown_line roll_columns (filter (λ r. q (of r)) rows)
-    ∙ sym (ap (λ ss. map line_of (filter q ss)) (students_are db) ∙ ap (map line_of) (filter-map q of rows) ∙ map-map line_of of (filter (λ r. q (of r)) rows))
+    let mine : List Row = filter (λ r. q (of r)) rows in
+    ap (map (shown_line round db)) (filter-map (λ c. has (choice_shown round db c) p) roll_columns rows) ∙ map-map (shown_line round db) roll_columns mine ∙ map_alike _ _ mine (line_is round db)
+    ∙ sym (ap (λ ss. map line_of (filter q ss)) (students_by_key round db) ∙ ap (map line_of) (filter-map q of rows) ∙ map-map line_of of mine)
 
 persons_of : (p : Line → Bool) (ss : List Student) → map (λ (l : Line). l.person) (filter p (map line_of ss)) ≡ persons (filter (λ s. p (line_of s)) ss)
 persons_of p ss = ap (map (λ (l : Line). l.person)) (filter-map p line_of ss) ∙ map-map (λ (l : Line). l.person) line_of (filter (λ s. p (line_of s)) ss)
@@ -79,10 +104,10 @@ at_listed : (k : Key) (choice : List Key) (o : Option Key) → IfSome o (λ p. h
 at_listed k choice None on e = absurd (cc)
 at_listed k choice (Some p) on e = subst (λ x. has choice x ≡ true) (is_same p k e) on
 
-placed_by_lines : (w : World) → w.round ≡ First → Good w → (k : Key) → map (λ (l : Line). l.person) (filter (λ (l : Line). is_at k l.placed) (map line_of (applicants_to w k))) ≡ persons (filter (λ s. is_at k s.placed) w.students)
-placed_by_lines w one good k =
+placed_by_lines : (w : World) → Good w → (k : Key) → persons_at k (map line_of (applicants_to w k)) ≡ persons (filter (λ s. is_at k s.placed) w.students)
+placed_by_lines w good k =
     persons_of (λ (l : Line). is_at k l.placed) (applicants_to w k)
-    ∙ ap persons (filter_twice (λ s. is_at k s.placed) (λ s. has s.choice k) w.students (all_weaker _ _ (λ s on. at_listed k s.choice s.placed on) w.students (placed_listed w one good)))
+    ∙ ap persons (filter_twice (λ s. is_at k s.placed) (λ s. has s.choice k) w.students (all_weaker _ _ (λ s on. at_listed k s.choice s.placed on) w.students (placed_on_lists w good)))
 
 -- told of one project, by the lines that the phase shows
 
@@ -93,29 +118,116 @@ persons_shown w k =
       | false ↦ refl
     ]
 
-placed_among_shown : (w : World) → w.round ≡ First → AllByRecursion (λ (s : Student). s.earlier_place ≡ None) w.students → Good w → (k : Key) → placed_among w.phase k (if is_from_ranking w.phase then map line_of (applicants_to w k) else []) ≡ persons (placed_at w k)
-placed_among_shown w one none good k =
-    elim w.phase as (λ (f : Phase). placed_among f k (if is_from_ranking f then map line_of (applicants_to w k) else []) ≡ persons (if is_published f then filter (λ s. is_at k s.placed) w.students else [])) [
-      | Setup ↦ refl
-      | Choosing ↦ refl
-      | Ranking ↦ refl
-      | Published ↦ placed_by_lines w one good k
+none_pass : {X : Type 0} (p : X → Bool) (xs : List X) → AllByRecursion (λ x. p x ≡ false) xs → filter p xs ≡ []
+none_pass p [] all = refl
+none_pass p (x ∷ xs) all = (λ i. cond (all.0 i) (x ∷ filter p xs) (filter p xs)) ∙ none_pass p xs all.1
+
+-- whom the round's result places at the project, once it is published
+abbrev is_placed : World → Key → Student → Bool
+is_placed w k s = is_published w.phase && is_at k s.placed
+
+now_told : (w : World) → Good w → (k : Key) → placed_among w.phase k (if is_from_ranking w.phase then map line_of (applicants_to w k) else []) ≡ persons (filter (is_placed w k) w.students)
+now_told w good k =
+    let none : [] ≡ persons (filter (λ (s : Student). false) w.students) = ap persons (sym (none_pass (λ (s : Student). false) w.students (all_of _ (λ s. refl) w.students))) in
+    elim w.phase as (λ (f : Phase). placed_among f k (if is_from_ranking f then map line_of (applicants_to w k) else []) ≡ persons (filter (λ (s : Student). is_published f && is_at k s.placed) w.students)) [
+      | Setup ↦ none
+      | Choosing ↦ none
+      | Ranking ↦ none
+      | Published ↦ placed_by_lines w good k
     ]
-    ∙ ap persons (sym (placed_shown w.phase k w.students none))
+
+world_round : (round : Round) (db : Trees) → (world_in round db).round ≡ round
+unfolding world_in
+world_round round db = refl
+
+-- whom the round before placed there
+before_told : (round : Round) (db : Trees) → HasSecond round db → Good (world_in round db) → (k : Key) → persons_before round db k ≡ persons (filter (λ s. is_at k s.earlier_place) (world_in round db).students)
+before_told First db second good k =
+    ap persons (sym (none_pass (λ (s : Student). is_at k s.earlier_place) (world_in First db).students (all_weaker _ _ (λ s none. ap (is_at k) none) (world_in First db).students (none_earlier db))))
+before_told Second db second good k =
+    let left = first_left db second.first in
+    let was : Good (world_in First db) = subst Good left (good_before (world_in Second db) (ap is_second (world_round Second db)) good) in
+    let ss = (world_in Second db).students in
+    ap (persons_at k) (lines_told First db k) ∙ placed_by_lines (world_in First db) was k
+    ∙ ap (λ (w : World). persons (filter (λ s. is_at k s.placed) w.students)) (sym left)
+    ∙ ap persons (filter-map (λ (s : Student). is_at k s.placed) first_placed ss) ∙ map-map (λ (s : Student). person_of s) first_placed (filter (λ s. is_at k s.earlier_place) ss)
+
+-- both together, by key
+
+module _ {X : Type 0} (key : X → Key) (f g h : X → Bool) where
+  abbrev Parts : X → Type 0
+  Parts x = (h x ≡ (f x || g x)) × ((f x && g x) ≡ false)
+
+  both_permuted : (xs : List X) → AllByRecursion Parts xs → IsPermutation (filter f xs ++ filter g xs) (filter h xs)
+  both_permuted [] all = IsPermutation-refl []
+  both_permuted (x ∷ xs) all =
+      let F = filter f xs in
+      let G = filter g xs in
+      let H = filter h xs in
+      let rest : IsPermutation (F ++ G) H = both_permuted xs all.1 in
+      (elim (f x) as (λ a. ((h x ≡ (a || g x)) × ((a && g x) ≡ false)) → IsPermutation (cond a (x ∷ F) F ++ cond (g x) (x ∷ G) G) (cond (h x) (x ∷ H) H)) [
+        | true ↦ elim (g x) as (λ b. ((h x ≡ true) × (b ≡ false)) → IsPermutation (x ∷ F ++ cond b (x ∷ G) G) (cond (h x) (x ∷ H) H)) [
+          | true ↦ λ e. absurd (let no = e.1 in cc)
+          | false ↦ λ e. subst (λ c. IsPermutation (x ∷ F ++ G) (cond c (x ∷ H) H)) (sym e.0) (IsPermutation-cons x _ _ rest)
+        ]
+        | false ↦ elim (g x) as (λ b. ((h x ≡ b) × (false ≡ false)) → IsPermutation (F ++ cond b (x ∷ G) G) (cond (h x) (x ∷ H) H)) [
+          | true ↦ λ e. subst (λ c. IsPermutation (F ++ x ∷ G) (cond c (x ∷ H) H)) (sym e.0) (IsPermutation-trans _ _ _ (IsPermutation-middle F x G) (IsPermutation-cons x _ _ rest))
+          | false ↦ λ e. subst (λ c. IsPermutation (F ++ G) (cond c (x ∷ H) H)) (sym e.0) rest
+        ]
+      ]) all.0
+
+  -- those who pass the one test put to those who pass the other are those who pass either
+  pub put_passing : (xs : List X) → Rise (map key xs) → AllByRecursion Parts xs → put_all key (filter f xs) (filter g xs) ≡ filter h xs
+  put_passing xs up all =
+      let F = filter f xs in
+      let G = filter g xs in
+      let H = filter h xs in
+      let same = both_permuted xs all in
+      let risen : Rise (map key H) = rise_kept key h xs up in
+      let apart = distinct_permuted key H (F ++ G) (IsPermutation-sym _ _ same) (rise_distinct (map key H) risen) in
+      one_rise key (put_all key F G) H (IsPermutation-trans _ _ _ (IsPermutation-sym _ _ (permutes_more key F G)) same) (rise_put_all key F G apart (rise_kept key g xs up)) risen
+
+or-false : (b : Bool) → (b || false) ≡ b
+or-false true = refl
+or-false false = refl
+
+-- a place that is shown is that of the round before, or of the round once it is published
+shown_parts : (w : World) (k : Key) (s : Student) (o : Option Key) → s.earlier_place ≡ o → (is_none o ≡ false → s.placed ≡ None)
+    → (is_at k (shown_place w.phase s) ≡ (is_placed w k s || is_at k s.earlier_place)) × ((is_placed w k s && is_at k s.earlier_place) ≡ false)
+shown_parts w k s None e none =
+    subst (λ o. (is_at k (if is_none o then (if is_published w.phase then s.placed else None) else o) ≡ (is_placed w k s || is_at k o)) × ((is_placed w k s && is_at k o) ≡ false)) (sym e)
+    (elim (is_published w.phase) as (λ b. (is_at k (if b then s.placed else None) ≡ ((b && is_at k s.placed) || false)) × (((b && is_at k s.placed) && false) ≡ false)) [
+      | true ↦ (sym (or-false (is_at k s.placed)), and-false (is_at k s.placed))
+      | false ↦ (refl, refl)
+    ])
+shown_parts w k s (Some q) e none =
+    subst (λ o. (is_at k (if is_none o then (if is_published w.phase then s.placed else None) else o) ≡ (is_placed w k s || is_at k o)) × ((is_placed w k s && is_at k o) ≡ false)) (sym e)
+    (subst (λ p. (is q k ≡ ((is_published w.phase && is_at k p) || is q k)) × (((is_published w.phase && is_at k p) && is q k) ≡ false)) (sym (none refl))
+    (elim (is_published w.phase) as (λ b. (is q k ≡ ((b && false) || is q k)) × (((b && false) && is q k) ≡ false)) [ true ↦ (refl, refl) | false ↦ (refl, refl) ]))
+
+placed_all : (w : World) → Good w → (k : Key) → put_all person_key (persons (filter (is_placed w k) w.students)) (persons (filter (λ s. is_at k s.earlier_place) w.students)) ≡ persons (placed_at w k)
+placed_all w good k =
+    let ss = w.students in
+    put_all_map student_key person_key person_of (λ s. refl) (filter (is_placed w k) ss) (filter (λ s. is_at k s.earlier_place) ss)
+    ∙ ap persons (put_passing student_key (is_placed w k) (λ s. is_at k s.earlier_place) (λ s. is_at k (shown_place w.phase s)) ss good.sound.students_rise
+    (all_weaker (λ s. is_left s ≡ false → (s.choice ≡ []) × (s.placed ≡ None)) _ (λ s only. shown_parts w k s s.earlier_place refl (λ e. (only e).1)) ss good.sound.only_left))
 
 -- what a lecturer sees, of what was read
-pub lecturer_told : (db : Trees) → Good (world_of db) → (row : Row) (phase : Phase) (offers : List Listing) → phase ≡ (world_of db).phase → offers ≡ catalogue (world_of db)
-    → lecturer_shown db phase row offers ≡ lecturer_sees (world_of db) (lecturer_from db row)
-lecturer_told db good row phase offers at_phase all =
-    let w = world_of db in
+pub lecturer_told : (round : Round) (db : Trees) → HasSecond round db → Good (world_in round db) → (row : Row) (phase : Phase) (offers : List Listing) → phase ≡ (world_in round db).phase → offers ≡ catalogue (world_in round db)
+    → lecturer_shown round db phase row offers ≡ lecturer_sees (world_in round db) (lecturer_from round db row)
+unfolding world_in
+lecturer_told round db second good row phase offers at_phase all =
+    let w = world_in round db in
     let own = projects_of w (first row) in
-    let listed : own_keys (catalogue w) (first row) ≡ map project_key own = own_listed w (first row) (world_first db) good in
-    let shown : Key → List Line → List Line = λ k ls. if is_from_ranking w.phase then ls else [] in
-    let applicants = ap (applicants_told db w.phase) listed ∙ map-map (λ k. (k, map (λ (l : Line). l.person) (lines_shown db w.phase k))) project_key own
-    ∙ (λ i. map (λ (p : ProjectRow). (p.key, map (λ (l : Line). l.person) (shown p.key (lines_told db p.key i)))) own)
+    let listed : own_keys db (first row) ≡ map project_key own = own_told round db (first row) in
+    let shown : List Line → List Line = λ ls. if is_from_ranking w.phase then ls else [] in
+    let placed_of : (k : Key) → placed_shown round db w.phase k (shown (map line_of (applicants_to w k))) ≡ persons (placed_at w k) =
+    λ k. (λ i. put_all person_key (now_told w good k i) (before_told round db second good k i)) ∙ placed_all w good k in
+    let applicants = ap (applicants_told round db w.phase) listed ∙ map-map (λ k. (k, map (λ (l : Line). l.person) (lines_shown round db w.phase k))) project_key own
+    ∙ (λ i. map (λ (p : ProjectRow). (p.key, map (λ (l : Line). l.person) (shown (lines_told round db p.key i)))) own)
     ∙ (λ i. map (λ (p : ProjectRow). (p.key, persons_shown w p.key i)) own) in
-    let placed = ap (placed_told db w.phase) listed ∙ map-map (λ k. (k, placed_among w.phase k (lines_shown db w.phase k))) project_key own
-    ∙ (λ i. map (λ (p : ProjectRow). (p.key, placed_among w.phase p.key (shown p.key (lines_told db p.key i)))) own)
-    ∙ (λ i. map (λ (p : ProjectRow). (p.key, placed_among_shown w (world_first db) (none_earlier db) good p.key i)) own) in
-    let from = lecturer_shown db w.phase row (catalogue w) in
-    (λ i. lecturer_shown db (at_phase i) row (all i)) ∙ (λ i. record from { round = sym (world_first db) i; applicants = applicants i; placed = placed i })
+    let placed = ap (placed_told round db w.phase) listed ∙ map-map (λ k. (k, placed_shown round db w.phase k (lines_shown round db w.phase k))) project_key own
+    ∙ (λ i. map (λ (p : ProjectRow). (p.key, placed_shown round db w.phase p.key (shown (lines_told round db p.key i)))) own)
+    ∙ (λ i. map (λ (p : ProjectRow). (p.key, placed_of p.key i)) own) in
+    let from = lecturer_shown round db w.phase row (catalogue w) in
+    (λ i. lecturer_shown round db (at_phase i) row (all i)) ∙ (λ i. record from { applicants = applicants i; placed = placed i })

@@ -14,22 +14,23 @@ use Rattle.sqlite.specs.Held.{Held, state}
 use Rattle.sqlite.proofs.StateLemmas.{survives_then, survives_weaker}
 use Rattle.sqlite.proofs.Callers.{one_permutation}
 use Rattle.portal_core.specs.declared.phase.Round.{Round}
-use Rattle.portal_core.specs.declared.phase.Round.TheVariants.{Second}
+use Rattle.portal_core.specs.declared.phase.Round.TheVariants.{First, Second}
 use Rattle.portal_tables.specs.Tables.{portal_tree, second_tree, choice2_tree, ranked2_tree, ranking2_tree, assigned2_tree, own_trees, version}
 use Rattle.portal_tables.specs.Own.{HasRound, IsCurrent}
 use Rattle.portal_tables.specs.Changes.{IsApart, ListsBy, every, columns}
-use Rattle.portal_tables.specs.Rows.{second_row}
+use Rattle.portal_tables.specs.Rows.{portal_row, second_row}
+use Rattle.portal_tables.specs.Office.{HasOffice, number_of}
 use Rattle.portal_tables.specs.Reading.{AsksIn, ReadsIn}
 use Rattle.portal_tables.specs.Decoding.{FindsAny}
 use Rattle.portal_tables.specs.Queries.{selection, Shows}
 use Rattle.portal_tables.specs.declared.select.Query.{Query}
 use Rattle.portal_core.specs.Words.{is_empty}
 use Rattle.std.proofs.lemmas.Result.{on_ok_weaker, on_err_weaker}
-use Rattle.portal_store.specs.Kept.{HasSecond, Holds, IsKept, Stands}
+use Rattle.portal_store.specs.Kept.{HasSecond, IsUnopened, Holds, HoldsIn, IsKept, Stands}
 use Rattle.portal_tables.proofs.InTurn.{clean_before, unchanged_then, then_leaves, reads_of}
 use Rattle.portal_tables.proofs.Keeping.{apart_one, apart_none}
 use Rattle.portal_tables.proofs.Owned.{current_own, has_round}
-use Rattle.portal_store.specs.Asked.{HasVersion, Denies, SaysNothing, Blames, Refutes, AdmitsAs, Admits}
+use Rattle.portal_store.specs.Asked.{AreApart, HasVersion, Denies, SaysNothing, Blames, Refutes, AdmitsAs, Admits}
 use Rattle.portal_tables.specs.declared.fault.TableFault.{TableFault}
 use Rattle.portal_tables.specs.declared.fault.TableFault.TheVariants as told
 use Rattle.portal_store.specs.declared.store.OpenFault.{OpenFault}
@@ -79,6 +80,15 @@ pub asks_all : (round : Round) {V E : Type 0} (r : Result V E) (a b : State) →
 asks_all round r a b h = record {
   same = λ own. h.same (has_round round a.now.schema own);
   err = λ own. h.err (has_round round a.now.schema own);
+  mode = h.mode;
+  crash = survives_weaker a b _ _ (λ clean db no own. no (has_round round a.now.schema own)) h.crash;
+}
+
+pub reads_all : (round : Round) {V E : Type 0} (r : Result V E) (a b : State) → ReadsIn round r a b → ReadsIn Second r a b
+reads_all round r a b h = record {
+  same = λ own. h.same (has_round round a.now.schema own);
+  err = λ own. h.err (has_round round a.now.schema own);
+  now = λ own. h.now (has_round round a.now.schema own);
   mode = h.mode;
   crash = survives_weaker a b _ _ (λ clean db no own. no (has_round round a.now.schema own)) h.crash;
 }
@@ -219,7 +229,7 @@ found_some q db found all h some none =
     absurd (cc)
 
 -- row numbers differ in the tables of both rounds
-pub apart_all : (db : Trees) (of : ℕ) → AdmitsAs of db → HasSecond db → AllByRecursion (λ t. IsApart (db t)) own_trees
+pub apart_all : (db : Trees) (of : ℕ) → AdmitsAs of db → IsUnopened db → AllByRecursion (λ t. IsApart (db t)) own_trees
 apart_all db of admits second =
     let six = admits.apart in
     let none = second.says in (
@@ -245,6 +255,32 @@ apart_all db of admits second =
       ),
     )
 
+-- the same, where it is known of all tables of many rows
+second_apart : (round : Round) (db : Trees) → HasSecond round db → IsApart (db second_tree)
+second_apart First db h = apart_one (db second_tree) (second_row (pos 0)) (pos 1) refl h.is
+second_apart Second db h = apart_one (db second_tree) (second_row (pos (number_of h.phase))) (pos 1) refl h.is
+
+pub apart_both : (db : Trees) (round : Round) → HasOffice version (db portal_tree) → HasSecond round db → AreApart db → AllByRecursion (λ t. IsApart (db t)) own_trees
+apart_both db round office second many = (
+  apart_one (db portal_tree) (portal_row (pos version) (pos (number_of office.phase)) office.office) (pos 1) refl office.is,
+  (
+    many.0,
+    (
+      many.1.0,
+      (
+        many.1.1.0,
+        (
+          many.1.1.1.0,
+          (
+            many.1.1.1.1.0,
+            (second_apart round db second, (many.1.1.1.1.1.0, (many.1.1.1.1.1.1.0, (many.1.1.1.1.1.1.1.0, (many.1.1.1.1.1.1.1.1.0, tt))))),
+          ),
+        ),
+      ),
+    ),
+  ),
+)
+
 -- a store over tables that were admitted
 pub opened_kept : {S : Type 0} (g : Ghosts S) (own : Bool) (old new : Held S) → new.in_transaction ≡ false → (IsTrue own → IsCurrent old.schema) → (IsTrue (state g old).is_open → (state g old).now ≡ (state g old).committed) → IsLive (state g old)
     → (IsTrue own → IsTrue (state g new).is_open → IsUnchanged (state g old) (state g new) × Admits (state g old).now.trees) → IsKept g new own
@@ -254,14 +290,14 @@ opened_kept g own old new idle is_own settled live found = record {
       let f = found mine on in
       let same = f.0.0 in
       let good = f.1 in
-      let before : Holds (state g old).now = record {
+      let before : HoldsIn good.stands.0 (state g old).now = record {
         current = is_own mine;
         own = current_own old.schema (is_own mine);
         sound = (live same.was_open).0;
         apart = good.apart;
-        office = good.stands.first.office;
-        second = good.stands.second;
-        whole = good.stands.first.whole;
+        office = good.stands.1.office;
+        second = good.stands.1.second;
+        whole = good.stands.1.whole;
       } in
-      record { settled = same.committed_is ∙ sym (settled same.was_open) ∙ sym same.now_is; holds = subst Holds (sym same.now_is) before };
+      record { settled = same.committed_is ∙ sym (settled same.was_open) ∙ sym same.now_is; holds = subst Holds (sym same.now_is) (good.stands.0, before) };
 }

@@ -9,23 +9,25 @@ use Rattle.portal_core.specs.Words.{Key, is, has, Rise, put_all}
 use Rattle.portal_core.specs.World.{World, lecturer_key}
 use Rattle.portal_core.specs.Change.{changed, Ranks, Fill}
 use Rattle.portal_core.specs.Good.{Sound}
+use Rattle.portal_core.specs.declared.phase.Round.{Round}
 use Rattle.portal_list.specs.Fill.{fills}
-use Rattle.portal_tables.specs.Tables.{lecturer_tree, ranking_tree}
-use Rattle.portal_store.specs.World.{world_of, lecturer_of}
+use Rattle.portal_tables.specs.Tables.{lecturer_tree}
+use Rattle.portal_store.specs.World.{world_in, lecturer_in}
 use Rattle.portal_tables.specs.Rolls.{row_key}
-use Rattle.portal_store.specs.Kept.{Holds, Turns}
+use Rattle.portal_store.specs.Kept.{HoldsIn, TurnsIn}
 use Rattle.portal_tables.specs.Steps.{GoesOn}
 use Rattle.portal_store.specs.Putting.{ranked, TurnsAll, TurnsThere}
 use Rattle.portal_tables.proofs.Runs.{goes_both}
-use Rattle.portal_tables.proofs.Sorted.{permutes, map_twice}
+use Rattle.portal_tables.proofs.Sorted.{permutes}
+use Rattle.portal_store.proofs.Rounds.{keys_in}
 use Rattle.portal_store.proofs.Filled.{ranked_more, keys_still, all_filled, fills_there}
 
 -- who is in the world has a row
-rows_have : (db : Database) (k : Key) → has (map lecturer_key (world_of db.trees).lecturers) k ≡ true → has (map row_key (db.trees lecturer_tree)) k ≡ true
-unfolding world_of
-rows_have db k there =
-    let shown = map (lecturer_of (db.trees ranking_tree)) (db.trees lecturer_tree) in
-    ap (λ l. has l k) (map_twice lecturer_key (lecturer_of (db.trees ranking_tree)) (db.trees lecturer_tree))
+rows_have : (round : Round) (db : Database) (k : Key) → has (map lecturer_key (world_in round db.trees).lecturers) k ≡ true → has (map row_key (db.trees lecturer_tree)) k ≡ true
+unfolding world_in
+rows_have round db k there =
+    let shown = map (lecturer_in round db.trees) (db.trees lecturer_tree) in
+    ap (λ l. has l k) (sym (keys_in round db.trees (db.trees lecturer_tree)))
     ∙ sym (list_any-IsPermutation (is k) (map lecturer_key (put_all lecturer_key shown [])) (map lecturer_key shown) (IsPermutation-map lecturer_key _ _ (IsPermutation-sym _ _ (permutes lecturer_key shown))))
     ∙ there
 
@@ -37,34 +39,34 @@ all_back : {X : Type 0} (P : X → Type 0) (xs ys : List X) → AllByRecursion P
 all_back P [] ys all = all
 all_back P (x ∷ xs) ys all = all_back P xs ys all.1
 
-pub none_ranked : (db : Database) → TurnsAll [] db db
-none_ranked db holds up there = record { holds = holds; world = refl }
+pub none_ranked : (round : Round) (db : Database) → TurnsAll round [] db db
+none_ranked round db holds up there = record { holds = holds; world = refl }
 
-pub all_go_on : (fs : List (Key × List Key)) (f : Key × List Key) (first mid now : Database) → TurnsAll fs first mid → TurnsThere f.0 f.1 mid now
-    → TurnsAll (fs ++ f ∷ []) first now
-all_go_on fs f first mid now was turns holds up there =
-    let w = world_of first.trees in
+pub all_go_on : (round : Round) (fs : List (Key × List Key)) (f : Key × List Key) (first mid now : Database) → TurnsAll round fs first mid → TurnsThere round f.0 f.1 mid now
+    → TurnsAll round (fs ++ f ∷ []) first now
+all_go_on round fs f first mid now was turns holds up there =
+    let w = world_in round first.trees in
     let on = λ (g : Key × List Key). has (map lecturer_key w.lecturers) g.0 ≡ true in
     let before = was holds up (all_front on fs (f ∷ []) there) in
-    let keys : map lecturer_key (world_of mid.trees).lecturers ≡ map lecturer_key w.lecturers =
+    let keys : map lecturer_key (world_in round mid.trees).lecturers ≡ map lecturer_key w.lecturers =
     ap (λ (v : World). map lecturer_key v.lecturers) before.world ∙ keys_still w fs in
-    let row = rows_have mid f.0 (ap (λ l. has l f.0) keys ∙ (all_back on fs (f ∷ []) there).0) in
+    let row = rows_have round mid f.0 (ap (λ l. has l f.0) keys ∙ (all_back on fs (f ∷ []) there).0) in
     let after = turns row before.holds (subst Rise (sym keys) up) in
     record { holds = after.holds; world = after.world ∙ ap (λ v. changed v (Ranks f.0 f.1)) before.world ∙ sym (ranked_more w fs f) }
 
 -- the loop's step
-pub rankings_go_on : {X : Type 0} (show : X → Key × List Key) (xs : List X) (i : ℕ) (x : X) (old mid new : State) → i < length xs → x ≡ get_or xs i x
-    → GoesOn (TurnsAll (map show (take i xs))) old mid
-    → GoesOn (TurnsThere (show x).0 (show x).1) mid new → GoesOn (TurnsAll (map show (take (i + 1) xs))) old new
-rankings_go_on show xs i x old mid new within at was step =
+pub rankings_go_on : {X : Type 0} (round : Round) (show : X → Key × List Key) (xs : List X) (i : ℕ) (x : X) (old mid new : State) → i < length xs → x ≡ get_or xs i x
+    → GoesOn (TurnsAll round (map show (take i xs))) old mid
+    → GoesOn (TurnsThere round (show x).0 (show x).1) mid new → GoesOn (TurnsAll round (map show (take (i + 1) xs))) old new
+rankings_go_on round show xs i x old mid new within at was step =
     let more : map show (take i xs) ++ show x ∷ [] ≡ map show (take (i + 1) xs) =
     sym (ap (map show) (take_more xs i x within) ∙ map-append show (take i xs) (get_or xs i x ∷ []) ∙ ap (λ y. map show (take i xs) ++ show y ∷ []) (sym at)) in
-    subst (λ l. GoesOn (TurnsAll l) old new) more (goes_both _ _ _ old mid new was step (all_go_on (map show (take i xs)) (show x) old.now mid.now new.now))
+    subst (λ l. GoesOn (TurnsAll round l) old new) more (goes_both _ _ _ old mid new was step (all_go_on round (map show (take i xs)) (show x) old.now mid.now new.now))
 
-pub fill_turns : (fs : List (Key × List Key)) (first now : Database) → (Holds first → Sound (world_of first.trees) → fs ≡ fills (world_of first.trees))
-    → TurnsAll fs first now → Turns Fill first now
-fill_turns fs first now are turns holds good then =
-    let w = world_of first.trees in
+pub fill_turns : (round : Round) (fs : List (Key × List Key)) (first now : Database) → (HoldsIn round first → Sound (world_in round first.trees) → fs ≡ fills (world_in round first.trees))
+    → TurnsAll round fs first now → TurnsIn round Fill first now
+fill_turns round fs first now are turns holds good then =
+    let w = world_in round first.trees in
     let is : fs ≡ fills w = are holds good.sound in
     let on : AllByRecursion (λ (f : Key × List Key). has (map lecturer_key w.lecturers) f.0 ≡ true) fs =
     subst (AllByRecursion (λ (f : Key × List Key). has (map lecturer_key w.lecturers) f.0 ≡ true)) (sym is) (fills_there w) in

@@ -1,5 +1,5 @@
 -- Tables that stand for a good world are fine to read.
-use Rattle.std.proofs.Common.{◌≡◌, inl, inr, ℕ, suc, ◌<◌, ◌+◌, Bool, true, false, not, cond, ◌||◌, IfSome, Option, Some, None, option_map, List, [], ◌∷◌, map, length, get_or, arith, refl, sym, ap, subst, ◌∙◌}
+use Rattle.std.proofs.Common.{◌≡◌, inl, inr, ℕ, suc, ◌<◌, ◌≤◌, ◌+◌, Bool, true, false, not, cond, ◌||◌, IfSome, Option, Some, None, option_map, List, [], ◌∷◌, map, filter, length, get_or, arith, refl, sym, ap, subst, ◌∙◌}
 use Rattle.std.specs.Prelude.{◌==◌, slice_index_or}
 use Rattle.std.specs.List.{AllByRecursion}
 use Rattle.std.proofs.Math.Bool.{or-true}
@@ -19,22 +19,26 @@ use Rattle.portal_core.specs.Good.{Good, IsLecturer, IsProject, IsStudent, IsCho
 use Rattle.portal_core.specs.Instance.{instance_of, places_of, project_keys}
 use Rattle.portal_core.specs.declared.rows.ProjectRow.{ProjectRow}
 use Rattle.portal_core.specs.Words.{Key, is, has, Rise}
-use Rattle.portal_core.specs.World.{World, Lecturer, Student, lecturer_key, project_key, student_key, applicants_of, is_published}
+use Rattle.portal_core.specs.World.{World, Lecturer, Student, alone, alone_student, first, first_placed, first_published, in_play, is_left, is_second, students_in, lecturer_key, project_key, student_key, applicants_of, is_published}
+use Rattle.portal_core.specs.declared.phase.Phase.TheVariants.{Published}
+use Rattle.portal_core.proofs.Alone.{played_alone}
 use Rattle.portal_core.proofs.AllLaws.{all_weaker, all_map, all_both}
 use Rattle.portal_core.proofs.Keys.{is_same, is_own, all_unmap}
 use Rattle.portal_core.proofs.Only.{on_roll}
 use Rattle.portal_core.proofs.Capacities.{first_plays}
-use Rattle.portal_core.specs.declared.phase.Round.TheVariants.{First}
-use Rattle.portal_tables.specs.Tables.{lecturer_tree, project_tree, student_tree, choice_tree, ranking_tree}
-use Rattle.portal_tables.specs.declared.list_table.Lists.TheVariants.{Choices, Rankings}
+use Rattle.portal_core.specs.declared.phase.Round.{Round}
+use Rattle.portal_core.specs.declared.phase.Round.TheVariants.{First, Second}
+use Rattle.portal_tables.specs.Tables.{lecturer_tree, project_tree, student_tree, assigned2_tree, version}
+use Rattle.portal_tables.specs.ListTables.{tree_of}
 use Rattle.portal_tables.specs.Rolls.{row_key, by_key, RollsRise, lecturers_shown, projects_shown, students_shown, lecturer_columns, roll_columns}
-use Rattle.portal_store.specs.World.{world_of, is_ranked, lecturer_row, student_row, lecturer_of, project_row, student_of}
+use Rattle.portal_store.specs.World.{world_in, phase_in, choices_of, rankings_of, is_ranked, ranking_in, choice_in, place_in, lecturer_in, student_in, lecturer_row, student_row, project_row}
 use Rattle.portal_tables.specs.Lists.{of_key, chosen, list_of, IsWhole}
-use Rattle.portal_store.specs.Kept.{StandsAs}
-use Rattle.portal_tables.specs.Shown.{shown_lecturer, shown_project, shown_student, HasPlace}
+use Rattle.portal_store.specs.Kept.{StandsAs, StandsIn, Whole}
+use Rattle.portal_tables.specs.Shown.{shown_lecturer, shown_project, shown_student}
+use Rattle.portal_tables.specs.Places.{HasPlace}
 use Rattle.portal_tables.specs.Owners.{IsFine}
 use Rattle.portal_tables.specs.Contents.{AreFine}
-use Rattle.portal_store.proofs.Loaded.{lecturers_are, projects_are, students_are, world_first}
+use Rattle.portal_store.proofs.Loaded.{has_choice, has_ranked, lecturers_by_key, projects_by_key, students_by_key}
 use Rattle.portal_tables.proofs.Sorted.{all_permuted, all_two, permutes}
 use Rattle.sqlite_trees.proofs.ListLemmas.{map-map, all-filter}
 
@@ -57,7 +61,7 @@ numbered (x ∷ xs) all k low =
       | false ↦ λ e f. numbered xs all.1 k (omega (arith, f))
     ]) refl low
 
--- in a good world of the first round whatever is told of a student is a key
+-- in a good world of the first round whoever is placed is so at a project on the list
 module _ (w : World) (one : w.round ≡ First) (good : Good w) where
   known_choices : AllByRecursion (λ s. IsChoice (project_keys w) s.choice) w.students
   known_choices = subst (λ u. AllByRecursion (λ s. IsChoice (project_keys u) s.choice) w.students) (first_plays w one) good.sound.choices
@@ -67,9 +71,6 @@ module _ (w : World) (one : w.round ≡ First) (good : Good w) where
 
   known_projects : AllByRecursion IsKey (project_keys w)
   known_projects = all_map IsKey project_key w.projects (all_weaker IsProject (λ p. IsKey (project_key p)) (λ p x. x.key) w.projects good.sound.project_forms)
-
-  known_students : AllByRecursion (λ s. IsKey (student_key s)) w.students
-  known_students = all_weaker (λ s. IsStudent s.row) (λ s. IsKey (student_key s)) (λ s x. x.key) w.students good.sound.student_forms
 
   abbrev place_of : Student → Option ℕ
   place_of s = option_map (number_in (project_keys w)) s.placed
@@ -108,14 +109,50 @@ module _ (w : World) (one : w.round ≡ First) (good : Good w) where
     | inr other ↦ all_weaker (λ s. s.placed ≡ None) (λ s. IfSome s.placed (λ p. has s.choice p ≡ true)) (λ s e. subst (λ o. IfSome o (λ p. has s.choice p ≡ true)) (sym e) tt) w.students (good.sound.no_result_yet other)
   ]
 
-  pub placed_keys : AllByRecursion (λ s. IfSome s.placed IsKey) w.students
-  placed_keys = elim (cases_Bool (is_published w.phase)) [
+  placed_alone : AllByRecursion (λ s. IfSome s.placed IsKey) w.students
+  placed_alone = elim (cases_Bool (is_published w.phase)) [
     | inl so ↦ recursion_from_All (λ s. IfSome s.placed IsKey) w.students (λ i d low. is_placed (stable so) i d low (get_or w.students i d).placed refl)
     | inr other ↦ all_weaker (λ s. s.placed ≡ None) (λ s. IfSome s.placed IsKey) (λ s e. subst (λ o. IfSome o IsKey) (sym e) tt) w.students (good.sound.no_result_yet other)
   ]
 
+-- who is left has what is so of those who are, and who is not has nothing
+filtered : (P : Student → Type 0) (ss : List Student) → AllByRecursion (λ s. is_left s ≡ false → P s) ss → AllByRecursion P (filter is_left ss) → AllByRecursion P ss
+filtered P [] others all = tt
+filtered P (s ∷ ss) others all =
+    (elim (is_left s) as (λ b. is_left s ≡ b → AllByRecursion P (cond b (s ∷ filter is_left ss) (filter is_left ss)) → AllByRecursion P (s ∷ ss)) [
+      | true ↦ λ e h. (h.0, filtered P ss others.1 h.1)
+      | false ↦ λ e h. (others.0 e, filtered P ss others.1 h)
+    ]) refl all
+
+of_all : (round : Round) (P : Student → Type 0) (ss : List Student) → AllByRecursion (λ s. is_left s ≡ false → P s) ss → AllByRecursion P (students_in round ss) → AllByRecursion P ss
+of_all First P ss others all = all
+of_all Second P ss others all = filtered P ss others all
+
+-- in a good world whatever is told of a student or a lecturer is a key
+module _ (w : World) (good : Good w) where
+  abbrev as_one : Good (alone (in_play w))
+  as_one = (played_alone w good).0
+
+  pub placed_keys : AllByRecursion (λ s. IfSome s.placed IsKey) w.students
+  placed_keys =
+      of_all w.round (λ s. IfSome s.placed IsKey) w.students
+      (all_weaker (λ s. is_left s ≡ false → (s.choice ≡ []) × (s.placed ≡ None)) (λ s. is_left s ≡ false → IfSome s.placed IsKey) (λ s h e. subst (λ o. IfSome o IsKey) (sym (h e).1) tt) w.students good.sound.only_left)
+      (all_unmap (λ s. IfSome s.placed IsKey) alone_student (students_in w.round w.students) (placed_alone (alone (in_play w)) refl as_one))
+
+  -- who is placed has the project on the list
+  pub placed_on_lists : AllByRecursion (λ s. IfSome s.placed (λ p. has s.choice p ≡ true)) w.students
+  placed_on_lists =
+      let OnList : Student → Type 0 = λ s. IfSome s.placed (λ p. has s.choice p ≡ true) in
+      of_all w.round OnList w.students
+      (all_weaker (λ s. is_left s ≡ false → (s.choice ≡ []) × (s.placed ≡ None)) (λ s. is_left s ≡ false → OnList s) (λ s h e. subst (λ o. IfSome o (λ p. has s.choice p ≡ true)) (sym (h e).1) tt) w.students good.sound.only_left)
+      (all_unmap OnList alone_student (students_in w.round w.students) (placed_listed (alone (in_play w)) refl as_one))
+
   pub choice_keys : AllByRecursion (λ s. AllByRecursion IsKey s.choice) w.students
-  choice_keys = all_weaker (λ s. IsChoice (project_keys w) s.choice) (λ s. AllByRecursion IsKey s.choice) (λ s x. all_weaker (λ p. has (project_keys w) p ≡ true) IsKey (λ p known. among (project_keys w) known_projects p known) s.choice x.known) w.students known_choices
+  choice_keys = all_weaker (λ s. IsChoice (project_keys (in_play w)) s.choice) (λ s. AllByRecursion IsKey s.choice)
+      (λ s x. all_weaker (λ p. has (project_keys (in_play w)) p ≡ true) IsKey (λ p known. among (project_keys (in_play w)) (known_projects (alone (in_play w)) refl as_one) p known) s.choice x.known) w.students good.sound.choices
+
+  known_students : AllByRecursion (λ s. IsKey (student_key s)) w.students
+  known_students = all_weaker (λ s. IsStudent s.row) (λ s. IsKey (student_key s)) (λ s x. x.key) w.students good.sound.student_forms
 
   applicant_keys : (l : Key) → AllByRecursion IsKey (map student_key (applicants_of w l))
   applicant_keys l = all_map IsKey student_key (applicants_of w l) (all-filter (λ s. IsKey (student_key s)) _ w.students known_students)
@@ -127,68 +164,114 @@ module _ (w : World) (one : w.round ≡ First) (good : Good w) where
   pub ranking_keys : AllByRecursion (λ l. IfSome l.ranking (AllByRecursion IsKey)) w.lecturers
   ranking_keys = all_weaker (λ l. IfSome l.ranking (IsRanking (map student_key (applicants_of w l.row.key)))) (λ l. IfSome l.ranking (AllByRecursion IsKey)) (λ l h. ranked_keys l.row.key l.ranking h) w.lecturers good.sound.rankings
 
+-- a student has one row of the second round's result
+abbrev pub PlacesOnce : Round → Trees → Type 0
+PlacesOnce First db = Unit {0}
+PlacesOnce Second db = (k : Key) → length (of_key k (db assigned2_tree)) ≤ 1
+
+has_place : (round : Round) (db : Trees) → PlacesOnce round db → (r : Row) → IfSome (place_in round db r) IsKey → HasPlace round db (roll_columns r)
+has_place First db once r key = key
+has_place Second db once r key = (key, once (row_key r))
+
 -- what is said of the world's rows, of the tables' rows in their order
-module _ (of : ℕ) (db : Trees) (stands : StandsAs of db) where
-  of_lecturers : (P : Lecturer → Type 0) → AllByRecursion P (world_of db).lecturers → AllByRecursion (λ r. P (lecturer_of (db ranking_tree) r)) (by_key (db lecturer_tree))
-  unfolding world_of
-  of_lecturers P all = all_unmap P (lecturer_of (db ranking_tree)) (by_key (db lecturer_tree)) (subst (AllByRecursion P) (lecturers_are db) all)
+module _ (round : Round) (db : Trees) (whole : Whole round db) (good : Good (world_in round db)) where
+  of_lecturers : (P : Lecturer → Type 0) → AllByRecursion P (world_in round db).lecturers → AllByRecursion (λ r. P (lecturer_in round db r)) (by_key (db lecturer_tree))
+  unfolding world_in
+  of_lecturers P all = all_unmap P (lecturer_in round db) (by_key (db lecturer_tree)) (subst (AllByRecursion P) (lecturers_by_key round db) all)
 
-  of_students : (P : Student → Type 0) → AllByRecursion P (world_of db).students → AllByRecursion (λ r. P (student_of (db choice_tree) r)) (by_key (db student_tree))
-  unfolding world_of
-  of_students P all = all_unmap P (student_of (db choice_tree)) (by_key (db student_tree)) (subst (AllByRecursion P) (students_are db) all)
+  of_students : (P : Student → Type 0) → AllByRecursion P (world_in round db).students → AllByRecursion (λ r. P (student_in round db r)) (by_key (db student_tree))
+  unfolding world_in
+  of_students P all = all_unmap P (student_in round db) (by_key (db student_tree)) (subst (AllByRecursion P) (students_by_key round db) all)
 
-  pub office_code : is_code stands.office.office ≡ true
-  unfolding world_of
-  office_code = subst (λ rows. is_code (bytes (column (slice_index_or rows 0 []) 4)) ≡ true) stands.office.is stands.good.sound.office_form
+  of_projects : (P : ProjectRow → Type 0) → AllByRecursion P (world_in round db).projects → AllByRecursion (λ r. P (project_row r)) (by_key (db project_tree))
+  unfolding world_in
+  of_projects P all = all_unmap P project_row (by_key (db project_tree)) (subst (AllByRecursion P) (projects_by_key round db) all)
 
   pub rolls_rise : RollsRise db
-  unfolding world_of
+  unfolding world_in
   rolls_rise = record {
-    lecturers_rise = subst Rise (ap (map lecturer_key) (lecturers_are db) ∙ map-map lecturer_key (lecturer_of (db ranking_tree)) (by_key (db lecturer_tree))) stands.good.sound.lecturers_rise;
-    projects_rise = subst Rise (ap (map project_key) (projects_are db) ∙ map-map project_key project_row (by_key (db project_tree))) stands.good.sound.projects_rise;
-    students_rise = subst Rise (ap (map student_key) (students_are db) ∙ map-map student_key (student_of (db choice_tree)) (by_key (db student_tree))) stands.good.sound.students_rise;
+    lecturers_rise = subst Rise (ap (map lecturer_key) (lecturers_by_key round db) ∙ map-map lecturer_key (lecturer_in round db) (by_key (db lecturer_tree))) good.sound.lecturers_rise;
+    projects_rise = subst Rise (ap (map project_key) (projects_by_key round db) ∙ map-map project_key project_row (by_key (db project_tree))) good.sound.projects_rise;
+    students_rise = subst Rise (ap (map student_key) (students_by_key round db) ∙ map-map student_key (student_in round db) (by_key (db student_tree))) good.sound.students_rise;
   }
-
-  of_projects : (P : ProjectRow → Type 0) → AllByRecursion P (world_of db).projects → AllByRecursion (λ r. P (project_row r)) (by_key (db project_tree))
-  unfolding world_of
-  of_projects P all = all_unmap P project_row (by_key (db project_tree)) (subst (AllByRecursion P) (projects_are db) all)
 
   in_order : (P : Row → Type 0) (table : List Row) → AllByRecursion P table → AllByRecursion P (by_key table)
   in_order P table all = all_permuted P table (by_key table) (permutes row_key table) all
 
-  fine_choice : (r : Row) → IsStudent (student_row r) × AllByRecursion IsKey (chosen (db choice_tree) (row_key r)) → IsWhole (of_key (row_key r) (db choice_tree)) → IsFine Choices db (roll_columns r)
-  fine_choice r forms whole = record { key = forms.0.key; read = record { whole = whole; none = λ e. absurd (cc) }; names = forms.1 }
+  fine_choice : (r : Row) → IsStudent (student_row r) × AllByRecursion IsKey (choice_in round db r) → IsWhole (of_key (row_key r) (db (tree_of (choices_of round)))) → IsFine (choices_of round) db (roll_columns r)
+  fine_choice r forms whole = record {
+    key = forms.0.key;
+    read = record { whole = whole; none = λ e. absurd (let both : true ≡ false = sym (has_choice round db r) ∙ e in cc) };
+    names = forms.1;
+  }
 
-  names_of : (b : Bool) (key : Key) → (b ≡ false → of_key key (db ranking_tree) ≡ []) → IfSome (cond b (Some (chosen (db ranking_tree) key)) None) (AllByRecursion IsKey) → AllByRecursion IsKey (chosen (db ranking_tree) key)
+  names_of : (b : Bool) (key : Key) → (b ≡ false → of_key key (db (tree_of (rankings_of round))) ≡ []) → IfSome (cond b (Some (chosen (db (tree_of (rankings_of round))) key)) None) (AllByRecursion IsKey)
+      → AllByRecursion IsKey (chosen (db (tree_of (rankings_of round))) key)
   names_of true key none h = h
   names_of false key none h = subst (λ rows. AllByRecursion IsKey (list_of rows)) (sym (none refl)) tt
 
-  fine_ranking : (r : Row) → IsLecturer (lecturer_row r) × IfSome (lecturer_of (db ranking_tree) r).ranking (AllByRecursion IsKey) → IsWhole (of_key (row_key r) (db ranking_tree)) × (is_ranked r ≡ false → of_key (row_key r) (db ranking_tree) ≡ [])
-      → IsFine Rankings db (lecturer_columns r)
-  fine_ranking r forms lists = record { key = forms.0.key; read = record { whole = lists.0; none = lists.1 }; names = names_of (is_ranked r) (row_key r) lists.1 forms.1 }
+  fine_ranking : (r : Row) → IsLecturer (lecturer_row r) × IfSome (ranking_in round db r) (AllByRecursion IsKey)
+      → IsWhole (of_key (row_key r) (db (tree_of (rankings_of round)))) × (is_ranked round db r ≡ false → of_key (row_key r) (db (tree_of (rankings_of round))) ≡ []) → IsFine (rankings_of round) db (lecturer_columns r)
+  fine_ranking r forms lists = record {
+    key = forms.0.key;
+    read = record { whole = lists.0; none = λ e. lists.1 (sym (has_ranked round db r) ∙ e) };
+    names = names_of (is_ranked round db r) (row_key r) lists.1 forms.1;
+  }
 
-  pub all_fine : AreFine db (lecturers_shown db) (projects_shown db) (students_shown db)
-  all_fine =
-      let w = world_of db in
-      let good = stands.good in
-      let lecturers = of_lecturers (λ l. IsLecturer l.row) good.sound.lecturer_forms in
-      let students = of_students (λ s. IsStudent s.row) good.sound.student_forms in
-      let choices = of_students (λ s. AllByRecursion IsKey s.choice) (choice_keys w (world_first db) good) in
-      let rankings = of_lecturers (λ l. IfSome l.ranking (AllByRecursion IsKey)) (ranking_keys w (world_first db) good) in
-      let whole_choices = in_order _ (db student_tree) stands.whole.choices in
-      let whole_rankings = in_order _ (db lecturer_tree) stands.whole.rankings in
-      let ranked = in_order _ (db lecturer_tree) stands.whole.ranked in
+  pub all_fine : PlacesOnce round db → AreFine round db (lecturers_shown db) (projects_shown db) (students_shown db)
+  all_fine once =
+      let w = world_in round db in
+      let C = choices_of round in
+      let R = rankings_of round in
       let S = by_key (db student_tree) in
       let L = by_key (db lecturer_tree) in
+      let lecturers = of_lecturers (λ l. IsLecturer l.row) good.sound.lecturer_forms in
+      let students = of_students (λ s. IsStudent s.row) good.sound.student_forms in
+      let choices = of_students (λ s. AllByRecursion IsKey s.choice) (choice_keys w good) in
+      let rankings = of_lecturers (λ l. IfSome l.ranking (AllByRecursion IsKey)) (ranking_keys w good) in
+      let places = of_students (λ s. IfSome s.placed IsKey) (placed_keys w good) in
+      let whole_choices = in_order _ (db student_tree) whole.choices in
+      let whole_rankings = in_order _ (db lecturer_tree) whole.rankings in
+      let ranked = in_order _ (db lecturer_tree) whole.ranked in
       record {
         lecturer_forms = all_map (λ c. IsLecturer (shown_lecturer c)) lecturer_columns L lecturers;
         project_forms = all_map (λ c. IsProject (shown_project c)) roll_columns (by_key (db project_tree)) (of_projects IsProject good.sound.project_forms);
         student_forms = all_map (λ c. IsStudent (shown_student c)) roll_columns S students;
-        places = all_map HasPlace roll_columns S (of_students (λ s. IfSome s.placed IsKey) (placed_keys w (world_first db) good));
-        choices = all_map (IsFine Choices db) roll_columns S (all_two (λ r. IsStudent (student_row r) × AllByRecursion IsKey (chosen (db choice_tree) (row_key r))) (λ r. IsWhole (of_key (row_key r) (db choice_tree))) (λ r. IsFine Choices db (roll_columns r)) fine_choice S
-            (all_both (λ r. IsStudent (student_row r)) (λ r. AllByRecursion IsKey (chosen (db choice_tree) (row_key r))) S students choices) whole_choices);
-        rankings = all_map (IsFine Rankings db) lecturer_columns L (all_two (λ r. IsLecturer (lecturer_row r) × IfSome (lecturer_of (db ranking_tree) r).ranking (AllByRecursion IsKey))
-            (λ r. IsWhole (of_key (row_key r) (db ranking_tree)) × (is_ranked r ≡ false → of_key (row_key r) (db ranking_tree) ≡ [])) (λ r. IsFine Rankings db (lecturer_columns r)) fine_ranking L
-            (all_both (λ r. IsLecturer (lecturer_row r)) (λ r. IfSome (lecturer_of (db ranking_tree) r).ranking (AllByRecursion IsKey)) L lecturers rankings)
-            (all_both (λ r. IsWhole (of_key (row_key r) (db ranking_tree))) (λ r. is_ranked r ≡ false → of_key (row_key r) (db ranking_tree) ≡ []) L whole_rankings ranked));
+        places = all_map (HasPlace round db) roll_columns S (all_weaker (λ r. IfSome (place_in round db r) IsKey) (λ r. HasPlace round db (roll_columns r)) (has_place round db once) S places);
+        choices = all_map (IsFine C db) roll_columns S (all_two (λ r. IsStudent (student_row r) × AllByRecursion IsKey (choice_in round db r)) (λ r. IsWhole (of_key (row_key r) (db (tree_of C)))) (λ r. IsFine C db (roll_columns r)) fine_choice S
+            (all_both (λ r. IsStudent (student_row r)) (λ r. AllByRecursion IsKey (choice_in round db r)) S students choices) whole_choices);
+        rankings = all_map (IsFine R db) lecturer_columns L (all_two (λ r. IsLecturer (lecturer_row r) × IfSome (ranking_in round db r) (AllByRecursion IsKey))
+            (λ r. IsWhole (of_key (row_key r) (db (tree_of R))) × (is_ranked round db r ≡ false → of_key (row_key r) (db (tree_of R)) ≡ [])) (λ r. IsFine R db (lecturer_columns r)) fine_ranking L
+            (all_both (λ r. IsLecturer (lecturer_row r)) (λ r. IfSome (ranking_in round db r) (AllByRecursion IsKey)) L lecturers rankings)
+            (all_both (λ r. IsWhole (of_key (row_key r) (db (tree_of R)))) (λ r. is_ranked round db r ≡ false → of_key (row_key r) (db (tree_of R)) ≡ []) L whole_rankings ranked));
       }
+
+pub office_code : (of : ℕ) (db : Trees) (stands : StandsAs of db) → is_code stands.office.office ≡ true
+unfolding world_in
+office_code of db stands = subst (λ rows. is_code (bytes (column (slice_index_or rows 0 []) 4)) ≡ true) stands.office.is stands.good.sound.office_form
+
+-- of either round
+pub office_coded : (round : Round) (db : Trees) (stands : StandsIn round db) → is_code stands.office.office ≡ true
+unfolding world_in
+office_coded round db stands = subst (λ rows. is_code (bytes (column (slice_index_or rows 0 []) 4)) ≡ true) stands.office.is stands.good.sound.office_form
+
+-- the first round's tables stand for what the second round's world says of the first
+
+pub first_left : (db : Trees) → phase_in First db ≡ Published → first (world_in Second db) ≡ world_in First db
+unfolding world_in
+first_left db published = λ i. record (world_in First db) {
+  phase = sym published i;
+  lecturers = (ap (map first_published) (lecturers_by_key Second db) ∙ map-map first_published (lecturer_in Second db) (by_key (db lecturer_tree)) ∙ sym (lecturers_by_key First db)) i;
+  students = (ap (map first_placed) (students_by_key Second db) ∙ map-map first_placed (student_in Second db) (by_key (db student_tree)) ∙ sym (students_by_key First db)) i;
+}
+
+pub good_before : (w : World) → is_second w.round ≡ true → Good w → Good (first w)
+good_before w second good = let before = good.before second in record { sound = before.sound; stable = before.stable; before = λ e. absurd (cc) }
+
+pub stands_before : (db : Trees) → StandsIn Second db → StandsAs version db
+unfolding world_in
+stands_before db stands = record {
+  office = stands.office;
+  whole = stands.whole.0;
+  good = subst Good (first_left db stands.second.first) (good_before (world_in Second db) refl stands.good);
+}

@@ -1,5 +1,5 @@
 -- The tables as `create` makes them stand for the empty world in setup.
-use Rattle.std.proofs.Common.{◌≡◌, ◌≢◌, ℕ, Bool, IsTrue, List, [], ◌∷◌, true, false, not, eqb, refl, slice_index_or, map, sym, subst}
+use Rattle.std.proofs.Common.{◌≡◌, ◌≢◌, ℕ, Bool, IsTrue, List, [], ◌∷◌, true, false, not, eqb, refl, slice_index_or, map, sym, subst, ◌∙◌}
 use Rattle.std.specs.List.{AllByRecursion, list_all}
 use Rattle.sqlite.specs.Order.{Row, column, bytes}
 use Rattle.sqlite.specs.Effect.{Database}
@@ -20,9 +20,11 @@ use Rattle.portal_tables.proofs.Making.{parts_of}
 use Rattle.portal_tables.proofs.Owned.{own_made, current_own}
 use Rattle.portal_tables.proofs.Fresh.{fresh_apart}
 use Rattle.portal_list.proofs.Fresh.{fresh_good}
-use Rattle.portal_store.specs.World.{world_of, phase_of, lecturer_of, project_row, student_of}
-use Rattle.portal_store.specs.Kept.{Holds, IsKept}
+use Rattle.portal_store.specs.World.{world_in, world_of, phase_of, project_row}
+use Rattle.portal_store.proofs.FirstRows.{lecturer_of, student_of}
+use Rattle.portal_store.specs.Kept.{Holds, HoldsIn, IsKept}
 use Rattle.portal_store.specs.Made.{first_world}
+use Rattle.portal_store.proofs.Rounds.{world_told}
 
 -- the trees between that of `portal` and that of `second`, and those behind
 abbrev middle : List ℕ
@@ -55,8 +57,8 @@ module _ (office : Key) (db : Database) (f : IsFresh office db) where
   students : db.trees 6 ≡ []
   students = firsts.1.1.0
 
-  pub first_holds : Holds db
-  first_holds = record {
+  held_first : HoldsIn First db
+  held_first = record {
     current = own_made db.schema f.schema_is;
     own = current_own db.schema (own_made db.schema f.schema_is);
     sound = f.sound;
@@ -66,9 +68,12 @@ module _ (office : Key) (db : Database) (f : IsFresh office db) where
     whole = record { choices = none _ (db.trees 6) students; rankings = none _ (db.trees 1) lecturers; ranked = none _ (db.trees 1) lecturers };
   }
 
-  pub first_is : world_of db.trees ≡ first_world office
-  unfolding world_of
-  first_is = λ i. record {
+  pub first_holds : Holds db
+  first_holds = (First, held_first)
+
+  in_first : world_in First db.trees ≡ first_world office
+  unfolding world_in
+  in_first = λ i. record {
     round = First;
     phase = phase_of (number_in (column (slice_index_or (f.row i) 0 []) 3));
     office = bytes (column (slice_index_or (f.row i) 0 []) 4);
@@ -76,6 +81,9 @@ module _ (office : Key) (db : Database) (f : IsFresh office db) where
     projects = put_all project_key (map project_row (projects i)) [];
     students = put_all student_key (map (student_of (db.trees 9)) (students i)) [];
   }
+
+  pub first_is : world_of db.trees ≡ first_world office
+  first_is = world_told First db.trees held_first.second ∙ in_first
 
   pub first_is_good : IsTrue (is_code office) → Good (world_of db.trees)
   first_is_good form = subst Good (sym first_is) (fresh_good office form)

@@ -6,11 +6,12 @@ use Rattle.sqlite.specs.Tree.{Trees}
 use Rattle.sqlite.specs.Store.{Ghosts}
 use Rattle.sqlite.specs.Held.{Held, state}
 use Rattle.portal_core.specs.Change.{Change, changed}
+use Rattle.portal_core.specs.declared.phase.Round.TheVariants.{Second}
 use Rattle.portal_core.specs.World.{World}
 use Rattle.portal_core.specs.Good.{Good, Sound}
-use Rattle.portal_tables.specs.Own.{IsOwn}
+use Rattle.portal_tables.specs.Own.{IsCurrent}
 use Rattle.portal_tables.proofs.Runs.{clean_if_open}
-use Rattle.portal_tables.specs.Reading.{Asks}
+use Rattle.portal_tables.specs.Reading.{AsksIn}
 use Rattle.portal_tables.specs.Steps.{Commits, Stays, Leaves, IsAfter}
 use Rattle.portal_core.specs.Remembered.{Remembers}
 use Rattle.portal_core.specs.declared.remembered.Remembered.{Remembered}
@@ -44,15 +45,15 @@ module _
     (is : ◌≡◌ {A = Seen S} (record { conn = old; own = own; faults = few }) before)
     (kept : IsKept g old own)
     (idle : new.in_transaction ≡ false)
-    (is_own : IsTrue before.own → IsOwn before.conn.schema)
+    (is_own : IsTrue before.own → IsCurrent before.conn.schema)
     (law : IsTrue (state g new).is_open → HasCleanDisk (state g new))
     (good : IsCleanStore g before → Good (kept_world g before))
     (leaves : IsCleanStore g before → Good (changed (kept_world g before) change)) where
   abbrev seen : Seen S
   seen = record { conn = old; own = own; faults = few }
 
-  known : IsTrue own → IsOwn old.schema
-  known = subst (λ (s : Seen S). IsTrue s.own → IsOwn s.conn.schema) (sym is) is_own
+  known : IsTrue own → IsCurrent old.schema
+  known = subst (λ (s : Seen S). IsTrue s.own → IsCurrent s.conn.schema) (sym is) is_own
 
   turned : IsTrue own → Commits (Turns change) (state g old) (state g new) → Turned change (state g old).now (state g new).now
   turned mine done =
@@ -61,14 +62,14 @@ module _
 
   -- what a crash leaves, as the caller sees the tables before: an open store leaves what is committed alone
   pub change_left : ((db : Trees) → IsTrue (state g old).is_open → (state g old).may_leave db → db ≡ (state g old).committed.trees)
-      → (IsOwn old.schema → Survives (state g old) (state g new) (IsAfter (Turns change) (state g old)))
+      → Survives (state g old) (state g new) (λ db. IsCurrent old.schema → IsAfter (Turns change) (state g old) db)
       → IsCleanStore g before → HasCleanDisk (state g new) → (db : Trees) → (state g new).may_leave db → IsLeft change (state g before.conn).now db
   change_left settled survives on clean db leaves_it =
       let mine : IsCleanStore g seen = subst (λ s. IsCleanStore g s) (sym is) on in
       let was = kept.ready mine.0 mine.1 in
-      let left : IsLeft change (state g old).now db = elim ((survives (known mine.0)).crash clean db leaves_it) [
+      let left : IsLeft change (state g old).now db = elim (survives.crash clean db leaves_it) [
         | inl earlier ↦ inl (settled db mine.1 earlier ∙ ap (λ (d : Database). d.trees) was.settled)
-        | inr made ↦ inr (
+        | inr left ↦ let made = left (known mine.0) in inr (
           made.0,
           made.1 was.holds (subst (λ s. IsCleanStore g s → Good (kept_world g s)) (sym is) good mine)
               (subst (λ s. IsCleanStore g s → Good (changed (kept_world g s) change)) (sym is) leaves mine),
@@ -139,7 +140,7 @@ module _
         (subst (AreEntries m) (sym (same_by (Err e) same on)) (keeps (kept.ready on.0 s.0).holds fine (law on.1) (was (on.0, s.0))))
 
     -- the entries are the world's: after a change that was made what follows, and otherwise those at hand
-    pub change_told : (before m n : Option AllEntries) → (IsCleanStore g seen → AreEntries before (kept_world g seen)) → (IsOwn old.schema → KeepsEntries before m (state g old) (state g new))
+    pub change_told : (before m n : Option AllEntries) → (IsCleanStore g seen → AreEntries before (kept_world g seen)) → (IsCurrent old.schema → KeepsEntries before m (state g old) (state g new))
         → OnOk r ((w : World) → Sound w → AreEntries m w → AreEntries n (changed w change)) → OnErr r (n ≡ m)
         → IsCleanStore g (record { conn = new; own = own; faults = few }) → AreEntries n (world_of (state g new).now.trees)
     change_told before m n was keeps follows stayed on = told_by before m n was (keeps (known on.0)) r follows stayed done stays on
@@ -174,12 +175,12 @@ module _
     (is : ◌≡◌ {A = Seen S} (record { conn = old; own = own; faults = few }) before)
     (kept : IsKept g old own)
     (idle : new.in_transaction ≡ false)
-    (is_own : IsTrue before.own → IsOwn before.conn.schema)
+    (is_own : IsTrue before.own → IsCurrent before.conn.schema)
     (law : IsTrue (state g new).is_open → HasCleanDisk (state g new))
     (r : Result V E)
-    (asks : Asks r (state g old) (state g new)) where
-  own_known : IsTrue own → IsOwn old.schema
-  own_known = subst (λ (s : Seen S). IsTrue s.own → IsOwn s.conn.schema) (sym is) is_own
+    (asks : AsksIn Second r (state g old) (state g new)) where
+  own_known : IsTrue own → IsCurrent old.schema
+  own_known = subst (λ (s : Seen S). IsTrue s.own → IsCurrent s.conn.schema) (sym is) is_own
 
   either : (r : Result V E) → OnOk r (IsUnchanged (state g old) (state g new)) → OnErr r (Leaves (state g old) (state g new)) → Leaves (state g old) (state g new)
   either (Ok v) a b = inl a
@@ -212,7 +213,7 @@ module _
       subst (λ (d : Database). AreEntries n (world_of d.trees)) (sym same.1) (was (on.0, same.0))
 
   -- what is known where a call may rely on what is kept
-  pub read_holds : (P : Type 0) → (IsOwn old.schema → HasCleanDisk (state g new) → Holds (state g old).now → P) → IsCleanStore g (record { conn = new; own = own; faults = few }) → P
+  pub read_holds : (P : Type 0) → (IsCurrent old.schema → HasCleanDisk (state g new) → Holds (state g old).now → P) → IsCleanStore g (record { conn = new; own = own; faults = few }) → P
   read_holds P found on = found (own_known on.0) (law on.1) (kept.ready on.0 (rest on.0 on.1).0).holds
 
 -- what follows of an answer, whatever it is, from what is said of it under a premise

@@ -7,28 +7,31 @@ use Rattle.std.proofs.lemmas.List.Sorted.{IsPermutation-sym}
 use Rattle.sqlite.specs.Order.{Row, column, bytes}
 use Rattle.sqlite.specs.Tree.{Trees}
 use Rattle.sqlite_trees.specs.Objects.{number_in}
-use Rattle.sqlite_trees.proofs.ListLemmas.{map-map}
+use Rattle.sqlite_trees.proofs.ListLemmas.{map-map, all_of}
 use Rattle.portal_core.specs.declared.phase.Phase.{Phase}
-use Rattle.portal_core.specs.declared.phase.Round.TheVariants.{First}
+use Rattle.portal_core.specs.declared.phase.Round.{Round}
+use Rattle.portal_core.specs.declared.phase.Round.TheVariants.{First, Second}
 use Rattle.portal_core.specs.Words.{Key, put_all}
-use Rattle.portal_core.specs.World.{Lecturer, Student, alone, alone_lecturer, alone_student, lecturer_key, project_key, student_key}
-use Rattle.portal_core.proofs.AllLaws.{all_weaker}
+use Rattle.portal_core.specs.World.{World, Lecturer, Student, pairs_with, is_second, alone, alone_lecturer, alone_student, lecturer_key, project_key, student_key}
+use Rattle.portal_core.proofs.AllLaws.{all_weaker, all_map}
 use Rattle.portal_core.proofs.Keys.{all_unmap}
-use Rattle.portal_list.specs.Rows.{Rows, rows_of}
-use Rattle.portal_tables.specs.Tables.{portal_tree, lecturer_tree, project_tree, student_tree, choice_tree, ranking_tree}
-use Rattle.portal_tables.specs.Rows.{portal_row}
-use Rattle.portal_tables.specs.declared.list_table.Lists.TheVariants.{Choices, Rankings}
+use Rattle.portal_list.specs.Rows.{Rows, rows_of, choices_in, rankings_with}
+use Rattle.portal_tables.specs.Tables.{portal_tree, lecturer_tree, project_tree, student_tree, second_tree, version}
+use Rattle.portal_tables.specs.Rows.{portal_row, second_row}
+use Rattle.portal_tables.specs.ListTables.{tree_of}
 use Rattle.portal_tables.specs.Office.{number_of}
 use Rattle.portal_tables.specs.Rolls.{row_key, by_key, lecturers_shown, projects_shown, students_shown, lecturer_columns, roll_columns}
-use Rattle.portal_store.specs.World.{world_of, phase_of, is_ranked, lecturer_of, project_row, student_of}
+use Rattle.portal_store.specs.World.{round_in, world_in, phase_of, second_phase, choices_of, rankings_of, is_ranked, lecturer_in, student_in, project_row}
 use Rattle.portal_tables.specs.Lists.{of_key, chosen, IsWhole}
 use Rattle.portal_store.specs.Kept.{Whole}
-use Rattle.portal_store.specs.Loads.{Loads}
-use Rattle.portal_tables.specs.Shown.{shown_lecturer, shown_project, shown_student, shown_pair}
-use Rattle.portal_tables.specs.Owners.{entry, IsRead}
+use Rattle.portal_store.specs.Loads.{Loads, LoadsIn, after_first}
+use Rattle.portal_tables.specs.Shown.{shown_lecturer, shown_project, shown_student}
+use Rattle.portal_tables.specs.Places.{pair_shown}
+use Rattle.portal_tables.specs.Owners.{entry, has_list, IsRead}
 use Rattle.portal_tables.specs.Contents.{AllRows, AreRead, rows_from}
-use Rattle.portal_tables.proofs.Sorted.{all_permuted, permutes, put_all_map}
-use Rattle.portal_store.proofs.Holding.{phase_back}
+use Rattle.portal_tables.proofs.Sorted.{all_permuted, map_alike, permutes, put_all_map}
+use Rattle.portal_store.proofs.Rounds.{phase_back}
+use Rattle.portal_store.proofs.RowsOnce.{HasNothingBefore, nothing_before}
 
 -- the rows of a world: that of the office, and the others
 abbrev pub with_office : Phase → Key → AllRows → Rows
@@ -68,6 +71,121 @@ ranked_pair : (b : Bool) (key : Key) (list : List Key) → cond {A = Option (Key
 ranked_pair true key list = refl
 ranked_pair false key list = refl
 
+-- what is shown of rows, and what is made of the entries that the rows stand for
+
+each_map : {X Y : Type 0} (f : Y → X) (made : Row → Y) (shown : Row → X) (cells : Row → Row) (rows : List Row) (all : List Y) → all ≡ map made rows → ((r : Row) → shown (cells r) ≡ f (made r)) → map shown (map cells rows) ≡ map f all
+each_map f made shown cells rows all is same = map-map shown cells rows ∙ map_alike (λ r. shown (cells r)) (λ r. f (made r)) rows same ∙ sym (ap (map f) is ∙ map-map f made rows)
+
+pub each_found : {X Y : Type 0} (f : Y → Option X) (made : Row → Y) (shown : Row → Option X) (cells : Row → Row) (rows : List Row) (all : List Y) → all ≡ map made rows → ((r : Row) → shown (cells r) ≡ f (made r))
+    → filter_map shown (map cells rows) ≡ filter_map f all
+each_found f made shown cells rows all is same = some_mapped shown cells rows ∙ some_alike (λ r. shown (cells r)) (λ r. f (made r)) rows same ∙ sym (ap (filter_map f) is ∙ some_mapped f made rows)
+
+-- the same of two ways to make entries
+each_alike : {X Y : Type 0} (f g : Y → X) (one other : Row → Y) (rows : List Row) (all more : List Y) → all ≡ map one rows → more ≡ map other rows → ((r : Row) → f (one r) ≡ g (other r)) → map f all ≡ map g more
+each_alike f g one other rows all more is also same = ap (map f) is ∙ map-map f one rows ∙ map_alike (λ r. f (one r)) (λ r. g (other r)) rows same ∙ sym (ap (map g) also ∙ map-map g other rows)
+
+found_alike : {X Y : Type 0} (f g : Y → Option X) (one other : Row → Y) (rows : List Row) (all more : List Y) → all ≡ map one rows → more ≡ map other rows → ((r : Row) → f (one r) ≡ g (other r)) → filter_map f all ≡ filter_map g more
+found_alike f g one other rows all more is also same = ap (filter_map f) is ∙ some_mapped f one rows ∙ some_alike (λ r. f (one r)) (λ r. g (other r)) rows same ∙ sym (ap (filter_map g) also ∙ some_mapped g other rows)
+
+-- what is made of an entry
+
+abbrev chosen_pair : Student → Key × List Key
+chosen_pair s = (s.row.key, s.choice)
+
+abbrev earlier_choice_pair : Student → Key × List Key
+earlier_choice_pair s = (s.row.key, s.earlier_choice)
+
+abbrev ranking_entry : Lecturer → Option (Key × List Key)
+ranking_entry l = option_map (λ list. (l.row.key, list)) l.ranking
+
+abbrev placed_pair : Student → Option (Key × Key)
+placed_pair s = option_map (λ p. (s.row.key, p)) s.placed
+
+abbrev earlier_entry : Lecturer → Option (Key × List Key)
+earlier_entry l = option_map (λ list. (l.row.key, list)) l.earlier_ranking
+
+abbrev earlier_pair : Student → Option (Key × Key)
+earlier_pair s = option_map (λ p. (s.row.key, p)) s.earlier_place
+
+-- what the tables of a round show of it
+
+pub has_choice : (round : Round) (db : Trees) (r : Row) → has_list (choices_of round) db (roll_columns r) ≡ true
+has_choice First db r = refl
+has_choice Second db r = refl
+
+pub has_ranked : (round : Round) (db : Trees) (r : Row) → has_list (rankings_of round) db (lecturer_columns r) ≡ is_ranked round db r
+has_ranked First db r = refl
+has_ranked Second db r = refl
+
+choice_shown : (round : Round) (db : Trees) (r : Row) → entry (choices_of round) db (roll_columns r) ≡ Some (chosen_pair (student_in round db r))
+choice_shown First db r = refl
+choice_shown Second db r = refl
+
+ranking_shown : (round : Round) (db : Trees) (r : Row) → entry (rankings_of round) db (lecturer_columns r) ≡ ranking_entry (lecturer_in round db r)
+ranking_shown round db r =
+    let list = chosen (db (tree_of (rankings_of round))) (row_key r) in
+    ap (λ b. cond {A = Option (Key × List Key)} b (Some (row_key r, list)) None) (has_ranked round db r) ∙ ranked_pair (is_ranked round db r) (row_key r) list
+
+place_told : (round : Round) (db : Trees) (r : Row) → pair_shown round None db (roll_columns r) ≡ placed_pair (student_in round db r)
+place_told First db r = refl
+place_told Second db r = refl
+
+-- what the rows of a world say of its own round
+abbrev pub rows_now : World → AllRows
+rows_now w =
+    record {
+      lecturers = map (λ l. l.row) w.lecturers;
+      projects = w.projects;
+      students = map (λ s. s.row) w.students;
+      choices = choices_in w.students;
+      rankings = rankings_with (λ l. l.ranking) w.lecturers;
+      pairs = pairs_with (λ s. s.placed) w.students;
+    }
+
+module _ (round : Round) (db : Trees) where
+  pub lecturers_by_key : put_all lecturer_key (map (lecturer_in round db) (db lecturer_tree)) [] ≡ map (lecturer_in round db) (by_key (db lecturer_tree))
+  lecturers_by_key = put_all_map row_key lecturer_key (lecturer_in round db) (λ r. refl) (db lecturer_tree) []
+
+  pub projects_by_key : put_all project_key (map project_row (db project_tree)) [] ≡ map project_row (by_key (db project_tree))
+  projects_by_key = put_all_map row_key project_key project_row (λ r. refl) (db project_tree) []
+
+  pub students_by_key : put_all student_key (map (student_in round db) (db student_tree)) [] ≡ map (student_in round db) (by_key (db student_tree))
+  students_by_key = put_all_map row_key student_key (student_in round db) (λ r. refl) (db student_tree) []
+
+  pub round_rows : rows_from round db (lecturers_shown db) (projects_shown db) (students_shown db) ≡ rows_now (world_in round db)
+  unfolding world_in
+  round_rows =
+      let L = by_key (db lecturer_tree) in
+      let S = by_key (db student_tree) in
+      let lecturers = each_map (λ (l : Lecturer). l.row) (lecturer_in round db) shown_lecturer lecturer_columns L _ lecturers_by_key (λ r. refl) in
+      let projects = map-map shown_project roll_columns (by_key (db project_tree)) ∙ sym projects_by_key in
+      let students = each_map (λ (s : Student). s.row) (student_in round db) shown_student roll_columns S _ students_by_key (λ r. refl) in
+      let choices = some_mapped (entry (choices_of round) db) roll_columns S
+      ∙ some_alike (λ r. entry (choices_of round) db (roll_columns r)) (λ r. Some (chosen_pair (student_in round db r))) S (choice_shown round db) ∙ each_some (λ r. chosen_pair (student_in round db r)) S
+      ∙ sym (ap (map chosen_pair) students_by_key ∙ map-map chosen_pair (student_in round db) S) in
+      let rankings = each_found ranking_entry (lecturer_in round db) (entry (rankings_of round) db) lecturer_columns L _ lecturers_by_key (ranking_shown round db) in
+      let pairs = each_found placed_pair (student_in round db) (pair_shown round None db) roll_columns S _ students_by_key (place_told round db) in
+      λ i. record { lecturers = lecturers i; projects = projects i; students = students i; choices = choices i; rankings = rankings i; pairs = pairs i }
+
+  -- what was found of the rows in their order holds of the table
+  back : (P : Row → Type 0) (table : List Row) → AllByRecursion P (by_key table) → AllByRecursion P table
+  back P table all = all_permuted P (by_key table) table (IsPermutation-sym _ _ (permutes row_key table)) all
+
+  pub whole_is : AreRead round db (lecturers_shown db) (students_shown db) → Whole round db
+  whole_is read =
+      let C = choices_of round in
+      let R = rankings_of round in
+      let L = by_key (db lecturer_tree) in
+      let S = by_key (db student_tree) in
+      let lists = all_unmap (IsRead C db) roll_columns S read.choices in
+      let ranks = all_unmap (IsRead R db) lecturer_columns L read.rankings in
+      record {
+        choices = back (λ r. IsWhole (of_key (row_key r) (db (tree_of C)))) (db student_tree) (all_weaker (λ r. IsRead C db (roll_columns r)) (λ r. IsWhole (of_key (row_key r) (db (tree_of C)))) (λ r x. x.whole) S lists);
+        rankings = back (λ r. IsWhole (of_key (row_key r) (db (tree_of R)))) (db lecturer_tree) (all_weaker (λ r. IsRead R db (lecturer_columns r)) (λ r. IsWhole (of_key (row_key r) (db (tree_of R)))) (λ r x. x.whole) L ranks);
+        ranked = back (λ r. is_ranked round db r ≡ false → of_key (row_key r) (db (tree_of R)) ≡ []) (db lecturer_tree)
+            (all_weaker (λ r. IsRead R db (lecturer_columns r)) (λ r. is_ranked round db r ≡ false → of_key (row_key r) (db (tree_of R)) ≡ []) (λ r x e. x.none (has_ranked round db r ∙ e)) L ranks);
+      }
+
 module _ (db : Trees) where
   abbrev by_lecturer : List Row
   by_lecturer = by_key (db lecturer_tree)
@@ -75,99 +193,114 @@ module _ (db : Trees) where
   abbrev by_student : List Row
   by_student = by_key (db student_tree)
 
-  pub lecturers_are : put_all lecturer_key (map (lecturer_of (db ranking_tree)) (db lecturer_tree)) [] ≡ map (lecturer_of (db ranking_tree)) by_lecturer
-  lecturers_are = put_all_map row_key lecturer_key (lecturer_of (db ranking_tree)) (λ r. refl) (db lecturer_tree) []
-
-  pub projects_are : put_all project_key (map project_row (db project_tree)) [] ≡ map project_row (by_key (db project_tree))
-  projects_are = put_all_map row_key project_key project_row (λ r. refl) (db project_tree) []
-
-  pub students_are : put_all student_key (map (student_of (db choice_tree)) (db student_tree)) [] ≡ map (student_of (db choice_tree)) by_student
-  students_are = put_all_map row_key student_key (student_of (db choice_tree)) (λ r. refl) (db student_tree) []
-
   -- nothing was before
-  pub world_alone : alone (world_of db) ≡ world_of db
-  unfolding world_of
-  world_alone = λ i. record (world_of db) {
-    lecturers = (ap (map alone_lecturer) lecturers_are ∙ map-map alone_lecturer (lecturer_of (db ranking_tree)) by_lecturer ∙ sym lecturers_are) i;
-    students = (ap (map alone_student) students_are ∙ map-map alone_student (student_of (db choice_tree)) by_student ∙ sym students_are) i;
+  pub world_alone : alone (world_in First db) ≡ world_in First db
+  unfolding world_in
+  world_alone = λ i. record (world_in First db) {
+    lecturers = (ap (map alone_lecturer) (lecturers_by_key First db) ∙ map-map alone_lecturer (lecturer_in First db) by_lecturer ∙ sym (lecturers_by_key First db)) i;
+    students = (ap (map alone_student) (students_by_key First db) ∙ map-map alone_student (student_in First db) by_student ∙ sym (students_by_key First db)) i;
   }
 
-  pub world_first : (world_of db).round ≡ First
-  unfolding world_of
+  pub world_first : (world_in First db).round ≡ First
+  unfolding world_in
   world_first = refl
 
-  abbrev ranking_entry : Lecturer → Option (Key × List Key)
-  ranking_entry l = option_map (λ list. (l.row.key, list)) l.ranking
-
-  abbrev placed_pair : Student → Option (Key × Key)
-  placed_pair s = option_map (λ p. (s.row.key, p)) s.placed
-
-  abbrev earlier_entry : Lecturer → Option (Key × List Key)
-  earlier_entry l = option_map (λ list. (l.row.key, list)) l.earlier_ranking
-
-  abbrev earlier_pair : Student → Option (Key × Key)
-  earlier_pair s = option_map (λ p. (s.row.key, p)) s.earlier_place
+  pub none_earlier : AllByRecursion (λ (s : Student). s.earlier_place ≡ None) (world_in First db).students
+  none_earlier =
+      subst (λ w. AllByRecursion (λ (s : Student). s.earlier_place ≡ None) w.students) world_alone
+      (all_map (λ (s : Student). s.earlier_place ≡ None) alone_student (world_in First db).students (all_of _ (λ s. refl) (world_in First db).students))
 
   pub rows_are : (of : ℕ) (phase : Phase) (code : Key) → db portal_tree ≡ portal_row (pos of) (pos (number_of phase)) code ∷ []
-      → with_office phase code (rows_from db (lecturers_shown db) (projects_shown db) (students_shown db)) ≡ rows_of (world_of db)
-  unfolding world_of
+      → with_office phase code (rows_from First db (lecturers_shown db) (projects_shown db) (students_shown db)) ≡ rows_of (world_in First db)
+  unfolding world_in
   rows_are of phase code office =
       let phase_is : phase ≡ phase_of (number_in (column (slice_index_or (db portal_tree) 0 []) 3)) = sym (ap (λ rows. phase_of (number_in (column (slice_index_or rows 0 []) 3))) office ∙ phase_back phase) in
       let code_is : code ≡ bytes (column (slice_index_or (db portal_tree) 0 []) 4) = sym (ap (λ rows. bytes (column (slice_index_or rows 0 []) 4)) office) in
-      let lecturers = map-map shown_lecturer lecturer_columns by_lecturer ∙ sym (ap (map (λ (l : Lecturer). l.row)) lecturers_are ∙ map-map (λ (l : Lecturer). l.row) (lecturer_of (db ranking_tree)) by_lecturer) in
-      let projects = map-map shown_project roll_columns (by_key (db project_tree)) ∙ sym projects_are in
-      let students = map-map shown_student roll_columns by_student ∙ sym (ap (map (λ (s : Student). s.row)) students_are ∙ map-map (λ (s : Student). s.row) (student_of (db choice_tree)) by_student) in
-      let choices = some_mapped (entry Choices db) roll_columns by_student ∙ each_some (λ r. (row_key r, chosen (db choice_tree) (row_key r))) by_student
-      ∙ sym (ap (map (λ (s : Student). (s.row.key, s.choice))) students_are ∙ map-map (λ (s : Student). (s.row.key, s.choice)) (student_of (db choice_tree)) by_student) in
-      let rankings = some_mapped (entry Rankings db) lecturer_columns by_lecturer
-      ∙ some_alike (λ r. entry Rankings db (lecturer_columns r)) (λ r. ranking_entry (lecturer_of (db ranking_tree) r)) by_lecturer (λ r. ranked_pair (is_ranked r) (row_key r) (chosen (db ranking_tree) (row_key r)))
-      ∙ sym (ap (filter_map ranking_entry) lecturers_are ∙ some_mapped ranking_entry (lecturer_of (db ranking_tree)) by_lecturer) in
-      let pairs = some_mapped shown_pair roll_columns by_student ∙ sym (ap (filter_map placed_pair) students_are ∙ some_mapped placed_pair (student_of (db choice_tree)) by_student) in
-      let earlier_rankings : filter_map earlier_entry (put_all lecturer_key (map (lecturer_of (db ranking_tree)) (db lecturer_tree)) []) ≡ [] =
-      ap (filter_map earlier_entry) lecturers_are ∙ some_mapped earlier_entry (lecturer_of (db ranking_tree)) by_lecturer ∙ none_some (λ r. earlier_entry (lecturer_of (db ranking_tree) r)) by_lecturer (λ r. refl) in
-      let earlier_pairs : filter_map earlier_pair (put_all student_key (map (student_of (db choice_tree)) (db student_tree)) []) ≡ [] =
-      ap (filter_map earlier_pair) students_are ∙ some_mapped earlier_pair (student_of (db choice_tree)) by_student ∙ none_some (λ r. earlier_pair (student_of (db choice_tree) r)) by_student (λ r. refl) in
+      let earlier_rankings : filter_map earlier_entry (put_all lecturer_key (map (lecturer_in First db) (db lecturer_tree)) []) ≡ [] =
+      ap (filter_map earlier_entry) (lecturers_by_key First db) ∙ some_mapped earlier_entry (lecturer_in First db) by_lecturer ∙ none_some (λ r. earlier_entry (lecturer_in First db r)) by_lecturer (λ r. refl) in
+      let earlier_pairs : filter_map earlier_pair (put_all student_key (map (student_in First db) (db student_tree)) []) ≡ [] =
+      ap (filter_map earlier_pair) (students_by_key First db) ∙ some_mapped earlier_pair (student_in First db) by_student ∙ none_some (λ r. earlier_pair (student_in First db r)) by_student (λ r. refl) in
+      let same = round_rows First db in
       λ i. record {
         round = First;
         phase = phase_is i;
         office = code_is i;
-        lecturers = lecturers i;
-        projects = projects i;
-        students = students i;
-        choices = choices i;
-        rankings = rankings i;
-        pairs = pairs i;
+        lecturers = (same i).lecturers;
+        projects = (same i).projects;
+        students = (same i).students;
+        choices = (same i).choices;
+        rankings = (same i).rankings;
+        pairs = (same i).pairs;
         earlier_choices = [];
         earlier_rankings = sym earlier_rankings i;
         earlier_pairs = sym earlier_pairs i;
       }
 
-  -- what was found of the rows in their order holds of the table
-  back : (P : Row → Type 0) (table : List Row) → AllByRecursion P (by_key table) → AllByRecursion P table
-  back P table all = all_permuted P (by_key table) table (IsPermutation-sym _ _ (permutes row_key table)) all
+  loads : (of : ℕ) (phase : Phase) (code : Key) → db portal_tree ≡ portal_row (pos of) (pos (number_of phase)) code ∷ [] → (rows : AllRows)
+      → rows ≡ rows_from First db (lecturers_shown db) (projects_shown db) (students_shown db) → AreRead First db (lecturers_shown db) (students_shown db) → Loads of db (with_office phase code rows)
+  loads of phase code office rows is read = record {
+    office = record { phase = phase; office = code; is = office };
+    whole = whole_is First db read;
+    rows_are = ap (with_office phase code) is ∙ rows_are of phase code office;
+  }
 
-  whole_is : AreRead db (lecturers_shown db) (students_shown db) → Whole db
-  whole_is read =
-      let lists = all_unmap (IsRead Choices db) roll_columns by_student read.choices in
-      let ranks = all_unmap (IsRead Rankings db) lecturer_columns by_lecturer read.rankings in
-      record {
-        choices = back (λ r. IsWhole (of_key (row_key r) (db choice_tree))) (db student_tree) (all_weaker (λ r. IsRead Choices db (roll_columns r)) (λ r. IsWhole (of_key (row_key r) (db choice_tree))) (λ r x. x.whole) by_student lists);
-        rankings = back (λ r. IsWhole (of_key (row_key r) (db ranking_tree))) (db lecturer_tree) (all_weaker (λ r. IsRead Rankings db (lecturer_columns r)) (λ r. IsWhole (of_key (row_key r) (db ranking_tree))) (λ r x. x.whole) by_lecturer ranks);
-        ranked = back (λ r. is_ranked r ≡ false → of_key (row_key r) (db ranking_tree) ≡ []) (db lecturer_tree)
-            (all_weaker (λ r. IsRead Rankings db (lecturer_columns r)) (λ r. is_ranked r ≡ false → of_key (row_key r) (db ranking_tree) ≡ []) (λ r x. x.none) by_lecturer ranks);
+  -- after the rows of the first round, those of the second
+  after_rows : (first : Rows) (phase : Phase) → first ≡ rows_of (world_in First db) → db second_tree ≡ second_row (pos (number_of phase)) ∷ []
+      → after_first first phase (rows_from Second db (lecturers_shown db) (projects_shown db) (students_shown db)) ≡ rows_of (world_in Second db)
+  unfolding world_in
+  after_rows first phase is row =
+      let phase_is : phase ≡ phase_of (second_phase db) = sym (ap (λ rows. phase_of (number_in (column (slice_index_or rows 0 []) 2))) row ∙ phase_back phase) in
+      let choices = ap (λ (r : Rows). r.choices) is ∙ each_alike chosen_pair earlier_choice_pair (student_in First db) (student_in Second db) by_student _ _ (students_by_key First db) (students_by_key Second db) (λ r. refl) in
+      let rankings = ap (λ (r : Rows). r.rankings) is ∙ found_alike ranking_entry earlier_entry (lecturer_in First db) (lecturer_in Second db) by_lecturer _ _ (lecturers_by_key First db) (lecturers_by_key Second db) (λ r. refl) in
+      let pairs = ap (λ (r : Rows). r.pairs) is ∙ found_alike placed_pair earlier_pair (student_in First db) (student_in Second db) by_student _ _ (students_by_key First db) (students_by_key Second db) (λ r. refl) in
+      let same = round_rows Second db in
+      λ i. record {
+        round = Second;
+        phase = phase_is i;
+        office = (is i).office;
+        lecturers = (same i).lecturers;
+        projects = (same i).projects;
+        students = (same i).students;
+        choices = (same i).choices;
+        rankings = (same i).rankings;
+        pairs = (same i).pairs;
+        earlier_choices = choices i;
+        earlier_rankings = rankings i;
+        earlier_pairs = pairs i;
       }
 
-  loads : (of : ℕ) (phase : Phase) (code : Key) → db portal_tree ≡ portal_row (pos of) (pos (number_of phase)) code ∷ [] → (rows : AllRows)
-      → rows ≡ rows_from db (lecturers_shown db) (projects_shown db) (students_shown db) → AreRead db (lecturers_shown db) (students_shown db) → Loads of db (with_office phase code rows)
-  loads of phase code office rows is read = record { office = record { phase = phase; office = code; is = office }; whole = whole_is read; rows_are = ap (with_office phase code) is ∙ rows_are of phase code office }
+  loads_after : (first : Rows) (phase : Phase) → Loads version db first → db second_tree ≡ second_row (pos (number_of phase)) ∷ [] → (rows : AllRows)
+      → rows ≡ rows_from Second db (lecturers_shown db) (projects_shown db) (students_shown db) → AreRead Second db (lecturers_shown db) (students_shown db) → LoadsIn Second db (after_first first phase rows)
+  loads_after first phase loads row rows is read = record {
+    office = loads.office;
+    whole = (loads.whole, whole_is Second db read);
+    rows_are = ap (after_first first phase) is ∙ after_rows first phase loads.rows_are row;
+  }
 
 -- the same, where they were read later
 pub loaded : (of : ℕ) (db there : Trees) → there ≡ db → (phase : Phase) (code : Key) → db portal_tree ≡ portal_row (pos of) (pos (number_of phase)) code ∷ [] → (rows : AllRows)
-    → rows ≡ rows_from there (lecturers_shown there) (projects_shown there) (students_shown there) → AreRead there (lecturers_shown there) (students_shown there) → Loads of db (with_office phase code rows)
+    → rows ≡ rows_from First there (lecturers_shown there) (projects_shown there) (students_shown there) → AreRead First there (lecturers_shown there) (students_shown there) → Loads of db (with_office phase code rows)
 loaded of db there same phase code office rows is read =
-    loads db of phase code office rows (subst (λ t. rows ≡ rows_from t (lecturers_shown t) (projects_shown t) (students_shown t)) same is) (subst (λ t. AreRead t (lecturers_shown t) (students_shown t)) same read)
+    loads db of phase code office rows (subst (λ t. rows ≡ rows_from First t (lecturers_shown t) (projects_shown t) (students_shown t)) same is) (subst (λ t. AreRead First t (lecturers_shown t) (students_shown t)) same read)
+
+pub loaded_after : (db then there : Trees) → then ≡ db → there ≡ db → (first : Rows) (phase : Phase) → db second_tree ≡ second_row (pos (number_of phase)) ∷ [] → Loads version then first → (rows : AllRows)
+    → rows ≡ rows_from Second there (lecturers_shown there) (projects_shown there) (students_shown there) → AreRead Second there (lecturers_shown there) (students_shown there) → LoadsIn Second db (after_first first phase rows)
+loaded_after db then there was same first phase row loads rows is read =
+    loads_after db first phase (subst (λ t. Loads version t first) was loads) row rows (subst (λ t. rows ≡ rows_from Second t (lecturers_shown t) (projects_shown t) (students_shown t)) same is)
+    (subst (λ t. AreRead Second t (lecturers_shown t) (students_shown t)) same read)
 
 -- an error that is handed on is the one that was answered
 pub same_error : {V U E : Type 0} (r : Result V E) (e want : E) → IsErrAnd r (λ f. f ≡ e) → r ≡ Err want → ◌≡◌ {A = Result U E} (Err e) (Err want)
 same_error (Ok v) e want is damaged = absurd (cc)
 same_error (Err f) e want is damaged = cc
+
+-- in the first round nothing was before
+pub nothing_earlier : (round : Round) (db : Trees) → is_second (world_in round db).round ≡ false → HasNothingBefore (world_in round db)
+unfolding world_in
+nothing_earlier First db e = nothing_before (world_in First db) (world_alone db)
+nothing_earlier Second db e = absurd (cc)
+
+-- the rows of the round of the tables
+pub loads_first : (db there : Trees) (rows : Rows) → there ≡ db → round_in db ≡ First → Loads version there rows → LoadsIn (round_in db) db rows
+loads_first db there rows same is loads =
+    subst (λ r. LoadsIn r db rows) (sym is) (subst (λ t. LoadsIn First t rows) same (record { office = loads.office; whole = loads.whole; rows_are = loads.rows_are }))

@@ -1,5 +1,5 @@
 -- What the office sees, of what queries show.
-use Rattle.std.proofs.Common.{◌≡◌, inl, inr, pos, Bool, true, false, ◌&&◌, ◌||◌, cond, Option, Some, None, List, [], ◌∷◌, map, filter, refl, sym, ap, ◌∙◌, ℤ, negsuc, subst}
+use Rattle.std.proofs.Common.{◌≡◌, inl, inr, pos, Bool, true, false, ◌&&◌, ◌||◌, cond, Option, Some, None, option_map, List, [], ◌∷◌, map, filter, refl, sym, ap, ◌∙◌, ℤ, negsuc, subst}
 use Rattle.std.specs.Prelude.{if◌then◌else◌, not, is_none}
 use Rattle.std.specs.List.{AllByRecursion, list_any, filter_map, cons_option}
 use Rattle.std.proofs.Math.Bool.{or-true, and_comm}
@@ -15,37 +15,36 @@ use Rattle.sqlite_trees.specs.Objects.{number_in}
 use Rattle.portal_core.specs.declared.phase.Phase.{Phase}
 use Rattle.portal_core.specs.declared.rows.Listing.{Listing}
 use Rattle.portal_core.specs.Words.{Key, is, has, is_empty}
-use Rattle.portal_core.specs.World.{World, Lecturer, Student, student_key, is_still_to_rank, is_from_ranking, is_published, pairs_of}
+use Rattle.portal_core.specs.World.{World, Lecturer, Student, student_key, students_in, is_left, is_still_to_rank, is_from_ranking, pairs_of, shown_place}
 use Rattle.portal_core.specs.View.{catalogue, office_sees}
 use Rattle.portal_core.proofs.AllLaws.{all_weaker, any_nowhere, is_sym, all_map, filtered_any, any_map}
 use Rattle.portal_core.proofs.Kept.{empty_map}
-use Rattle.portal_core.proofs.Capacities.{first_plays}
-use Rattle.portal_list.specs.Rows.{Rows, rows_of}
+use Rattle.portal_core.specs.declared.phase.Round.{Round}
+use Rattle.portal_core.specs.declared.phase.Round.TheVariants.{First, Second}
 use Rattle.portal_list.specs.Shown.{is_wanted, is_waiting}
 use Rattle.portal_list.proofs.Waiting.{waiting_lecturers}
 use Rattle.portal_list.proofs.Members.{has_all}
-use Rattle.portal_tables.specs.declared.list_table.Lists.TheVariants as which
-use Rattle.portal_tables.specs.Tables.{portal_tree, lecturer_tree, student_tree, choice_tree, ranking_tree, version}
-use Rattle.portal_tables.specs.Rows.{portal_row}
+use Rattle.portal_tables.specs.ListTables.{choices_of, rankings_of, tree_of}
+use Rattle.portal_tables.specs.Owners.{choice_shown}
+use Rattle.portal_tables.specs.Tables.{lecturer_tree, student_tree}
 use Rattle.portal_tables.proofs.Lists.{eq_self}
 use Rattle.portal_tables.specs.Changes.{ListsBy, columns, has_text, has_number}
-use Rattle.portal_store.specs.Kept.{Holds}
-use Rattle.portal_tables.specs.Office.{number_of}
+use Rattle.portal_store.specs.Kept.{HoldsIn, AreWhole, Whole}
 use Rattle.portal_tables.specs.Rolls.{row_key, by_key, lecturers_shown, projects_shown, students_shown, lecturer_columns, roll_columns}
-use Rattle.portal_store.specs.World.{world_of, is_ranked, lecturer_of, student_of}
+use Rattle.portal_store.specs.World.{world_in, is_ranked, lecturer_in, student_in}
 use Rattle.portal_tables.specs.Lists.{chosen, of_key, place_of, place_key, named_by, by_place, CountUp, IsWhole}
-use Rattle.portal_tables.specs.Shown.{first, shown_project, shown_pair}
-use Rattle.portal_tables.specs.Contents.{rows_from}
-use Rattle.portal_store.specs.Queried.{unlisted, waiting_key, office_from}
+use Rattle.portal_tables.specs.Shown.{first, shown_project}
+use Rattle.portal_tables.specs.Places.{pair_shown, place_before}
+use Rattle.portal_store.specs.Queried.{student_from, unlisted, waiting_key, office_from}
 use Rattle.portal_store.proofs.Applying.{choosers}
 use Rattle.portal_store.proofs.Holding.{has_tables}
-use Rattle.portal_tables.proofs.Choosers.{any_alike, named_where, choosers_known as shown_known}
-use Rattle.portal_store.proofs.Loaded.{lecturers_are, students_are, rows_are, with_office, world_first, some_mapped}
-use Rattle.portal_store.proofs.InFirst.{none_earlier, pairs_shown}
-use Rattle.portal_tables.proofs.Parents.{place_parents, none_of}
+use Rattle.portal_tables.proofs.Choosers.{any_alike, named_where, choices_formed, choices_parents, choosers_known as shown_known}
+use Rattle.portal_store.proofs.Loaded.{none_earlier, lecturers_by_key, students_by_key, round_rows, has_ranked, each_found, some_mapped}
+use Rattle.portal_store.proofs.Queried.{student_is}
+use Rattle.portal_tables.proofs.Parents.{none_of}
 use Rattle.portal_tables.proofs.Sorted.{permutes, all_permuted}
 use Rattle.portal_tables.proofs.OneFound.{filter_alike}
-use Rattle.portal_tables.proofs.Shapes.{IsPlace, place_rows_formed, has_text_of}
+use Rattle.portal_tables.proofs.Shapes.{IsPlace, has_text_of}
 
 -- somebody names the project
 
@@ -63,31 +62,39 @@ anyone (k ∷ ks) ss all =
     some_more (λ (s : Student). is k s.row.key) (λ s. is s.row.key k || has ks s.row.key) ss (λ s e. ap (λ b. b || has ks s.row.key) (is_sym s.row.key k ∙ e)) (sym (any_map (is k) student_key ss) ∙ all.0)
 
 -- the keys of the roll that is shown are those of the world
-keys_told : (db : Trees) → map first (students_shown db) ≡ map student_key (world_of db).students
-unfolding world_of
-keys_told db =
+keys_told : (round : Round) (db : Trees) → map first (students_shown db) ≡ map student_key (world_in round db).students
+unfolding world_in
+keys_told round db =
     let rows = by_key (db student_tree) in
-    map-map first roll_columns rows ∙ sym (ap (map student_key) (students_are db) ∙ map-map student_key (student_of (db choice_tree)) rows)
+    map-map first roll_columns rows ∙ sym (ap (map student_key) (students_by_key round db) ∙ map-map student_key (student_in round db) rows)
 
-module _ (db : Database) (holds : Holds db) (p : Key) (shown : List Row) (lists : ListsBy (1 ∷ []) (has_text 3 p) (columns (1 ∷ [])) (db.trees choice_tree) shown) where
+module _ (round : Round) (db : Database) (holds : HoldsIn round db) (p : Key) (shown : List Row) (lists : ListsBy (1 ∷ []) (has_text 3 p) (columns (1 ∷ [])) (db.trees (tree_of (choices_of round))) shown) where
   abbrev named : World
-  named = world_of db.trees
+  named = world_in round db.trees
 
   -- who names the project is on the roll
   choosers_known : AllByRecursion (λ k. has (map student_key named.students) k ≡ true) (map first shown)
-  choosers_known = subst (λ ks. AllByRecursion (λ k. has ks k ≡ true) (map first shown)) (keys_told db.trees) (shown_known db (has_tables db holds) p shown lists)
+  choosers_known = subst (λ ks. AllByRecursion (λ k. has ks k ≡ true) (map first shown)) (keys_told round db.trees) (shown_known round db (has_tables db holds) p shown lists)
 
   pub some_chooser : not (is_empty shown) ≡ list_any (λ (s : Student). has s.choice p) named.students
-  some_chooser = ap not (sym (empty_map first shown)) ∙ sym (anyone (map first shown) named.students choosers_known) ∙ any_alike _ _ named.students (choosers db holds p shown lists)
+  some_chooser = ap not (sym (empty_map first shown)) ∙ sym (anyone (map first shown) named.students choosers_known) ∙ any_alike _ _ named.students (choosers round db holds p shown lists)
 
 -- who has a list
 
--- each list of the table is whole: its owner is on the roll, or it is empty
-every_whole : (db : Database) → Holds db → (k : Key) → IsWhole (of_key k (db.trees choice_tree))
-every_whole db holds k = elim (cases_Bool (has (map row_key (db.trees student_tree)) k)) [
-  | inl known ↦ has_all (λ k. IsWhole (of_key k (db.trees choice_tree))) (map row_key (db.trees student_tree)) k (all_map (λ k. IsWhole (of_key k (db.trees choice_tree))) row_key (db.trees student_tree) holds.whole.choices) known
-  | inr off ↦ subst IsWhole (sym (none_of _ (db.trees student_tree) k (db.trees choice_tree) (place_parents db which.Choices holds.own holds.sound holds.apart.1.1.1.1.0) off)) tt
-]
+-- the lists of the round are whole
+own_whole : (round : Round) (db : Trees) → AreWhole round db → Whole round db
+own_whole First db h = h
+own_whole Second db h = h.1
+
+-- each list of the table is: its owner is on the roll, or it is empty
+every_whole : (round : Round) (db : Database) → HoldsIn round db → (k : Key) → IsWhole (of_key k (db.trees (tree_of (choices_of round))))
+every_whole round db holds k =
+    let table = db.trees (tree_of (choices_of round)) in
+    let roll = db.trees student_tree in
+    elim (cases_Bool (has (map row_key roll) k)) [
+      | inl known ↦ has_all (λ k. IsWhole (of_key k table)) (map row_key roll) k (all_map (λ k. IsWhole (of_key k table)) row_key roll (own_whole round db.trees holds.whole).choices) known
+      | inr off ↦ subst IsWhole (sym (none_of (λ r. Unit {0}) roll k table (all_weaker _ _ (λ r there. (there, tt)) table (choices_parents round db (has_tables db holds))) off)) tt
+    ]
 
 one_is : (place : ℤ) → number_in (Int place) ≡ 1 → is_eq (value_cmp (Int place) (Int (pos 1))) ≡ true
 one_is (pos n) e = ap (λ m. is_eq (value_cmp (Int (pos m)) (Int (pos 1)))) e ∙ eq_self (Int (pos 1))
@@ -102,12 +109,12 @@ begins : (rows : List Row) → AllByRecursion IsPlace rows → CountUp 1 (map pl
 begins [] shapes up = refl
 begins (r ∷ rs) shapes up = ap (λ b. b || list_any (has_number 2 1) rs) (is_first r shapes.0 up.0)
 
-module _ (db : Database) (holds : Holds db) (shown : List Row) (lists : ListsBy (1 ∷ []) (has_number 2 1) (columns (1 ∷ [])) (db.trees choice_tree) shown) where
+module _ (round : Round) (db : Database) (holds : HoldsIn round db) (shown : List Row) (lists : ListsBy (1 ∷ []) (has_number 2 1) (columns (1 ∷ [])) (db.trees (tree_of (choices_of round))) shown) where
   abbrev table : List Row
-  table = db.trees choice_tree
+  table = db.trees (tree_of (choices_of round))
 
   formed : AllByRecursion IsPlace table
-  formed = place_rows_formed db which.Choices holds.own holds.sound holds.apart.1.1.1.1.0
+  formed = choices_formed round db (has_tables db holds)
 
   alike : (k : Key) (r : Row) → IsPlace r → (has_number 2 1 r && is k (row_key r)) ≡ (has_text 1 k r && has_number 2 1 r)
   alike k r x =
@@ -123,16 +130,16 @@ module _ (db : Database) (holds : Holds db) (shown : List Row) (lists : ListsBy 
       ∙ any_alike _ _ table (all_weaker IsPlace _ (alike k) table formed)
       ∙ sym (filtered_any (has_number 2 1) (has_text 1 k) table)
       ∙ list_any-IsPermutation (has_number 2 1) mine (by_place mine) (permutes place_key mine)
-      ∙ begins (by_place mine) (all_permuted IsPlace mine (by_place mine) (permutes place_key mine) (all-filter IsPlace (has_text 1 k) table formed)) (every_whole db holds k)
+      ∙ begins (by_place mine) (all_permuted IsPlace mine (by_place mine) (permutes place_key mine) (all-filter IsPlace (has_text 1 k) table formed)) (every_whole round db holds k)
 
   twice : (b : Bool) → not (not b) ≡ b
   twice true = refl
   twice false = refl
 
-  pub unlisted_are : (students : List Row) → map first (filter (λ c. not (has (map first shown) (first c))) students) ≡ unlisted db.trees students
+  pub unlisted_are : (students : List Row) → map first (filter (λ c. is_none (place_before round c) && not (has (map first shown) (first c))) students) ≡ unlisted round db.trees students
   unlisted_are students =
-      ap (map first) (filter_alike (λ c. not (has (map first shown) (first c))) (λ c. is_empty (chosen table (first c))) students
-      (all_of _ (λ c. ap not (lister (first c)) ∙ twice (is_empty (chosen table (first c)))) students))
+      ap (map first) (filter_alike (λ c. is_none (place_before round c) && not (has (map first shown) (first c))) (λ c. is_none (place_before round c) && is_empty (choice_shown round db.trees c)) students
+      (all_of _ (λ c. ap (λ b. is_none (place_before round c) && b) (ap not (lister (first c)) ∙ twice (is_empty (chosen table (first c))))) students))
 
 -- the parts of what is seen
 
@@ -148,47 +155,70 @@ ranking_there : (b wanted : Bool) (k : Key) (list : List Key) → cond b None (c
 ranking_there true wanted k list = refl
 ranking_there false wanted k list = refl
 
-waiting_told : (db : Trees) → filter_map (waiting_key (world_of db) (world_of db).projects) (lecturers_shown db) ≡ map (λ (l : Lecturer). l.row.key) (filter (is_still_to_rank (world_of db)) (world_of db).lecturers)
-unfolding world_of
-waiting_told db =
-    let w = world_of db in
+waiting_told : (round : Round) (db : Trees) → filter_map (waiting_key round db (world_in round db).projects) (lecturers_shown db) ≡ map (λ (l : Lecturer). l.row.key) (filter (is_still_to_rank (world_in round db)) (world_in round db).lecturers)
+unfolding world_in
+waiting_told round db =
+    let w = world_in round db in
     let rows = by_key (db lecturer_tree) in
-    some_mapped (waiting_key w w.projects) lecturer_columns rows
-    ∙ passing (is_waiting w.students w.projects) (λ (l : Lecturer). l.row.key) (lecturer_of (db ranking_tree)) (λ r. waiting_key w w.projects (lecturer_columns r))
-    (λ r. ranking_there (is_ranked r) (is_wanted w.students w.projects (row_key r)) (row_key r) (chosen (db ranking_tree) (row_key r))) rows
-    ∙ ap (λ ls. map (λ (l : Lecturer). l.row.key) (filter (is_waiting w.students w.projects) ls)) (sym (lecturers_are db))
+    let wanted : Row → Bool = λ r. is_wanted w.students w.projects (row_key r) in
+    some_mapped (waiting_key round db w.projects) lecturer_columns rows
+    ∙ passing (is_waiting w.students w.projects) (λ (l : Lecturer). l.row.key) (lecturer_in round db) (λ r. waiting_key round db w.projects (lecturer_columns r))
+    (λ r. ap (λ b. cond {A = Option Key} b None (cond (wanted r) (Some (row_key r)) None)) (has_ranked round db r) ∙ ranking_there (is_ranked round db r) (wanted r) (row_key r) (chosen (db (tree_of (rankings_of round))) (row_key r))) rows
+    ∙ ap (λ ls. map (λ (l : Lecturer). l.row.key) (filter (is_waiting w.students w.projects) ls)) (sym (lecturers_by_key round db))
     ∙ waiting_lecturers w
 
-unlisted_told : (db : Trees) → unlisted db (students_shown db) ≡ map (λ (s : Student). s.row.key) (filter (λ s. is_empty s.choice) (world_of db).students)
-unfolding world_of
-unlisted_told db =
-    let rows = by_key (db student_tree) in
-    ap (map first) (filter-map (λ c. is_empty (chosen (db choice_tree) (first c))) roll_columns rows)
-    ∙ map-map first roll_columns (filter (λ r. is_empty (chosen (db choice_tree) (row_key r))) rows)
-    ∙ sym (ap (λ ss. map (λ (s : Student). s.row.key) (filter (λ (s : Student). is_empty s.choice) ss)) (students_are db)
-    ∙ ap (map (λ (s : Student). s.row.key)) (filter-map (λ (s : Student). is_empty s.choice) (student_of (db choice_tree)) rows)
-    ∙ map-map (λ (s : Student). s.row.key) (student_of (db choice_tree)) (filter (λ r. is_empty (chosen (db choice_tree) (row_key r))) rows))
+-- those who take part are those who are left
+filter_both : {X : Type 0} (p q : X → Bool) (xs : List X) → filter p (filter q xs) ≡ filter (λ x. q x && p x) xs
+filter_both p q [] = refl
+filter_both p q (x ∷ xs) = elim (q x) as (λ b. filter p (cond b (x ∷ filter q xs) (filter q xs)) ≡ cond (b && p x) (x ∷ filter (λ x. q x && p x) xs) (filter (λ x. q x && p x) xs)) [
+  | true ↦ ap (λ l. cond (p x) (x ∷ l) l) (filter_both p q xs)
+  | false ↦ filter_both p q xs
+]
 
-pub office_told : (db : Trees) (phase : Phase) (code : Key) (offers : List Listing) → db portal_tree ≡ portal_row (pos version) (pos (number_of phase)) code ∷ [] → offers ≡ catalogue (world_of db)
-    → office_from db phase code offers (lecturers_shown db) (projects_shown db) (students_shown db) ≡ office_sees (world_of db)
-office_told db phase code offers office listed =
-    let w = world_of db in
-    let same : with_office phase code (rows_from db (lecturers_shown db) (projects_shown db) (students_shown db)) ≡ rows_of w = rows_are db version phase code office in
-    let without = unlisted_told db ∙ ap (λ (u : World). map (λ (s : Student). s.row.key) (filter (λ s. is_empty s.choice) u.students)) (sym (first_plays w (world_first db))) in
-    let pairs : (if is_published phase then filter_map shown_pair (students_shown db) else []) ≡ pairs_of w
-    = ap (λ (r : Rows). if is_published r.phase then r.pairs else []) same ∙ sym (pairs_shown w.phase w.students (none_earlier db)) in
-    let still : (if is_from_ranking phase then filter_map (waiting_key w (map shown_project (projects_shown db))) (lecturers_shown db) else []) ≡ (if is_from_ranking w.phase then map (λ (l : Lecturer). l.row.key) (filter (is_still_to_rank w) w.lecturers) else [])
-    = ap (λ (r : Rows). if is_from_ranking r.phase then filter_map (waiting_key w r.projects) (lecturers_shown db) else []) same
-    ∙ ap (λ (ks : List Key). if is_from_ranking w.phase then ks else []) (waiting_told db) in
+abbrev is_idle : Student → Bool
+is_idle s = is_left s && is_empty s.choice
+
+idle_in : (round : Round) (db : Trees) → filter (λ (s : Student). is_empty s.choice) (students_in round (world_in round db).students) ≡ filter is_idle (world_in round db).students
+idle_in First db = filter_alike (λ (s : Student). is_empty s.choice) is_idle (world_in First db).students (all_weaker _ _ (λ s none. ap (λ (o : Option Key). is_none o && is_empty s.choice) (sym none)) (world_in First db).students (none_earlier db))
+idle_in Second db = filter_both (λ (s : Student). is_empty s.choice) is_left (world_in Second db).students
+
+unlisted_told : (round : Round) (db : Trees) → unlisted round db (students_shown db) ≡ map (λ (s : Student). s.row.key) (filter (λ s. is_empty s.choice) (students_in round (world_in round db).students))
+unfolding world_in
+unlisted_told round db =
+    let rows = by_key (db student_tree) in
+    ap (map first) (filter-map (λ c. is_idle (student_from round db c)) roll_columns rows)
+    ∙ map-map first roll_columns (filter (λ r. is_idle (student_from round db (roll_columns r))) rows)
+    ∙ (λ i. map row_key (filter (λ r. is_idle (student_is round db r i)) rows))
+    ∙ sym (ap (λ ss. map (λ (s : Student). s.row.key) (filter is_idle ss)) (students_by_key round db)
+    ∙ ap (map (λ (s : Student). s.row.key)) (filter-map is_idle (student_in round db) rows)
+    ∙ map-map (λ (s : Student). s.row.key) (student_in round db) (filter (λ r. is_idle (student_in round db r)) rows))
+    ∙ ap (map (λ (s : Student). s.row.key)) (sym (idle_in round db))
+
+pairs_told : (round : Round) (db : Trees) (phase : Phase) → filter_map (pair_shown round (Some phase) db) (students_shown db) ≡ filter_map (λ (s : Student). option_map (λ p. (s.row.key, p)) (shown_place phase s)) (world_in round db).students
+unfolding world_in
+pairs_told round db phase =
+    let pair : Student → Option (Key × Key) = λ s. option_map (λ p. (s.row.key, p)) (shown_place phase s) in
+    each_found pair (student_in round db) (pair_shown round (Some phase) db) roll_columns (by_key (db student_tree)) _ (students_by_key round db) (λ r. ap pair (student_is round db r))
+
+pub office_told : (round : Round) (db : Trees) (phase : Phase) (code : Key) (offers : List Listing) → phase ≡ (world_in round db).phase → code ≡ (world_in round db).office → offers ≡ catalogue (world_in round db)
+    → office_from round db phase code offers (lecturers_shown db) (projects_shown db) (students_shown db) ≡ office_sees (world_in round db)
+unfolding world_in
+office_told round db phase code offers at_phase known listed =
+    let w = world_in round db in
+    let rows = round_rows round db in
+    let pairs : filter_map (pair_shown round (Some phase) db) (students_shown db) ≡ pairs_of w = (λ i. filter_map (pair_shown round (Some (at_phase i)) db) (students_shown db)) ∙ pairs_told round db w.phase in
+    let still : (if is_from_ranking phase then filter_map (waiting_key round db (map shown_project (projects_shown db))) (lecturers_shown db) else []) ≡ (if is_from_ranking w.phase then map (λ (l : Lecturer). l.row.key) (filter (is_still_to_rank w) w.lecturers) else [])
+    = (λ i. if is_from_ranking (at_phase i) then filter_map (waiting_key round db (rows i).projects) (lecturers_shown db) else [])
+    ∙ ap (λ (ks : List Key). if is_from_ranking w.phase then ks else []) (waiting_told round db) in
     λ i. record {
-      round = (same i).round;
-      phase = (same i).phase;
-      office_code = (same i).office;
-      lecturers = (same i).lecturers;
-      projects = (same i).projects;
-      students = (same i).students;
+      round = round;
+      phase = at_phase i;
+      office_code = known i;
+      lecturers = (rows i).lecturers;
+      projects = (rows i).projects;
+      students = (rows i).students;
       catalogue = listed i;
-      without_list = without i;
+      without_list = unlisted_told round db i;
       still_to_rank = still i;
       pairs = pairs i;
     }

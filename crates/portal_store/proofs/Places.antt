@@ -24,12 +24,13 @@ use Rattle.portal_tables.specs.Tables.{portal_tree, lecturer_tree, project_tree,
 use Rattle.portal_tables.specs.Changes.{has_text, columns, every}
 use Rattle.portal_tables.specs.Rows.{MovesTo, Assigns, assigned_by, with_assigned, student_shown, text_or_null}
 use Rattle.portal_tables.specs.Office.{HasOffice}
-use Rattle.portal_store.specs.Kept.{Holds}
+use Rattle.portal_store.specs.Kept.{HoldsIn}
 use Rattle.portal_tables.specs.Lists.{of_key, IsWhole}
 use Rattle.portal_tables.specs.Rolls.{row_key}
 use Rattle.portal_tables.specs.Shown.{first, text_or_none}
 use Rattle.portal_store.proofs.Still.{kept_at, holds_after}
-use Rattle.portal_store.specs.World.{world_of, phase_of, is_ranked, lecturer_of, project_row, student_of}
+use Rattle.portal_store.specs.World.{world_in, phase_of, project_row}
+use Rattle.portal_store.proofs.FirstRows.{has_ranking, lecturer_of, student_of}
 use Rattle.portal_store.specs.Placing.{assigned_of, ShowsRoll, TurnsShown}
 use Rattle.portal_tables.proofs.Lists.{filter_all}
 use Rattle.portal_tables.proofs.Sorted.{all_permuted, put_same, put_all_map, map_twice, map_alike, map_alike_on, at, all_has, has_of}
@@ -81,14 +82,21 @@ shown_keys shown db h =
     let here : map key h.keyed ≡ map first shown = map_twice first (λ (k : Row × Row). k.1) h.keyed ∙ sym (ap (map first) h.is) in
     subst₂ IsPermutation there here (IsPermutation-map key _ h.keyed h.same)
 
+-- each student of the roll is among those that are shown
+pub shown_known : (shown : List Row) (db : Database) → ShowsRoll shown db → AllByRecursion (λ r. has (map first shown) (row_key r) ≡ true) (db.trees student_tree)
+shown_known shown db h =
+    let keys = map first shown in
+    let roll = db.trees student_tree in
+    all_unmap (λ k. has keys k ≡ true) row_key roll (all_permuted (λ k. has keys k ≡ true) keys (map row_key roll) (IsPermutation-sym _ _ (shown_keys shown db h)) (each_there keys))
+
 -- each student has the place that the pairs give, and nothing else has changed
 record IsPlaced (pairs : List (Key × Key)) (old new : Database) : Type 0 where
-  holds : Holds new
-  world : world_of new.trees ≡ record (world_of old.trees) { students = map (with_place pairs) (world_of old.trees).students }
+  holds : HoldsIn First new
+  world : world_in First new.trees ≡ record (world_in First old.trees) { students = map (with_place pairs) (world_in First old.trees).students }
 
 -- where the rows are the roll, each student has the place
-placed_all : (pairs : List (Key × Key)) (shown : List Row) (old new : Database) → Assigns (map (assigned_of pairs) shown) old new → Holds old → Good (world_of old.trees) → ShowsRoll shown old → IsPlaced pairs old new
-unfolding world_of
+placed_all : (pairs : List (Key × Key)) (shown : List Row) (old new : Database) → Assigns (map (assigned_of pairs) shown) old new → HoldsIn First old → Good (world_in First old.trees) → ShowsRoll shown old → IsPlaced pairs old new
+unfolding world_in
 placed_all pairs shown old new assigns was good shows =
     let roll = old.trees student_tree in
     let same_key : (s : Student) → student_key (with_place pairs s) ≡ student_key s = λ s. ap (λ r. r.key) (place_row pairs s) in
@@ -96,8 +104,7 @@ placed_all pairs shown old new assigns was good shows =
     let formed = student_rows_formed old was.own was.sound was.apart.1.1.1.0 in
     let a = assigns was.current was.sound was.apart.1.1.1.0 in
     let keys = map first shown in
-    let known : AllByRecursion (λ r. has keys (row_key r) ≡ true) roll =
-    all_unmap (λ k. has keys k ≡ true) row_key roll (all_permuted (λ k. has keys k ≡ true) keys (map row_key roll) (IsPermutation-sym _ _ (shown_keys shown old shows)) (each_there keys)) in
+    let known = shown_known shown old shows in
     let f = student_of (old.trees choice_tree) in
     let written : map f (map (with_assigned all) roll) ≡ map (with_place pairs) (map f roll) =
     sym (map_twice f (with_assigned all) roll)
@@ -129,7 +136,7 @@ placed_all pairs shown old new assigns was good shows =
       holds = holds_after student_tree old new refl was a.others a.schema_is a.sound a.apart (subst (HasOffice version) (sym portal) was.office) (record {
         choices = subst (λ y. AllByRecursion (λ r. IsWhole (of_key (row_key r) y)) (new.trees student_tree)) (sym choices) lists;
         rankings = subst₂ (λ x y. AllByRecursion (λ r. IsWhole (of_key (row_key r) y)) x) (sym lecturers) (sym rankings) was.whole.rankings;
-        ranked = subst₂ (λ x y. AllByRecursion (λ r. is_ranked r ≡ false → of_key (row_key r) y ≡ []) x) (sym lecturers) (sym rankings) was.whole.ranked;
+        ranked = subst₂ (λ x y. AllByRecursion (λ r. has_ranking r ≡ false → of_key (row_key r) y ≡ []) x) (sym lecturers) (sym rankings) was.whole.ranked;
       });
       world = λ i. record {
         round = First;
@@ -141,15 +148,15 @@ placed_all pairs shown old new assigns was good shows =
       };
     }
 
-now_published : {v w : World} → v ≡ w → ◌≡◌ {A = World} (record v { phase = Published }) (record w { phase = Published })
+pub now_published : {v w : World} → v ≡ w → ◌≡◌ {A = World} (record v { phase = Published }) (record w { phase = Published })
 now_published e = λ i. record (e i) { phase = Published }
 
 -- the places, and then the phase
-result_turned : (pairs : List (Key × Key)) (shown : List Row) (old mid new : Database) → Assigns (map (assigned_of pairs) shown) old mid → MovesTo 3 mid new → TurnsShown pairs shown old new
+result_turned : (pairs : List (Key × Key)) (shown : List Row) (old mid new : Database) → Assigns (map (assigned_of pairs) shown) old mid → MovesTo 3 mid new → TurnsShown First pairs shown old new
 result_turned pairs shown old mid new assigns moves shows was good better =
     let placed = placed_all pairs shown old mid assigns was good shows in
     let done = phase_turned Published mid new placed.holds moves in
     record { holds = done.holds; world = done.world ∙ now_published placed.world }
 
-pub result_made : (pairs : List (Key × Key)) (shown : List Row) (old mid new : State) → GoesOn (Assigns (map (assigned_of pairs) shown)) old mid → Made (MovesTo 3) mid new → GoesOn (TurnsShown pairs shown) old new
+pub result_made : (pairs : List (Key × Key)) (shown : List Row) (old mid new : State) → GoesOn (Assigns (map (assigned_of pairs) shown)) old mid → Made (MovesTo 3) mid new → GoesOn (TurnsShown First pairs shown) old new
 result_made pairs shown old mid new assigns moves = goes_then _ _ _ old mid new assigns moves (result_turned pairs shown old.now mid.now new.now)

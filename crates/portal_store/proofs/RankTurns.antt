@@ -27,10 +27,11 @@ use Rattle.portal_tables.proofs.Keeping.{sets_apart}
 use Rattle.portal_tables.proofs.Runs.{goes_then}
 use Rattle.portal_tables.specs.Lists.{of_key, chosen, IsWhole}
 use Rattle.portal_store.proofs.Still.{kept_at, apart_kept, second_kept}
-use Rattle.portal_store.specs.World.{world_of, phase_of, student_of, lecturer_of, lecturer_row, project_row, is_ranked}
+use Rattle.portal_store.specs.World.{world_in, phase_of, lecturer_row, project_row}
+use Rattle.portal_store.proofs.FirstRows.{student_of, lecturer_of, has_ranking}
 use Rattle.portal_tables.specs.Rolls.{row_key}
 use Rattle.portal_tables.specs.Office.{HasOffice}
-use Rattle.portal_store.specs.Kept.{Whole, Holds}
+use Rattle.portal_store.specs.Kept.{Whole, HoldsIn}
 use Rattle.portal_tables.specs.Putting.{HasPut, PutsList}
 use Rattle.portal_store.specs.Putting.{TurnsThere}
 use Rattle.portal_tables.proofs.Listed.{all_map_on}
@@ -106,7 +107,7 @@ abbrev WholeIn : List Row → Row → Type 0
 WholeIn lists r = IsWhole (of_key (row_key r) lists)
 
 abbrev NoneUnranked : List Row → Row → Type 0
-NoneUnranked lists r = is_ranked r ≡ false → of_key (row_key r) lists ≡ []
+NoneUnranked lists r = has_ranking r ≡ false → of_key (row_key r) lists ≡ []
 
 -- the ranking is put, and then the lecturer's one row says so
 module _ (k : Key) (list : List Key) (first mid now : Database) (put : HasPut ranking_tree k list first mid) (n : ℤ) (name code : List ℕ) (capacity was : ℤ)
@@ -153,7 +154,7 @@ module _ (k : Key) (list : List Key) (first mid now : Database) (put : HasPut ra
   other_row r other =
       let same : chosen (mid.trees 12) (row_key r) ≡ chosen (first.trees 12) (row_key r) =
       chosen_is ranking_tree k list first mid put (row_key r) ∙ rw other refl in
-      (λ i. record { row = lecturer_row r; ranking = cond (is_ranked r) (Some (same i)) None; earlier_ranking = None }) ∙ sym (ranking_elsewhere k list (lecturer_of (first.trees 12) r) other)
+      (λ i. record { row = lecturer_row r; ranking = cond (has_ranking r) (Some (same i)) None; earlier_ranking = None }) ∙ sym (ranking_elsewhere k list (lecturer_of (first.trees 12) r) other)
 
   this_row : lecturer_of (mid.trees 12) after ≡ with_ranking k list (lecturer_of (first.trees 12) before)
   this_row =
@@ -185,8 +186,8 @@ module _ (k : Key) (list : List Key) (first mid now : Database) (put : HasPut ra
       ∙ put_same lecturer_key (map (lecturer_of (mid.trees 12)) (after ∷ rest)) (map (lecturer_of (mid.trees 12)) (now.trees 1)) (IsPermutation-map (lecturer_of (mid.trees 12)) _ _ new_rows) still
       ∙ turned
 
-  rank_world : Rise (map lecturer_key (world_of first.trees).lecturers) → world_of now.trees ≡ changed (world_of first.trees) (Ranks k list)
-  unfolding world_of
+  rank_world : Rise (map lecturer_key (world_in First first.trees).lecturers) → world_in First now.trees ≡ changed (world_in First first.trees) (Ranks k list)
+  unfolding world_in
   rank_world up =
       let roll = roll_is up in
       λ i. record {
@@ -198,7 +199,7 @@ module _ (k : Key) (list : List Key) (first mid now : Database) (put : HasPut ra
         students = put_all student_key (map (student_of (choices i)) (students i)) [];
       }
 
-  rank_whole : Whole first.trees → Whole now.trees
+  rank_whole : Whole First first.trees → Whole First now.trees
   rank_whole was =
       let all_old : AllByRecursion (WholeIn (first.trees 12)) (before ∷ rest) = all_permuted _ (first.trees 1) (before ∷ rest) old_rows was.rankings in
       let ranked_old : AllByRecursion (NoneUnranked (first.trees 12)) (before ∷ rest) = all_permuted _ (first.trees 1) (before ∷ rest) old_rows was.ranked in
@@ -212,7 +213,7 @@ module _ (k : Key) (list : List Key) (first mid now : Database) (put : HasPut ra
         ranked = subst (λ rows. AllByRecursion (NoneUnranked rows) (now.trees 1)) (sym rankings) (all_permuted _ (after ∷ rest) (now.trees 1) new_rows ranked_new);
       }
 
-  rank_holds : Holds first → Holds now
+  rank_holds : HoldsIn First first → HoldsIn First now
   rank_holds was = record {
     current = subst IsCurrent (sym (set.schema_is ∙ put.schema_is)) was.current;
     own = subst IsOwn (sym (set.schema_is ∙ put.schema_is)) was.own;
@@ -224,14 +225,14 @@ module _ (k : Key) (list : List Key) (first mid now : Database) (put : HasPut ra
   }
 
 -- the keys of the rows are those of the world's lecturers, in some order
-pub keys_distinct : (db : Database) → Rise (map lecturer_key (world_of db.trees).lecturers) → IsDistinct is (map row_key (db.trees lecturer_tree))
-unfolding world_of
+pub keys_distinct : (db : Database) → Rise (map lecturer_key (world_in First db.trees).lecturers) → IsDistinct is (map row_key (db.trees lecturer_tree))
+unfolding world_in
 keys_distinct db up =
     subst (IsDistinct is) (sym (map_twice lecturer_key (lecturer_of (db.trees ranking_tree)) (db.trees lecturer_tree)))
     (distinct_if_rise lecturer_key (map (lecturer_of (db.trees ranking_tree)) (db.trees lecturer_tree)) up)
 
 pub rank_turns : (k : Key) (list : List Key) (first mid now : Database) → PutsList ranking_tree k list first mid → rows.Ranks k mid now
-    → TurnsThere k list first now
+    → TurnsThere First k list first now
 rank_turns k list first mid now puts ranks there holds up =
     let put = puts holds.current holds.apart.1.1.1.1.1.0 in
     let formed = lecturer_rows_formed first holds.own holds.sound holds.apart.1.0 in
@@ -250,5 +251,5 @@ rank_turns k list first mid now puts ranks there holds up =
     }
 
 pub rank_made : (k : Key) (list : List Key) (old mid new : State) → GoesOn (PutsList ranking_tree k list) old mid → Made (rows.Ranks k) mid new
-    → GoesOn (TurnsThere k list) old new
+    → GoesOn (TurnsThere First k list) old new
 rank_made k list old mid new p q = goes_then _ _ _ old mid new p q (rank_turns k list old.now mid.now new.now)

@@ -1,11 +1,11 @@
--- The rows of a sound world are those of no other world that has nothing earlier.
-use Rattle.std.proofs.Common.{◌≡◌, map, refl, sym, ◌∙◌, ap, subst}
+-- The rows of a sound world are those of no other world; of the first round, of none that has nothing earlier.
+use Rattle.std.proofs.Common.{◌≡◌, false, map, refl, sym, ◌∙◌, ap, subst}
 use Rattle.std.specs.Prelude.{Some, None, []}
 use Rattle.std.specs.List.{AllByRecursion}
 use Rattle.portal_core.specs.declared.rows.LecturerRow.{LecturerRow}
 use Rattle.portal_core.specs.declared.rows.StudentRow.{StudentRow}
 use Rattle.portal_core.specs.Words.{Rise}
-use Rattle.portal_core.specs.World.{World, Lecturer, Student, alone, alone_student}
+use Rattle.portal_core.specs.World.{World, Lecturer, Student, alone, alone_student, is_second}
 use Rattle.portal_core.specs.Good.{Sound}
 use Rattle.portal_core.proofs.AllLaws.{all_map}
 use Rattle.portal_core.proofs.Capacities.{each_one}
@@ -17,7 +17,16 @@ use Rattle.sqlite_trees.proofs.ListLemmas.{map-map}
 same_some : {X : Type 0} (x y : X) → Some x ≡ Some y → x ≡ y
 same_some x y e = cc
 
-pub rows_once : (w v : World) → Sound w → alone v ≡ v → rows_of v ≡ rows_of w → v ≡ w
+abbrev pub HasNothingBefore : World → Type 0
+HasNothingBefore w = AllByRecursion (λ (s : Student). (s.earlier_choice ≡ []) × (s.earlier_place ≡ None)) w.students
+
+pub nothing_before : (w : World) → alone w ≡ w → HasNothingBefore w
+nothing_before w same =
+    subst HasNothingBefore same
+    (all_map (λ (s : Student). (s.earlier_choice ≡ []) × (s.earlier_place ≡ None)) alone_student w.students
+    (each_one (λ s. ((alone_student s).earlier_choice ≡ []) × ((alone_student s).earlier_place ≡ None)) (λ s. (refl, refl)) w.students))
+
+pub rows_once : (w v : World) → Sound w → (is_second v.round ≡ false → HasNothingBefore v) → rows_of v ≡ rows_of w → v ≡ w
 rows_once w v sound before same =
     λ i. record { round = (same i).round; phase = (same i).phase; office = (same i).office; lecturers = lecturers i; projects = (same i).projects; students = students i }
   where
@@ -33,14 +42,8 @@ rows_once w v sound before same =
     lecturers =
         same_some _ _ (sym (lecturers_back v.lecturers lecturers_rise) ∙ ap (λ (r : Rows). lecturers_fitting r.lecturers r.rankings r.earlier_rankings) same ∙ lecturers_back w.lecturers sound.lecturers_rise)
 
-    nothing_earlier : AllByRecursion (λ (s : Student). (s.earlier_choice ≡ []) × (s.earlier_place ≡ None)) v.students
-    nothing_earlier =
-        subst (λ (u : World). AllByRecursion (λ (s : Student). (s.earlier_choice ≡ []) × (s.earlier_place ≡ None)) u.students) before
-        (all_map (λ (s : Student). (s.earlier_choice ≡ []) × (s.earlier_place ≡ None)) alone_student v.students
-        (each_one (λ s. ((alone_student s).earlier_choice ≡ []) × ((alone_student s).earlier_place ≡ None)) (λ s. (refl, refl)) v.students))
-
     students : v.students ≡ w.students
     students =
-        same_some _ _ (sym (students_back v.round v.students students_rise (λ _. nothing_earlier))
+        same_some _ _ (sym (students_back v.round v.students students_rise before)
         ∙ ap (λ (r : Rows). students_fitting r.round r.students r.choices r.pairs r.earlier_choices r.earlier_pairs) same
         ∙ students_back w.round w.students sound.students_rise sound.no_earlier_lists)

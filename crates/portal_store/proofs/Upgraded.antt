@@ -25,11 +25,13 @@ use Rattle.portal_tables.specs.Rows.{portal_row}
 use Rattle.portal_tables.specs.Steps.{Commits}
 use Rattle.portal_tables.proofs.Keeping.{apart_one}
 use Rattle.portal_tables.proofs.Owned.{current_own}
-use Rattle.portal_store.specs.World.{world_of, phase_of, lecturer_of, project_row, student_of}
-use Rattle.portal_store.specs.Kept.{HasSecond, Holds, IsKept, Stands, StandsAs}
+use Rattle.portal_store.specs.World.{world_in, world_of, phase_of, project_row}
+use Rattle.portal_store.proofs.FirstRows.{lecturer_of, student_of}
+use Rattle.portal_store.specs.Kept.{HoldsIn, IsKept, IsUnopened, Stands, StandsAs}
 use Rattle.portal_store.specs.Asked.{AdmitsAs}
 use Rattle.portal_store.proofs.Asked.{apart_all}
 use Rattle.portal_store.proofs.Holding.{whole_same}
+use Rattle.portal_store.proofs.Rounds.{world_told}
 
 module _ (old new : Database) (office : HasOffice first_version (old.trees portal_tree)) (up : Upgraded (pos (number_of office.phase)) office.office old new) where
   lecturers : new.trees 1 ≡ old.trees 1
@@ -47,8 +49,8 @@ module _ (old new : Database) (office : HasOffice first_version (old.trees porta
   rankings : new.trees 12 ≡ old.trees 12
   rankings = up.others.1.1.1.1.1.0 (λ e. absurd (cc))
 
-  pub upgraded_world : world_of new.trees ≡ world_of old.trees
-  unfolding world_of
+  pub upgraded_world : world_in First new.trees ≡ world_in First old.trees
+  unfolding world_in
   upgraded_world =
       let phases : column (slice_index_or (new.trees 0) 0 []) 3 ≡ column (slice_index_or (old.trees 0) 0 []) 3 =
       ap (λ rows. column (slice_index_or rows 0 []) 3) up.portal ∙ sym (ap (λ rows. column (slice_index_or rows 0 []) 3) office.is) in
@@ -63,7 +65,7 @@ module _ (old new : Database) (office : HasOffice first_version (old.trees porta
         students = put_all student_key (map (student_of (choices i)) (students i)) [];
       }
 
-  second : HasSecond new.trees
+  pub second : IsUnopened new.trees
   second = record { is = up.second; says = up.empty }
 
   first_stands : StandsAs first_version old.trees → StandsAs version new.trees
@@ -88,7 +90,7 @@ module _ (old new : Database) (office : HasOffice first_version (old.trees porta
     stands = first_stands was.stands;
   }
 
-  upgraded_holds : AdmitsAs first_version old.trees → Holds new
+  upgraded_holds : AdmitsAs first_version old.trees → HoldsIn First new
   upgraded_holds was = record {
     current = up.current;
     own = current_own new.schema up.current;
@@ -100,7 +102,9 @@ module _ (old new : Database) (office : HasOffice first_version (old.trees porta
   }
 
 pub upgraded_stands : (old new : Database) (was : StandsAs first_version old.trees) → Upgraded (pos (number_of was.office.phase)) was.office.office old new → Stands new.trees
-upgraded_stands old new was up = record { first = first_stands old new was.office up was; second = second old new was.office up }
+upgraded_stands old new was up =
+    let first = first_stands old new was.office up was in
+    (First, record { office = first.office; second = second old new was.office up; whole = first.whole; good = first.good })
 
 -- none of the six tables has a name of the second round's
 
@@ -137,11 +141,14 @@ module _
     idle = idle;
     ready = λ mine on.
         let d = done mine on in
-        record { settled = d.0.settled; holds = upgraded_holds (state g old).now (state g new).now d.1.stands.office (made mine on) d.1 };
+        record { settled = d.0.settled; holds = (First, upgraded_holds (state g old).now (state g new).now d.1.stands.office (made mine on) d.1) };
   }
 
-  pub same_world : IsTrue own → IsTrue (state g new).is_open → world_of (state g new).now.trees ≡ world_of (state g old).now.trees
-  same_world mine on = upgraded_world (state g old).now (state g new).now (done mine on).1.stands.office (made mine on)
+  pub same_world : IsTrue own → IsTrue (state g new).is_open → world_of (state g new).now.trees ≡ world_in First (state g old).now.trees
+  same_world mine on =
+      let office = (done mine on).1.stands.office in
+      world_told First (state g new).now.trees (second (state g old).now (state g new).now office (made mine on))
+      ∙ upgraded_world (state g old).now (state g new).now office (made mine on)
 
   pub still_good : IsTrue own → IsTrue (state g new).is_open → Good (world_of (state g new).now.trees)
   still_good mine on = subst Good (sym (same_world mine on)) (done mine on).1.stands.good

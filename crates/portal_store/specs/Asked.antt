@@ -4,9 +4,12 @@ use Rattle.std.specs.List.{AllByRecursion}
 use Rattle.sqlite.specs.declared.types.Value.TheVariants.{Int}
 use Rattle.sqlite.specs.Order.{Row, column}
 use Rattle.sqlite.specs.Tree.{Trees}
-use Rattle.portal_tables.specs.Tables.{portal_tree, first_trees, own_trees, version, first_version}
+use Rattle.portal_core.specs.Good.{Good}
+use Rattle.portal_tables.specs.Tables.{portal_tree, lecturer_tree, project_tree, student_tree, choice_tree, ranking_tree, choice2_tree, ranked2_tree, ranking2_tree, assigned2_tree, first_trees, own_trees, version, first_version}
+use Rattle.portal_tables.specs.Office.{HasOffice}
+use Rattle.portal_store.specs.World.{round_in, world_of}
 use Rattle.portal_tables.specs.Changes.{IsApart}
-use Rattle.portal_store.specs.Kept.{Stands, StandsAs}
+use Rattle.portal_store.specs.Kept.{AreWhole, Stands, StandsAs}
 use Rattle.portal_store.specs.declared.store.OpenFault.{OpenFault}
 use Rattle.portal_store.specs.declared.store.OpenFault.TheVariants as opening
 use Rattle.portal_store.specs.declared.store.UpgradeFault.{UpgradeFault}
@@ -55,6 +58,17 @@ Bars upgrading.Damaged db = HasVersion first_version db × (StandsAs first_versi
 Bars upgrading.Store db = Unit {0}
 Bars upgrading.Memory db = Unit {0}
 Bars upgrading.Exists db = ⊥
+
+-- row numbers of the tables of many rows differ
+abbrev pub AreApart : Trees → Type 0
+AreApart db =
+    AllByRecursion (λ t. IsApart (db t)) (lecturer_tree ∷ project_tree ∷ student_tree ∷ choice_tree ∷ ranking_tree ∷ choice2_tree ∷ ranked2_tree ∷ ranking2_tree ∷ assigned2_tree ∷ [])
+
+-- the lists of the tables' rounds are whole, and their world is good
+pub record IsJudged (db : Trees) : Type 0 where
+  pub office : HasOffice version (db portal_tree)
+  pub whole : AreWhole (round_in db) db
+  pub good : Good (world_of db)
 
 -- row numbers of the first round's tables differ, and as tables of this version they stand for a good world
 pub record AdmitsAs (of : ℕ) (db : Trees) : Type 0 where

@@ -2,6 +2,7 @@
 use Rattle.std.specs.Prelude.{◌≡◌, ◌⊎◌, IsTrue}
 use Rattle.sqlite.specs.Tree.{Trees}
 use Rattle.sqlite.specs.Effect.{Database, IsDatabase}
+use Rattle.portal_core.specs.declared.phase.Round.TheVariants.{First}
 use Rattle.portal_core.specs.Form.{is_code}
 use Rattle.portal_core.specs.Words.{Key}
 use Rattle.portal_core.specs.Change.{Change, changed}
@@ -9,7 +10,7 @@ use Rattle.portal_core.specs.Good.{Good}
 use Rattle.portal_tables.specs.Tables.{first_version}
 use Rattle.portal_tables.specs.Own.{IsFirst, IsCurrent}
 use Rattle.portal_tables.specs.Making.{IsFresh, Upgrades}
-use Rattle.portal_store.specs.World.{world_of}
+use Rattle.portal_store.specs.World.{world_in, world_of}
 use Rattle.portal_store.specs.Kept.{Stands, StandsAs, Holds, Turned}
 use Rattle.portal_store.specs.Made.{first_world}
 use Rattle.portal_store.specs.Asked.{Refutes, Bars}
@@ -46,5 +47,5 @@ OpensFresh = (office : Key) (made found : Database) → IsTrue (is_code office) 
 -- what a crash of an upgrade left can be upgraded, where it is what was there before, or opened, where the upgrade was made: with the same world
 abbrev pub UpgradesAgain : Type 0
 UpgradesAgain = (old found : Database) → IsFirst old.schema → IsDatabase old → StandsAs first_version old.trees → IsDatabase found
-    → (found.trees ≡ old.trees → UpgradesYet found × (world_of found.trees ≡ world_of old.trees))
-    × ((after : Database) → Upgrades old after → found.trees ≡ after.trees → Reopens found × (world_of found.trees ≡ world_of old.trees))
+    → (found.trees ≡ old.trees → UpgradesYet found × (world_in First found.trees ≡ world_in First old.trees))
+    × ((after : Database) → Upgrades old after → found.trees ≡ after.trees → Reopens found × (world_of found.trees ≡ world_in First old.trees))

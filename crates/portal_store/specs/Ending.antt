@@ -2,13 +2,13 @@
 use Rattle.std.specs.Prelude.{IsTrue, Result, OnOk, OnErr}
 use Rattle.sqlite.specs.Effect.{Database}
 use Rattle.sqlite.specs.State.{State, HasCleanDisk, Survives}
-use Rattle.portal_tables.specs.Own.{IsOwn}
+use Rattle.portal_tables.specs.Own.{IsCurrent}
 use Rattle.portal_tables.specs.Steps.{Commits, IsAfter, LeavesOnly, Stays}
 
--- Over tables of the portal's own: after Ok the change is made and committed, and a crash leaves that alone; after an error nothing is changed; and whatever
+-- Over tables that are the portal's own in both rounds: after Ok the change is made and committed, and a crash leaves that alone; after an error nothing is changed; and whatever
 -- came, a crash leaves what it left before, or what the change made.
 pub record Ends {V E : Type 0} (Change : Database → Database → Type 0) (result : Result V E) (old new : State) : Type 0 where
-  pub ok : IsOwn old.now.schema → HasCleanDisk new → OnOk result (Commits Change old new)
-  pub err : IsOwn old.now.schema → HasCleanDisk new → IsTrue new.is_open → OnErr result (Stays old new)
-  pub durable : IsOwn old.now.schema → HasCleanDisk new → OnOk result (LeavesOnly new)
-  pub crash : IsOwn old.now.schema → Survives old new (IsAfter Change old)
+  pub ok : IsCurrent old.now.schema → HasCleanDisk new → OnOk result (Commits Change old new)
+  pub err : IsCurrent old.now.schema → HasCleanDisk new → IsTrue new.is_open → OnErr result (Stays old new)
+  pub durable : IsCurrent old.now.schema → HasCleanDisk new → OnOk result (LeavesOnly new)
+  pub crash : Survives old new (λ db. IsCurrent old.now.schema → IsAfter Change old db)

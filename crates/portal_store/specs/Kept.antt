@@ -4,61 +4,92 @@ use Rattle.std.specs.Coded.{Coded, code_by, coded×, coded_bool, coded_ℕ}
 use Rattle.std.specs.List.{AllByRecursion}
 use Rattle.sqlite.specs.Tree.{Trees}
 use Rattle.sqlite.specs.Effect.{Database, IsDatabase}
-use Rattle.sqlite.specs.State.{State, HasCleanDisk, Survives}
+use Rattle.sqlite.specs.State.{State, HasCleanDisk}
 use Rattle.sqlite.specs.Store.{Ghosts}
 use Rattle.sqlite.specs.Held.{Held, held_code, state}
 use Rattle.sqlite.specs.Steps.{over_memory}
 use Rattle.sqlite_trees.specs.declared.memory.MemStore.{MemStore}
-use Rattle.portal_core.specs.World.{World}
+use Rattle.portal_core.specs.declared.phase.Phase.{Phase}
+use Rattle.portal_core.specs.declared.phase.Phase.TheVariants.{Published}
+use Rattle.portal_core.specs.declared.phase.Round.{Round}
+use Rattle.portal_core.specs.declared.phase.Round.TheVariants.{First, Second}
+use Rattle.portal_core.specs.World.{World, is_setup}
 use Rattle.portal_core.specs.Change.{Change, changed}
 use Rattle.portal_core.specs.Good.{Good}
 use Rattle.portal_core.specs.Remembered.{Remembers}
 use Rattle.portal_core.specs.declared.remembered.Remembered.{Remembered}
 use Rattle.portal_list.specs.Entries.{AllEntries, HasEntries}
-use Rattle.portal_tables.specs.Tables.{portal_tree, lecturer_tree, student_tree, choice_tree, ranking_tree, second_tree, choice2_tree, ranked2_tree, ranking2_tree, assigned2_tree, own_trees, version}
+use Rattle.portal_tables.specs.ListTables.{tree_of}
+use Rattle.portal_tables.specs.Tables.{portal_tree, lecturer_tree, student_tree, second_tree, choice2_tree, ranked2_tree, ranking2_tree, assigned2_tree, own_trees, version}
 use Rattle.portal_tables.specs.Own.{IsOwn, IsCurrent}
 use Rattle.portal_tables.specs.Changes.{IsApart}
 use Rattle.portal_tables.specs.Lists.{of_key, IsWhole}
-use Rattle.portal_tables.specs.Office.{HasOffice}
+use Rattle.portal_tables.specs.Office.{HasOffice, number_of}
 use Rattle.portal_tables.specs.Rolls.{row_key}
 use Rattle.portal_tables.specs.Rows.{second_row}
-use Rattle.portal_store.specs.World.{world_of, is_ranked}
+use Rattle.portal_store.specs.World.{world_in, world_of, choices_of, rankings_of, is_ranked, phase_in}
 
--- no list has a gap, and who has no ranking has no row of one
-pub record Whole (db : Trees) : Type 0 where
-  pub choices : AllByRecursion (λ r. IsWhole (of_key (row_key r) (db choice_tree))) (db student_tree)
-  pub rankings : AllByRecursion (λ r. IsWhole (of_key (row_key r) (db ranking_tree))) (db lecturer_tree)
-  pub ranked : AllByRecursion (λ r. is_ranked r ≡ false → of_key (row_key r) (db ranking_tree) ≡ []) (db lecturer_tree)
+-- of a round: no list has a gap, and who has no ranking has no row of one
+pub record Whole (round : Round) (db : Trees) : Type 0 where
+  pub choices : AllByRecursion (λ r. IsWhole (of_key (row_key r) (db (tree_of (choices_of round))))) (db student_tree)
+  pub rankings : AllByRecursion (λ r. IsWhole (of_key (row_key r) (db (tree_of (rankings_of round))))) (db lecturer_tree)
+  pub ranked : AllByRecursion (λ r. is_ranked round db r ≡ false → of_key (row_key r) (db (tree_of (rankings_of round))) ≡ []) (db lecturer_tree)
 
 -- the tables of the choices, rankings and places of a second round have no row
 abbrev pub AreEmpty : Trees → Type 0
 AreEmpty db = AllByRecursion (λ t. db t ≡ []) (choice2_tree ∷ ranked2_tree ∷ ranking2_tree ∷ assigned2_tree ∷ [])
 
 -- the one row of `second` tells that there is no second round, and nothing of one is there
-pub record HasSecond (db : Trees) : Type 0 where
+pub record IsUnopened (db : Trees) : Type 0 where
   pub is : db second_tree ≡ second_row (pos 0) ∷ []
   pub says : AreEmpty db
+
+-- the one row of `second` tells the phase of a second round, and the first is published
+pub record IsOpened (db : Trees) : Type 0 where
+  pub phase : Phase
+  pub is : db second_tree ≡ second_row (pos (number_of phase)) ∷ []
+  pub opened : is_setup phase ≡ false
+  pub first : phase_in First db ≡ Published
+
+abbrev pub HasSecond : Round → Trees → Type 0
+HasSecond First db = IsUnopened db
+HasSecond Second db = IsOpened db
+
+-- the lists of the rounds that there are
+abbrev pub AreWhole : Round → Trees → Type 0
+AreWhole First db = Whole First db
+AreWhole Second db = Whole First db × Whole Second db
 
 -- the tables of the first round are of this version and stand for a good world
 pub record StandsAs (of : ℕ) (db : Trees) : Type 0 where
   pub office : HasOffice of (db portal_tree)
-  pub whole : Whole db
-  pub good : Good (world_of db)
+  pub whole : Whole First db
+  pub good : Good (world_in First db)
 
--- the tables of both rounds stand for a good world
-pub record Stands (db : Trees) : Type 0 where
-  pub first : StandsAs version db
-  pub second : HasSecond db
+-- the tables stand for a good world of the round
+pub record StandsIn (round : Round) (db : Trees) : Type 0 where
+  pub office : HasOffice version (db portal_tree)
+  pub second : HasSecond round db
+  pub whole : AreWhole round db
+  pub good : Good (world_in round db)
 
--- what every change may rely on, and leaves
-pub record Holds (db : Database) : Type 0 where
+-- of either round
+abbrev pub Stands : Trees → Type 0
+Stands db = (round : Round) × StandsIn round db
+
+-- what every change of a round may rely on
+pub record HoldsIn (round : Round) (db : Database) : Type 0 where
   pub current : IsCurrent db.schema
   pub own : IsOwn db.schema
   pub sound : IsDatabase db
   pub apart : AllByRecursion (λ t. IsApart (db.trees t)) own_trees
   pub office : HasOffice version (db.trees portal_tree)
-  pub second : HasSecond db.trees
-  pub whole : Whole db.trees
+  pub second : HasSecond round db.trees
+  pub whole : AreWhole round db.trees
+
+-- what every change may rely on, and leaves
+abbrev pub Holds : Database → Type 0
+Holds db = (round : Round) × HoldsIn round db
 
 -- the tables have turned to the changed world
 pub record Turned (change : Change) (old new : Database) : Type 0 where
@@ -68,6 +99,24 @@ pub record Turned (change : Change) (old new : Database) : Type 0 where
 -- the change that is made of the tables, where they stand for a good world and the changed one is good
 abbrev pub Turns : Change → Database → Database → Type 0
 Turns change old new = Holds old → Good (world_of old.trees) → Good (changed (world_of old.trees) change) → Turned change old new
+
+-- the same of tables that stay in their round
+pub record TurnedIn (round : Round) (change : Change) (old new : Database) : Type 0 where
+  pub holds : HoldsIn round new
+  pub world : world_in round new.trees ≡ changed (world_in round old.trees) change
+
+abbrev pub TurnsIn : Round → Change → Database → Database → Type 0
+TurnsIn round change old new =
+    HoldsIn round old → Good (world_in round old.trees) → Good (changed (world_in round old.trees) change) → TurnedIn round change old new
+
+-- a change of tables of this round, whatever round it leaves
+pub record TurnedFrom (round : Round) (change : Change) (old new : Database) : Type 0 where
+  pub holds : Holds new
+  pub world : world_of new.trees ≡ changed (world_in round old.trees) change
+
+abbrev pub TurnsFrom : Round → Change → Database → Database → Type 0
+TurnsFrom round change old new =
+    HoldsIn round old → Good (world_in round old.trees) → Good (changed (world_in round old.trees) change) → TurnedFrom round change old new
 
 -- what can be seen of a store: its connection, whether the tables are those that the portal makes, and how many calls were answered with its fault
 pub record Seen (S : Type 0) : Type 0 where
@@ -101,10 +150,6 @@ HasFailed old new = min (old.faults + 1) (2 ^ 64 - 1) ≤ new.faults
 -- a clean store stays clean, where the disk returns what was written and does not fail
 abbrev pub Lasts : {S : Type 0} → Ghosts S → Seen S → Seen S → Type 0
 Lasts g old new = HasCleanDisk (state g new.conn) → IsCleanStore g old → IsCleanStore g new ⊎ HasFailed (state g old.conn) (state g new.conn)
-
--- no fault of the disk is forgotten, and only a fault of it shuts the connection
-abbrev pub Endures : State → State → Type 0
-Endures old new = Survives old new (λ _. Unit {0})
 
 abbrev pub kept_world : {S : Type 0} → Ghosts S → Seen S → World
 kept_world g s = world_of (state g s.conn).now.trees

@@ -5,6 +5,7 @@ pub mod Found
 pub mod Kept
 pub mod Loads
 pub mod Made
+pub mod Opening
 pub mod Placing
 pub mod Putting
 pub mod Reading

@@ -1,50 +1,61 @@
 -- What is told of a caller, and to the office, by rows that queries show.
-use Rattle.std.specs.Prelude.{◌==◌, if◌then◌else◌, List, [], map, filter, Option, Some, None}
+use Rattle.std.specs.Prelude.{◌&&◌, if◌then◌else◌, List, [], map, filter, Option, Some, None, is_none}
 use Rattle.std.specs.List.{filter_map}
-use Rattle.sqlite.specs.Order.{Row, column}
+use Rattle.sqlite.specs.Order.{Row}
 use Rattle.sqlite.specs.Tree.{Trees}
-use Rattle.sqlite_trees.specs.Objects.{number_in}
-use Rattle.portal_core.specs.declared.phase.Round.TheVariants.{First}
+use Rattle.portal_core.specs.declared.phase.Round.{Round}
+use Rattle.portal_core.specs.declared.phase.Round.TheVariants.{First, Second}
 use Rattle.portal_core.specs.declared.rows.Listing.{Listing}
 use Rattle.portal_core.specs.declared.rows.ProjectRow.{ProjectRow}
 use Rattle.portal_core.specs.declared.phase.Phase.{Phase}
 use Rattle.portal_core.specs.Sight.{OfficeSees}
 use Rattle.portal_core.specs.Words.{Key, is_empty}
-use Rattle.portal_core.specs.World.{World, Lecturer, Student, is_from_ranking, is_published}
+use Rattle.portal_core.specs.World.{Lecturer, Student, is_from_ranking}
 use Rattle.portal_list.specs.Shown.{is_wanted}
-use Rattle.portal_tables.specs.Tables.{choice_tree, ranking_tree}
-use Rattle.portal_tables.specs.Lists.{chosen}
-use Rattle.portal_tables.specs.Shown.{first, shown_lecturer, shown_project, shown_student, shown_pair, text_or_none}
-use Rattle.portal_store.specs.World.{world_of}
+use Rattle.portal_tables.specs.ListTables.{rankings_of}
+use Rattle.portal_tables.specs.Owners.{has_list, choice_shown, ranking_shown}
+use Rattle.portal_tables.specs.Places.{pair_shown, place_shown, place_before}
+use Rattle.portal_tables.specs.Shown.{first, shown_lecturer, shown_project, shown_student}
+use Rattle.portal_store.specs.World.{world_in}
 
--- the lecturer whose row is shown, with the ranking in the tables
-abbrev pub lecturer_from : Trees → Row → Lecturer
-lecturer_from db c = record { row = shown_lecturer c; ranking = if number_in (column c 4) == 1 then Some (chosen (db ranking_tree) (first c)) else None; earlier_ranking = None }
+-- the ranking and the list of the round before
+abbrev pub ranking_before : Round → Trees → Row → Option (List Key)
+ranking_before First db c = None
+ranking_before Second db c = ranking_shown First db c
 
--- the student whose row is shown, with the list in the tables
-abbrev pub student_from : Trees → Row → Student
-student_from db c = record { row = shown_student c; choice = chosen (db choice_tree) (first c); placed = text_or_none (column c 3); earlier_choice = []; earlier_place = None }
+abbrev pub choice_before : Round → Trees → Row → List Key
+choice_before First db c = []
+choice_before Second db c = choice_shown First db c
 
--- the keys of the students whose rows are shown and who have no list in the tables
-abbrev pub unlisted : Trees → List Row → List Key
-unlisted db students = map first (filter (λ c. is_empty (chosen (db choice_tree) (first c))) students)
+-- the lecturer whose row is shown, and the student, with what the tables hold
+abbrev pub lecturer_from : Round → Trees → Row → Lecturer
+lecturer_from round db c = record { row = shown_lecturer c; ranking = ranking_shown round db c; earlier_ranking = ranking_before round db c }
+
+abbrev pub student_from : Round → Trees → Row → Student
+student_from round db c =
+    record { row = shown_student c; choice = choice_shown round db c; placed = place_shown round db c; earlier_choice = choice_before round db c; earlier_place = place_before round c }
+
+-- the keys of the students whose rows are shown, who take part and have no list in the tables
+abbrev pub unlisted : Round → Trees → List Row → List Key
+unlisted round db students = map first (filter (λ c. is_none (place_before round c) && is_empty (choice_shown round db c)) students)
 
 -- the key of the lecturer whose row is shown, where there is an applicant and no ranking
-abbrev pub waiting_key : World → List ProjectRow → Row → Option Key
-waiting_key w projects c = if number_in (column c 4) == 1 then None else (if is_wanted w.students projects (first c) then Some (first c) else None)
+abbrev pub waiting_key : Round → Trees → List ProjectRow → Row → Option Key
+waiting_key round db projects c =
+    if has_list (rankings_of round) db c then None else (if is_wanted (world_in round db).students projects (first c) then Some (first c) else None)
 
--- what the office sees, of shown rolls, the catalogue and the lists in the tables
-abbrev pub office_from : Trees → Phase → Key → List Listing → List Row → List Row → List Row → OfficeSees
-office_from db phase code offers lecturers projects students =
+-- what the office sees, of shown rolls, the catalogue and the lists and places in the tables
+abbrev pub office_from : Round → Trees → Phase → Key → List Listing → List Row → List Row → List Row → OfficeSees
+office_from round db phase code offers lecturers projects students =
     record {
-      round = First;
+      round = round;
       phase = phase;
       office_code = code;
       lecturers = map shown_lecturer lecturers;
       projects = map shown_project projects;
       students = map shown_student students;
       catalogue = offers;
-      without_list = unlisted db students;
-      still_to_rank = if is_from_ranking phase then filter_map (waiting_key (world_of db) (map shown_project projects)) lecturers else [];
-      pairs = if is_published phase then filter_map shown_pair students else [];
+      without_list = unlisted round db students;
+      still_to_rank = if is_from_ranking phase then filter_map (waiting_key round db (map shown_project projects)) lecturers else [];
+      pairs = filter_map (pair_shown round (Some phase) db) students;
     }

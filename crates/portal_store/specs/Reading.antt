@@ -6,16 +6,19 @@ use Rattle.sqlite.specs.Held.{Held, state}
 use Rattle.sqlite.specs.State.{State, HasCleanDisk, IsLive}
 use Rattle.sqlite.specs.Store.{Ghosts}
 use Rattle.sqlite.specs.Tree.{Trees}
+use Rattle.portal_core.specs.declared.phase.Round.{Round}
+use Rattle.portal_core.specs.World.{World}
 use Rattle.portal_core.specs.Remembered.{Remembers}
 use Rattle.portal_core.specs.declared.remembered.Remembered.{Remembered}
 use Rattle.portal_core.specs.Good.{Good}
 use Rattle.portal_list.specs.Entries.{AllEntries}
-use Rattle.portal_tables.specs.Own.{IsOwn, IsCurrent}
+use Rattle.portal_tables.specs.Own.{HasRound, IsOwn, IsCurrent}
 use Rattle.portal_tables.specs.Changes.{every}
 use Rattle.portal_tables.specs.Queries.{selection}
+use Rattle.portal_tables.specs.declared.office.Office.{Office}
 use Rattle.portal_tables.specs.declared.select.Query.{Query}
-use Rattle.portal_store.specs.Kept.{AreEntries, Holds}
-use Rattle.portal_store.specs.World.{world_of}
+use Rattle.portal_store.specs.Kept.{AreEntries, Holds, HoldsIn}
+use Rattle.portal_store.specs.World.{world_in, world_of}
 
 -- what the connection shows
 abbrev pub shown : {S : Type 0} → Ghosts S → Held S → Trees
@@ -36,13 +39,28 @@ OverOwn g old new So = IsOwn old.schema → IsDatabase (state g old).now → Has
 abbrev pub OverBoth : {S : Type 0} → Ghosts S → Held S → Held S → Type 0 → Type 0
 OverBoth g old new So = IsCurrent old.schema → IsDatabase (state g old).now → HasCleanDisk (state g new) → So
 
--- the same of the first round's where the database is sound if it is open
-abbrev pub OverLive : {S : Type 0} → Ghosts S → Held S → Held S → Type 0 → Type 0
-OverLive g old new So = IsOwn old.schema → IsLive (state g old) → HasCleanDisk (state g new) → So
+-- the same of the tables of a round, where the database is sound if it is open
+abbrev pub OverLive : Round → {S : Type 0} → Ghosts S → Held S → Held S → Type 0 → Type 0
+OverLive round g old new So = HasRound round old.schema → IsLive (state g old) → HasCleanDisk (state g new) → So
+
+-- this holds where the tables of a round are what a store keeps, and the disk is clean
+abbrev pub OverRound : Round → {S : Type 0} → Ghosts S → Held S → Held S → Type 0 → Type 0
+OverRound round g old new So = HoldsIn round (state g old).now → HasCleanDisk (state g new) → So
+
+-- the round, its phase and the code of the office are the world's
+pub record IsNow (w : World) (round : Round) (office : Office) : Type 0 where
+  pub round_is : w.round ≡ round
+  pub phase_is : w.phase ≡ office.phase
+  pub code_is : w.office ≡ office.code
 
 -- what was remembered before was right, so what is remembered after is
 abbrev pub KeepsInMind : Remembered → Remembered → State → State → Type 0
 KeepsInMind before after old new = Holds old.now → HasCleanDisk new → IsTrue old.is_open → Remembers before (world_of old.now.trees) → Remembers after (world_of old.now.trees)
+
+-- the same of tables of a round
+abbrev pub KeepsInRound : Round → Remembered → Remembered → State → State → Type 0
+KeepsInRound round before after old new =
+    HoldsIn round old.now → HasCleanDisk new → Remembers before (world_in round old.now.trees) → Remembers after (world_in round old.now.trees)
 
 -- the entries before were those of the world, so those after are
 abbrev pub KeepsEntries : Option AllEntries → Option AllEntries → State → State → Type 0

@@ -1,17 +1,21 @@
--- The world that the six tables stand for, which is one of the first round.
-use Rattle.std.specs.Prelude.{ℕ, Bool, if◌then◌else◌, ◌==◌, List, [], map, slice_index_or, Some, None}
+-- The world that the eleven tables stand for.
+use Rattle.std.specs.Prelude.{ℕ, Bool, if◌then◌else◌, ◌==◌, List, [], map, slice_index_or, Option, Some, None}
 use Rattle.sqlite.specs.Order.{Row, column, bytes}
 use Rattle.sqlite.specs.Tree.{Trees}
 use Rattle.sqlite_trees.specs.Objects.{number_in}
 use Rattle.portal_core.specs.declared.phase.Phase.{Phase}
 use Rattle.portal_core.specs.declared.phase.Phase.TheVariants.{Setup, Choosing, Ranking, Published}
-use Rattle.portal_core.specs.declared.phase.Round.TheVariants.{First}
+use Rattle.portal_core.specs.declared.phase.Round.{Round}
+use Rattle.portal_core.specs.declared.phase.Round.TheVariants.{First, Second}
 use Rattle.portal_core.specs.declared.rows.LecturerRow.{LecturerRow}
 use Rattle.portal_core.specs.declared.rows.ProjectRow.{ProjectRow}
 use Rattle.portal_core.specs.declared.rows.StudentRow.{StudentRow}
-use Rattle.portal_core.specs.Words.{put_all}
+use Rattle.portal_core.specs.Words.{Key, has, put_all}
 use Rattle.portal_core.specs.World.{World, Lecturer, Student, lecturer_key, project_key, student_key}
-use Rattle.portal_tables.specs.Tables.{portal_tree, lecturer_tree, project_tree, student_tree, choice_tree, ranking_tree}
+pub use Rattle.portal_tables.specs.ListTables.{choices_of, rankings_of}
+use Rattle.portal_tables.specs.ListTables.{tree_of}
+use Rattle.portal_tables.specs.Places.{second_place}
+use Rattle.portal_tables.specs.Tables.{portal_tree, lecturer_tree, project_tree, student_tree, second_tree, ranked2_tree}
 use Rattle.portal_tables.specs.Lists.{chosen}
 use Rattle.portal_tables.specs.Rolls.{row_key}
 use Rattle.portal_tables.specs.Shown.{text_or_none}
@@ -28,26 +32,80 @@ project_row r = record { key = row_key r; lecturer = bytes (column r 2); title =
 abbrev pub student_row : Row → StudentRow
 student_row r = record { key = row_key r; name = bytes (column r 2); code = bytes (column r 3) }
 
--- the row of a lecturer says that a ranking is there
-abbrev pub is_ranked : Row → Bool
-is_ranked r = number_in (column r 5) == 1
-
-abbrev pub lecturer_of : List Row → Row → Lecturer
-lecturer_of rankings r = record { row = lecturer_row r; ranking = if is_ranked r then Some (chosen rankings (row_key r)) else None; earlier_ranking = None }
-
-abbrev pub student_of : List Row → Row → Student
-student_of choices r = record { row = student_row r; choice = chosen choices (row_key r); placed = text_or_none (column r 4); earlier_choice = []; earlier_place = None }
-
 abbrev pub office_row : Trees → Row
 office_row db = slice_index_or (db portal_tree) 0 []
 
-unfoldable pub world_of : Trees → World
-world_of db =
+-- the round, by the phase of a second one that `second` tells
+
+abbrev pub second_phase : Trees → ℕ
+second_phase db = number_in (column (slice_index_or (db second_tree) 0 []) 2)
+
+abbrev pub round_by : ℕ → Round
+round_by n = if n == 0 then First else Second
+
+abbrev pub round_in : Trees → Round
+round_in db = round_by (second_phase db)
+
+-- what the tables hold of one round
+
+abbrev pub phase_in : Round → Trees → Phase
+phase_in First db = phase_of (number_in (column (office_row db) 3))
+phase_in Second db = phase_of (second_phase db)
+
+-- a ranking is there
+abbrev pub is_ranked : Round → Trees → Row → Bool
+is_ranked First db r = number_in (column r 5) == 1
+is_ranked Second db r = has (map row_key (db ranked2_tree)) (row_key r)
+
+abbrev pub ranking_in : Round → Trees → Row → Option (List Key)
+ranking_in round db r = if is_ranked round db r then Some (chosen (db (tree_of (rankings_of round))) (row_key r)) else None
+
+abbrev pub choice_in : Round → Trees → Row → List Key
+choice_in round db r = chosen (db (tree_of (choices_of round))) (row_key r)
+
+abbrev pub place_in : Round → Trees → Row → Option Key
+place_in First db r = text_or_none (column r 4)
+place_in Second db r = second_place db (row_key r)
+
+-- what the tables hold of the round before: nothing in the first
+
+abbrev pub earlier_ranking : Round → Trees → Row → Option (List Key)
+earlier_ranking First db r = None
+earlier_ranking Second db r = ranking_in First db r
+
+abbrev pub earlier_choice : Round → Trees → Row → List Key
+earlier_choice First db r = []
+earlier_choice Second db r = choice_in First db r
+
+abbrev pub earlier_place : Round → Trees → Row → Option Key
+earlier_place First db r = None
+earlier_place Second db r = place_in First db r
+
+-- the world in a round
+
+abbrev pub lecturer_in : Round → Trees → Row → Lecturer
+lecturer_in round db r = record { row = lecturer_row r; ranking = ranking_in round db r; earlier_ranking = earlier_ranking round db r }
+
+abbrev pub student_in : Round → Trees → Row → Student
+student_in round db r =
     record {
-      round = First;
-      phase = phase_of (number_in (column (office_row db) 3));
-      office = bytes (column (office_row db) 4);
-      lecturers = put_all lecturer_key (map (lecturer_of (db ranking_tree)) (db lecturer_tree)) [];
-      projects = put_all project_key (map project_row (db project_tree)) [];
-      students = put_all student_key (map (student_of (db choice_tree)) (db student_tree)) [];
+      row = student_row r;
+      choice = choice_in round db r;
+      placed = place_in round db r;
+      earlier_choice = earlier_choice round db r;
+      earlier_place = earlier_place round db r;
     }
+
+unfoldable pub world_in : Round → Trees → World
+world_in round db =
+    record {
+      round = round;
+      phase = phase_in round db;
+      office = bytes (column (office_row db) 4);
+      lecturers = put_all lecturer_key (map (lecturer_in round db) (db lecturer_tree)) [];
+      projects = put_all project_key (map project_row (db project_tree)) [];
+      students = put_all student_key (map (student_in round db) (db student_tree)) [];
+    }
+
+unfoldable pub world_of : Trees → World
+world_of db = world_in (round_in db) db

@@ -3,24 +3,71 @@
 ghost use Rattle.std.specs.Prelude.{◌≡◌, false};
 ghost use Rattle.sqlite.specs.Held.{state};
 ghost use Rattle.portal_core.specs.Counting.{CountsFaults};
+ghost use Rattle.portal_core.specs.Change.{SecondRound};
 ghost use Rattle.portal_core.specs.Meaning.{meant};
-ghost use Rattle.portal_tables.specs.Own.{IsOwn};
-ghost use Rattle.portal_store.specs.Kept.{Turns};
+ghost use Rattle.portal_store.specs.Opening.{is_opening};
+ghost use Rattle.portal_tables.specs.Own.{IsCurrent};
+ghost use Rattle.portal_store.specs.Kept.{Turns, TurnsFrom, TurnsIn};
 ghost use Rattle.portal_store.specs.Ending.{Ends};
 ghost use Rattle.portal_store.specs.Reading.{KeepsEntries};
 
 use crate::fault::told;
 use crate::fill::fill_rankings;
 use crate::lists::{PutChoices, replace_ranking};
+use crate::opening::open_second;
 use crate::phase::set_phase;
 use crate::placing::publish;
-use crate::rolls::{AddLecturers, AddProjects, AddStudents};
-use portal_core::{Change, KeepFault};
+use crate::rolls::{add_lecturers, add_projects, add_students};
+use crate::round::round_in;
+use portal_core::{Change, KeepFault, Round};
 use portal_list::Entries;
 use portal_tables::fault::TableFault;
 use portal_tables::step::commit;
 use sqlite::{Alter, Connection};
 use std::alloc::Global;
+
+/// Takes the step of the change in a round and commits it, or leaves all as it was; the entries stay those of the world before. `Damaged`
+/// where rows that are read are those of no good world.
+fn take_in<S: Alter>(
+    alloc: Global,
+    conn: &mut Connection<S>,
+    entries: &mut Option<Entries>,
+    round: Round,
+    change: &Change,
+) -> Result<(), TableFault>
+    requires idle { conn.old.in_transaction ≡ false }
+    ensures idle { conn.new.in_transaction ≡ false }
+    ensures ends { is_opening (meant change.now) ≡ false
+        → Ends (TurnsIn round (meant change.now)) result (state S.Store conn.old)
+        (state S.Store conn.new) }
+    ensures opens { meant change.now ≡ SecondRound
+        → Ends (TurnsFrom round SecondRound) result (state S.Store conn.old)
+        (state S.Store conn.new) }
+    ensures entries { IsCurrent conn.old.schema
+        → KeepsEntries entries.old entries.new (state S.Store conn.old) (state S.Store conn.new) }
+{
+    match change {
+        Change::Choices { student, projects } => commit(
+            alloc,
+            conn,
+            PutChoices {
+                round,
+                student,
+                projects,
+            },
+        ),
+        Change::Ranking { lecturer, students } => {
+            replace_ranking(alloc, conn, round, lecturer, students)
+        }
+        Change::Lecturers(rows) => add_lecturers(alloc, conn, round, rows),
+        Change::Projects(rows) => add_projects(alloc, conn, round, rows),
+        Change::Students(rows) => add_students(alloc, conn, round, rows),
+        Change::Phase(phase) => set_phase(alloc, conn, entries, round, *phase),
+        Change::SecondRound => open_second(alloc, conn, round),
+        Change::Result(pairs) => publish(alloc, conn, round, pairs),
+        Change::Fill => fill_rankings(alloc, conn, entries, round),
+    }
+}
 
 /// Takes the step of the change and commits it, or leaves all as it was; the entries stay those of the world before. `Damaged` where
 /// rows that are read are those of no good world.
@@ -34,23 +81,12 @@ fn take<S: Alter>(
     ensures idle { conn.new.in_transaction ≡ false }
     ensures ends { Ends (Turns (meant change.now)) result (state S.Store conn.old)
         (state S.Store conn.new) }
-    ensures entries { IsOwn conn.old.schema
+    ensures entries { IsCurrent conn.old.schema
         → KeepsEntries entries.old entries.new (state S.Store conn.old) (state S.Store conn.new) }
 {
-    match change {
-        Change::Choices { student, projects } => commit(
-            alloc,
-            conn,
-            PutChoices { student, projects },
-        ),
-        Change::Ranking { lecturer, students } => replace_ranking(alloc, conn, lecturer, students),
-        Change::Lecturers(rows) => commit(alloc, conn, AddLecturers { rows }),
-        Change::Projects(rows) => commit(alloc, conn, AddProjects { rows }),
-        Change::Students(rows) => commit(alloc, conn, AddStudents { rows }),
-        Change::Phase(phase) => set_phase(alloc, conn, entries, *phase),
-        Change::Result(pairs) => publish(alloc, conn, pairs),
-        Change::Fill => fill_rankings(alloc, conn, entries),
-    }
+    let _idle = conn.is_autocommit();
+    let round = round_in(alloc, conn)?;
+    take_in(alloc, conn, entries, round, change)
 }
 
 /// Makes the change and commits it, or leaves all as it was; the entries stay those of the world before. A fault of the
@@ -66,7 +102,7 @@ pub(crate) fn make<S: Alter>(
     ensures idle { conn.new.in_transaction ≡ false }
     ensures ends { Ends (Turns (meant change.now)) result (state S.Store conn.old)
         (state S.Store conn.new) }
-    ensures entries { IsOwn conn.old.schema
+    ensures entries { IsCurrent conn.old.schema
         → KeepsEntries entries.old entries.new (state S.Store conn.old) (state S.Store conn.new) }
     ensures counts { CountsFaults result faults.old faults.new }
 {

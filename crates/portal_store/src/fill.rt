@@ -4,14 +4,15 @@ ghost use Rattle.std.specs.Prelude.{◌≡◌, false, List, map};
 ghost use Rattle.sqlite.specs.Held.{state};
 ghost use Rattle.portal_core.specs.Words as words;
 ghost use Rattle.portal_core.specs.Change.{Fill};
-ghost use Rattle.portal_tables.specs.Own.{IsOwn};
-ghost use Rattle.portal_store.specs.Kept.{Turns};
+ghost use Rattle.portal_tables.specs.Own.{IsCurrent};
+ghost use Rattle.portal_store.specs.Kept.{TurnsIn};
 ghost use Rattle.portal_store.specs.Ending.{Ends};
 ghost use Rattle.portal_store.specs.Putting.{TurnsAll};
 ghost use Rattle.portal_store.specs.Reading.{KeepsEntries};
 
 use crate::lists::PutRanking;
 use crate::load::load_entries;
+use portal_core::Round;
 use portal_list::Entries;
 use portal_tables::fault::TableFault;
 use portal_tables::step::{Step, commit};
@@ -21,16 +22,18 @@ use std::alloc::Global;
 
 /// Each of these rankings becomes the lecturer's.
 struct PutRankings<'a> {
+    round: Round,
     rankings: &'a [(Key, Vec<Key>)],
 }
 
 impl Step for PutRankings<'_> {
-    ghost makes = { λ s. TurnsAll (map {B = words.Key × List words.Key} (λ f. (f.0, f.1.items)) s.rankings.now) };
+    ghost makes = { λ s. TurnsAll s.round (map {B = words.Key × List words.Key} (λ f. (f.0, f.1.items)) s.rankings.now) };
 
     fn take<S: Alter>(self, alloc: Global, tx: &mut Transaction<'_, S>) -> Result<(), Error> {
-        let PutRankings { rankings } = self;
+        let PutRankings { round, rankings } = self;
         'rows: for ranking in rankings {
             let put = PutRanking {
+                round,
                 lecturer: &ranking.0,
                 students: &ranking.1,
             };
@@ -46,12 +49,13 @@ pub(crate) fn fill_rankings<S: Alter>(
     alloc: Global,
     conn: &mut Connection<S>,
     entries: &mut Option<Entries>,
+    round: Round,
 ) -> Result<(), TableFault>
     requires idle { conn.old.in_transaction ≡ false }
     ensures idle { conn.new.in_transaction ≡ false }
-    ensures ends { Ends (Turns Fill) result (state S.Store conn.old)
+    ensures ends { Ends (TurnsIn round Fill) result (state S.Store conn.old)
         (state S.Store conn.new) }
-    ensures entries { IsOwn conn.old.schema
+    ensures entries { IsCurrent conn.old.schema
         → KeepsEntries entries.old entries.new (state S.Store conn.old) (state S.Store conn.new) }
 {
     let _idle = conn.is_autocommit();
@@ -62,6 +66,7 @@ pub(crate) fn fill_rankings<S: Alter>(
         alloc,
         conn,
         PutRankings {
+            round,
             rankings: &rankings,
         },
     )

@@ -5,11 +5,12 @@ ghost use Rattle.sqlite.specs.Held.{state};
 ghost use Rattle.portal_core.specs.World.{World};
 ghost use Rattle.portal_core.specs.Counting.{CountsFaults};
 ghost use Rattle.portal_core.specs.Good.{Sound};
+ghost use Rattle.portal_core.specs.declared.phase.Round.TheVariants.{Second};
 ghost use Rattle.portal_core.specs.Instance as meant_by;
 ghost use Rattle.portal_list.specs.Entries.{HasEntries};
-ghost use Rattle.portal_tables.specs.Reading.{Asks};
+ghost use Rattle.portal_tables.specs.Reading.{AsksIn};
 ghost use Rattle.portal_store.specs.World.{world_of};
-ghost use Rattle.portal_store.specs.Reading.{shown, OverOwn};
+ghost use Rattle.portal_store.specs.Reading.{shown, OverBoth};
 
 use crate::fault::{rows_fault_of, told};
 use crate::load::load_entries;
@@ -44,10 +45,10 @@ pub(crate) fn instance_in<S: Alter>(
 ) -> Result<Instance, KeepFault>
     requires idle { conn.old.in_transaction ≡ false }
     ensures idle { conn.new.in_transaction ≡ false }
-    ensures instance { OverOwn S.Store conn.old conn.new
+    ensures instance { OverBoth S.Store conn.old conn.new
         (IfOk result (λ i. Sound (world_of (shown S.Store conn.old))
         → i ≡ meant_by.instance (world_of (shown S.Store conn.old)))) }
-    ensures asks { Asks result (state S.Store conn.old) (state S.Store conn.new) }
+    ensures asks { AsksIn Second result (state S.Store conn.old) (state S.Store conn.new) }
     ensures counts { CountsFaults result faults.old faults.new }
 {
     match load_entries(alloc, conn) {

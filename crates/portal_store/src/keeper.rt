@@ -10,7 +10,7 @@ ghost use Rattle.portal_core.specs.Good.{Good};
 ghost use Rattle.portal_core.specs.Meaning.{meant};
 ghost use Rattle.portal_core.specs.View as seen;
 ghost use Rattle.portal_core.specs.Instance as meant_by;
-ghost use Rattle.portal_tables.specs.Own.{IsOwn};
+ghost use Rattle.portal_tables.specs.Own.{IsCurrent};
 ghost use Rattle.portal_tables.specs.Steps.{Commits, IsAfter, LeavesOnly};
 ghost use Rattle.portal_store.specs.Kept.{IsCleanStore, Lasts, kept_world, Turns};
 ghost use Rattle.portal_store.specs.Crash.{IsLeft};
@@ -31,7 +31,7 @@ use std::alloc::Global;
 impl<S: Alter> Store<S> {
     /// Sees that tables which were the portal's own still are.
     fn check_own(&self) -> Result<(), TableFault>
-        ensures { IsTrue self.now.own → OnOk result (IsOwn self.now.conn.schema) }
+        ensures { IsTrue self.now.own → OnOk result (IsCurrent self.now.conn.schema) }
     {
         if !self.own || self.pattern.fits(&self.conn) {
             return Ok(());

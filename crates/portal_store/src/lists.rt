@@ -3,13 +3,16 @@
 ghost use Rattle.std.specs.Prelude.{◌≡◌, false};
 ghost use Rattle.sqlite.specs.Held.{state};
 ghost use Rattle.portal_core.specs.Change.{Choices, Ranks};
-ghost use Rattle.portal_store.specs.Kept.{Turns};
+ghost use Rattle.portal_store.specs.Kept.{TurnsIn};
 ghost use Rattle.portal_store.specs.Ending.{Ends};
 ghost use Rattle.portal_store.specs.Putting.{TurnsThere};
+ghost use Rattle.portal_store.specs.World as world;
 
+use portal_core::Round;
 use portal_tables::fault::TableFault;
 use portal_tables::list_table::Lists;
 use portal_tables::put::put_list;
+use portal_tables::second::rank_second;
 use portal_tables::select::{Query, read};
 use portal_tables::step::{Step, commit};
 use portal_tables::update::set_ranked;
@@ -17,35 +20,68 @@ use spa_rows::Key;
 use sqlite::{Alter, Connection, Error, Transaction};
 use std::alloc::Global;
 
+/// The table of the students' lists of a round.
+fn choices_of(round: Round) -> Lists
+    ensures { result ≡ world.choices_of round }
+{
+    match round {
+        Round::First => Lists::Choices,
+        Round::Second => Lists::SecondChoices,
+    }
+}
+
+/// The table of the rankings of a round.
+fn rankings_of(round: Round) -> Lists
+    ensures { result ≡ world.rankings_of round }
+{
+    match round {
+        Round::First => Lists::Rankings,
+        Round::Second => Lists::SecondRankings,
+    }
+}
+
 /// The student's list becomes these projects, best first. A list that is longer than any may be is refused as too big.
 pub(crate) struct PutChoices<'a> {
+    pub round: Round,
     pub student: &'a Key,
     pub projects: &'a [Key],
 }
 
 impl Step for PutChoices<'_> {
-    ghost makes = { λ s. Turns (Choices s.student.now s.projects.now) };
+    ghost makes = { λ s. TurnsIn s.round (Choices s.student.now s.projects.now) };
 
     fn take<S: Alter>(self, alloc: Global, tx: &mut Transaction<'_, S>) -> Result<(), Error> {
-        let PutChoices { student, projects } = self;
-        put_list(alloc, tx, Lists::Choices, student, projects)
+        let PutChoices {
+            round,
+            student,
+            projects,
+        } = self;
+        put_list(alloc, tx, choices_of(round), student, projects)
     }
 }
 
-/// The ranking of a lecturer who is on the roll becomes these students, best first, and the lecturer's row says that it is there. As
-/// `PutChoices` otherwise.
+/// The ranking of a lecturer who is on the roll becomes these students, best first, and a row says that it is there: of the first round the
+/// lecturer's own, of the second one of `ranked2`. As `PutChoices` otherwise.
 pub(crate) struct PutRanking<'a> {
+    pub round: Round,
     pub lecturer: &'a Key,
     pub students: &'a [Key],
 }
 
 impl Step for PutRanking<'_> {
-    ghost makes = { λ s. TurnsThere s.lecturer.now s.students.now };
+    ghost makes = { λ s. TurnsThere s.round s.lecturer.now s.students.now };
 
     fn take<S: Alter>(self, alloc: Global, tx: &mut Transaction<'_, S>) -> Result<(), Error> {
-        let PutRanking { lecturer, students } = self;
-        put_list(alloc, tx, Lists::Rankings, lecturer, students)?;
-        set_ranked(tx, lecturer.as_bytes())
+        let PutRanking {
+            round,
+            lecturer,
+            students,
+        } = self;
+        put_list(alloc, tx, rankings_of(round), lecturer, students)?;
+        match round {
+            Round::First => set_ranked(tx, lecturer.as_bytes()),
+            Round::Second => rank_second(tx, lecturer.as_bytes()),
+        }
     }
 }
 
@@ -53,12 +89,13 @@ impl Step for PutRanking<'_> {
 pub(crate) fn replace_ranking<S: Alter>(
     alloc: Global,
     conn: &mut Connection<S>,
+    round: Round,
     lecturer: &Key,
     students: &[Key],
 ) -> Result<(), TableFault>
     requires idle { conn.old.in_transaction ≡ false }
     ensures idle { conn.new.in_transaction ≡ false }
-    ensures ends { Ends (Turns (Ranks lecturer.now students.now)) result (state S.Store conn.old)
+    ensures ends { Ends (TurnsIn round (Ranks lecturer.now students.now)) result (state S.Store conn.old)
         (state S.Store conn.new) }
 {
     let _idle = conn.is_autocommit();
@@ -66,5 +103,13 @@ pub(crate) fn replace_ranking<S: Alter>(
     if there.is_empty() {
         return Ok(());
     }
-    commit(alloc, conn, PutRanking { lecturer, students })
+    commit(
+        alloc,
+        conn,
+        PutRanking {
+            round,
+            lecturer,
+            students,
+        },
+    )
 }

@@ -3,24 +3,30 @@
 ghost use Rattle.std.specs.Prelude.{◌≡◌, false, Err, IfOk};
 ghost use Rattle.sqlite.specs.Held.{state};
 ghost use Rattle.portal_core.specs.Good.{Sound};
+ghost use Rattle.portal_core.specs.declared.phase.Round.TheVariants.{Second};
 ghost use Rattle.portal_list.specs.Entries.{HasEntries};
-ghost use Rattle.portal_tables.specs.Reading.{Asks};
-ghost use Rattle.portal_store.specs.Kept.{StandsAs};
-ghost use Rattle.portal_store.specs.Loads.{Loads};
-ghost use Rattle.portal_store.specs.World.{world_of};
-ghost use Rattle.portal_store.specs.Reading.{shown, OverOwn};
+ghost use Rattle.portal_tables.specs.Contents.{rows_held};
+ghost use Rattle.portal_tables.specs.Reading.{Asks, AsksIn};
+ghost use Rattle.portal_store.specs.Asked.{AreApart};
+ghost use Rattle.portal_store.specs.Kept.{Stands, StandsAs, StandsIn};
+ghost use Rattle.portal_store.specs.Loads as meant_by;
+ghost use Rattle.portal_store.specs.Loads.{Loads, LoadsIn};
+ghost use Rattle.portal_store.specs.World.{round_in, world_of};
+ghost use Rattle.portal_store.specs.Reading.{shown, OverBoth, OverOwn};
 
 use crate::fault::rows_fault_of;
-use portal_core::Round;
+use crate::round::round_in;
+use portal_core::{Phase, Round};
 use portal_list::{Entries, WorldRows};
-use portal_tables::contents::contents_in;
+use portal_tables::contents::{Contents, contents_in};
 use portal_tables::fault::TableFault;
 use portal_tables::office::{VERSION, office_in};
+use portal_tables::second::second_in;
 use sqlite::{Alter, Connection};
 use std::alloc::Global;
 
-/// The rows of the world that tables of this version stand for.
-pub(crate) fn load<S: Alter>(
+/// The rows of the world of the first round that tables of this version stand for.
+pub(crate) fn load_first<S: Alter>(
     alloc: Global,
     conn: &mut Connection<S>,
     version: u32,
@@ -34,7 +40,7 @@ pub(crate) fn load<S: Alter>(
     ensures asks { Asks result (state S.Store conn.old) (state S.Store conn.new) }
 {
     let office = office_in(alloc, conn, version)?;
-    let contents = contents_in(alloc, conn)?;
+    let contents = contents_in(alloc, conn, Round::First)?;
     Ok(WorldRows {
         round: Round::First,
         phase: office.phase,
@@ -51,6 +57,64 @@ pub(crate) fn load<S: Alter>(
     })
 }
 
+/// The rows of a second round after the first.
+fn after_first(first: WorldRows, phase: Phase, contents: Contents) -> WorldRows
+    ensures { result ≡ meant_by.after_first first phase (rows_held contents) }
+{
+    WorldRows {
+        round: Round::Second,
+        phase,
+        office: first.office,
+        lecturers: contents.lecturers,
+        projects: contents.projects,
+        students: contents.students,
+        choices: contents.choices,
+        rankings: contents.rankings,
+        pairs: contents.pairs,
+        earlier_choices: first.choices,
+        earlier_rankings: first.rankings,
+        earlier_pairs: first.pairs,
+    }
+}
+
+/// The rows of the world of the second round that the tables stand for.
+fn load_second<S: Alter>(alloc: Global, conn: &mut Connection<S>) -> Result<WorldRows, TableFault>
+    requires idle { conn.old.in_transaction ≡ false }
+    ensures idle { conn.new.in_transaction ≡ false }
+    ensures rows { OverBoth S.Store conn.old conn.new
+        (IfOk result (λ rows. LoadsIn Second (shown S.Store conn.old) rows)) }
+    ensures damaged { OverBoth S.Store conn.old conn.new
+        (result ≡ Err TableFault.Damaged → AreApart (shown S.Store conn.old)
+        → StandsIn Second (shown S.Store conn.old) → ⊥) }
+    ensures asks { AsksIn Second result (state S.Store conn.old) (state S.Store conn.new) }
+{
+    let phase = second_in(alloc, conn)?;
+    let first = load_first(alloc, conn, VERSION)?;
+    let contents = contents_in(alloc, conn, Round::Second)?;
+    Ok(after_first(first, phase, contents))
+}
+
+/// The rows of the world that the tables stand for.
+pub(crate) fn load<S: Alter>(
+    alloc: Global,
+    conn: &mut Connection<S>,
+) -> Result<WorldRows, TableFault>
+    requires idle { conn.old.in_transaction ≡ false }
+    ensures idle { conn.new.in_transaction ≡ false }
+    ensures rows { OverBoth S.Store conn.old conn.new
+        (IfOk result (λ rows. LoadsIn (round_in (shown S.Store conn.old))
+        (shown S.Store conn.old) rows)) }
+    ensures damaged { OverBoth S.Store conn.old conn.new
+        (result ≡ Err TableFault.Damaged → AreApart (shown S.Store conn.old)
+        → Stands (shown S.Store conn.old) → ⊥) }
+    ensures asks { AsksIn Second result (state S.Store conn.old) (state S.Store conn.new) }
+{
+    match round_in(alloc, conn)? {
+        Round::First => load_first(alloc, conn, VERSION),
+        Round::Second => load_second(alloc, conn),
+    }
+}
+
 /// The entries of the world that the tables stand for. No list is judged: where the world is not sound, `Damaged` or entries may come
 /// that mean nothing.
 pub(crate) fn load_entries<S: Alter>(
@@ -59,12 +123,12 @@ pub(crate) fn load_entries<S: Alter>(
 ) -> Result<Entries, TableFault>
     requires idle { conn.old.in_transaction ≡ false }
     ensures idle { conn.new.in_transaction ≡ false }
-    ensures entries { OverOwn S.Store conn.old conn.new
+    ensures entries { OverBoth S.Store conn.old conn.new
         (IfOk result (λ e. Sound (world_of (shown S.Store conn.old))
         → HasEntries e (world_of (shown S.Store conn.old)))) }
-    ensures asks { Asks result (state S.Store conn.old) (state S.Store conn.new) }
+    ensures asks { AsksIn Second result (state S.Store conn.old) (state S.Store conn.new) }
 {
-    let rows = load(alloc, conn, VERSION)?;
+    let rows = load(alloc, conn)?;
     match Entries::from_rows(alloc, rows) {
         Ok(entries) => Ok(entries),
         Err(fault) => Err(rows_fault_of(fault)),

@@ -1,33 +1,38 @@
 //! Opens a store over tables that are there.
 
-ghost use Rattle.std.specs.Prelude.{◌≡◌, ◌≢◌, ◌↔◌, false, [], Err, IfOk, IfErr, OnOk, IsTrue, pos, ◌∷◌};
+ghost use Rattle.std.specs.Prelude.{◌≡◌, ◌≢◌, ◌↔◌, false, [], Err, IfOk, IfErr, OnOk, IsTrue, ◌∷◌};
 ghost use Rattle.std.specs.List.{AllByRecursion};
-ghost use Rattle.sqlite.specs.State.{HasCleanDisk, IsLive, IsUnchanged, Survives};
+ghost use Rattle.sqlite.specs.State.{HasCleanDisk, IsUnchanged, Survives};
 ghost use Rattle.sqlite.specs.Held.{state};
 ghost use Rattle.portal_core.specs.Good.{Good};
-ghost use Rattle.portal_core.specs.declared.phase.Round.TheVariants.{Second};
-ghost use Rattle.portal_tables.specs.Tables.{second_tree, choice2_tree, ranked2_tree, ranking2_tree, assigned2_tree};
+ghost use Rattle.portal_core.specs.World.{is_setup};
+ghost use Rattle.portal_core.specs.declared.phase.Round.TheVariants.{First, Second};
+ghost use Rattle.portal_core.specs.declared.phase.Phase.TheVariants.{Published};
+ghost use Rattle.portal_tables.specs.Changes.{IsApart};
+ghost use Rattle.portal_tables.specs.Tables.{choice2_tree, ranked2_tree, ranking2_tree, assigned2_tree};
 ghost use Rattle.portal_tables.specs.Own.{HasRound, IsCurrent};
-ghost use Rattle.portal_tables.specs.Rows.{second_row};
 ghost use Rattle.portal_tables.specs.Queries.{round_asked};
-ghost use Rattle.portal_tables.specs.Reading.{AsksIn};
+ghost use Rattle.portal_tables.specs.Reading.{Asks, AsksIn};
 ghost use Rattle.portal_tables.specs.Steps.{Stays};
 ghost use Rattle.portal_list.specs.Entries.{HasEntries};
-ghost use Rattle.portal_store.specs.Kept.{HasSecond, Stands, IsCleanStore, kept_world};
-ghost use Rattle.portal_store.specs.World.{world_of};
-ghost use Rattle.portal_store.specs.Asked.{Denies, Refutes, Admits};
-ghost use Rattle.portal_store.specs.Reading.{ReadsAll, OverBoth, shown, table_of};
+ghost use Rattle.portal_store.specs.Kept.{AreEmpty, HasSecond, Stands, StandsIn, IsCleanStore, kept_world};
+ghost use Rattle.portal_store.specs.World.{phase_in, round_in, world_of};
+ghost use Rattle.portal_store.specs.Asked.{AreApart, Denies, IsJudged, SaysNothing, Refutes, Admits};
+ghost use Rattle.portal_store.specs.Reading.{ReadsAll, OverBoth, OverLive, OverOwn, shown, table_of};
 
 use crate::fault::{load_open_fault_of, open_fault_of};
-use crate::seeing::{judge, see_first, seen};
+use crate::round::first_phase;
+use crate::seeing::{apart, judge_world, see_first, see_first_apart, seen};
+use crate::sound::load_keeper;
 use crate::store::{NotOpened, OpenFault, Store};
 use portal_core::{Phase, Remembered};
 use portal_list::Entries;
+use portal_tables::apart::are_apart;
 use portal_tables::list_table::Lists;
 use portal_tables::office::VERSION;
 use portal_tables::own::Pattern;
 use portal_tables::second::second_in;
-use portal_tables::select::{Query, finds_any, read};
+use portal_tables::select::{Query, Table, finds_any, read};
 use sqlite::{Alter, Connection};
 use std::alloc::Global;
 
@@ -71,81 +76,136 @@ fn see_none<S: Alter>(conn: &mut Connection<S>, query: Query<'_>) -> Result<(), 
     }
 }
 
-/// Whether the row of `second` tells no phase.
-fn see_no_phase<S: Alter>(alloc: Global, conn: &mut Connection<S>) -> Result<(), OpenFault>
+/// Whether nothing of a second round is there.
+fn see_nothing<S: Alter>(conn: &mut Connection<S>) -> Result<(), OpenFault>
     requires idle { conn.old.in_transaction ≡ false }
     ensures idle { conn.new.in_transaction ≡ false }
     ensures asks { AsksIn Second result (state S.Store conn.old) (state S.Store conn.new) }
-    ensures refused { OverBoth S.Store conn.old conn.new
-        (IfErr result (λ fault. Denies fault (HasSecond (shown S.Store conn.old)))) }
-    ensures row { OverBoth S.Store conn.old conn.new
-        (OnOk result (shown S.Store conn.old second_tree ≡ second_row (pos 0) ∷ [])) }
+    ensures refused { IsCurrent conn.old.schema → HasCleanDisk (state S.Store conn.new)
+        → IfErr result (λ fault. Denies fault (AreEmpty (shown S.Store conn.old))) }
+    ensures none { IsCurrent conn.old.schema → HasCleanDisk (state S.Store conn.new)
+        → OnOk result (AreEmpty (shown S.Store conn.old)) }
 {
-    match second_in(alloc, conn) {
-        Ok(Phase::Setup) => Ok(()),
-        Ok(Phase::Choosing | Phase::Ranking | Phase::Published) => Err(OpenFault::Damaged),
+    see_none(conn, Query::AllLists(Lists::SecondChoices))?;
+    see_none(conn, Query::SecondRanked)?;
+    see_none(conn, Query::AllLists(Lists::SecondRankings))?;
+    see_none(conn, Query::SecondPlaces)
+}
+
+/// Whether the first round is published.
+fn see_published<S: Alter>(alloc: Global, conn: &mut Connection<S>) -> Result<(), OpenFault>
+    requires idle { conn.old.in_transaction ≡ false }
+    ensures idle { conn.new.in_transaction ≡ false }
+    ensures asks { Asks result (state S.Store conn.old) (state S.Store conn.new) }
+    ensures refused { OverOwn S.Store conn.old conn.new
+        (IfErr result (λ fault. Denies fault (StandsIn Second (shown S.Store conn.old)))) }
+    ensures published { OverOwn S.Store conn.old conn.new
+        (OnOk result (phase_in First (shown S.Store conn.old) ≡ Published)) }
+{
+    match first_phase(alloc, conn) {
+        Ok(Phase::Published) => Ok(()),
+        Ok(Phase::Setup | Phase::Choosing | Phase::Ranking) => Err(OpenFault::Damaged),
         Err(fault) => Err(load_open_fault_of(fault)),
     }
 }
 
-/// Whether there are no lists of a second round.
-fn see_no_lists<S: Alter>(conn: &mut Connection<S>) -> Result<(), OpenFault>
-    requires idle { conn.old.in_transaction ≡ false }
-    ensures idle { conn.new.in_transaction ≡ false }
-    ensures asks { AsksIn Second result (state S.Store conn.old) (state S.Store conn.new) }
-    ensures refused { IsCurrent conn.old.schema → HasCleanDisk (state S.Store conn.new)
-        → IfErr result (λ fault. Denies fault (HasSecond (shown S.Store conn.old))) }
-    ensures none { IsCurrent conn.old.schema → HasCleanDisk (state S.Store conn.new)
-        → OnOk result (AllByRecursion (λ t. shown S.Store conn.old t ≡ [])
-        (choice2_tree ∷ ranking2_tree ∷ [])) }
+/// Whether a phase of `second` says that there is no second round.
+fn tells_none(phase: Phase) -> bool
+    ensures { result ≡ is_setup phase }
 {
-    see_none(conn, Query::AllLists(Lists::SecondChoices))?;
-    see_none(conn, Query::AllLists(Lists::SecondRankings))
+    match phase {
+        Phase::Setup => true,
+        Phase::Choosing | Phase::Ranking | Phase::Published => false,
+    }
 }
 
-/// Whether nobody has a ranking or a place in a second round.
-fn see_no_places<S: Alter>(conn: &mut Connection<S>) -> Result<(), OpenFault>
-    requires idle { conn.old.in_transaction ≡ false }
-    ensures idle { conn.new.in_transaction ≡ false }
-    ensures asks { AsksIn Second result (state S.Store conn.old) (state S.Store conn.new) }
-    ensures refused { IsCurrent conn.old.schema → HasCleanDisk (state S.Store conn.new)
-        → IfErr result (λ fault. Denies fault (HasSecond (shown S.Store conn.old))) }
-    ensures none { IsCurrent conn.old.schema → HasCleanDisk (state S.Store conn.new)
-        → OnOk result (AllByRecursion (λ t. shown S.Store conn.old t ≡ [])
-        (ranked2_tree ∷ assigned2_tree ∷ [])) }
-{
-    see_none(conn, Query::SecondRanked)?;
-    see_none(conn, Query::SecondPlaces)
-}
-
-/// Whether the second round's tables say that there is none.
+/// Whether what `second` tells is so: of no second round nothing is there, and the first is published before it.
 fn see_second<S: Alter>(alloc: Global, conn: &mut Connection<S>) -> Result<(), OpenFault>
     requires idle { conn.old.in_transaction ≡ false }
     ensures idle { conn.new.in_transaction ≡ false }
     ensures asks { AsksIn Second result (state S.Store conn.old) (state S.Store conn.new) }
     ensures refused { OverBoth S.Store conn.old conn.new
-        (IfErr result (λ fault. Denies fault (HasSecond (shown S.Store conn.old)))) }
+        (IfErr result (λ fault. Denies fault (Stands (shown S.Store conn.old)))) }
     ensures second { OverBoth S.Store conn.old conn.new
-        (OnOk result (HasSecond (shown S.Store conn.old))) }
+        (OnOk result (HasSecond (round_in (shown S.Store conn.old)) (shown S.Store conn.old))) }
 {
-    see_no_phase(alloc, conn)?;
-    see_no_lists(conn)?;
-    see_no_places(conn)
+    let phase = match second_in(alloc, conn) {
+        Ok(phase) => phase,
+        Err(fault) => return Err(load_open_fault_of(fault)),
+    };
+    if tells_none(phase) {
+        see_nothing(conn)
+    } else {
+        see_published(alloc, conn)
+    }
 }
 
-/// Whether the second round's tables can be queried, and say that there is none; `own` says that they are the portal's own.
-fn see_round<S: Alter>(alloc: Global, conn: &mut Connection<S>, own: bool) -> Result<(), OpenFault>
+/// Whether the rows of the second round have numbers of their own.
+fn see_second_apart<S: Alter>(conn: &mut Connection<S>) -> Result<(), OpenFault>
     requires idle { conn.old.in_transaction ≡ false }
     ensures idle { conn.new.in_transaction ≡ false }
-    ensures asks { IsTrue own
-        → AsksIn Second result (state S.Store conn.old) (state S.Store conn.new) }
-    ensures refused { IsTrue own → OverBoth S.Store conn.old conn.new
-        (IfErr result (λ fault. Denies fault (HasSecond (shown S.Store conn.old)))) }
-    ensures second { IsTrue own → OverBoth S.Store conn.old conn.new
-        (OnOk result (HasSecond (shown S.Store conn.old))) }
+    ensures asks { AsksIn Second result (state S.Store conn.old) (state S.Store conn.new) }
+    ensures refused { IfErr result SaysNothing }
+    ensures apart { IsCurrent conn.old.schema → HasCleanDisk (state S.Store conn.new)
+        → OnOk result (AllByRecursion (λ t. IsApart (shown S.Store conn.old t))
+        (choice2_tree ∷ ranked2_tree ∷ ranking2_tree ∷ assigned2_tree ∷ [])) }
 {
-    see_second_tables(conn, own)?;
-    see_second(alloc, conn)
+    apart(are_apart(conn, Table::OfLists(Lists::SecondChoices)))?;
+    apart(are_apart(conn, Table::OfRanked))?;
+    apart(are_apart(conn, Table::OfLists(Lists::SecondRankings)))?;
+    apart(are_apart(conn, Table::OfPlaces))
+}
+
+/// Whether the rows of all tables have numbers of their own.
+fn see_apart<S: Alter>(conn: &mut Connection<S>) -> Result<(), OpenFault>
+    requires idle { conn.old.in_transaction ≡ false }
+    ensures idle { conn.new.in_transaction ≡ false }
+    ensures asks { AsksIn Second result (state S.Store conn.old) (state S.Store conn.new) }
+    ensures refused { IfErr result SaysNothing }
+    ensures apart { IsCurrent conn.old.schema → HasCleanDisk (state S.Store conn.new)
+        → OnOk result (AreApart (shown S.Store conn.old)) }
+{
+    see_first_apart(conn)?;
+    see_second_apart(conn)
+}
+
+/// The entries of the world that the rows stand for, where it is good.
+fn see_world<S: Alter>(alloc: Global, conn: &mut Connection<S>) -> Result<Entries, OpenFault>
+    requires idle { conn.old.in_transaction ≡ false }
+    ensures idle { conn.new.in_transaction ≡ false }
+    ensures asks { AsksIn Second result (state S.Store conn.old) (state S.Store conn.new) }
+    ensures refused { OverBoth S.Store conn.old conn.new
+        (AreApart (shown S.Store conn.old)
+        → IfErr result (λ fault. Denies fault (Stands (shown S.Store conn.old)))) }
+    ensures judged { OverBoth S.Store conn.old conn.new
+        (OnOk result (IsJudged (shown S.Store conn.old))) }
+    ensures entries { OverBoth S.Store conn.old conn.new
+        (IfOk result (λ e. HasEntries e (world_of (shown S.Store conn.old)))) }
+{
+    match load_keeper(alloc, conn) {
+        Ok(keeper) => {
+            judge_world(alloc, &keeper)?;
+            Ok(keeper.into_entries())
+        }
+        Err(fault) => Err(load_open_fault_of(fault)),
+    }
+}
+
+/// What is tested of the tables of both rounds, in this order: the numbers of rows, what `second` tells, and the world, whose entries come.
+fn judge_both<S: Alter>(alloc: Global, conn: &mut Connection<S>) -> Result<Entries, OpenFault>
+    requires idle { conn.old.in_transaction ≡ false }
+    ensures idle { conn.new.in_transaction ≡ false }
+    ensures asks { AsksIn Second result (state S.Store conn.old) (state S.Store conn.new) }
+    ensures refused { OverLive Second S.Store conn.old conn.new
+        (IfErr result (λ fault. Denies fault (Stands (shown S.Store conn.old)))) }
+    ensures admits { OverLive Second S.Store conn.old conn.new
+        (OnOk result (Admits (shown S.Store conn.old))) }
+    ensures entries { OverLive Second S.Store conn.old conn.new
+        (IfOk result (λ e. HasEntries e (world_of (shown S.Store conn.old)))) }
+{
+    see_apart(conn)?;
+    see_second(alloc, conn)?;
+    see_world(alloc, conn)
 }
 
 /// What is tested of the tables, in this order: whether those of the first round can be queried and are of the version, whether those of
@@ -159,19 +219,16 @@ fn examine<S: Alter>(
     ensures idle { conn.new.in_transaction ≡ false }
     ensures asks { IsTrue own
         → AsksIn Second result (state S.Store conn.old) (state S.Store conn.new) }
-    ensures refused { IsTrue own → IsCurrent conn.old.schema → IsLive (state S.Store conn.old)
-        → HasCleanDisk (state S.Store conn.new)
-        → IfErr result (λ fault. Refutes fault (shown S.Store conn.old)) }
-    ensures admits { IsTrue own → IsCurrent conn.old.schema → IsLive (state S.Store conn.old)
-        → HasCleanDisk (state S.Store conn.new)
-        → OnOk result (Admits (shown S.Store conn.old)) }
-    ensures entries { IsTrue own → IsCurrent conn.old.schema → IsLive (state S.Store conn.old)
-        → HasCleanDisk (state S.Store conn.new)
-        → IfOk result (λ e. HasEntries e (world_of (shown S.Store conn.old))) }
+    ensures refused { IsTrue own → OverLive Second S.Store conn.old conn.new
+        (IfErr result (λ fault. Refutes fault (shown S.Store conn.old))) }
+    ensures admits { IsTrue own → OverLive Second S.Store conn.old conn.new
+        (OnOk result (Admits (shown S.Store conn.old))) }
+    ensures entries { IsTrue own → OverLive Second S.Store conn.old conn.new
+        (IfOk result (λ e. HasEntries e (world_of (shown S.Store conn.old)))) }
 {
     see_first(conn, own, VERSION)?;
-    see_round(alloc, conn, own)?;
-    judge(alloc, conn, VERSION)
+    see_second_tables(conn, own)?;
+    judge_both(alloc, conn)
 }
 
 impl<S: Alter> Store<S> {

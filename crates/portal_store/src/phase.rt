@@ -4,17 +4,18 @@ ghost use Rattle.std.specs.Prelude.{◌≡◌, false};
 ghost use Rattle.sqlite.specs.Held.{state};
 ghost use Rattle.portal_core.specs.Change.{To};
 ghost use Rattle.portal_tables.specs.Office.{number_of};
-ghost use Rattle.portal_tables.specs.Own.{IsOwn};
-ghost use Rattle.portal_store.specs.Kept.{Turns};
+ghost use Rattle.portal_tables.specs.Own.{IsCurrent};
+ghost use Rattle.portal_store.specs.Kept.{TurnsIn};
 ghost use Rattle.portal_store.specs.Ending.{Ends};
 ghost use Rattle.portal_store.specs.Reading.{KeepsEntries};
 
 use crate::load::load_entries;
-use portal_core::Phase;
+use portal_core::{Phase, Round};
 use portal_list::Entries;
 use portal_tables::fault::TableFault;
+use portal_tables::second::set_second;
 use portal_tables::step::{Step, commit};
-use portal_tables::update;
+use portal_tables::update::set_phase as set_phase_number;
 use sqlite::{Alter, Connection, Error, Transaction};
 use std::alloc::Global;
 
@@ -32,15 +33,19 @@ fn phase_number(phase: Phase) -> u32
 
 /// The portal moves to this phase.
 struct SetPhase {
+    round: Round,
     phase: Phase,
 }
 
 impl Step for SetPhase {
-    ghost makes = { λ s. Turns (To s.phase) };
+    ghost makes = { λ s. TurnsIn s.round (To s.phase) };
 
     fn take<S: Alter>(self, _alloc: Global, tx: &mut Transaction<'_, S>) -> Result<(), Error> {
-        let SetPhase { phase } = self;
-        update::set_phase(tx, phase_number(phase))
+        let SetPhase { round, phase } = self;
+        match round {
+            Round::First => set_phase_number(tx, phase_number(phase)),
+            Round::Second => set_second(tx, phase_number(phase)),
+        }
     }
 }
 
@@ -50,20 +55,21 @@ pub(crate) fn set_phase<S: Alter>(
     alloc: Global,
     conn: &mut Connection<S>,
     entries: &mut Option<Entries>,
+    round: Round,
     phase: Phase,
 ) -> Result<(), TableFault>
     requires idle { conn.old.in_transaction ≡ false }
     ensures idle { conn.new.in_transaction ≡ false }
-    ensures ends { Ends (Turns (To phase)) result (state S.Store conn.old)
+    ensures ends { Ends (TurnsIn round (To phase)) result (state S.Store conn.old)
         (state S.Store conn.new) }
-    ensures entries { IsOwn conn.old.schema
+    ensures entries { IsCurrent conn.old.schema
         → KeepsEntries entries.old entries.new (state S.Store conn.old) (state S.Store conn.new) }
 {
     let _idle = conn.is_autocommit();
     if entries.is_some() {
-        return commit(alloc, conn, SetPhase { phase });
+        return commit(alloc, conn, SetPhase { round, phase });
     }
     let read = load_entries(alloc, conn)?;
     *entries = Some(read);
-    commit(alloc, conn, SetPhase { phase })
+    commit(alloc, conn, SetPhase { round, phase })
 }

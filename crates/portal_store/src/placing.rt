@@ -1,20 +1,26 @@
 //! The result: each student's project, and the phase.
 
-ghost use Rattle.std.specs.Prelude.{◌≡◌, false, map, IfOk, option_map};
+ghost use Rattle.std.specs.Prelude.{◌≡◌, false, map, IfOk, is_none, option_map};
+ghost use Rattle.std.specs.List.{filter_map};
 ghost use Rattle.sqlite.specs.Held.{state};
 ghost use Rattle.portal_core.specs.Change.{Places, place_in};
-ghost use Rattle.portal_store.specs.Kept.{Turns};
+ghost use Rattle.portal_store.specs.Kept.{TurnsIn};
 ghost use Rattle.portal_store.specs.Ending.{Ends};
-ghost use Rattle.portal_store.specs.Placing.{TurnsShown, assigned_of};
+ghost use Rattle.portal_store.specs.Placing.{TurnsShown, TurnsLeft, assigned_of, pair_left};
+ghost use Rattle.sqlite.specs.Order.{column};
+ghost use Rattle.portal_tables.specs.Shown.{text_or_none};
+ghost use Rattle.portal_core.specs.declared.phase.Round.TheVariants.{First};
 
-use portal_core::Pairs;
+use portal_core::{Pairs, Round};
 use portal_tables::assign::{Assignment, assign_all};
-use portal_tables::cells::bytes_at;
+use portal_tables::cells::{bytes_at, key_at};
 use portal_tables::fault::TableFault;
+use portal_tables::second::{put_places, set_second};
 use portal_tables::select::{Query, Roll, read};
 use portal_tables::step::{Step, commit};
 use portal_tables::update;
 use spa_rows::Key;
+use sqlite::types::ValueRef;
 use sqlite::{Alter, Connection, Error, Row, Transaction};
 use std::alloc::{AllocError, Global};
 
@@ -45,14 +51,14 @@ fn assignments<'a>(
     Ok(all)
 }
 
-/// The result is made public, where the rows are the roll of students: their places, and then the phase.
+/// The result of the first round is made public, where the rows are the roll of students: their places, and then the phase.
 struct PutResult<'a> {
     rows: &'a [Row],
     pairs: &'a [(Key, Key)],
 }
 
 impl Step for PutResult<'_> {
-    ghost makes = { λ s. TurnsShown s.pairs.now s.rows.now };
+    ghost makes = { λ s. TurnsShown First s.pairs.now s.rows.now };
 
     fn take<S: Alter>(self, alloc: Global, tx: &mut Transaction<'_, S>) -> Result<(), Error> {
         let PutResult { rows, pairs } = self;
@@ -63,19 +69,82 @@ impl Step for PutResult<'_> {
     }
 }
 
-/// Gives each student the project of the first pair with the student's key, or none where there is no such pair, and sets
-/// the phase to published, all in one transaction. After an error nothing is changed; after Ok a crash leaves the result.
+/// Whether the student of whom the row is shown has no project of the first round.
+fn is_left(row: &Row) -> bool
+    ensures { result ≡ is_none (text_or_none (column row.now 3)) }
+{
+    match row.get_ref(3) {
+        Ok(ValueRef::Null) | Err(_) => true,
+        Ok(_) => false,
+    }
+}
+
+/// What the pairs say of the student of whom the row is shown, who has no project of the first round.
+fn pair_left(alloc: Global, row: &Row, pairs: &Pairs<'_>) -> Result<Option<(Key, Key)>, TableFault>
+    ensures { IfOk result (λ o. o ≡ pair_left pairs.now row.now) }
+{
+    if !is_left(row) {
+        return Ok(None);
+    }
+    match pairs.project_of(bytes_at(row, 0)) {
+        Some(project) => Ok(Some((key_at(alloc, row, 0)?, project.copy(alloc)?))),
+        None => Ok(None),
+    }
+}
+
+/// What the pairs say of the students of whom the rows are shown.
+fn pairs_left(
+    alloc: Global,
+    rows: &[Row],
+    pairs: &[(Key, Key)],
+) -> Result<Vec<(Key, Key)>, TableFault>
+    ensures { IfOk result (λ v. v.items ≡ filter_map (pair_left pairs.now) rows.now) }
+{
+    let pairs = Pairs::of(alloc, pairs)?;
+    let mut found = Vec::new(alloc);
+    for row in rows {
+        if let Some(pair) = pair_left(alloc, row, &pairs)? {
+            found.push(pair)?;
+        }
+    }
+    Ok(found)
+}
+
+/// The result of the second round is made public, of those who have no project of the first: their pairs, and then the phase.
+struct PutSecond<'a> {
+    left: &'a [(Key, Key)],
+}
+
+impl Step for PutSecond<'_> {
+    ghost makes = { λ s. TurnsLeft s.left.now };
+
+    fn take<S: Alter>(self, alloc: Global, tx: &mut Transaction<'_, S>) -> Result<(), Error> {
+        let PutSecond { left } = self;
+        put_places(alloc, tx, left)?;
+        set_second(tx, 3)
+    }
+}
+
+/// Gives each student who takes part in the round the project of the first pair with the student's key, or none where there is no such
+/// pair, and sets the phase to published, all in one transaction. After an error nothing is changed; after Ok a crash leaves the result.
 pub(crate) fn publish<S: Alter>(
     alloc: Global,
     conn: &mut Connection<S>,
+    round: Round,
     pairs: &[(Key, Key)],
 ) -> Result<(), TableFault>
     requires idle { conn.old.in_transaction ≡ false }
     ensures idle { conn.new.in_transaction ≡ false }
-    ensures ends { Ends (Turns (Places pairs.now)) result (state S.Store conn.old)
+    ensures ends { Ends (TurnsIn round (Places pairs.now)) result (state S.Store conn.old)
         (state S.Store conn.new) }
 {
     let _idle = conn.is_autocommit();
     let rows = read(conn, Query::Whole(Roll::Students))?;
-    commit(alloc, conn, PutResult { rows: &rows, pairs })
+    match round {
+        Round::First => commit(alloc, conn, PutResult { rows: &rows, pairs }),
+        Round::Second => {
+            let left = pairs_left(alloc, &rows, pairs)?;
+            commit(alloc, conn, PutSecond { left: &left })
+        }
+    }
 }

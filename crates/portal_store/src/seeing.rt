@@ -7,18 +7,19 @@ ghost use Rattle.sqlite.specs.Order.{Row as Cells, column};
 ghost use Rattle.sqlite.specs.State.{HasCleanDisk};
 ghost use Rattle.sqlite.specs.Held.{state};
 ghost use Rattle.portal_core.specs.Good.{Good, Sound};
+ghost use Rattle.portal_core.specs.declared.phase.Round.TheVariants.{First};
 ghost use Rattle.portal_tables.specs.Tables.{lecturer_tree, project_tree, student_tree, choice_tree, ranking_tree};
 ghost use Rattle.portal_tables.specs.Own.{IsOwn};
 ghost use Rattle.portal_tables.specs.Changes.{IsApart};
 ghost use Rattle.portal_tables.specs.Reading.{Asks};
 ghost use Rattle.portal_list.specs.Entries.{HasEntries};
 ghost use Rattle.portal_store.specs.Kept.{StandsAs};
-ghost use Rattle.portal_store.specs.World.{world_of};
+ghost use Rattle.portal_store.specs.World.{world_in};
 ghost use Rattle.portal_store.specs.Asked.{HasVersion, Denies, SaysNothing, Blames, AdmitsAs};
 ghost use Rattle.portal_store.specs.Reading.{shown, OverOwn, OverLive};
 
 use crate::fault::{load_open_fault_of, open_fault_of, table_fault_of};
-use crate::sound::load_keeper;
+use crate::sound::first_keeper;
 use crate::store::OpenFault;
 use portal_list::{Entries, ListKeeper};
 use portal_tables::apart::are_apart;
@@ -97,8 +98,7 @@ fn see_office<S: Alter>(conn: &mut Connection<S>, version: u32) -> Result<(), Op
     ensures idle { conn.new.in_transaction ≡ false }
     ensures asks { Asks result (state S.Store conn.old) (state S.Store conn.new) }
     ensures refused { IsOwn conn.old.schema → HasCleanDisk (state S.Store conn.new)
-        → IfErr result (λ fault. Blames fault version (StandsAs version (shown S.Store conn.old))
-        (shown S.Store conn.old)) }
+        → IfErr result (λ fault. Blames fault version (Unit {0}) (shown S.Store conn.old)) }
     ensures version { IsOwn conn.old.schema → HasCleanDisk (state S.Store conn.new)
         → OnOk result (HasVersion version (shown S.Store conn.old)) }
 {
@@ -118,8 +118,7 @@ pub(crate) fn see_first<S: Alter>(
     ensures idle { conn.new.in_transaction ≡ false }
     ensures asks { IsTrue own → Asks result (state S.Store conn.old) (state S.Store conn.new) }
     ensures refused { IsTrue own → IsOwn conn.old.schema → HasCleanDisk (state S.Store conn.new)
-        → IfErr result (λ fault. Blames fault version (StandsAs version (shown S.Store conn.old))
-        (shown S.Store conn.old)) }
+        → IfErr result (λ fault. Blames fault version (Unit {0}) (shown S.Store conn.old)) }
     ensures version { IsTrue own → IsOwn conn.old.schema → HasCleanDisk (state S.Store conn.new)
         → OnOk result (HasVersion version (shown S.Store conn.old)) }
 {
@@ -128,7 +127,7 @@ pub(crate) fn see_first<S: Alter>(
 }
 
 /// What the answer on the numbers of rows means: those of a sound store differ, so that all else is a fault of the store.
-fn apart(answer: Result<bool, Error>) -> Result<(), OpenFault>
+pub(crate) fn apart(answer: Result<bool, Error>) -> Result<(), OpenFault>
     ensures ok { OnOk result (answer ≡ Ok true) }
     ensures refused { IfErr result SaysNothing }
 {
@@ -169,7 +168,7 @@ fn see_lists_apart<S: Alter>(conn: &mut Connection<S>) -> Result<(), OpenFault>
 }
 
 /// Whether the keeper's world is good.
-fn judge_world(alloc: Global, keeper: &ListKeeper) -> Result<(), OpenFault>
+pub(crate) fn judge_world(alloc: Global, keeper: &ListKeeper) -> Result<(), OpenFault>
     requires { Sound keeper.now }
     ensures good { OnOk result (Good keeper.now) }
     ensures damaged { result ≡ Err OpenFault.Damaged → Good keeper.now → ⊥ }
@@ -197,15 +196,29 @@ fn see_world<S: Alter>(
     ensures stands { OverOwn S.Store conn.old conn.new
         (OnOk result (StandsAs version (shown S.Store conn.old))) }
     ensures entries { OverOwn S.Store conn.old conn.new
-        (IfOk result (λ e. HasEntries e (world_of (shown S.Store conn.old)))) }
+        (IfOk result (λ e. HasEntries e (world_in First (shown S.Store conn.old)))) }
 {
-    match load_keeper(alloc, conn, version) {
+    match first_keeper(alloc, conn, version) {
         Ok(keeper) => {
             judge_world(alloc, &keeper)?;
             Ok(keeper.into_entries())
         }
         Err(fault) => Err(load_open_fault_of(fault)),
     }
+}
+
+/// Whether the rows of the first round have numbers of their own.
+pub(crate) fn see_first_apart<S: Alter>(conn: &mut Connection<S>) -> Result<(), OpenFault>
+    requires idle { conn.old.in_transaction ≡ false }
+    ensures idle { conn.new.in_transaction ≡ false }
+    ensures asks { Asks result (state S.Store conn.old) (state S.Store conn.new) }
+    ensures refused { IfErr result SaysNothing }
+    ensures apart { IsOwn conn.old.schema → HasCleanDisk (state S.Store conn.new)
+        → OnOk result (AllByRecursion (λ t. IsApart (shown S.Store conn.old t))
+        (lecturer_tree ∷ project_tree ∷ student_tree ∷ choice_tree ∷ ranking_tree ∷ [])) }
+{
+    see_rolls_apart(conn)?;
+    see_lists_apart(conn)
 }
 
 /// What is tested of the first round's tables, of this version, in this order: the numbers of rows, and the world, whose entries come.
@@ -217,14 +230,13 @@ pub(crate) fn judge<S: Alter>(
     requires idle { conn.old.in_transaction ≡ false }
     ensures idle { conn.new.in_transaction ≡ false }
     ensures asks { Asks result (state S.Store conn.old) (state S.Store conn.new) }
-    ensures refused { OverLive S.Store conn.old conn.new
+    ensures refused { OverLive First S.Store conn.old conn.new
         (IfErr result (λ fault. Denies fault (StandsAs version (shown S.Store conn.old)))) }
-    ensures admits { OverLive S.Store conn.old conn.new
+    ensures admits { OverLive First S.Store conn.old conn.new
         (OnOk result (AdmitsAs version (shown S.Store conn.old))) }
-    ensures entries { OverLive S.Store conn.old conn.new
-        (IfOk result (λ e. HasEntries e (world_of (shown S.Store conn.old)))) }
+    ensures entries { OverLive First S.Store conn.old conn.new
+        (IfOk result (λ e. HasEntries e (world_in First (shown S.Store conn.old)))) }
 {
-    see_rolls_apart(conn)?;
-    see_lists_apart(conn)?;
+    see_first_apart(conn)?;
     see_world(alloc, conn, version)
 }

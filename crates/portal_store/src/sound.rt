@@ -3,20 +3,23 @@
 ghost use Rattle.std.specs.Prelude.{◌≡◌, false, Err, IfOk};
 ghost use Rattle.sqlite.specs.Held.{state};
 ghost use Rattle.portal_core.specs.Good.{Sound};
-ghost use Rattle.portal_tables.specs.Reading.{Asks};
-ghost use Rattle.portal_store.specs.Kept.{StandsAs};
-ghost use Rattle.portal_store.specs.Found.{Finds};
-ghost use Rattle.portal_store.specs.Reading.{shown, OverOwn};
+ghost use Rattle.portal_core.specs.declared.phase.Round.TheVariants.{Second};
+ghost use Rattle.portal_tables.specs.Reading.{Asks, AsksIn};
+ghost use Rattle.portal_store.specs.Asked.{AreApart};
+ghost use Rattle.portal_store.specs.Kept.{Stands, StandsAs};
+ghost use Rattle.portal_store.specs.World.{round_in};
+ghost use Rattle.portal_store.specs.Found.{Finds, FindsIn};
+ghost use Rattle.portal_store.specs.Reading.{shown, OverBoth, OverOwn};
 
 use crate::fault::rows_fault_of;
-use crate::load::load;
+use crate::load::{load, load_first};
 use portal_list::ListKeeper;
 use portal_tables::fault::TableFault;
 use sqlite::{Alter, Connection};
 use std::alloc::Global;
 
-/// A keeper of the rows of tables of this version; it is sound, and may lack stability.
-pub(crate) fn load_keeper<S: Alter>(
+/// A keeper of the rows of the first round in tables of this version; it is sound, and may lack stability.
+pub(crate) fn first_keeper<S: Alter>(
     alloc: Global,
     conn: &mut Connection<S>,
     version: u32,
@@ -30,7 +33,30 @@ pub(crate) fn load_keeper<S: Alter>(
         (result ≡ Err TableFault.Damaged → StandsAs version (shown S.Store conn.old) → ⊥) }
     ensures asks { Asks result (state S.Store conn.old) (state S.Store conn.new) }
 {
-    let rows = load(alloc, conn, version)?;
+    let rows = load_first(alloc, conn, version)?;
+    match ListKeeper::from_rows(alloc, rows) {
+        Ok(keeper) => Ok(keeper),
+        Err(fault) => Err(rows_fault_of(fault)),
+    }
+}
+
+/// A keeper of the rows of the tables; it is sound, and may lack stability.
+pub(crate) fn load_keeper<S: Alter>(
+    alloc: Global,
+    conn: &mut Connection<S>,
+) -> Result<ListKeeper, TableFault>
+    requires idle { conn.old.in_transaction ≡ false }
+    ensures idle { conn.new.in_transaction ≡ false }
+    ensures sound { IfOk result (λ keeper. Sound keeper) }
+    ensures found { OverBoth S.Store conn.old conn.new
+        (IfOk result (λ keeper. FindsIn (round_in (shown S.Store conn.old))
+        (shown S.Store conn.old) keeper)) }
+    ensures damaged { OverBoth S.Store conn.old conn.new
+        (result ≡ Err TableFault.Damaged → AreApart (shown S.Store conn.old)
+        → Stands (shown S.Store conn.old) → ⊥) }
+    ensures asks { AsksIn Second result (state S.Store conn.old) (state S.Store conn.new) }
+{
+    let rows = load(alloc, conn)?;
     match ListKeeper::from_rows(alloc, rows) {
         Ok(keeper) => Ok(keeper),
         Err(fault) => Err(rows_fault_of(fault)),

@@ -4,6 +4,7 @@ ghost use Rattle.std.specs.Prelude.{◌≡◌, ◌↔◌, ◌⊎◌, false, Err,
 ghost use Rattle.sqlite.specs.State.{HasCleanDisk, Survives};
 ghost use Rattle.sqlite.specs.Held.{state};
 ghost use Rattle.portal_core.specs.Good.{Good};
+ghost use Rattle.portal_core.specs.declared.phase.Round.TheVariants.{First};
 ghost use Rattle.portal_tables.specs.Tables.{first_version};
 ghost use Rattle.portal_tables.specs.Own.{IsFirst, IsOwn};
 ghost use Rattle.portal_tables.specs.Making.{Upgrades};
@@ -13,7 +14,7 @@ ghost use Rattle.portal_tables.specs.Reading.{Asks};
 ghost use Rattle.portal_tables.specs.Steps.{Commits, IsAfter, LeavesOnly, Stays};
 ghost use Rattle.portal_list.specs.Entries.{HasEntries};
 ghost use Rattle.portal_store.specs.Kept.{StandsAs, IsCleanStore, kept_world};
-ghost use Rattle.portal_store.specs.World.{world_of};
+ghost use Rattle.portal_store.specs.World.{world_in};
 ghost use Rattle.portal_store.specs.Asked.{Blames, Bars, AdmitsAs};
 ghost use Rattle.portal_store.specs.Reading.{shown, OverLive};
 
@@ -39,13 +40,13 @@ fn examine_first<S: Alter>(
     requires idle { conn.old.in_transaction ≡ false }
     ensures idle { conn.new.in_transaction ≡ false }
     ensures asks { IsTrue own → Asks result (state S.Store conn.old) (state S.Store conn.new) }
-    ensures refused { IsTrue own → OverLive S.Store conn.old conn.new
+    ensures refused { IsTrue own → OverLive First S.Store conn.old conn.new
         (IfErr result (λ fault. Blames fault first_version
         (StandsAs first_version (shown S.Store conn.old)) (shown S.Store conn.old))) }
-    ensures admits { IsTrue own → OverLive S.Store conn.old conn.new
+    ensures admits { IsTrue own → OverLive First S.Store conn.old conn.new
         (OnOk result (AdmitsAs first_version (shown S.Store conn.old))) }
-    ensures entries { IsTrue own → OverLive S.Store conn.old conn.new
-        (IfOk result (λ e. HasEntries e (world_of (shown S.Store conn.old)))) }
+    ensures entries { IsTrue own → OverLive First S.Store conn.old conn.new
+        (IfOk result (λ e. HasEntries e (world_in First (shown S.Store conn.old)))) }
 {
     see_first(conn, own, FIRST_VERSION)?;
     judge(alloc, conn, FIRST_VERSION)
@@ -62,11 +63,11 @@ fn upgraded<S: Alter>(
     ensures idle { conn.new.in_transaction ≡ false }
     ensures made { IsTrue own → IsOwn conn.old.schema → HasCleanDisk (state S.Store conn.new)
         → OnOk result (Commits Upgrades (state S.Store conn.old) (state S.Store conn.new)) }
-    ensures admits { IsTrue own → OverLive S.Store conn.old conn.new
+    ensures admits { IsTrue own → OverLive First S.Store conn.old conn.new
         (OnOk result (AdmitsAs first_version (shown S.Store conn.old))) }
-    ensures entries { IsTrue own → OverLive S.Store conn.old conn.new
-        (IfOk result (λ e. HasEntries e (world_of (shown S.Store conn.old)))) }
-    ensures refused { IsTrue own → OverLive S.Store conn.old conn.new
+    ensures entries { IsTrue own → OverLive First S.Store conn.old conn.new
+        (IfOk result (λ e. HasEntries e (world_in First (shown S.Store conn.old)))) }
+    ensures refused { IsTrue own → OverLive First S.Store conn.old conn.new
         (IfErr result (λ fault. (fault ≡ UpgradeFault.Exists)
         ⊎ Bars fault (shown S.Store conn.old))) }
     ensures exists { result ≡ Err UpgradeFault.Exists → IsTrue is_taken }
@@ -113,7 +114,7 @@ impl<S: Alter> Store<S> {
             → HasCleanDisk (state S.Store s.conn)
             → StandsAs first_version (state S.Store conn).now.trees) }
         ensures world { IfOk result (λ s. IsCleanStore S.Store s
-            → kept_world S.Store s ≡ world_of (state S.Store conn).now.trees) }
+            → kept_world S.Store s ≡ world_in First (state S.Store conn).now.trees) }
         ensures good { IfOk result (λ s. IsCleanStore S.Store s → Good (kept_world S.Store s)) }
         ensures durable { IfOk result (λ s. HasCleanDisk (state S.Store s.conn)
             → LeavesOnly (state S.Store s.conn)) }

@@ -1,12 +1,12 @@
 //! Whom a code names, by the rolls' columns of codes.
 
-ghost use Rattle.std.specs.Prelude.{◌≡◌, false, IfOk, option_map};
-ghost use Rattle.sqlite.specs.State.{HasCleanDisk};
+ghost use Rattle.std.specs.Prelude.{◌≡◌, IfOk, option_map};
 ghost use Rattle.sqlite.specs.Held.{state};
 ghost use Rattle.portal_core.specs.View.{lecturer_with, student_with};
-ghost use Rattle.portal_store.specs.World.{world_of};
-ghost use Rattle.portal_store.specs.Kept.{Holds};
+ghost use Rattle.portal_core.specs.declared.phase.Round.{Round as ThatRound};
+ghost use Rattle.portal_store.specs.World.{world_in};
 ghost use Rattle.portal_tables.specs.Reading.{Reads};
+ghost use Rattle.portal_store.specs.Reading.{OverRound, shown};
 ghost use Rattle.portal_store.specs.Queried.{lecturer_from, student_from};
 
 use portal_tables::decode::only;
@@ -21,11 +21,10 @@ pub(super) fn lecturer_in<S: Alter>(
     conn: &mut Connection<S>,
     code: &[u8],
 ) -> Result<Option<Row>, TableFault>
-    ensures found { Holds (state S.Store conn.old).now → HasCleanDisk (state S.Store conn.new)
-        → IfOk result (λ row. option_map (lecturer_from (state S.Store conn.old).now.trees) row
-        ≡ lecturer_with (world_of (state S.Store conn.old).now.trees) code.now) }
+    ensures found { (round : ThatRound) → OverRound round S.Store conn.old conn.new
+        (IfOk result (λ row. option_map (lecturer_from round (shown S.Store conn.old)) row
+        ≡ lecturer_with (world_in round (shown S.Store conn.old)) code.now)) }
     ensures reads { Reads result (state S.Store conn.old) (state S.Store conn.new) }
-    ensures mode { conn.old.in_transaction ≡ false → conn.new.in_transaction ≡ false }
 {
     let rows = read_rows(alloc, conn, Query::LecturerByCode(code))?;
     only(rows)
@@ -37,11 +36,10 @@ pub(super) fn student_in<S: Alter>(
     conn: &mut Connection<S>,
     code: &[u8],
 ) -> Result<Option<Row>, TableFault>
-    ensures found { Holds (state S.Store conn.old).now → HasCleanDisk (state S.Store conn.new)
-        → IfOk result (λ row. option_map (student_from (state S.Store conn.old).now.trees) row
-        ≡ student_with (world_of (state S.Store conn.old).now.trees) code.now) }
+    ensures found { (round : ThatRound) → OverRound round S.Store conn.old conn.new
+        (IfOk result (λ row. option_map (student_from round (shown S.Store conn.old)) row
+        ≡ student_with (world_in round (shown S.Store conn.old)) code.now)) }
     ensures reads { Reads result (state S.Store conn.old) (state S.Store conn.new) }
-    ensures mode { conn.old.in_transaction ≡ false → conn.new.in_transaction ≡ false }
 {
     let rows = read_rows(alloc, conn, Query::StudentByCode(code))?;
     only(rows)

@@ -4,6 +4,7 @@ use Rattle.portal_store.proofs.Asked.{asks_err, asks_more}
 use Rattle.portal_store.proofs.load.load_entries.Goals as goal
 
 pub returns-in-Ok-clause-entries : goal.returns-in-Ok-clause-entries
+unfolding world_of
 returns-in-Ok-clause-entries g c own whole clean sound =
     c.in-Ok.ensures.entries (world_of (state g.S.Store c.args.conn.now).now.trees) (c.in_ok-rows.ensures.rows own whole clean).rows_are sound
 

@@ -1,103 +1,104 @@
-use Rattle.std.proofs.Common.{◌≡◌, ◌∙◌, IsTrue, sym, ap, subst}
+use Rattle.std.proofs.Common.{◌≡◌, Ok, ◌∙◌, sym, ap, subst}
 use Rattle.std.specs.Prelude.{if◌then◌else◌, Option, option_map}
 use Rattle.sqlite.specs.Effect.{Database}
 use Rattle.sqlite.specs.Held.{state}
-use Rattle.sqlite.specs.State.{HasCleanDisk, IsUnchanged}
+use Rattle.sqlite.specs.State.{HasCleanDisk}
 use Rattle.portal_core.specs.Remembered.{Remembers}
 use Rattle.portal_core.specs.View.{catalogue, sight_of, caller_among, lecturer_with, student_with, OfficeCaller}
 use Rattle.portal_core.specs.World.{Lecturer}
 use Rattle.portal_core.specs.declared.view.View.TheVariants.{Lecturer as LecturerSight}
 use Rattle.portal_tables.specs.Callers.{lecturer_shown}
+use Rattle.portal_tables.specs.Reading.{ReadsIn}
+use Rattle.portal_tables.specs.declared.fault.TableFault.{TableFault}
 use Rattle.portal_tables.specs.Lines.{HasTables}
-use Rattle.portal_tables.proofs.InTurn.{reads_then, reads_more, reads_handed, clean_before}
+use Rattle.portal_tables.proofs.InTurn.{reads_in, reads_then, reads_more, reads_handed, clean_before}
 use Rattle.portal_store.specs.Queried.{lecturer_from}
-use Rattle.portal_store.specs.World.{world_of}
+use Rattle.portal_store.specs.World.{world_in}
 use Rattle.portal_store.proofs.Applying.{lecturer_told}
 use Rattle.portal_store.proofs.Holding.{has_tables}
-use Rattle.portal_store.proofs.Remembered.{at_start}
+use Rattle.portal_store.proofs.Remembered.{at_start, round_held}
 use Rattle.portal_store.proofs.queries.person_sight.Goals as goal
+
+-- what the row and the catalogue were read of
+
+pub returns-in_err-row-clause-reads : goal.returns-in_err-row-clause-reads
+returns-in_err-row-clause-reads g c = reads_in c.args.round _ _ _ (reads_handed c.in_err-row.field-0.0 c.from_residual.result _ _ c.from_residual.ensures.0 c.in_err-row.ensures.reads)
 
 pub returns-in_err-catalogue-clause-reads : goal.returns-in_err-catalogue-clause-reads
 returns-in_err-catalogue-clause-reads g c =
-    let a = state g.S.Store c.args.conn.now in
-    let b = state g.S.Store c.lecturer_in.new.conn in
-    let d = state g.S.Store c.shared_catalogue.new.conn in
-    reads_handed c.in_err-catalogue.field-0.0 c.from_residual-in_err-catalogue.result a d c.from_residual-in_err-catalogue.ensures.0 (reads_then c.in_ok-row.field-0 _ a b d c.in_ok-row.ensures.reads c.in_err-catalogue.ensures.reads)
+    reads_then c.in_ok-row.field-0 _ _ _ _ (reads_in c.args.round (Ok c.in_ok-row.field-0) _ _ c.in_ok-row.ensures.reads)
+    (reads_handed c.in_err-catalogue.field-0.0 c.from_residual-in_err-catalogue.result _ _ c.from_residual-in_err-catalogue.ensures.0 c.in_err-catalogue.ensures.reads)
 
 pub returns-in_err-lecturer_view-clause-reads : goal.returns-in_err-lecturer_view-clause-reads
 returns-in_err-lecturer_view-clause-reads g c =
-    let a = state g.S.Store c.args.conn.now in
-    let b = state g.S.Store c.lecturer_in.new.conn in
-    let d = state g.S.Store c.shared_catalogue.new.conn in
-    let e = state g.S.Store c.lecturer_view.new.conn in
-    reads_handed c.in_err-lecturer_view.field-0.0 c.from_residual-in_err-lecturer_view.result a e c.from_residual-in_err-lecturer_view.ensures.0
-    (reads_then c.in_ok-catalogue.catalogue _ a d e (reads_then c.in_ok-row.field-0 _ a b d c.in_ok-row.ensures.reads c.in_ok-catalogue.ensures.reads) c.in_err-lecturer_view.ensures.reads)
+    reads_then c.in_ok-row.field-0 _ _ _ _ (reads_in c.args.round (Ok c.in_ok-row.field-0) _ _ c.in_ok-row.ensures.reads)
+    (reads_then c.in_ok-catalogue.catalogue _ _ _ _ c.in_ok-catalogue.ensures.reads
+    (reads_handed c.in_err-lecturer_view.field-0.0 c.from_residual-in_err-lecturer_view.result _ _ c.from_residual-in_err-lecturer_view.ensures.0 c.in_err-lecturer_view.ensures.reads))
 
 pub returns-clause-reads : goal.returns-clause-reads
 returns-clause-reads g c =
-    let a = state g.S.Store c.args.conn.now in
-    let b = state g.S.Store c.lecturer_in.new.conn in
-    let d = state g.S.Store c.shared_catalogue.new.conn in
-    let e = state g.S.Store c.lecturer_view.new.conn in
-    reads_more c.in_ok-lecturer_view.field-0 _ a e (reads_then c.in_ok-catalogue.catalogue _ a d e (reads_then c.in_ok-row.field-0 _ a b d c.in_ok-row.ensures.reads c.in_ok-catalogue.ensures.reads) c.in_ok-lecturer_view.ensures.reads)
+    reads_then c.in_ok-row.field-0 _ _ _ _ (reads_in c.args.round (Ok c.in_ok-row.field-0) _ _ c.in_ok-row.ensures.reads)
+    (reads_then c.in_ok-catalogue.catalogue _ _ _ _ c.in_ok-catalogue.ensures.reads (reads_more c.in_ok-lecturer_view.field-0 _ _ _ c.in_ok-lecturer_view.ensures.reads))
 
 pub returns-in_default-clause-reads : goal.returns-in_default-clause-reads
-returns-in_default-clause-reads g c =
-    reads_then c.in_ok-row.field-0 c.student_sight.result (state g.S.Store c.args.conn.now) (state g.S.Store c.lecturer_in.new.conn) (state g.S.Store c.student_sight.new.conn) c.in_ok-row.ensures.reads c.student_sight.ensures.reads
+returns-in_default-clause-reads g c = reads_then c.in_ok-row.field-0 _ _ _ _ (reads_in c.args.round (Ok c.in_ok-row.field-0) _ _ c.in_ok-row.ensures.reads) c.student_sight.ensures.reads
 
 pub returns-clause-shows : goal.returns-clause-shows
-returns-clause-shows g c holds clean on phase other good right =
+returns-clause-shows g c holds clean phase other good right =
     let a = state g.S.Store c.args.conn.now in
     let b = state g.S.Store c.lecturer_in.new.conn in
     let d = state g.S.Store c.shared_catalogue.new.conn in
     let e = state g.S.Store c.lecturer_view.new.conn in
-    let w = world_of a.now.trees in
+    let round = c.args.round in
+    let w = world_in round a.now.trees in
     let code = c.args.code.now in
+    let own = round_held a.now holds in
     let clean_d = clean_before d e _ c.in_ok-lecturer_view.ensures.reads.crash clean in
     let clean_b = clean_before b d _ c.in_ok-catalogue.ensures.reads.crash clean_d in
-    let m : IsUnchanged a b = c.in_ok-row.ensures.reads.same holds.own clean_b on in
-    let n : IsUnchanged a d = (reads_then c.in_ok-row.field-0 _ a b d c.in_ok-row.ensures.reads c.in_ok-catalogue.ensures.reads).same holds.own clean_d on in
+    let row_read : ReadsIn round {E = TableFault} (Ok c.in_ok-row.field-0) a b = reads_in round (Ok c.in_ok-row.field-0) a b c.in_ok-row.ensures.reads in
+    let same_b = row_read.now own clean_b in
+    let same_d = (reads_then c.in_ok-row.field-0 (Ok c.in_ok-catalogue.catalogue) a b d row_read c.in_ok-catalogue.ensures.reads).now own clean_d in
     let offers = c.in_ok-catalogue.catalogue.value.items in
     let row = c.in-Some.row in
-    let listed = at_start a b d m (λ x. Remembers c.args.remembered.now (world_of x.trees) → offers ≡ catalogue (world_of x.trees)) c.in_ok-catalogue.ensures.shows holds clean_d right in
-    let told = subst (λ (x : Database). HasTables x → HasCleanDisk e → IsTrue d.is_open → c.in_ok-lecturer_view.field-0 ≡ lecturer_shown x.trees c.args.phase row offers) n.0.now_is c.in_ok-lecturer_view.ensures.shows (has_tables a.now holds) clean n.0.is_open
-    ∙ lecturer_told a.now.trees good row c.args.phase offers phase listed in
-    let found = ap (option_map (lecturer_from a.now.trees)) (sym c.in-Some.is) ∙ c.in_ok-row.ensures.found holds clean_b in
+    let listed = at_start a b d same_b (λ (x : Database). Remembers c.args.remembered.now (world_in round x.trees) → offers ≡ catalogue (world_in round x.trees)) c.in_ok-catalogue.ensures.shows holds clean_d right in
+    let told = subst (λ (x : Database). HasTables x → HasCleanDisk e → c.in_ok-lecturer_view.field-0 ≡ lecturer_shown round x.trees c.args.phase row offers) same_d c.in_ok-lecturer_view.ensures.shows (has_tables a.now holds) clean
+    ∙ lecturer_told round a.now.trees holds.second good row c.args.phase offers phase listed in
+    let found = ap (option_map (lecturer_from round a.now.trees)) (sym c.in-Some.is) ∙ c.in_ok-row.ensures.found round holds clean_b in
     ap LecturerSight told
     ∙ sym (ap (λ b. sight_of w (if b then OfficeCaller else caller_among (lecturer_with w code) (student_with w code))) other ∙ ap (λ (o : Option Lecturer). sight_of w (caller_among o (student_with w code))) (sym found))
 
 -- what is remembered
 
 pub returns-in_err-catalogue-clause-mind : goal.returns-in_err-catalogue-clause-mind
-returns-in_err-catalogue-clause-mind g c holds clean on =
+returns-in_err-catalogue-clause-mind g c holds clean =
     let a = state g.S.Store c.args.conn.now in
     let b = state g.S.Store c.lecturer_in.new.conn in
     let d = state g.S.Store c.shared_catalogue.new.conn in
-    let m : IsUnchanged a b = c.in_ok-row.ensures.reads.same holds.own (clean_before b d _ c.in_err-catalogue.ensures.reads.crash clean) on in
-    at_start a b d m (λ x. Remembers c.args.remembered.now (world_of x.trees) → Remembers c.shared_catalogue.new.remembered (world_of x.trees)) c.in_err-catalogue.ensures.mind holds clean
+    at_start a b d (c.in_ok-row.ensures.reads.now holds.own (clean_before b d _ c.in_err-catalogue.ensures.reads.crash clean))
+    (λ (x : Database). Remembers c.args.remembered.now (world_in c.args.round x.trees) → Remembers c.shared_catalogue.new.remembered (world_in c.args.round x.trees)) c.in_err-catalogue.ensures.mind holds clean
 
 pub returns-in_err-lecturer_view-clause-mind : goal.returns-in_err-lecturer_view-clause-mind
-returns-in_err-lecturer_view-clause-mind g c holds clean on =
+returns-in_err-lecturer_view-clause-mind g c holds clean =
     let a = state g.S.Store c.args.conn.now in
     let b = state g.S.Store c.lecturer_in.new.conn in
     let d = state g.S.Store c.shared_catalogue.new.conn in
     let clean_d = clean_before d (state g.S.Store c.lecturer_view.new.conn) _ c.in_err-lecturer_view.ensures.reads.crash clean in
-    let m : IsUnchanged a b = c.in_ok-row.ensures.reads.same holds.own (clean_before b d _ c.in_ok-catalogue.ensures.reads.crash clean_d) on in
-    at_start a b d m (λ x. Remembers c.args.remembered.now (world_of x.trees) → Remembers c.shared_catalogue.new.remembered (world_of x.trees)) c.in_ok-catalogue.ensures.mind holds clean_d
+    at_start a b d (c.in_ok-row.ensures.reads.now holds.own (clean_before b d _ c.in_ok-catalogue.ensures.reads.crash clean_d))
+    (λ (x : Database). Remembers c.args.remembered.now (world_in c.args.round x.trees) → Remembers c.shared_catalogue.new.remembered (world_in c.args.round x.trees)) c.in_ok-catalogue.ensures.mind holds clean_d
 
 pub returns-clause-mind : goal.returns-clause-mind
-returns-clause-mind g c holds clean on =
+returns-clause-mind g c holds clean =
     let a = state g.S.Store c.args.conn.now in
     let b = state g.S.Store c.lecturer_in.new.conn in
     let d = state g.S.Store c.shared_catalogue.new.conn in
     let clean_d = clean_before d (state g.S.Store c.lecturer_view.new.conn) _ c.in_ok-lecturer_view.ensures.reads.crash clean in
-    let m : IsUnchanged a b = c.in_ok-row.ensures.reads.same holds.own (clean_before b d _ c.in_ok-catalogue.ensures.reads.crash clean_d) on in
-    at_start a b d m (λ x. Remembers c.args.remembered.now (world_of x.trees) → Remembers c.shared_catalogue.new.remembered (world_of x.trees)) c.in_ok-catalogue.ensures.mind holds clean_d
+    at_start a b d (c.in_ok-row.ensures.reads.now holds.own (clean_before b d _ c.in_ok-catalogue.ensures.reads.crash clean_d))
+    (λ (x : Database). Remembers c.args.remembered.now (world_in c.args.round x.trees) → Remembers c.shared_catalogue.new.remembered (world_in c.args.round x.trees)) c.in_ok-catalogue.ensures.mind holds clean_d
 
 pub returns-in_default-clause-mind : goal.returns-in_default-clause-mind
-returns-in_default-clause-mind g c holds clean on =
+returns-in_default-clause-mind g c holds clean =
     let a = state g.S.Store c.args.conn.now in
     let b = state g.S.Store c.lecturer_in.new.conn in
     let d = state g.S.Store c.student_sight.new.conn in
-    let m : IsUnchanged a b = c.in_ok-row.ensures.reads.same holds.own (clean_before b d _ c.student_sight.ensures.reads.crash clean) on in
-    at_start a b d m (λ x. Remembers c.args.remembered.now (world_of x.trees) → Remembers c.student_sight.new.remembered (world_of x.trees)) c.student_sight.ensures.mind holds clean
+    at_start a b d (c.in_ok-row.ensures.reads.now holds.own (clean_before b d _ c.student_sight.ensures.reads.crash clean))
+    (λ (x : Database). Remembers c.args.remembered.now (world_in c.args.round x.trees) → Remembers c.student_sight.new.remembered (world_in c.args.round x.trees)) c.student_sight.ensures.mind holds clean

@@ -1,26 +1,17 @@
 use Rattle.std.proofs.Common.{sym, ◌∙◌}
 use Rattle.sqlite.specs.Held.{state}
-use Rattle.portal_store.specs.World.{world_of}
+use Rattle.portal_store.specs.World.{round_in, world_in}
+use Rattle.portal_store.proofs.Loaded.{nothing_earlier}
 use Rattle.portal_store.proofs.RowsOnce.{rows_once}
-use Rattle.portal_store.proofs.Loaded.{world_alone}
-use Rattle.portal_store.proofs.Asked.{asks_err, asks_more}
 use Rattle.portal_store.proofs.sound.load_keeper.Goals as goal
 
 pub returns-in-Ok-clause-found : goal.returns-in-Ok-clause-found
 returns-in-Ok-clause-found g c own sound clean =
     let it = c.in_ok-rows.ensures.rows own sound clean in
+    let db = (state g.S.Store c.args.conn.now).now.trees in
+    let round = round_in db in
     record {
       office = it.office;
       whole = it.whole;
-      world = sym (rows_once c.in-Ok.keeper (world_of (state g.S.Store c.args.conn.now).now.trees) c.in-Ok.ensures.sound (world_alone (state g.S.Store c.args.conn.now).now.trees) (sym it.rows_are ∙ c.in-Ok.ensures.ok));
+      world = sym (rows_once c.in-Ok.keeper (world_in round db) c.in-Ok.ensures.sound (nothing_earlier round db) (sym it.rows_are ∙ c.in-Ok.ensures.ok));
     }
-
-pub returns-in_err-rows-clause-asks : goal.returns-in_err-rows-clause-asks
-returns-in_err-rows-clause-asks g c =
-    asks_err _ c.from_residual.result (state g.S.Store c.args.conn.now) (state g.S.Store c.load.new.conn) c.from_residual.ensures.0 c.in_err-rows.ensures.asks
-
-pub returns-in-Ok-clause-asks : goal.returns-in-Ok-clause-asks
-returns-in-Ok-clause-asks g c = asks_more c.in_ok-rows.rows _ (state g.S.Store c.args.conn.now) (state g.S.Store c.load.new.conn) c.in_ok-rows.ensures.asks
-
-pub returns-in-Err-clause-asks : goal.returns-in-Err-clause-asks
-returns-in-Err-clause-asks g c = asks_more c.in_ok-rows.rows _ (state g.S.Store c.args.conn.now) (state g.S.Store c.load.new.conn) c.in_ok-rows.ensures.asks

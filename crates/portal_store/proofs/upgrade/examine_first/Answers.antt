@@ -6,7 +6,7 @@ use Rattle.portal_tables.specs.Tables.{first_version}
 use Rattle.portal_tables.proofs.InTurn.{clean_before, still_own}
 use Rattle.portal_store.specs.Asked.{Blames, Denies}
 use Rattle.portal_store.specs.Kept.{StandsAs}
-use Rattle.portal_store.proofs.Asked.{asks_then, asks_err, blamed, handed, if_err_weaker, live_still}
+use Rattle.portal_store.proofs.Asked.{blames_more, asks_then, asks_err, blamed, handed, if_err_weaker, live_still}
 use Rattle.portal_store.proofs.upgrade.examine_first.Goals as goal
 
 pub returns-in_err-see_first-clause-asks : goal.returns-in_err-see_first-clause-asks
@@ -16,7 +16,7 @@ returns-in_err-see_first-clause-asks g c mine =
 pub returns-in_err-see_first-clause-refused : goal.returns-in_err-see_first-clause-refused
 returns-in_err-see_first-clause-refused g c mine own live clean =
     let db = (state g.S.Store c.args.conn.now).now.trees in
-    handed (λ f. Blames f first_version (StandsAs first_version db) db) c.in_err-see_first.field-0.0 c.from_residual.result c.from_residual.ensures.1 (c.in_err-see_first.ensures.refused mine own clean)
+    handed (λ f. Blames f first_version (StandsAs first_version db) db) c.in_err-see_first.field-0.0 c.from_residual.result c.from_residual.ensures.1 (blames_more c.in_err-see_first.field-0.0 first_version (Unit {0}) (StandsAs first_version db) db (λ s. tt) (c.in_err-see_first.ensures.refused mine own clean))
 
 pub returns-clause-asks : goal.returns-clause-asks
 returns-clause-asks g c mine =

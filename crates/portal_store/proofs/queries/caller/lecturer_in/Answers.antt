@@ -6,8 +6,8 @@ use Rattle.portal_store.proofs.Queried.{lecturer_found}
 use Rattle.portal_store.proofs.queries.caller.lecturer_in.Goals as goal
 
 pub returns-clause-found : goal.returns-clause-found
-returns-clause-found g c holds clean =
-    IfOk-weaker c.only.result _ _ (λ row told. lecturer_found (state g.S.Store c.args.conn.now).now holds c.args.code.now c.in_ok-rows.rows.items (c.in_ok-rows.ensures.rows holds.own clean) row told) c.only.ensures
+returns-clause-found g c round holds clean =
+    IfOk-weaker c.only.result _ _ (λ row told. lecturer_found round (state g.S.Store c.args.conn.now).now holds c.args.code.now c.in_ok-rows.rows.items (c.in_ok-rows.ensures.rows holds.own clean) row told) c.only.ensures.ok
 
 pub returns-clause-reads : goal.returns-clause-reads
 returns-clause-reads g c =

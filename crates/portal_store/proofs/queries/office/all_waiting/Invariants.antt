@@ -1,18 +1,16 @@
-use Rattle.std.proofs.Common.{◌≡◌, false, Ok, IsTrue, map, take}
+use Rattle.std.proofs.Common.{◌≡◌, Ok, map, take}
 use Rattle.std.specs.List.{filter_map}
 use Rattle.sqlite.specs.State.{HasCleanDisk}
 use Rattle.sqlite.specs.Held.{state}
-use Rattle.portal_store.specs.Kept.{Holds}
-use Rattle.portal_tables.specs.Reading.{Reads}
-use Rattle.portal_tables.specs.Shown.{shown_project}
-use Rattle.portal_store.specs.World.{world_of}
+use Rattle.portal_store.specs.Kept.{HoldsIn}
 use Rattle.portal_store.specs.Queried.{waiting_key}
+use Rattle.portal_tables.specs.Shown.{shown_project}
+use Rattle.portal_tables.specs.Reading.{ReadsIn}
 use Rattle.portal_tables.specs.declared.fault.TableFault.{TableFault}
 use Rattle.portal_store.proofs.queries.office.all_waiting.Given as goal
 
 abbrev pub invariant-loop-lecturer : goal.invariant-loop-lecturer
 invariant-loop-lecturer g l =
-    (Holds (state g.S.Store l.fn.conn).now → HasCleanDisk (state g.S.Store l.conn) → IsTrue (state g.S.Store l.fn.conn).is_open
-    → l.keys.items ≡ filter_map (waiting_key (world_of (state g.S.Store l.fn.conn).now.trees) (map shown_project l.projects)) (take l.lecturer-index l.lecturers))
-    × Reads {E = TableFault} (Ok l.keys) (state g.S.Store l.fn.conn) (state g.S.Store l.conn)
-    × (l.fn.conn.in_transaction ≡ false → l.conn.in_transaction ≡ false)
+    (HoldsIn l.round (state g.S.Store l.fn.conn).now → HasCleanDisk (state g.S.Store l.conn)
+    → l.keys.items ≡ filter_map (waiting_key l.round (state g.S.Store l.fn.conn).now.trees (map shown_project l.projects)) (take l.lecturer-index l.lecturers))
+    × ReadsIn l.round {E = TableFault} (Ok l.keys) (state g.S.Store l.fn.conn) (state g.S.Store l.conn)

@@ -1,17 +1,17 @@
-use Rattle.std.proofs.Common.{◌≡◌, true, false, rules, subst, sym, ap, ◌∙◌, ◌∷◌, []}
-use Rattle.std.specs.Prelude.{◌&&◌}
+use Rattle.std.proofs.Common.{◌≡◌, true, false, [], ◌∷◌, ◌&&◌, sym, ap, subst, ◌∙◌, rules}
 use Rattle.std.specs.List.{list_any}
 use Rattle.sqlite.specs.declared.error.Error.{Error}
 use Rattle.sqlite.specs.Held.{state}
 use Rattle.portal_core.specs.Words.{Key, is, has}
 use Rattle.portal_core.specs.World.{Student}
-use Rattle.portal_store.specs.World.{world_of}
-use Rattle.portal_tables.specs.Changes.{ListsBy, has_text, columns}
+use Rattle.portal_tables.specs.Changes.{ListsBy, columns, has_text}
 use Rattle.portal_tables.specs.Decoding.{FindsAny}
+use Rattle.portal_tables.specs.ListTables.{choices_of, tree_of}
 use Rattle.portal_tables.specs.Shown.{first, shown_project}
-use Rattle.portal_tables.specs.Tables.{choice_tree}
 use Rattle.portal_tables.proofs.InTurn.{reads_self, reads_more, reads_failed}
+use Rattle.portal_store.specs.World.{world_in}
 use Rattle.portal_store.proofs.OfficeSeen.{some_chooser}
+use Rattle.portal_store.proofs.Remembered.{round_held}
 use Rattle.portal_store.proofs.queries.office.is_chosen_of.Goals as goal
 
 pub returns-then-ne-clause-reads : goal.returns-then-ne-clause-reads
@@ -20,15 +20,14 @@ returns-then-ne-clause-reads g c = reads_self false (state g.S.Store c.args.conn
 pub returns-clause-told : goal.returns-clause-told
 returns-clause-told g c holds clean =
     let db = (state g.S.Store c.args.conn.now).now in
+    let round = c.args.round in
     let project = shown_project c.args.project.now in
     let own : is project.lecturer (first c.args.lecturer.now) ≡ true = search rules in
-    let told = subst (λ (k : Key). FindsAny (ListsBy (1 ∷ []) (has_text 3 k) (columns (1 ∷ [])) (db.trees choice_tree)) c.in_ok-finds_any.field-0) c.bytes_at-3.ensures (c.in_ok-finds_any.ensures.told holds.own clean) in
-    told.told ∙ some_chooser db holds project.key told.rows told.shown ∙ sym (ap (λ b. b && list_any (λ (s : Student). has s.choice project.key) (world_of db.trees).students) own)
+    let told = subst (λ (k : Key). FindsAny (ListsBy (1 ∷ []) (has_text 3 k) (columns (1 ∷ [])) (db.trees (tree_of (choices_of round)))) c.in_ok-finds_any.field-0) c.bytes_at-3.ensures (c.in_ok-finds_any.ensures.told (round_held db holds) clean) in
+    told.told ∙ some_chooser round db holds project.key told.rows told.shown ∙ sym (ap (λ b. b && list_any (λ (s : Student). has s.choice project.key) (world_in round db.trees).students) own)
 
 pub returns-clause-reads : goal.returns-clause-reads
-returns-clause-reads g c =
-    reads_more {D = Error} c.in_ok-finds_any.field-0 _ (state g.S.Store c.args.conn.now) (state g.S.Store c.finds_any.new.conn) c.in_ok-finds_any.ensures.reads
+returns-clause-reads g c = reads_more {D = Error} c.in_ok-finds_any.field-0 _ _ _ c.in_ok-finds_any.ensures.reads
 
 pub returns-in_err-finds_any-clause-reads : goal.returns-in_err-finds_any-clause-reads
-returns-in_err-finds_any-clause-reads g c =
-    reads_failed c.in_err-finds_any.field-0.0 c.from_residual.result (state g.S.Store c.args.conn.now) (state g.S.Store c.finds_any.new.conn) c.from_residual.ensures.0 c.in_err-finds_any.ensures.reads
+returns-in_err-finds_any-clause-reads g c = reads_failed c.in_err-finds_any.field-0.0 c.from_residual.result _ _ c.from_residual.ensures.0 c.in_err-finds_any.ensures.reads

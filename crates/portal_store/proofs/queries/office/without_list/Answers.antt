@@ -2,23 +2,24 @@ use Rattle.std.proofs.Common.{[], ◌∷◌, ◌∙◌, sym, subst}
 use Rattle.std.proofs.lemmas.Result.{IfOk-weaker}
 use Rattle.sqlite.specs.Held.{state}
 use Rattle.portal_tables.specs.Changes.{ListsBy, has_number, columns}
-use Rattle.portal_tables.specs.Tables.{choice_tree}
+use Rattle.portal_tables.specs.ListTables.{choices_of, tree_of}
 use Rattle.portal_tables.specs.declared.fault.TableFault.{TableFault}
 use Rattle.portal_tables.proofs.InTurn.{reads_more, reads_handed}
 use Rattle.portal_store.proofs.OfficeSeen.{unlisted_are}
+use Rattle.portal_store.proofs.Remembered.{round_held}
 use Rattle.portal_store.proofs.queries.office.without_list.Goals as goal
 
 pub returns-clause-told : goal.returns-clause-told
 returns-clause-told g c holds clean =
     let db = (state g.S.Store c.args.conn.now).now in
-    let h : ListsBy (1 ∷ []) (has_number 2 1) (columns (1 ∷ [])) (db.trees choice_tree) c.deref.result.now =
-    subst (λ rows. ListsBy (1 ∷ []) (has_number 2 1) (columns (1 ∷ [])) (db.trees choice_tree) rows) (sym c.deref.ensures.value) (c.in_ok-listed.ensures.rows holds.own clean) in
-    IfOk-weaker c.keys_without.result _ _ (λ v is. is ∙ unlisted_are db holds c.deref.result.now h c.args.students.now) c.keys_without.ensures
+    let round = c.args.round in
+    let table = db.trees (tree_of (choices_of round)) in
+    let h : ListsBy (1 ∷ []) (has_number 2 1) (columns (1 ∷ [])) table c.deref.result.now =
+    subst (λ rows. ListsBy (1 ∷ []) (has_number 2 1) (columns (1 ∷ [])) table rows) (sym c.deref.ensures.value) (c.in_ok-listed.ensures.rows (round_held db holds) clean) in
+    IfOk-weaker c.keys_left.result _ _ (λ v is. is ∙ unlisted_are round db holds c.deref.result.now h c.args.students.now) c.keys_left.ensures
 
 pub returns-clause-reads : goal.returns-clause-reads
-returns-clause-reads g c =
-    reads_more {D = TableFault} c.in_ok-listed.listed c.keys_without.result (state g.S.Store c.args.conn.now) (state g.S.Store c.read_rows.new.conn) c.in_ok-listed.ensures.reads
+returns-clause-reads g c = reads_more {D = TableFault} c.in_ok-listed.listed c.keys_left.result _ _ c.in_ok-listed.ensures.reads
 
 pub returns-in_err-listed-clause-reads : goal.returns-in_err-listed-clause-reads
-returns-in_err-listed-clause-reads g c =
-    reads_handed c.in_err-listed.field-0.0 c.from_residual.result (state g.S.Store c.args.conn.now) (state g.S.Store c.read_rows.new.conn) c.from_residual.ensures.0 c.in_err-listed.ensures.reads
+returns-in_err-listed-clause-reads g c = reads_handed c.in_err-listed.field-0.0 c.from_residual.result _ _ c.from_residual.ensures.0 c.in_err-listed.ensures.reads

@@ -1,11 +1,13 @@
 use Rattle.std.proofs.Common.{IsTrue, sym, subst}
-use Rattle.sqlite.specs.State.{HasCleanDisk}
+use Rattle.sqlite.specs.State.{HasCleanDisk, Survives}
 use Rattle.sqlite.specs.Held.{Held, state}
+use Rattle.sqlite.proofs.StateLemmas.{survives_weaker}
 use Rattle.portal_core.specs.Meaning.{meant}
 use Rattle.portal_tables.proofs.Runs.{clean_if_open}
 use Rattle.portal_store.proofs.Keeps.{lasts_by, change_keeps, change_shown, change_told, change_left, change_clean, change_made, change_same}
-use Rattle.portal_tables.specs.Own.{IsOwn}
-use Rattle.portal_store.specs.Kept.{Seen}
+use Rattle.portal_tables.specs.Own.{IsCurrent}
+use Rattle.portal_store.specs.Kept.{Seen, Turns}
+use Rattle.portal_tables.specs.Steps.{IsAfter}
 use Rattle.portal_store.proofs.store.Store.change.Given.{Over}
 use Rattle.portal_store.proofs.store.Store.change.Goals as goal
 
@@ -45,4 +47,12 @@ returns-clause-left g c =
 pub returns-clause-lasts : goal.returns-clause-lasts
 returns-clause-lasts g c =
     lasts_by g.S.Store c.self.inside.conn c.make-made.new.conn c.self.inside.own c.self.inside.faults c.make-made.new.faults c.args.self.now _ c.self.view_is
-    (λ mine. c.make-made.ensures.ends.crash (subst (λ (s : Seen _). IsTrue s.own → IsOwn s.conn.schema) (sym c.self.view_is) c.in_default.ensures mine))
+    (λ mine. survives_weaker (state g.S.Store c.self.inside.conn) (state g.S.Store c.make-made.new.conn) _ _ (λ clean db left. left (subst (λ (s : Seen _). IsTrue s.own → IsCurrent s.conn.schema) (sym c.self.view_is) c.in_default.ensures mine)) c.make-made.ensures.ends.crash)
+
+pub returns-clause-crash : goal.returns-clause-crash
+returns-clause-crash g c own =
+    let change = meant c.args.change.now in
+    let new = state g.S.Store c.make-made.new.conn in
+    let current = subst (λ (s : Seen _). IsTrue s.own → IsCurrent s.conn.schema) (sym c.self.view_is) c.in_default.ensures (subst (λ (s : Seen _). IsTrue s.own) (sym c.self.view_is) own) in
+    subst (λ (s : Seen _). Survives (state g.S.Store s.conn) new (IsAfter (Turns change) (state g.S.Store s.conn))) c.self.view_is
+    (survives_weaker (state g.S.Store c.self.inside.conn) new _ _ (λ clean db left. left current) c.make-made.ensures.ends.crash)

@@ -37,7 +37,7 @@ pub returns-in-None-clause-instance : goal.returns-in-None-clause-instance
 returns-in-None-clause-instance g c =
     when_ok _ _ _ c.instance_in.result
     (λ on. read_holds g.S.Store c.self.inside.conn c.instance_in.new.conn c.self.inside.own c.self.inside.faults c.args.self.now c.self.view_is c.self.invariant.kept c.instance_in.ensures.idle c.in_default.ensures (law g c.instance_in.new.conn)
-    c.instance_in.result c.instance_in.ensures.asks _ (λ own clean holds. c.instance_in.ensures.instance own holds.sound clean) on)
+    c.instance_in.result c.instance_in.ensures.asks _ (λ own clean holds. c.instance_in.ensures.instance own holds.1.sound clean) on)
     (λ i meant on good. meant on (subst (λ s. Good (kept_world g.S.Store s)) (sym c.self.view_is) good).sound ∙ ap (λ s. instance (kept_world g.S.Store s)) c.self.view_is)
 
 -- of the entries that are remembered

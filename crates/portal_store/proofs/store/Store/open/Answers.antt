@@ -7,6 +7,7 @@ use Rattle.portal_list.specs.Entries.{HasEntries}
 use Rattle.portal_tables.proofs.Runs.{clean_if_open}
 use Rattle.portal_store.specs.World.{world_of}
 use Rattle.portal_store.proofs.Asked.{opened_kept}
+use Rattle.portal_store.proofs.Rounds.{world_told}
 use Rattle.portal_store.proofs.store.Store.open.Given.{Over}
 use Rattle.portal_store.proofs.store.Store.open.Goals as goal
 
@@ -31,4 +32,5 @@ returns-clause-good g c on =
     let new = c.examine.new.conn in
     let own = c.fits-own.ensures.current.0 on.0 in
     let same = (c.in-Ok-examine.ensures.asks on.0).same own (law g new on.1) in
-    subst (λ (d : Database). Good (world_of d.trees)) (sym same.0.now_is) (c.in-Ok-examine.ensures.admits on.0 own c.schema-live.ensures.live (law g new on.1)).stands.first.good
+    let stands = (c.in-Ok-examine.ensures.admits on.0 own c.schema-live.ensures.live (law g new on.1)).stands in
+    subst (λ (d : Database). Good (world_of d.trees)) (sym same.0.now_is) (subst Good (sym (world_told stands.0 _ stands.1.second)) stands.1.good)

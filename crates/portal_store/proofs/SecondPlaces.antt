@@ -1,0 +1,254 @@
+-- What the rows of the second round's result are to the world.
+use Rattle.std.proofs.Common.{◌≡◌, inl, inr, ℕ, pos, ◌+ℤ◌, ◌+◌, ◌<◌, Bool, true, false, ◌||◌, cond, if◌then◌else◌, Option, Some, None, option_map, List, [], ◌∷◌, ◌++◌, map, slice_index_or, append_assoc, append-nil, refl, sym, ap, subst, ◌∙◌, arith, Less}
+use Rattle.std.specs.Prelude.{is_none}
+use Rattle.std.proofs.lemmas.Bool.{cases_Bool}
+use Rattle.std.proofs.lemmas.Bool.Decides.{nat_tests}
+use Rattle.std.proofs.lemmas.List.{map-append}
+use Rattle.std.proofs.lemmas.Int.{ints}
+use Rattle.std.specs.List.{AllByRecursion, IsDistinct, find, filter_map, cons_option}
+use Rattle.std.specs.List.Sorted.{IsPermutation}
+use Rattle.std.proofs.lemmas.List.Sorted.{IsPermutation-sym}
+use Rattle.sqlite.specs.declared.types.Value.TheVariants.{Null, Int}
+use Rattle.sqlite.specs.Order.{Row, column, bytes, value_cmp}
+use Rattle.sqlite.specs.Edit.{next_rowid}
+use Rattle.sqlite.specs.Tree.{put_row, rowid}
+use Rattle.sqlite.specs.Effect.{Database}
+use Rattle.sqlite.specs.State.{State}
+use Rattle.sqlite_rules.proofs.TableLemmas.{next_after}
+use Rattle.sqlite_trees.specs.Objects.{number_in}
+use Rattle.sqlite_value.proofs.OrderLemmas.{value_cmp-Int}
+use Rattle.sqlite_rules.specs.Lists.{Has}
+use Rattle.portal_core.specs.declared.phase.Phase.TheVariants.{Published}
+use Rattle.portal_core.specs.declared.phase.Round.TheVariants.{Second}
+use Rattle.portal_core.specs.Words.{Key, is, has, put_all}
+use Rattle.portal_core.specs.World.{Student, is_left, lecturer_key, project_key, student_key}
+use Rattle.portal_core.specs.Change.{place_in, with_place}
+use Rattle.portal_core.specs.Good.{Good}
+use Rattle.portal_core.proofs.Keys.{is_same, is_own, find_map, all_unmap}
+use Rattle.portal_core.proofs.AllLaws.{all_map, all_append, all_weaker, is_sym}
+use Rattle.portal_core.proofs.Kept.{place_row}
+use Rattle.portal_tables.specs.Changes.{columns, every, with_rows}
+use Rattle.portal_tables.specs.Rolls.{row_key}
+use Rattle.portal_tables.specs.Putting.{HasPlaces, PutsPlaces}
+use Rattle.portal_tables.specs.Rows.{MovesSecond, pair_new}
+use Rattle.portal_tables.specs.Steps.{Made, GoesOn}
+use Rattle.portal_tables.specs.Shown.{first, text_or_none}
+use Rattle.portal_tables.specs.Tables.{portal_tree, lecturer_tree, project_tree, student_tree, choice_tree, ranking_tree, second_tree, choice2_tree, ranked2_tree, ranking2_tree, assigned2_tree}
+use Rattle.portal_tables.proofs.Lists.{filter_all}
+use Rattle.portal_tables.proofs.Listed.{permuted}
+use Rattle.portal_tables.proofs.Runs.{goes_then}
+use Rattle.portal_tables.proofs.Sorted.{all_permuted, at, distinct_if_rise, map_alike_on, map_twice, permutes, put_all_map}
+use Rattle.portal_store.specs.World.{world_in, phase_of, project_row}
+use Rattle.portal_store.specs.Kept.{HoldsIn}
+use Rattle.portal_store.specs.Placing.{pair_left, ShowsRoll, TurnsLeft}
+use Rattle.portal_store.proofs.Holding.{second_turned}
+use Rattle.portal_store.proofs.Places.{now_published, shown_known}
+use Rattle.portal_store.proofs.SecondRows.{lecturer_after, student_after}
+use Rattle.portal_store.proofs.Still.{kept_at, opened_kept, holds_there, lists_same}
+
+-- rows that come to an empty table, one after the other
+
+abbrev told : Row → Key × Key
+told r = (row_key r, bytes (column r 2))
+
+abbrev Below : ℕ → Row → Type 0
+Below n r = (k : ℕ) × (rowid r ≡ Int (pos k)) × k < n
+
+put_last : (row : Row) (rows : List Row) → AllByRecursion (λ r. value_cmp (rowid r) (rowid row) ≡ Less) rows → put_row row rows ≡ rows ++ row ∷ []
+put_last row [] h = refl
+put_last row (r ∷ rows) h = rw h.0 (ap (λ l. r ∷ l) (put_last row rows h.1))
+
+lower_id : (m n : ℕ) → m < n → value_cmp (Int (pos m)) (Int (pos n)) ≡ Less
+lower_id m n h = value_cmp-Int (pos m) (pos n) ∙ grind (arith, ints, nat_tests)
+
+-- each has the number after the last, so that it stands behind all
+rows_told : (n : ℕ) (rows cells : List Row) → next_rowid rows ≡ pos n → AllByRecursion (Below n) rows → map told (with_rows rows cells) ≡ map told rows ++ map (λ c. told (Null ∷ c)) cells
+rows_told n rows [] next below = sym (append-nil (map told rows))
+rows_told n rows (c ∷ cells) next below =
+    let row : Row = Int (next_rowid rows) ∷ c in
+    let rest = map (λ c. told (Null ∷ c)) cells in
+    let last : put_row row rows ≡ rows ++ row ∷ [] =
+    put_last row rows (all_weaker (Below n) (λ r. value_cmp (rowid r) (rowid row) ≡ Less) (λ r b. (λ i. value_cmp (b.1 i) (Int (next i))) ∙ lower_id b.0 n b.2) rows below) in
+    let above : next_rowid (put_row row rows) ≡ pos (n + 1) = ap next_rowid last ∙ next_after rows row ∙ ap (λ z. z +ℤ pos 1) next ∙ omega (arith, ints) in
+    let lower : AllByRecursion (Below (n + 1)) (put_row row rows) =
+    subst (AllByRecursion (Below (n + 1))) (sym last)
+    (all_append (Below (n + 1)) rows (row ∷ []) (all_weaker (Below n) (Below (n + 1)) (λ r b. (b.0, b.1, omega (arith, b.2))) rows below) ((n, ap Int next, omega arith), tt)) in
+    rows_told (n + 1) (put_row row rows) cells above lower ∙ ap (λ l. map told l ++ rest) last ∙ ap (λ l. l ++ rest) (map-append told rows (row ∷ [])) ∙ append_assoc (map told rows) (told row ∷ []) rest
+
+all_told : (rows : List Row) (pairs : List (Key × Key)) → rows ≡ with_rows [] (map pair_new pairs) → map told rows ≡ pairs
+all_told rows pairs of = ap (map told) of ∙ rows_told 1 [] (map pair_new pairs) refl tt ∙ itself pairs
+  where
+    itself : (ps : List (Key × Key)) → map (λ c. told (Null ∷ c)) (map pair_new ps) ≡ ps
+    itself [] = refl
+    itself (p ∷ ps) = ap (λ l. p ∷ l) (itself ps)
+
+-- the project that the rows give to a student is that of the pairs
+place_told : (rows : List Row) (pairs : List (Key × Key)) (k : Key) → rows ≡ with_rows [] (map pair_new pairs) → option_map (λ a. bytes (column a 2)) (find (λ a. is (row_key a) k) rows) ≡ place_in pairs k
+place_told rows pairs k of = sym (ap (λ ps. place_in ps k) (sym (all_told rows pairs of)) ∙ ap (option_map (λ (x : Key × Key). x.1)) (find_map told (λ a. is (row_key a) k) (λ x. is x.0 k) (λ a. refl) rows) ∙ both (find (λ a. is (row_key a) k) rows))
+  where
+    both : (o : Option Row) → option_map (λ (x : Key × Key). x.1) (option_map told o) ≡ option_map (λ a. bytes (column a 2)) o
+    both None = refl
+    both (Some a) = refl
+
+-- what the pairs say of a student: a project of the first round leaves none
+abbrev pub place_left : List (Key × Key) → Option Key → Key → Option Key
+place_left pairs earlier k = if is_none earlier then place_in pairs k else None
+
+module _ (pairs : List (Key × Key)) (k : Key) (earlier : Option Key) where
+  -- the student's own pair, if there is one, before others
+  found : (b : Bool) (t : Option Key) (rest : List (Key × Key)) → place_in rest k ≡ cond b t None → place_in (cons_option (option_map (λ p. (k, p)) t) rest) k ≡ t
+  found b None rest h = h ∙ elim b as (λ b. ◌≡◌ {A = Option Key} (cond b None None) None) [ true ↦ refl | false ↦ refl ]
+  found b (Some p) rest h = rw (is_own k) refl
+
+  inside : (o : Option Key) → ◌≡◌ {A = Option (Key × Key)} (cond (is_none o) (option_map (λ p. (k, p)) (place_in pairs k)) None) (option_map (λ p. (k, p)) (place_left pairs o k))
+  inside None = refl
+  inside (Some p) = refl
+
+  -- the pair of another
+  skipped : (x : Row) (rest : List (Key × Key)) → is (first x) k ≡ false → place_in (cons_option (pair_left pairs x) rest) k ≡ place_in rest k
+  skipped x rest other = go (is_none (text_or_none (column x 3))) (place_in pairs (first x))
+    where
+      go : (b : Bool) (t : Option Key) → place_in (cons_option (cond b (option_map (λ p. (first x, p)) t) None) rest) k ≡ place_in rest k
+      go true None = refl
+      go true (Some p) = rw other refl
+      go false t = refl
+
+  place_at : (shown : List Row) → AllByRecursion (λ x. is (first x) k ≡ true → text_or_none (column x 3) ≡ earlier) shown
+      → place_in (filter_map (pair_left pairs) shown) k ≡ cond (has (map first shown) k) (place_left pairs earlier k) None
+  place_at [] h = refl
+  place_at (x ∷ shown) h =
+      let rest = filter_map (pair_left pairs) shown in
+      let there = has (map first shown) k in
+      let place = place_left pairs earlier k in
+      elim (cases_Bool (is (first x) k)) [
+        | inl same ↦
+            let e : first x ≡ k = is_same (first x) k same in
+            let own : pair_left pairs x ≡ option_map (λ p. (k, p)) place = (λ i. cond (is_none (h.0 same i)) (option_map (λ p. (e i, p)) (place_in pairs (e i))) None) ∙ inside earlier in
+            ap (λ q. place_in (cons_option q rest) k) own ∙ found there place rest (place_at shown h.1) ∙ ap (λ b. cond (b || there) place None) (sym (is_sym k (first x) ∙ same))
+        | inr other ↦ skipped x rest other ∙ place_at shown h.1 ∙ ap (λ b. cond (b || there) place None) (sym (is_sym k (first x) ∙ other))
+      ]
+
+-- of rows whose keys differ one has the key
+one_with : (r : Row) (rows : List Row) → IsDistinct is (map row_key rows) → Has rows r → AllByRecursion (λ y. is (row_key y) (row_key r) ≡ true → y ≡ r) rows
+unfolding IsDistinct
+one_with r [] d h = absurd h
+one_with r (x ∷ rows) d (inl same) =
+    (λ _. sym same, all_weaker (λ y. is (row_key x) (row_key y) ≡ false) (λ y. is (row_key y) (row_key r) ≡ true → y ≡ r) apart rows (all_unmap (λ l. is (row_key x) l ≡ false) row_key rows d.0))
+  where
+    apart : (y : Row) → is (row_key x) (row_key y) ≡ false → is (row_key y) (row_key r) ≡ true → y ≡ r
+    apart y other hit = let e : true ≡ false = sym hit ∙ ap (λ z. is (row_key y) (row_key z)) same ∙ is_sym (row_key y) (row_key x) ∙ other in absurd (cc)
+one_with r (x ∷ rows) d (inr there) =
+    let other = at (λ y. is (row_key x) (row_key y) ≡ false) rows r (all_unmap (λ l. is (row_key x) l ≡ false) row_key rows d.0) there in
+    (λ hit. let e : true ≡ false = sym hit ∙ other in absurd (cc), one_with r rows d.1 there)
+
+-- who has a project of the first round has none of the second, so that none is given
+with_left : (pairs : List (Key × Key)) (s : Student) → (is_left s ≡ false → s.placed ≡ None) → ◌≡◌ {A = Student} (record s { placed = place_left pairs s.earlier_place s.row.key }) (with_place pairs s)
+with_left pairs s none = go (is_left s) none
+  where
+    go : (b : Bool) → (b ≡ false → s.placed ≡ None) → ◌≡◌ {A = Student} (record s { placed = cond b (place_in pairs s.row.key) None }) (cond b (record s { placed = place_in pairs s.row.key }) s)
+    go true h = refl
+    go false h = λ i. record s { placed = sym (h refl) i }
+
+-- each student who is left has the place that the pairs give, and nothing else has changed
+record IsPlaced (pairs : List (Key × Key)) (old new : Database) : Type 0 where
+  holds : HoldsIn Second new
+  world : world_in Second new.trees ≡ record (world_in Second old.trees) { students = map (with_place pairs) (world_in Second old.trees).students }
+
+module _ (pairs left : List (Key × Key)) (shown : List Row) (old new : Database) (is_left_of : left ≡ filter_map (pair_left pairs) shown) (was : HoldsIn Second old) (good : Good (world_in Second old.trees)) (shows : ShowsRoll shown old)
+    (put : HasPlaces left old new) where
+  abbrev roll : List Row
+  roll = old.trees student_tree
+
+  abbrev before : Row → Student
+  before = student_after (old.trees 16) (old.trees 24) (old.trees 9)
+
+  abbrev after : Row → Student
+  after = student_after (old.trees 16) (new.trees 24) (old.trees 9)
+
+  distinct : IsDistinct is (map row_key roll)
+  unfolding world_in
+  distinct = subst (IsDistinct is) (sym (map_twice student_key before roll)) (distinct_if_rise student_key (map before roll) good.sound.students_rise)
+
+  only : AllByRecursion (λ r. is_left (before r) ≡ false → (before r).placed ≡ None) roll
+  unfolding world_in
+  only =
+      let all = all_permuted _ (put_all student_key (map before roll) []) (map before roll) (IsPermutation-sym _ _ (permutes student_key (map before roll))) good.sound.only_left in
+      all_weaker _ _ (λ r h e. (h e).1) roll (all_unmap (λ s. is_left s ≡ false → (s.choice ≡ []) × (s.placed ≡ None)) before roll all)
+
+  -- the rows that are shown tell of each student what the roll does
+  earlier_shown : (r : Row) → Has roll r → AllByRecursion (λ x. is (first x) (row_key r) ≡ true → text_or_none (column x 3) ≡ text_or_none (column r 4)) shown
+  earlier_shown r there =
+      let P = λ (x : Row). is (first x) (row_key r) ≡ true → text_or_none (column x 3) ≡ text_or_none (column r 4) in
+      let show = columns (1 ∷ 2 ∷ 3 ∷ 4 ∷ []) in
+      let same : IsPermutation (map show roll) shown = subst (λ rows. IsPermutation (map show rows) shown) (filter_all roll) (permuted (1 ∷ []) every show roll shown shows) in
+      all_permuted P (map show roll) shown same (all_map P show roll (all_weaker _ _ (λ y one hit. ap (λ z. text_or_none (column z 4)) (one hit)) roll (one_with r roll distinct there)))
+
+  one : (r : Row) → Has roll r → after r ≡ with_place pairs (before r)
+  one r there =
+      let k = row_key r in
+      let earlier = text_or_none (column r 4) in
+      let known = at (λ x. has (map first shown) (row_key x) ≡ true) roll r (shown_known shown old shows) there in
+      let place : option_map (λ a. bytes (column a 2)) (find (λ a. is (row_key a) k) (new.trees 24)) ≡ place_left pairs earlier k =
+      place_told (new.trees 24) left k put.rows ∙ ap (λ ps. place_in ps k) is_left_of ∙ place_at pairs k earlier shown (earlier_shown r there) ∙ ap (λ b. cond b (place_left pairs earlier k) None) known in
+      (λ i. record (before r) { placed = place i }) ∙ with_left pairs (before r) (at (λ x. is_left (before x) ≡ false → (before x).placed ≡ None) roll r only there)
+
+  portal : new.trees 0 ≡ old.trees 0
+  portal = kept_at assigned2_tree old new put.tables portal_tree refl refl
+
+  lecturers : new.trees 1 ≡ old.trees 1
+  lecturers = kept_at assigned2_tree old new put.tables lecturer_tree refl refl
+
+  projects : new.trees 4 ≡ old.trees 4
+  projects = kept_at assigned2_tree old new put.tables project_tree refl refl
+
+  students : new.trees 6 ≡ old.trees 6
+  students = kept_at assigned2_tree old new put.tables student_tree refl refl
+
+  choices : new.trees 9 ≡ old.trees 9
+  choices = kept_at assigned2_tree old new put.tables choice_tree refl refl
+
+  rankings : new.trees 12 ≡ old.trees 12
+  rankings = kept_at assigned2_tree old new put.tables ranking_tree refl refl
+
+  second : new.trees 15 ≡ old.trees 15
+  second = kept_at assigned2_tree old new put.tables second_tree refl refl
+
+  choices2 : new.trees 16 ≡ old.trees 16
+  choices2 = kept_at assigned2_tree old new put.tables choice2_tree refl refl
+
+  ranked2 : new.trees 19 ≡ old.trees 19
+  ranked2 = kept_at assigned2_tree old new put.tables ranked2_tree refl refl
+
+  rankings2 : new.trees 21 ≡ old.trees 21
+  rankings2 = kept_at assigned2_tree old new put.tables ranking2_tree refl refl
+
+  placed_all : IsPlaced pairs old new
+  unfolding world_in
+  placed_all =
+      let same_key : (s : Student) → student_key (with_place pairs s) ≡ student_key s = λ s. ap (λ r. r.key) (place_row pairs s) in
+      let turned : put_all student_key (map (student_after (new.trees 16) (new.trees 24) (new.trees 9)) (new.trees 6)) [] ≡ map (with_place pairs) (put_all student_key (map before roll) []) =
+      (λ i. put_all student_key (map (student_after (choices2 i) (new.trees 24) (choices i)) (students i)) [])
+      ∙ ap (λ l. put_all student_key l []) (map_alike_on after (λ r. with_place pairs (before r)) roll one ∙ map_twice (with_place pairs) before roll)
+      ∙ put_all_map student_key student_key (with_place pairs) same_key (map before roll) [] in
+      record {
+        holds = holds_there assigned2_tree old new refl was put.tables put.schema_is put.sound put.apart (opened_kept old.trees new.trees portal second was.second)
+            (lists_same Second old.trees new.trees lecturers students choices2 rankings2 ranked2 was.whole.1);
+        world = λ i. record {
+          round = Second;
+          phase = phase_of (number_in (column (slice_index_or (second i) 0 []) 2));
+          office = bytes (column (slice_index_or (portal i) 0 []) 4);
+          lecturers = put_all lecturer_key (map (lecturer_after (ranked2 i) (rankings2 i) (rankings i)) (lecturers i)) [];
+          projects = put_all project_key (map project_row (projects i)) [];
+          students = turned i;
+        };
+      }
+
+-- the places, and then the phase
+left_turned : (left : List (Key × Key)) (old mid new : Database) → PutsPlaces left old mid → MovesSecond 3 mid new → TurnsLeft left old new
+left_turned left old mid new puts moves pairs shown of shows was good better =
+    let placed = placed_all pairs left shown old mid of was good shows (puts was.current was.apart.1.1.1.1.1.1.1.1.1.1.0) in
+    let done = second_turned Published mid new refl placed.holds moves in
+    record { holds = done.holds; world = done.world ∙ now_published placed.world }
+
+pub left_made : (left : List (Key × Key)) (old mid new : State) → GoesOn (PutsPlaces left) old mid → Made (MovesSecond 3) mid new → GoesOn (TurnsLeft left) old new
+left_made left old mid new puts moves = goes_then _ _ _ old mid new puts moves (left_turned left old.now mid.now new.now)

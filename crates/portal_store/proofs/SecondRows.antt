@@ -1,0 +1,31 @@
+-- What the rows of the rolls stand for in the second round, by the rows of the lists and places of both.
+use Rattle.std.specs.Prelude.{if◌then◌else◌, List, map, Some, None, option_map}
+use Rattle.std.specs.List.{find}
+use Rattle.sqlite.specs.Order.{Row, column, bytes}
+use Rattle.portal_core.specs.Words.{is, has}
+use Rattle.portal_core.specs.World.{Lecturer, Student}
+use Rattle.portal_tables.specs.Lists.{chosen}
+use Rattle.portal_tables.specs.Rolls.{row_key}
+use Rattle.portal_tables.specs.Shown.{text_or_none}
+use Rattle.portal_store.specs.World.{lecturer_row, student_row}
+use Rattle.portal_store.proofs.FirstRows.{has_ranking}
+
+-- of those with a ranking of the second round, the rankings of it, and those of the first
+abbrev pub lecturer_after : List Row → List Row → List Row → Row → Lecturer
+lecturer_after ranked rankings earlier r =
+    record {
+      row = lecturer_row r;
+      ranking = if has (map row_key ranked) (row_key r) then Some (chosen rankings (row_key r)) else None;
+      earlier_ranking = if has_ranking r then Some (chosen earlier (row_key r)) else None;
+    }
+
+-- of the lists of the second round, the places that it gives, and the lists of the first
+abbrev pub student_after : List Row → List Row → List Row → Row → Student
+student_after choices places earlier r =
+    record {
+      row = student_row r;
+      choice = chosen choices (row_key r);
+      placed = option_map (λ a. bytes (column a 2)) (find (λ a. is (row_key a) (row_key r)) places);
+      earlier_choice = chosen earlier (row_key r);
+      earlier_place = text_or_none (column r 4);
+    }

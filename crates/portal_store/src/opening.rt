@@ -1,0 +1,59 @@
+//! The second round is opened.
+
+ghost use Rattle.std.specs.Prelude.{◌≡◌, ◌&&◌, false, not};
+ghost use Rattle.sqlite.specs.Held.{state};
+ghost use Rattle.portal_core.specs.Change.{SecondRound};
+ghost use Rattle.portal_core.specs.World.{is_published, is_second};
+ghost use Rattle.portal_store.specs.Kept.{TurnsFrom};
+ghost use Rattle.portal_store.specs.Ending.{Ends};
+ghost use Rattle.portal_store.specs.Opening.{Opens};
+
+use crate::round::first_phase;
+use portal_core::{Phase, Round};
+use portal_tables::fault::TableFault;
+use portal_tables::second::set_second;
+use portal_tables::step::{Step, commit};
+use sqlite::{Alter, Connection, Error, Transaction};
+use std::alloc::Global;
+
+/// `second` tells the first phase of the second round.
+#[derive(Drop)]
+struct OpenSecond;
+
+impl Step for OpenSecond {
+    ghost makes = { λ _. Opens };
+
+    fn take<S: Alter>(self, _alloc: Global, tx: &mut Transaction<'_, S>) -> Result<(), Error> {
+        set_second(tx, 1)
+    }
+}
+
+/// Whether the second round opens from this phase of a round.
+fn opens_from(round: Round, phase: Phase) -> bool
+    ensures { result ≡ (not (is_second round) && is_published phase) }
+{
+    match (round, phase) {
+        (Round::First, Phase::Published) => true,
+        _ => false,
+    }
+}
+
+/// Opens the second round where the first is published; else nothing is changed.
+pub(crate) fn open_second<S: Alter>(
+    alloc: Global,
+    conn: &mut Connection<S>,
+    round: Round,
+) -> Result<(), TableFault>
+    requires idle { conn.old.in_transaction ≡ false }
+    ensures idle { conn.new.in_transaction ≡ false }
+    ensures ends { Ends (TurnsFrom round SecondRound) result (state S.Store conn.old)
+        (state S.Store conn.new) }
+{
+    let _idle = conn.is_autocommit();
+    let phase = first_phase(alloc, conn)?;
+    if opens_from(round, phase) {
+        commit(alloc, conn, OpenSecond)
+    } else {
+        Ok(())
+    }
+}
