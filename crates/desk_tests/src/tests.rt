@@ -1,5 +1,6 @@
 //! A desk over a keeper in vectors, by the bytes of its requests and replies.
 
+mod conversation;
 mod devices;
 mod failing;
 mod frames;
@@ -7,7 +8,10 @@ mod heads;
 mod longest;
 mod order;
 mod portal;
+mod reopening;
 mod requests;
+mod second;
 mod streams;
+mod trials;
 mod wire;
 mod worked;

@@ -3,7 +3,10 @@
 ghost use Rattle.std.specs.Prelude.{length};
 ghost use Rattle.portal_core.specs.Counting.{CountsFaults};
 
-use crate::tests::portal::{NO_CALLER, fresh_keeper};
+use crate::tests::portal::{
+    CYR, MOE, NO_CALLER, OFFICE, OPENING, fresh_keeper, published, ranked_again, ranking_again,
+    reopened, request,
+};
 use portal_core::{Change, KeepFault, Keeper, View};
 use portal_desk::{Cause, Counted, Desk};
 use portal_list::ListKeeper;
@@ -21,9 +24,9 @@ struct Failing {
 }
 
 impl Failing {
-    fn new(rt: &(impl Abort + AllocGlobal), left: u32) -> Failing {
+    fn new(rt: &(impl Abort + AllocGlobal), kept: ListKeeper, left: u32) -> Failing {
         Failing {
-            kept: fresh_keeper(rt),
+            kept,
             left,
             faults: Vec::new(rt.alloc()),
         }
@@ -73,8 +76,14 @@ const LOST: &str =
     "HTTP/1.1 503 Service Unavailable\r\ncontent-type: application/json\r\ncontent-length: 23\r\nconnection: close\r\n\r\n{\"error\":\"unavailable\"}";
 
 /// A call of `serve` ends by the store's fault, and this is written.
-fn fails(rt: &(impl Abort + AllocGlobal), desk: &mut Desk<Failing>, requests: u32, output: &[u8]) {
-    let mut source = Counted::new(TWO.as_bytes());
+fn fails(
+    rt: &(impl Abort + AllocGlobal),
+    desk: &mut Desk<Failing>,
+    asked: &str,
+    requests: u32,
+    output: &[u8],
+) {
+    let mut source = Counted::new(asked.as_bytes());
     let mut sink = Counted::new(Vec::new(rt.alloc()));
     match desk.serve(rt.alloc(), &mut source, &mut sink) {
         Ok(_) => assert!(rt; false, "served"),
@@ -90,12 +99,65 @@ fn fails(rt: &(impl Abort + AllocGlobal), desk: &mut Desk<Failing>, requests: u3
 
 #[test]
 fn the_desk_has_failed_from_then_on(rt: HostRuntime) {
-    let mut desk = Desk::new(Failing::new(&rt, 1));
+    let mut desk = Desk::new(Failing::new(&rt, fresh_keeper(&rt), 1));
     let mut both = Vec::new(rt.alloc());
     both.extend_from_slice(NO_CALLER.as_bytes())
         .expect(&rt, "memory");
     both.extend_from_slice(LOST.as_bytes())
         .expect(&rt, "memory");
-    fails(&rt, &mut desk, 2, both.as_slice());
-    fails(&rt, &mut desk, 1, LOST.as_bytes());
+    fails(&rt, &mut desk, TWO, 2, both.as_slice());
+    fails(&rt, &mut desk, TWO, 1, LOST.as_bytes());
+}
+
+/// A change is refused by the store, and from then on the desk has failed.
+fn is_lost(
+    rt: &(impl Abort + AllocGlobal),
+    desk: Desk<ListKeeper>,
+    line: (&str, &str),
+    code: &str,
+    body: &str,
+) {
+    let (method, path) = line;
+    let asked = request(rt, method, path, code, body);
+    let mut failing = Desk::new(Failing::new(rt, desk.into_keeper(), u32::MAX));
+    fails(rt, &mut failing, asked.as_str(), 1, LOST.as_bytes());
+    fails(rt, &mut failing, TWO, 1, LOST.as_bytes());
+}
+
+#[test]
+fn each_change_of_the_second_round_is_lost(rt: HostRuntime) {
+    is_lost(&rt, published(&rt), ("POST", "/phase"), OFFICE, OPENING);
+    is_lost(
+        &rt,
+        reopened(&rt),
+        ("PUT", "/choices"),
+        CYR,
+        r#"{"projects":["P3"]}"#,
+    );
+    is_lost(
+        &rt,
+        ranking_again(&rt),
+        ("PUT", "/ranking"),
+        MOE,
+        r#"{"students":["S3"]}"#,
+    );
+    is_lost(
+        &rt,
+        ranking_again(&rt),
+        ("POST", "/ranking/fill"),
+        OFFICE,
+        "{}",
+    );
+}
+
+/// The publication finds no instance.
+#[test]
+fn the_second_publication_is_lost(rt: HostRuntime) {
+    is_lost(
+        &rt,
+        ranked_again(&rt),
+        ("POST", "/phase"),
+        OFFICE,
+        r#"{"phase":"published"}"#,
+    );
 }

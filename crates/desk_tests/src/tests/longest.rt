@@ -1,7 +1,7 @@
 //! The longest body, on devices that fail.
 
 use crate::tests::devices::{Basin, Feeder};
-use crate::tests::portal::{ANN, choosing, gets, takes, written};
+use crate::tests::portal::{ANN, choosing, gets, reopened, takes, written};
 use portal_desk::{Cause, Counted, Desk, Ending, Sink, Source};
 use portal_list::ListKeeper;
 use std::process::Abort;
@@ -15,6 +15,9 @@ const OLD: &str = r#"{"projects":["P1","P2"]}"#;
 
 const REPLY: &str =
     "HTTP/1.1 200 OK\r\ncontent-type: application/json\r\ncontent-length: 15\r\n\r\n{\"projects\":[]}";
+
+const HAS_ONE: &str =
+    "HTTP/1.1 409 Conflict\r\ncontent-type: application/json\r\ncontent-length: 26\r\n\r\n{\"error\":\"already_placed\"}";
 
 /// A request with an empty list and blanks up to the longest body.
 fn longest(rt: &(impl Abort + AllocGlobal)) -> Vec<u8> {
@@ -37,6 +40,16 @@ fn is_taken(rt: HostRuntime) {
     let bytes = longest(&rt);
     let output = written(&rt, &mut desk, bytes.as_slice(), Ending::End, 1);
     assert_eq!(rt; output.as_slice(), REPLY.as_bytes());
+    gets(&rt, &mut desk, "/choices", ANN, "200 OK", EMPTY);
+}
+
+/// In the second round a student who has a project may send it, and it is refused as the shortest is.
+#[test]
+fn is_read_before_it_is_refused(rt: HostRuntime) {
+    let mut desk = reopened(&rt);
+    let bytes = longest(&rt);
+    let output = written(&rt, &mut desk, bytes.as_slice(), Ending::End, 1);
+    assert_eq!(rt; output.as_slice(), HAS_ONE.as_bytes());
     gets(&rt, &mut desk, "/choices", ANN, "200 OK", EMPTY);
 }
 

@@ -13,6 +13,15 @@ pub(crate) const ANN: &str = "ann-code-1";
 
 pub(crate) const BEA: &str = "bea-code-2";
 
+pub(crate) const CYR: &str = "cyr-code-3";
+
+pub(crate) const LEE: &str = "lee-code-01";
+
+pub(crate) const MOE: &str = "moe-code-02";
+
+/// The office opens the second round, and this is the reply too.
+pub(crate) const OPENING: &str = r#"{"phase":"choosing","round":2}"#;
+
 /// The reply to a caller whom nobody knows.
 pub(crate) const NO_CALLER: &str =
     "HTTP/1.1 403 Forbidden\r\ncontent-type: application/json\r\ncontent-length: 21\r\n\r\n{\"error\":\"no_caller\"}";
@@ -20,6 +29,10 @@ pub(crate) const NO_CALLER: &str =
 /// The reply to bytes that are no head.
 pub(crate) const BAD_HEAD: &str =
     "HTTP/1.1 400 Bad Request\r\ncontent-type: application/json\r\ncontent-length: 20\r\nconnection: close\r\n\r\n{\"error\":\"bad_head\"}";
+
+/// The reply to a body that ends too early.
+pub(crate) const BAD_LENGTH: &str =
+    "HTTP/1.1 400 Bad Request\r\ncontent-type: application/json\r\ncontent-length: 22\r\nconnection: close\r\n\r\n{\"error\":\"bad_length\"}";
 
 /// The empty world in setup.
 pub(crate) fn fresh_keeper(rt: &(impl Abort + AllocGlobal)) -> ListKeeper
@@ -204,6 +217,72 @@ pub(crate) fn choosing(rt: &(impl Abort + AllocGlobal)) -> Desk<ListKeeper> {
         "/choices",
         BEA,
         r#"{"projects":["P1","P3"]}"#,
+    );
+    desk
+}
+
+/// The worked world, published: S1 has P2, S2 has P1 and S3 nothing.
+pub(crate) fn published(rt: &(impl Abort + AllocGlobal)) -> Desk<ListKeeper> {
+    let mut desk = choosing(rt);
+    moves(rt, &mut desk, r#"{"phase":"ranking"}"#);
+    takes(
+        rt,
+        &mut desk,
+        "/ranking",
+        LEE,
+        r#"{"students":["S2","S1"]}"#,
+    );
+    takes(rt, &mut desk, "/ranking", MOE, r#"{"students":["S2"]}"#);
+    moves(rt, &mut desk, r#"{"phase":"published"}"#);
+    desk
+}
+
+/// The second round of it, in choosing.
+pub(crate) fn reopened(rt: &(impl Abort + AllocGlobal)) -> Desk<ListKeeper> {
+    let mut desk = published(rt);
+    moves(rt, &mut desk, OPENING);
+    desk
+}
+
+/// The second round in ranking: S3 chose P3, and L2 is still to rank.
+pub(crate) fn ranking_again(rt: &(impl Abort + AllocGlobal)) -> Desk<ListKeeper> {
+    let mut desk = reopened(rt);
+    takes(rt, &mut desk, "/choices", CYR, r#"{"projects":["P3"]}"#);
+    posts(
+        rt,
+        &mut desk,
+        "/phase",
+        r#"{"phase":"ranking"}"#,
+        "200 OK",
+        r#"{"phase":"ranking","round":2}"#,
+    );
+    desk
+}
+
+/// The second round in ranking, where nobody is still to rank.
+pub(crate) fn ranked_again(rt: &(impl Abort + AllocGlobal)) -> Desk<ListKeeper> {
+    let mut desk = ranking_again(rt);
+    posts(
+        rt,
+        &mut desk,
+        "/ranking/fill",
+        "{}",
+        "200 OK",
+        r#"{"filled":["L2"]}"#,
+    );
+    desk
+}
+
+/// The second round, published: S3 has P3.
+pub(crate) fn published_again(rt: &(impl Abort + AllocGlobal)) -> Desk<ListKeeper> {
+    let mut desk = ranked_again(rt);
+    posts(
+        rt,
+        &mut desk,
+        "/phase",
+        r#"{"phase":"published"}"#,
+        "200 OK",
+        r#"{"phase":"published","round":2}"#,
     );
     desk
 }

@@ -1,7 +1,9 @@
 //! One short request, over and over, on devices that end or fail after each number of bytes.
 
 use crate::tests::devices::{Basin, Feeder, served_by};
-use crate::tests::portal::{BAD_HEAD, NO_CALLER, fresh, written};
+use crate::tests::portal::{
+    BAD_HEAD, NO_CALLER, OFFICE, OPENING, fresh, gets, published, reply, request, written,
+};
 use portal_desk::{Cause, Counted, Desk, Ending, Sink, Source};
 use portal_list::ListKeeper;
 use std::process::Abort;
@@ -10,6 +12,9 @@ const SHORT: &str = "GET /me HTTP/1.1\r\nHost: h\r\n\r\n";
 
 const LAST_REPLY: &str =
     "HTTP/1.1 403 Forbidden\r\ncontent-type: application/json\r\ncontent-length: 21\r\nconnection: close\r\n\r\n{\"error\":\"no_caller\"}";
+
+const LAST_OPENING: &str =
+    "HTTP/1.1 200 OK\r\ncontent-type: application/json\r\ncontent-length: 30\r\nconnection: close\r\n\r\n{\"phase\":\"choosing\",\"round\":2}";
 
 /// A text over and over.
 fn repeated(rt: &(impl Abort + AllocGlobal), text: &str, times: u32) -> Vec<u8> {
@@ -45,6 +50,28 @@ fn no_more_than_256_requests(rt: HostRuntime) {
     let output = written(&rt, &mut desk, bytes.as_slice(), Ending::Limit, 256);
     let wanted = replies(&rt);
     assert_eq!(rt; output.as_slice(), wanted.as_slice());
+}
+
+/// The second round is opened by the first of them, and the others change nothing.
+#[test]
+fn no_more_than_256_openings(rt: HostRuntime) {
+    let mut desk = published(&rt);
+    let opening = request(&rt, "POST", "/phase", OFFICE, OPENING);
+    let bytes = repeated(&rt, opening.as_str(), 257);
+    let output = written(&rt, &mut desk, bytes.as_slice(), Ending::Limit, 256);
+    let mut wanted = repeated(&rt, reply(&rt, "200 OK", OPENING).as_str(), 255);
+    wanted
+        .extend_from_slice(LAST_OPENING.as_bytes())
+        .expect(&rt, "memory");
+    assert!(rt; output.as_slice() == wanted.as_slice());
+    gets(
+        &rt,
+        &mut desk,
+        "/me",
+        OFFICE,
+        "200 OK",
+        r#"{"phase":"choosing","role":"office","round":2}"#,
+    );
 }
 
 /// A reader fails after so many of the bytes: so many requests stand whole before them.

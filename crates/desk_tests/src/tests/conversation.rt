@@ -1,0 +1,132 @@
+//! A stream of requests, and what is written for it.
+
+use crate::tests::portal::{BAD_HEAD, BAD_LENGTH};
+use portal_desk::Ending;
+use std::process::Abort;
+
+/// The head and the body of a request, and the reply.
+pub(crate) type Asked = (&'static str, &'static str, &'static str);
+
+/// A stream of requests, of which the last may be refused, and what is written for it.
+#[derive(Drop)]
+pub(crate) struct Stream {
+    /// The requests and the replies to them.
+    pub asked: &'static [Asked],
+    /// The head behind them, if there is one, and what comes of its body.
+    pub head: &'static str,
+    pub body: &'static str,
+    /// The word of the refusal, and its reply.
+    pub word: &'static str,
+    pub closing: &'static str,
+    /// Whether it is refused only when the input has ended.
+    pub waits: bool,
+}
+
+impl Stream {
+    pub(crate) fn ending(&self) -> Ending {
+        if self.head.is_empty() {
+            Ending::End
+        } else {
+            Ending::Refused(self.word)
+        }
+    }
+
+    /// The requests behind the first so many.
+    pub(crate) fn behind(&self, rt: &(impl Abort + AllocGlobal), many: usize) -> Vec<u8> {
+        let mut bytes = Vec::new(rt.alloc());
+        for (head, body, _) in self.asked.iter().skip(many) {
+            bytes
+                .extend_from_slice(head.as_bytes())
+                .expect(rt, "memory");
+            bytes
+                .extend_from_slice(body.as_bytes())
+                .expect(rt, "memory");
+        }
+        bytes
+    }
+
+    pub(crate) fn bytes(&self, rt: &(impl Abort + AllocGlobal)) -> Vec<u8> {
+        let mut bytes = self.behind(rt, 0);
+        bytes
+            .extend_from_slice(self.head.as_bytes())
+            .expect(rt, "memory");
+        bytes
+            .extend_from_slice(self.body.as_bytes())
+            .expect(rt, "memory");
+        bytes
+    }
+
+    /// What is written for the first requests.
+    pub(crate) fn replies(&self, rt: &(impl Abort + AllocGlobal), many: usize) -> Vec<u8> {
+        let mut text = Vec::new(rt.alloc());
+        for (_, _, reply) in self.asked.iter().take(many) {
+            text.extend_from_slice(reply.as_bytes())
+                .expect(rt, "memory");
+        }
+        text
+    }
+
+    /// What is written for the requests behind the first so many.
+    pub(crate) fn replies_behind(&self, rt: &(impl Abort + AllocGlobal), many: usize) -> Vec<u8> {
+        let mut text = Vec::new(rt.alloc());
+        for (_, _, reply) in self.asked.iter().skip(many) {
+            text.extend_from_slice(reply.as_bytes())
+                .expect(rt, "memory");
+        }
+        text
+    }
+
+    pub(crate) fn output(&self, rt: &(impl Abort + AllocGlobal)) -> Vec<u8> {
+        let mut text = self.replies_behind(rt, 0);
+        text.extend_from_slice(self.closing.as_bytes())
+            .expect(rt, "memory");
+        text
+    }
+
+    pub(crate) fn requests(&self) -> usize {
+        self.asked.len()
+    }
+
+    /// How many requests stand whole in so many bytes, and how many bytes come behind them.
+    pub(crate) fn whole_in(&self, many: usize) -> (usize, usize) {
+        let mut left = many;
+        for (at, (head, body, _)) in self.asked.iter().enumerate() {
+            let length = head.len().saturating_add(body.len());
+            if left < length {
+                return (at, left);
+            }
+            left -= length;
+        }
+        (self.requests(), left)
+    }
+
+    /// How many requests have acted where a writer fails after so many bytes.
+    pub(crate) fn acted_at(&self, many: usize) -> usize {
+        let mut left = many;
+        for (at, (_, _, reply)) in self.asked.iter().enumerate() {
+            if left < reply.len() {
+                return at + 1;
+            }
+            left -= reply.len();
+        }
+        self.requests()
+    }
+
+    /// The ending and the last reply where the input ends so many bytes behind the first requests.
+    pub(crate) fn cut_off(&self, whole: usize, left: usize) -> (Ending, &'static str) {
+        if left == 0 {
+            return (Ending::End, "");
+        }
+        let (head, is_whole) = match self.asked.get(whole) {
+            Some((head, _, _)) => (*head, false),
+            None => (self.head, true),
+        };
+        if left < head.len() {
+            (Ending::Refused("bad_head"), BAD_HEAD)
+        } else if is_whole {
+            (self.ending(), self.closing)
+        } else {
+            (Ending::Refused("bad_length"), BAD_LENGTH)
+        }
+    }
+}

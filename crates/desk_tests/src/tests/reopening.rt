@@ -1,0 +1,214 @@
+//! The second round as a stream of requests, from its opening to its result, on devices that end or fail.
+
+use crate::tests::conversation::{Asked, Stream};
+use crate::tests::portal::{CYR, gets, published, ranked_again};
+use crate::tests::trials::{ended_at, reader_fails_at, served_cut, writer_fails_at};
+use portal_desk::{Counted, Desk, Ending};
+use portal_list::ListKeeper;
+use std::process::Abort;
+
+/// The office opens the second round.
+const OPENS: Asked = (
+    "POST /phase HTTP/1.1\r\nHost: h\r\nportal-code: office-code-0\r\nContent-Length: 30\r\n\r\n",
+    "{\"phase\":\"choosing\",\"round\":2}",
+    "HTTP/1.1 200 OK\r\ncontent-type: application/json\r\ncontent-length: 30\r\n\r\n{\"phase\":\"choosing\",\"round\":2}",
+);
+
+/// Who has a project makes no list.
+const HAS_ONE: Asked = (
+    "PUT /choices HTTP/1.1\r\nHost: h\r\nportal-code: ann-code-1\r\nContent-Length: 15\r\n\r\n",
+    "{\"projects\":[]}",
+    "HTTP/1.1 409 Conflict\r\ncontent-type: application/json\r\ncontent-length: 26\r\n\r\n{\"error\":\"already_placed\"}",
+);
+
+/// Who has none does.
+const CHOOSES: Asked = (
+    "PUT /choices HTTP/1.1\r\nHost: h\r\nportal-code: cyr-code-3\r\nContent-Length: 19\r\n\r\n",
+    "{\"projects\":[\"P3\"]}",
+    "HTTP/1.1 200 OK\r\ncontent-type: application/json\r\ncontent-length: 19\r\n\r\n{\"projects\":[\"P3\"]}",
+);
+
+/// The office closes the lists.
+const CLOSES: Asked = (
+    "POST /phase HTTP/1.1\r\nHost: h\r\nportal-code: office-code-0\r\nContent-Length: 19\r\n\r\n",
+    "{\"phase\":\"ranking\"}",
+    "HTTP/1.1 200 OK\r\ncontent-type: application/json\r\ncontent-length: 29\r\n\r\n{\"phase\":\"ranking\",\"round\":2}",
+);
+
+/// A lecturer is still to rank.
+const WAITS: Asked = (
+    "POST /phase HTTP/1.1\r\nHost: h\r\nportal-code: office-code-0\r\nContent-Length: 21\r\n\r\n",
+    "{\"phase\":\"published\"}",
+    "HTTP/1.1 409 Conflict\r\ncontent-type: application/json\r\ncontent-length: 44\r\n\r\n{\"error\":\"still_to_rank\",\"lecturers\":[\"L2\"]}",
+);
+
+/// The office fills the ranking.
+const FILLS: Asked = (
+    "POST /ranking/fill HTTP/1.1\r\nHost: h\r\nportal-code: office-code-0\r\nContent-Length: 2\r\n\r\n",
+    "{}",
+    "HTTP/1.1 200 OK\r\ncontent-type: application/json\r\ncontent-length: 17\r\n\r\n{\"filled\":[\"L2\"]}",
+);
+
+/// The office publishes.
+const PUBLISHES: Asked = (
+    "POST /phase HTTP/1.1\r\nHost: h\r\nportal-code: office-code-0\r\nContent-Length: 21\r\n\r\n",
+    "{\"phase\":\"published\"}",
+    "HTTP/1.1 200 OK\r\ncontent-type: application/json\r\ncontent-length: 31\r\n\r\n{\"phase\":\"published\",\"round\":2}",
+);
+
+/// Who chose has a project.
+const SHOWS: Asked = (
+    "GET /result HTTP/1.1\r\nHost: h\r\nportal-code: cyr-code-3\r\n\r\n",
+    "",
+    "HTTP/1.1 200 OK\r\ncontent-type: application/json\r\ncontent-length: 16\r\n\r\n{\"project\":\"P3\"}",
+);
+
+/// The whole round.
+const ROUND: Stream = Stream {
+    asked: &[
+        OPENS, HAS_ONE, CHOOSES, CLOSES, WAITS, FILLS, PUBLISHES, SHOWS,
+    ],
+    head: "",
+    body: "",
+    word: "",
+    closing: "",
+    waits: true,
+};
+
+/// Its opening and its lists.
+const LISTS: Stream = Stream {
+    asked: &[OPENS, HAS_ONE, CHOOSES],
+    head: "",
+    body: "",
+    word: "",
+    closing: "",
+    waits: true,
+};
+
+/// Its publication and its result.
+const RESULT: Stream = Stream {
+    asked: &[PUBLISHES, SHOWS],
+    head: "",
+    body: "",
+    word: "",
+    closing: "",
+    waits: true,
+};
+
+/// The requests that had not acted are asked on another connection: they get their replies, and the round ends as
+/// it has to.
+fn goes_on(rt: &(impl Abort + AllocGlobal), desk: &mut Desk<ListKeeper>, acted: usize) {
+    let bytes = ROUND.behind(rt, acted);
+    let mut source = Counted::new(bytes.as_slice());
+    let mut sink = Counted::new(Vec::new(rt.alloc()));
+    let served = desk.serve(rt.alloc(), &mut source, &mut sink);
+    let served = served.expect(rt, "served");
+    assert_eq!(rt; served.ending, Ending::End);
+    let requests = acted.saturating_add(served.requests as usize);
+    assert_eq!(rt; requests, ROUND.requests(), "after {acted}");
+    assert_eq!(rt;
+        sink.into_inner().as_slice(),
+        ROUND.replies_behind(rt, acted).as_slice()
+    );
+    gets(rt, desk, "/result", CYR, "200 OK", r#"{"project":"P3"}"#);
+}
+
+#[test]
+fn is_played(rt: HostRuntime) {
+    let mut desk = published(&rt);
+    goes_on(&rt, &mut desk, 0);
+}
+
+#[test]
+fn ends_at_each_place(rt: HostRuntime) {
+    let length = ROUND.bytes(&rt).len();
+    for many in 0..=length {
+        let mut desk = published(&rt);
+        ended_at(&rt, &mut desk, &ROUND, many);
+        let (whole, _) = ROUND.whole_in(many);
+        goes_on(&rt, &mut desk, whole);
+    }
+}
+
+/// Each call of a reader fails in turn, which gives so many bytes at a time.
+fn readers_fail(rt: &(impl Abort + AllocGlobal), step: usize) {
+    let length = ROUND.bytes(rt).len();
+    for many in 0..=length {
+        let mut desk = published(rt);
+        reader_fails_at(rt, &mut desk, &ROUND, step, many);
+        let (whole, _) = ROUND.whole_in(many);
+        goes_on(rt, &mut desk, whole);
+    }
+}
+
+#[test]
+fn readers_fail_at_each_byte(rt: HostRuntime) {
+    readers_fail(&rt, 1);
+}
+
+#[test]
+fn readers_fail_at_each_piece(rt: HostRuntime) {
+    readers_fail(&rt, 4_096);
+}
+
+/// Each call of a writer fails in turn, which takes so many bytes at a time.
+fn writers_fail(rt: &(impl Abort + AllocGlobal), step: usize) {
+    let length = ROUND.output(rt).len();
+    for many in 0..length {
+        let mut desk = published(rt);
+        writer_fails_at(rt, &mut desk, &ROUND, step, many);
+        goes_on(rt, &mut desk, ROUND.acted_at(many));
+    }
+}
+
+#[test]
+fn writers_fail_at_each_byte(rt: HostRuntime) {
+    writers_fail(&rt, 1);
+}
+
+#[test]
+fn writers_fail_at_each_part(rt: HostRuntime) {
+    writers_fail(&rt, usize::MAX);
+}
+
+/// Cut at each place, and so many bytes behind it.
+#[test]
+fn is_cut_in_two_places(rt: HostRuntime) {
+    let length = ROUND.bytes(&rt).len();
+    for first in 1..length {
+        for second in [1usize, 50, 150] {
+            let mut desk = published(&rt);
+            served_cut(&rt, &mut desk, &ROUND, first, second);
+        }
+    }
+}
+
+/// Cut at one place and at each second place behind it. What changes nothing where it is asked again is
+/// asked of one desk, which it has changed at the first of them.
+fn cut_at(
+    rt: &(impl Abort + AllocGlobal),
+    desk: &mut Desk<ListKeeper>,
+    stream: &Stream,
+    first: usize,
+) {
+    let behind = stream.bytes(rt).len().saturating_sub(first);
+    for second in 1..=behind {
+        served_cut(rt, desk, stream, first, second);
+    }
+}
+
+#[test]
+fn the_lists_are_cut_at_each_two_places(rt: HostRuntime) {
+    for first in 1..LISTS.bytes(&rt).len() {
+        let mut desk = published(&rt);
+        cut_at(&rt, &mut desk, &LISTS, first);
+    }
+}
+
+#[test]
+fn the_result_is_cut_at_each_two_places(rt: HostRuntime) {
+    for first in 1..RESULT.bytes(&rt).len() {
+        let mut desk = ranked_again(&rt);
+        cut_at(&rt, &mut desk, &RESULT, first);
+    }
+}
