@@ -26,41 +26,80 @@ def request(method, path, code, body=b""):
     return b"%s %s HTTP/1.1\r\nHost: h\r\nPortal-Code: %s\r\nContent-Length: %d\r\n\r\n%s" % (method, path, code, len(body), body)
 
 
+def moved(phase, named=b""):
+    """A move of the office to a phase, and of a round where one is named, as in `,"round":2`."""
+    return request(b"POST", b"/phase", OFFICE, b'{"phase":"%s"%s}' % (phase, named))
+
+
+def chosen(code, keys):
+    """A student puts a list of projects; the keys are a text, as in `"P1","P2"`."""
+    return request(b"PUT", b"/choices", code, b'{"projects":[%s]}' % keys)
+
+
+def ranked(code, keys):
+    """A lecturer puts a ranking of students."""
+    return request(b"PUT", b"/ranking", code, b'{"students":[%s]}' % keys)
+
+
+SECOND = b',"round":2'
 LECTURERS = b"id,name,code,capacity\nL1,Lee,lee-code-01,2\nL2,Moe,moe-code-02,1\n"
 PROJECTS = b"id,lecturer,title,capacity\nP1,L1,Tides,1\nP2,L1,Kites,1\nP3,L2,Bells,1\n"
 STUDENTS = b'id,name,code\nS1,Ann,ann-code-1\nS2,"Roe, Bea",bea-code-2\nS3,Cyr,cyr-code-3\n'
 
-# the requests of a small year, up to each phase and in it
+# the requests of a small year, up to each phase and in it, and of its second round
 YEAR = {
     "setup": [
         request(b"POST", b"/rolls/lecturers", OFFICE, LECTURERS),
         request(b"POST", b"/rolls/projects", OFFICE, PROJECTS),
         request(b"POST", b"/rolls/students", OFFICE, STUDENTS),
     ],
-    "choosing": [
-        request(b"POST", b"/phase", OFFICE, b'{"phase":"choosing"}'),
-        request(b"PUT", b"/choices", b"ann-code-1", b'{"projects":["P1","P2"]}'),
-        request(b"PUT", b"/choices", b"bea-code-2", b'{"projects":["P1","P3"]}'),
-    ],
-    "ranking": [
-        request(b"POST", b"/phase", OFFICE, b'{"phase":"ranking"}'),
-        request(b"PUT", b"/ranking", b"lee-code-01", b'{"students":["S2","S1"]}'),
-        request(b"PUT", b"/ranking", b"moe-code-02", b'{"students":["S2"]}'),
-    ],
-    "published": [request(b"POST", b"/phase", OFFICE, b'{"phase":"published"}')],
+    "choosing": [moved(b"choosing"), chosen(b"ann-code-1", b'"P1","P2"'), chosen(b"bea-code-2", b'"P1","P3"')],
+    "ranking": [moved(b"ranking"), ranked(b"lee-code-01", b'"S2","S1"'), ranked(b"moe-code-02", b'"S2"')],
+    "published": [moved(b"published")],
+    "second choosing": [moved(b"choosing", SECOND), chosen(b"cyr-code-3", b'"P3"')],
+    "second ranking": [moved(b"ranking"), ranked(b"moe-code-02", b'"S3"')],
+    "second published": [moved(b"published")],
 }
 
 
-# what the command `report` prints of the small year in the end: the state, and the result behind it
+def wide(listed):
+    """The lists of some students of the wider department."""
+    return [chosen(b"stud-code-%d" % number, keys) for number, keys in listed.items()]
+
+
+# A wider department, whose first round leaves places at P3, P4 and P5 to S4 and those after. P2 has a place left too, and its lecturer has none.
+# Of the second round's students S6 and S9 get nothing: Moe takes two more students alone, and P5 has one place left.
+WIDE = {
+    "setup": [
+        request(b"POST", b"/rolls/lecturers", OFFICE, b"id,name,code,capacity\nL1,Lee,lee-code-01,2\nL2,Moe,moe-code-02,3\nL3,Poe,poe-code-03,5\n"),
+        request(b"POST", b"/rolls/projects", OFFICE,
+                b"id,lecturer,title,capacity\nP1,L1,Tides,1\nP2,L1,Kites,2\nP3,L2,Bells,2\nP4,L2,Waves,2\nP5,L3,Rings,2\n"),
+        request(b"POST", b"/rolls/students", OFFICE, b"id,name,code\n" + b"".join(b"S%d,Name %d,stud-code-%d\n" % (n, n, n) for n in range(1, 10))),
+    ],
+    "choosing": [moved(b"choosing"), *wide({1: b'"P1"', 2: b'"P2"', 3: b'"P3"', 7: b'"P5"'})],
+    "ranking": [moved(b"ranking"), ranked(b"lee-code-01", b'"S1","S2"'), ranked(b"moe-code-02", b'"S3"'), ranked(b"poe-code-03", b'"S7"')],
+    "published": [moved(b"published")],
+    "second choosing": [moved(b"choosing", SECOND), *wide({4: b'"P3","P4"', 5: b'"P3","P4"', 6: b'"P4"', 8: b'"P5"', 9: b'"P5"'})],
+    "second ranking": [moved(b"ranking"), ranked(b"moe-code-02", b'"S4","S5","S6"'), ranked(b"poe-code-03", b'"S8","S9"')],
+    "second published": [moved(b"published")],
+}
+
+# what the command `report` prints of the small year once it is published: the state, and the result behind it
 REPORT = (b"phase           published\nlecturers            2\nprojects             3\nstudents             3\nwithout list         1\n"
           b"still to rank        0\nassigned             2\n\n")
 RESULT = (b"S1                P2                L1\nS2                P1                L1\nS3                (none)\n\n"
           b"P1                 1 of    1\nP2                 1 of    1\nP3                 0 of    1\n\nassigned 2 of 3\n")
+# and at the end of its second round
+SECOND_REPORT = (b"phase           published\nround                2\nlecturers            2\nprojects             3\nstudents             3\n"
+                 b"without list         0\nstill to rank        0\nassigned             3\n\n")
+SECOND_RESULT = (b"S1                P2                L1\nS2                P1                L1\nS3                P3                L2\n\n"
+                 b"P1                 1 of    1\nP2                 1 of    1\nP3                 1 of    1\n\nassigned 3 of 3\n")
 
 
-def year_until(phase):
-    """The requests of the small year as far as this phase, with what is done in it."""
-    return [one for name in PHASES[:PHASES.index(phase) + 1] for one in YEAR[name]]
+def year_until(phase, year=YEAR):
+    """The requests of the small year, or another, as far as this phase, with what is done in it; `second choosing` is one of the second round."""
+    names = list(year)
+    return [one for name in names[:names.index(phase) + 1] for one in year[name]]
 
 
 def made(program, path, requests=()):

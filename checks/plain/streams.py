@@ -171,18 +171,28 @@ def refused(text):
     raise ValueError(text)
 
 
-def member_of(body, name):
-    """The value of the only member of an object, {} where no name is asked for and there is none, otherwise None."""
+def whole(text):
+    """A whole number. Of numbers nothing is asked but which round one names, and a round is named by these digits alone."""
+    return int(text) if text in ("1", "2") else finite(text)
+
+
+def members_of(body):
+    """The members of an object; None where the body is none."""
     try:
-        value = json.loads(body.decode("utf-8"), object_pairs_hook=Members, parse_constant=refused, parse_float=finite, parse_int=finite)
+        value = json.loads(body.decode("utf-8"), object_pairs_hook=Members, parse_constant=refused, parse_float=finite, parse_int=whole)
         if nesting(value) > 127 or not isinstance(value, Members):
             return None
     except (ValueError, RecursionError):
         return None
-    members = dict(value)
-    if set(members) != ({name} if name else set()):
+    return dict(value)
+
+
+def move_of(members):
+    """What is said of a move: its phase, and its round where one is named; None where the members are no move."""
+    phase, named = members.get("phase"), [members["round"]] if "round" in members else []
+    if set(members) - {"phase", "round"} or phase not in PHASES or any(type(one) is not int for one in named):
         return None
-    return members[name] if name else {}
+    return " ".join([phase, *map(str, named)])
 
 
 def capacity(field):
@@ -238,15 +248,18 @@ def call_of(request):
     if call in ROLLS:
         said = roll_of(call, body)
         return said if said[0] == "!" else before + said
-    name = {"ShowChoices": "projects", "ShowRanking": "students", "Move": "phase", "FillRankings": None}[call]
-    value = member_of(body, name)
-    if call == "FillRankings" and value is not None:
-        return before + call
-    if call == "Move" and value in PHASES:
-        return before + f"Move {value}"
-    if name in ("projects", "students") and type(value) is list and all(isinstance(text, str) for text in value):
+    bad, members = "! 400 bad_body []", members_of(body)
+    if members is None:
+        return bad
+    if call == "FillRankings":
+        return bad if members else before + call
+    if call == "Move":
+        return before + f"Move {move_of(members)}" if move_of(members) else bad
+    name = {"ShowChoices": "projects", "ShowRanking": "students"}[call]
+    value = members.get(name)
+    if set(members) == {name} and type(value) is list and all(isinstance(text, str) for text in value):
         return before + call.replace("Show", "Set") + "".join("," + text.encode("utf-8").hex() for text in value)
-    return "! 400 bad_body []"
+    return bad
 
 
 def hash_of(data):

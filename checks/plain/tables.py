@@ -1,4 +1,5 @@
-"""The eleven tables, as docs/FORMATS.md says them: those of the first round, and those of a second one, of which there is none."""
+"""The eleven tables, as docs/FORMATS.md says them: those of the first round, and those of a second one, with the row that says that none is
+opened."""
 FIRST = """
 CREATE TABLE portal (id INTEGER NOT NULL PRIMARY KEY CHECK (id = 1), version INTEGER NOT NULL, phase INTEGER NOT NULL, office TEXT NOT NULL) STRICT;
 CREATE TABLE lecturer (key TEXT NOT NULL PRIMARY KEY, name TEXT NOT NULL, code TEXT NOT NULL UNIQUE,

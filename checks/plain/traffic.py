@@ -11,6 +11,7 @@ ROLLS = {
 BAD_ROWS = [b"S1", b"a b,Ann,ann-code-1", b"S1,Ann,ann-code-1,0", b"S1,\xff,ann-code-1", b"L1,Lee,lee-code-01,201", b"P1,L1,,1", b"S1,\x7f,ann-code-1",
             b"S1,Ann,short", b"L1,Lee,lee-code-01,12345678", b",,", b"L1,Lee,lee-code-01,0", b"L1,Lee,lee-code-01,00000001", b"P1,L1,Tides,00000001", b'S1,"Ann,ann-code-1', b"S1,A\"nn,ann-code-1"]
 TEXTS = [b'"P1"', b'"P2"', b'"S1"', b'""', b'"a b"', b'"\\u0041\\n"', b'"\\ud83d\\ude00"', '"Łuk"'.encode()]
+ODD_ROUNDS = [b"0", b"3", b"-1", b"2.0", b"1e0", b"20e-1", b"02", b"true", b"null", b'"2"', b"[2]", b"18446744073709551618", b'2,"round":1']
 ODD = [b'"\\ud800"', b'"\\ude00\\ud83d"', b"1", b"null", b'["P1"]', b'"\x01"', b'"\xff"', b'"\\x"', b'"P1', b"1e999", b"-", b"01", b"NaN", b'{"a":1}', b"True"]
 
 
@@ -21,10 +22,9 @@ def json_of(chance, path):
     listed = b"[" + (blank + b"," + blank).join(texts) + b"]"
     name = LISTS.get(path, b"phase")
     value = listed if path in LISTS else b'"' + chance.choice([b"setup", b"choosing", b"ranking", b"published", b"choosin\\u0067", b"Setup", b""]) + b'"'
-    if path == b"/ranking/fill":
-        members = []
-    else:
-        members = [b'"' + name + b'"' + blank + b":" + value]
+    members = [] if path == b"/ranking/fill" else [b'"' + name + b'"' + blank + b":" + value]
+    if path == b"/phase" and chance.random() < 0.3:
+        members.insert(chance.randint(0, 1), b'"round"' + blank + b":" + chance.choice([b"1", b"2"] * 6 + ODD_ROUNDS))
     if chance.random() < 0.15:
         deep = chance.choice([3, 125, 126, 127, 128, 300])
         inner = chance.choice([b"[" * deep + b"]" * deep, b'{"a":' * deep + b"1" + b"}" * deep, b"1.5e3", b"1e999", b"-0", b"9" * chance.choice([20, 308, 309, 310]), b"tru", b'"\\udc00"'])

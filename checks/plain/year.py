@@ -1,5 +1,6 @@
-"""A year of the portal, written plainly from docs/RULES.md and docs/FORMATS.md: what each call does to the world, what is
-answered, the bytes of a reply, and the rows of the tables that the world stands in."""
+"""A year of the portal, of one round or of two, written plainly from docs/RULES.md and docs/FORMATS.md: what each call does to the world, what
+is answered, the bytes of a reply, and the rows of the tables that the world stands in."""
+import collections
 import json
 
 from asking import PHASES
@@ -8,6 +9,7 @@ from streams import call_of, frame
 PHRASES = {200: "OK", 400: "Bad Request", 403: "Forbidden", 404: "Not Found", 405: "Method Not Allowed", 409: "Conflict",
            413: "Content Too Large", 422: "Unprocessable Content", 501: "Not Implemented", 503: "Service Unavailable"}
 MOST = {"lecturers": 300, "projects": 1000, "students": 2000}
+Round = collections.namedtuple("Round", "choices rankings result")
 
 
 class Refused(Exception):
@@ -44,12 +46,14 @@ def best(projects, lecturers, choices, rankings):
 
 
 class Year:
-    """The world, in plain dictionaries by key."""
+    """The world, in plain dictionaries by key. Choices, rankings and result are those of the current round; in the second one `first` has those
+    of the first, in the first one nothing."""
 
     def __init__(self, office):
-        self.office, self.phase = office, 0
+        self.office, self.round, self.phase = office, 1, 0
         self.lecturers, self.projects, self.students = {}, {}, {}
         self.choices, self.rankings, self.result = {}, {}, {}
+        self.first = Round({}, {}, {})
 
     # who is who
 
@@ -78,6 +82,30 @@ class Year:
     def people(self, students):
         return [{"key": key, "name": self.students[key][0]} for key in sorted(students)]
 
+    # who and what takes part in the round
+
+    def left(self):
+        """The students whom no earlier round gave a project, by key."""
+        return [key for key in sorted(self.students) if key not in self.first.result]
+
+    def rooms(self):
+        """How many students each lecturer can still take."""
+        taken = collections.Counter(self.projects[project][0] for project in self.first.result.values())
+        return {key: row[2] - taken[key] for key, row in self.lecturers.items()}
+
+    def offered(self):
+        """The projects with room whose lecturers have room: lecturer, title and the places that are left."""
+        taken, rooms = collections.Counter(self.first.result.values()), self.rooms()
+        found = {key: (lecturer, title, capacity - taken[key]) for key, (lecturer, title, capacity) in self.projects.items()}
+        return {key: row for key, row in found.items() if row[2] > 0 and rooms[row[0]] > 0}
+
+    def shown(self):
+        """The projects of the results that are shown, by student."""
+        return {**self.first.result, **self.result}
+
+    def told_round(self):
+        return {"round": 2} if self.round == 2 else {}
+
     # the calls
 
     def answer(self, code, call, given):
@@ -91,7 +119,8 @@ class Year:
         return act(role, key, given)
 
     def calls(self):
-        every, early = (0, 1, 2, 3), (0, 1)
+        every = (0, 1, 2, 3)
+        early, late = ((0, 1), (3,)) if self.round == 1 else ((), every)
         return {
             "Me": (("office", "lecturer", "student"), every, self.me),
             "Catalogue": (("office", "lecturer", "student"), every, self.catalogue),
@@ -100,20 +129,20 @@ class Year:
             "Applicants": (("lecturer",), (2, 3), self.show_applicants),
             "ShowRanking": (("lecturer",), (2, 3), lambda role, key, given: {"students": self.rankings.get(key)}),
             "SetRanking": (("lecturer",), (2,), self.set_ranking),
-            "Result": (("student", "lecturer"), (3,), self.show_result),
+            "Result": (("student", "lecturer"), late, self.show_result),
             "AddLecturers": (("office",), early, lambda role, key, given: self.add("lecturers", given)),
             "AddProjects": (("office",), early, lambda role, key, given: self.add("projects", given)),
             "AddStudents": (("office",), early, lambda role, key, given: self.add("students", given)),
             "Move": (("office",), every, self.move),
             "FillRankings": (("office",), (2,), self.fill),
             "Status": (("office",), every, self.status),
-            "Allocation": (("office",), (3,), self.allocation),
-            "AllocationCsv": (("office",), (3,), self.allocation_csv),
-            "Report": (("office",), (3,), self.report),
+            "Allocation": (("office",), late, self.allocation),
+            "AllocationCsv": (("office",), late, self.allocation_csv),
+            "Report": (("office",), late, self.report),
         }
 
     def me(self, role, key, given):
-        told = {"phase": PHASES[self.phase], "role": role}
+        told = {"phase": PHASES[self.phase], "role": role} | self.told_round()
         if role == "lecturer":
             told |= {"key": key, "name": self.lecturers[key][0], "capacity": self.lecturers[key][2]}
         if role == "student":
@@ -122,11 +151,14 @@ class Year:
 
     def catalogue(self, role, key, given):
         return {"projects": [{"id": id, "title": title, "lecturer": lecturer, "lecturer_name": self.lecturers[lecturer][0], "capacity": capacity}
-                             for id, (lecturer, title, capacity) in sorted(self.projects.items())]}
+                             for id, (lecturer, title, capacity) in sorted(self.offered().items())]}
 
     def set_choices(self, role, key, given):
+        if key in self.first.result:
+            raise Refused(409, "already_placed")
+        offered = self.offered()
         for at, project in enumerate(given, 1):
-            fault = "too_long" if at == 21 else "unknown_project" if project not in self.projects else "repeated" if project in given[:at - 1] else None
+            fault = "too_long" if at == 21 else "unknown_project" if project not in offered else "repeated" if project in given[:at - 1] else None
             if fault:
                 raise Refused(422, "bad_list", at=at, fault=fault)
         self.choices[key] = list(given)
@@ -147,9 +179,10 @@ class Year:
         return {"students": list(given)}
 
     def show_result(self, role, key, given):
+        shown = self.shown()
         if role == "student":
-            return {"project": self.result.get(key)}
-        return {"projects": [{"id": id, "students": self.people([one for one in self.result if self.result[one] == id])} for id in self.offers(key)]}
+            return {"project": shown.get(key)}
+        return {"projects": [{"id": id, "students": self.people([one for one in shown if shown[one] == id])} for id in self.offers(key)]}
 
     def add(self, kind, given):
         """Takes a roll, whole or not at all."""
@@ -173,75 +206,93 @@ class Year:
         return {"added": len(given) - same, "same": same}
 
     def move(self, role, key, given):
-        to = PHASES.index(given)
-        if to not in (self.phase, self.phase + 1):
+        """To the next phase of the round, or to the current one; from published of the first round also to choosing of the second."""
+        to, *named = given
+        to, named = PHASES.index(to), int(named[0]) if named else self.round
+        if (self.round, self.phase, named, to) == (1, 3, 2, 1):
+            self.open_second()
+        elif named != self.round or to not in (self.phase, self.phase + 1):
             raise Refused(409, "wrong_phase")
         if to == 3 and self.phase == 2:
-            if self.still_to_rank():
-                raise Refused(409, "still_to_rank", lecturers=self.still_to_rank())
-            offered = {id: (lecturer, capacity) for id, (lecturer, title, capacity) in self.projects.items()}
-            self.result = best(offered, {id: row[2] for id, row in self.lecturers.items()}, self.choices, self.rankings)
+            self.publish()
         self.phase = to
-        return {"phase": given}
+        return {"phase": PHASES[to]} | self.told_round()
+
+    def open_second(self):
+        self.first = Round(self.choices, self.rankings, self.result)
+        self.round, self.choices, self.rankings, self.result = 2, {}, {}, {}
+
+    def publish(self):
+        if self.still_to_rank():
+            raise Refused(409, "still_to_rank", lecturers=self.still_to_rank())
+        offered = {id: (lecturer, places) for id, (lecturer, title, places) in self.offered().items()}
+        self.result = best(offered, self.rooms(), self.choices, self.rankings)
 
     def fill(self, role, key, given):
         filled = self.still_to_rank()
         self.rankings |= {lecturer: self.applicants(lecturer) for lecturer in filled}
         return {"filled": filled}
 
+    def has_result(self):
+        return self.round == 2 or self.phase == 3
+
     def status(self, role, key, given):
         told = {"phase": PHASES[self.phase], "lecturers": len(self.lecturers), "projects": len(self.projects), "students": len(self.students),
                 "still_to_rank": self.still_to_rank() if self.phase == 2 else [],
-                "without_list": [one for one in sorted(self.students) if not self.choices.get(one)]}
-        if self.phase == 3:
-            told |= {"assigned": len(self.result), "unassigned": [one for one in sorted(self.students) if one not in self.result]}
-        return told
+                "without_list": [one for one in self.left() if not self.choices.get(one)]}
+        if self.has_result():
+            shown = self.shown()
+            told |= {"assigned": len(shown), "unassigned": [one for one in sorted(self.students) if one not in shown]}
+        return told | self.told_round()
 
     def allocation(self, role, key, given):
-        return {"pairs": [{"student": student, "project": project} for student, project in sorted(self.result.items())]}
+        return {"pairs": [{"student": student, "project": project} for student, project in sorted(self.shown().items())]}
 
     def allocation_csv(self, role, key, given):
-        out = "student,name,project,title,lecturer\n"
+        out, shown = "student,name,project,title,lecturer\n", self.shown()
         for student, (name, _) in sorted(self.students.items()):
-            project = self.result.get(student)
+            project = shown.get(student)
             placed = [project, self.projects[project][1], self.projects[project][0]] if project else ["", "", ""]
             out += ",".join(quoted(field) for field in [student, name, *placed]) + "\n"
         return "text/csv; charset=utf-8", out
 
     def report(self, role="", key="", given=None):
-        out = ""
+        out, shown = "", self.shown()
         for student in sorted(self.students):
-            project = self.result.get(student)
+            project = shown.get(student)
             out += f"{student:<16}  " + (f"{project:<16}  {self.projects[project][0]}\n" if project else "(none)\n")
         out += "\n"
         for project, (_, _, capacity) in sorted(self.projects.items()):
-            out += f"{project:<16}{list(self.result.values()).count(project):>4} of {capacity:>4}\n"
-        return "text/plain; charset=utf-8", out + f"\nassigned {len(self.result)} of {len(self.students)}\n"
+            out += f"{project:<16}{list(shown.values()).count(project):>4} of {capacity:>4}\n"
+        return "text/plain; charset=utf-8", out + f"\nassigned {len(shown)} of {len(self.students)}\n"
 
     def told(self):
         """What the command `report` prints."""
         status = self.status("", "", None)
-        numbers = [("lecturers", status["lecturers"]), ("projects", status["projects"]), ("students", status["students"]),
-                   ("without list", len(status["without_list"])), ("still to rank", len(status["still_to_rank"]))]
-        if self.phase == 3:
+        numbers = [("round", 2)] if self.round == 2 else []
+        numbers += [("lecturers", status["lecturers"]), ("projects", status["projects"]), ("students", status["students"]),
+                    ("without list", len(status["without_list"])), ("still to rank", len(status["still_to_rank"]))]
+        if self.has_result():
             numbers.append(("assigned", status["assigned"]))
         out = f"{'phase':<16}{status['phase']}\n" + "".join(f"{label:<16}{number:>6}\n" for label, number in numbers)
-        return out + ("\n" + self.report()[1] if self.phase == 3 else "")
+        return out + ("\n" + self.report()[1] if self.has_result() else "")
 
     def rows(self):
         """The rows of the eleven tables, as `asking.rows` gives them."""
+        now, none = Round(self.choices, self.rankings, self.result), Round({}, {}, {})
+        first, second = (now, none) if self.round == 1 else (self.first, now)
         found = {
-            "portal": [(1, 2, self.phase, self.office)],
-            "lecturer": [(key, *row, int(key in self.rankings)) for key, row in self.lecturers.items()],
+            "portal": [(1, 2, self.phase if self.round == 1 else 3, self.office)],
+            "lecturer": [(key, *row, int(key in first.rankings)) for key, row in self.lecturers.items()],
             "project": [(key, *row) for key, row in self.projects.items()],
-            "student": [(key, *row, self.result.get(key)) for key, row in self.students.items()],
-            "choice": [(key, at, one) for key, listed in self.choices.items() for at, one in enumerate(listed, 1)],
-            "ranking": [(key, at, one) for key, listed in self.rankings.items() for at, one in enumerate(listed, 1)],
-            "second": [(1, 0)],
-            "choice2": [],
-            "ranked2": [],
-            "ranking2": [],
-            "assigned2": [],
+            "student": [(key, *row, first.result.get(key)) for key, row in self.students.items()],
+            "choice": entries(first.choices),
+            "ranking": entries(first.rankings),
+            "second": [(1, self.phase if self.round == 2 else 0)],
+            "choice2": entries(second.choices),
+            "ranked2": [(key,) for key in second.rankings],
+            "ranking2": entries(second.rankings),
+            "assigned2": list(second.result.items()),
         }
         return {name: sorted(those, key=repr) for name, those in found.items()}
 
@@ -284,6 +335,11 @@ class Year:
         return b"".join(reply for _, reply in told), [status for status, _ in told]
 
 
+def entries(lists):
+    """The rows of a table of lists: owner, place and entry."""
+    return [(owner, at, one) for owner, listed in lists.items() for at, one in enumerate(listed, 1)]
+
+
 def quoted(field):
     return '"' + field.replace('"', '""') + '"' if any(byte in field for byte in ',"\r\n') else field
 
@@ -297,7 +353,7 @@ def read_call(said):
     code, _, words = said.partition(" ")
     call, *given = words.split(",")
     if call.startswith("Move "):
-        call, given = call.split()
+        call, *given = call.split()
     elif call.startswith("Add"):
         given = [read_row(row) for row in given]
     else:
