@@ -4,19 +4,20 @@ import { button, given, make, titled } from './dom.js';
 import { isSame } from './order.js';
 import { OrderedList, fixedList } from './orderedlist.js';
 import { told } from './refusals.js';
-import { hasResult } from './rounds.js';
+import { hasResult, roundOf } from './rounds.js';
 import { words } from './words.js';
 
 /** @returns the page's `element`, and `isChanged`, which says whether something would be lost by leaving */
 export async function lecturerPage({ portal, me, messages, attempt }) {
   const { projects } = await portal.get('/catalogue');
   const own = new Map(projects.filter(({ lecturer }) => lecturer === me.key).map((project) => [project.id, project]));
+  const isSecond = roundOf(me) === 2;
   const parts = [];
   let isChanged = () => false;
 
   if (hasResult(me)) {
     const placed = (await portal.get('/result')).projects;
-    parts.push(projectsPart(words.whoHasWhat, own, placed.map(({ id, students }) => [id, peopleOf(students, words.nobodyHasIt)])));
+    parts.push(projectsPart(words.whoHasWhat, own, placed.map(({ id, students }) => [id, peopleOf(students, words.nobodyHasIt)]), { isSecond }));
   }
   if (me.phase === 'ranking' || me.phase === 'published') {
     const applied = (await portal.get('/applicants')).projects;
@@ -25,9 +26,10 @@ export async function lecturerPage({ portal, me, messages, attempt }) {
     const making = me.phase === 'ranking' && people.size > 0 ? new RankingMaking({ portal, messages, attempt, people, saved }) : null;
     if (making) isChanged = () => making.isChanged();
     parts.push(making?.element ?? savedPart(saved ?? [], people));
-    parts.push(projectsPart(words.ownProjects, own, applied.map(({ id, applicants }) => [id, chosenBy(applicants)]), me));
+    const taking = isSecond ? applied.filter(({ id }) => own.has(id)) : applied;
+    parts.push(projectsPart(words.ownProjects, own, taking.map(({ id, applicants }) => [id, chosenBy(applicants)]), { me, isSecond }));
   } else {
-    parts.push(projectsPart(words.ownProjects, own, [...own.keys()].map((id) => [id, make('span')]), me));
+    parts.push(projectsPart(words.ownProjects, own, [...own.keys()].map((id) => [id, make('span')]), { me, isSecond }));
   }
   return { element: make('div', {}, parts), isChanged };
 }
@@ -45,16 +47,23 @@ export function everybody(applied) {
   return new Map(byKey.map((person) => [person.key, person]));
 }
 
-function projectsPart(title, own, shown, me) {
+/** The catalogue of the second round has those of the own projects that take part in it, so that it tells no title of another. */
+function projectsPart(title, own, shown, { me, isSecond }) {
   const parts = [make('h2', { text: title })];
   if (me) parts.push(make('p', { text: words.ownPlaces(me.capacity) }));
-  if (shown.length === 0) parts.push(make('p', { text: words.noOwnProjects }));
+  if (shown.length === 0) parts.push(make('p', { text: isSecond ? words.noOwnLeft : words.noOwnProjects }));
   for (const [id, node] of shown) {
     const project = own.get(id);
-    const places = project ? [make('p', { class: 'quiet', text: words.placesOf(project.capacity) })] : [];
-    parts.push(make('div', { class: 'project' }, [make('h3', {}, [titled(project?.title ?? id, id)]), ...places, node]));
+    const name = project ? titled(project.title, id) : make('span', { class: 'key', text: id });
+    const places = make('p', { class: 'quiet', text: placesText(project, isSecond) });
+    parts.push(make('div', { class: 'project' }, [make('h3', {}, [name]), places, node]));
   }
   return make('section', {}, parts);
+}
+
+function placesText(project, isSecond) {
+  if (project === undefined) return isSecond ? words.takesNobody : '';
+  return isSecond ? words.placesLeft(project.capacity) : words.placesOf(project.capacity);
 }
 
 const chosenBy = (applicants) => make('div', {}, [make('p', { text: words.chosenBy(applicants.length) }), peopleOf(applicants)]);

@@ -7,6 +7,7 @@ import { Messages } from './messages.js';
 import { notice } from './notice.js';
 import { officePage } from './office.js';
 import { told } from './refusals.js';
+import { placeOf } from './rounds.js';
 import { Lost, Portal, Refused, isCode } from './requests.js';
 import { signInForm } from './signin.js';
 import { studentPage } from './student.js';
@@ -131,7 +132,9 @@ function attempts({ messages, reload, isCurrent }) {
     } else if (fault.word === 'no_caller') {
       signIn({ warning: words.refusals.no_caller });
     } else if (fault.word === 'wrong_phase') {
-      await reload((next, me) => next.warn(words.phaseMoved(words.phases[me.phase])));
+      await reload((next, me) => next.warn(words.phaseMoved(placeOf(me))));
+    } else if (fault.word === 'already_placed') {
+      await reload((next) => next.warn(told(fault)));
     } else {
       const { text, ...more } = how.refused?.(fault) ?? { text: told(fault) };
       messages.warn(text, more);

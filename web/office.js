@@ -5,15 +5,15 @@ import { button, make } from './dom.js';
 import { resultPart } from './result.js';
 import { told } from './refusals.js';
 import { Rolls } from './rolls.js';
-import { canOpenSecond, hasResult, isSameStep, secondRound, takesRolls } from './rounds.js';
+import { canOpenSecond, hasResult, isSameStep, placeOf, secondRound, takesRolls } from './rounds.js';
 import { statePart } from './state.js';
 import { words } from './words.js';
 
-/** The steps from each phase; `body` is what is sent to /phase, and a fill has none. */
+/** The steps from each phase; `body` is what is sent to /phase, and a fill has none. `isMain`: the year cannot go on without it. */
 const STEPS = {
-  setup: [{ name: 'openChoosing', body: { phase: 'choosing' } }],
-  choosing: [{ name: 'openRanking', body: { phase: 'ranking' } }],
-  ranking: [{ name: 'fill' }, { name: 'publish', body: { phase: 'published' } }],
+  setup: [{ name: 'openChoosing', body: { phase: 'choosing' }, isMain: true }],
+  choosing: [{ name: 'openRanking', body: { phase: 'ranking' }, isMain: true }],
+  ranking: [{ name: 'fill' }, { name: 'publish', body: { phase: 'published' }, isMain: true }],
   published: [{ name: 'openSecond', body: secondRound }],
 };
 
@@ -85,13 +85,23 @@ class OfficePage {
   #stepsPart() {
     const steps = STEPS[this.#me.phase].filter(({ name }) => name !== 'openSecond' || canOpenSecond(this.#me));
     const rows = steps.map((step) => {
-      const isIdle = step.name === 'fill' && this.#missing().length === 0;
-      const go = button(words[step.name], () => this.#ask(step), { class: step.body && 'main', disabled: isIdle });
+      const go = button(words[step.name], () => this.#ask(step), { class: step.isMain && 'main', disabled: this.#isIdle(step.name) });
       this.#buttons.set(step.name, go);
-      return make('div', { class: 'step' }, [go, make('p', { text: `${words.does[step.name]} ${words.forGoodOf(step.name)}` })]);
+      const more = step.name === 'openSecond' ? [this.#secondFor()] : [];
+      return make('div', { class: 'step' }, [go, make('p', { text: [words.does[step.name], ...more, words.forGoodOf(step.name)].join(' ') })]);
     });
     if (rows.length === 0) rows.push(make('p', { text: words.published }));
     return make('section', {}, [make('h2', { text: words.goOn }), ...rows]);
+  }
+
+  /** Nobody would be filled, or nobody could choose. */
+  #isIdle(name) {
+    if (name === 'fill') return this.#missing().length === 0;
+    return name === 'openSecond' && this.#status.unassigned.length === 0;
+  }
+
+  #secondFor() {
+    return words.secondFor(this.#status.unassigned.length);
   }
 
   #missing() {
@@ -102,7 +112,7 @@ class OfficePage {
   async #ask(step) {
     if (!(await this.#attempt(() => this.load()))) return;
     if (!isSameStep(this.#status, this.#me)) {
-      await this.#reload((next, me) => next.warn(words.phaseMoved(words.phases[me.phase])));
+      await this.#reload((next, me) => next.warn(words.phaseMoved(placeOf(me))));
       return;
     }
     this.#buttons.get(step.name).focus();
@@ -124,14 +134,15 @@ class OfficePage {
   #sayBefore(name) {
     const missing = this.#missing();
     if (name === 'openRanking') return [words.withoutList(this.#status.without_list.length)];
+    if (name === 'openSecond') return [this.#secondFor()];
     if (name === 'fill') return [`${words.fillWith} ${missing.join(', ')}`];
     if (name === 'publish' && missing.length > 0) return [`${words.publishMissing} ${missing.join(', ')}`];
     return [];
   }
 
   async #move(body) {
-    const { phase } = await this.#portal.post('/phase', body);
-    await this.#reload((next) => next.say(words.moved(words.phases[phase])));
+    const place = placeOf(await this.#portal.post('/phase', body));
+    await this.#reload((next) => next.say(words.moved(place)));
   }
 
   async #fill() {

@@ -1,9 +1,11 @@
-// The second round. A reply that tells no round is of the first one. The office is offered the second round only where
-// config.js says that the portal has one.
+// The second round. A reply that tells no round is of the first one.
 
-import { rounds } from './config.js';
+import { words } from './words.js';
 
 export const roundOf = (reply) => reply.round ?? 1;
+
+/** Where the year stands, in words. */
+export const placeOf = ({ phase, round }) => words.place(words.phases[phase], round);
 
 /** The year stands where it stood when the other reply came. */
 export const isSameStep = (a, b) => a.phase === b.phase && roundOf(a) === roundOf(b);
@@ -17,7 +19,7 @@ export const takesRolls = (me) => roundOf(me) === 1 && ['setup', 'choosing'].inc
 /** A student who has a project of the first round makes no list in the second. */
 export const makesList = (me, ownProject) => me.phase === 'choosing' && (roundOf(me) === 1 || ownProject === null);
 
-export const canOpenSecond = (me, has = rounds) => has > 1 && me.phase === 'published' && roundOf(me) === 1;
+export const canOpenSecond = (me) => me.phase === 'published' && roundOf(me) === 1;
 
 /** The body of the move that opens the second round. It is the one move that names its round. */
 export const secondRound = { phase: 'choosing', round: 2 };

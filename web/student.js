@@ -29,7 +29,7 @@ const titleOf = (catalogue, key) => catalogue.get(key)?.title ?? key;
 
 function resultPart(own, catalogue, me) {
   const project = catalogue.get(own);
-  const text = own === null ? words.noProject : words.ownProject(project?.title ?? own, project?.lecturer_name ?? '…');
+  const text = own === null ? words.noProject : project ? words.ownProject(project.title, project.lecturer_name) : words.ownProjectByKey(own);
   const more = me.round === 2 && own !== null && me.phase !== 'published' ? [make('p', { text: words.hasOwnAlready })] : [];
   return make('section', { class: 'result' }, [make('h2', { text: words.yourProject }), make('p', { text }), ...more]);
 }

@@ -73,7 +73,29 @@ export const words = {
       published: '',
     },
   },
-  phaseMoved: (phase) => `The year has gone on meanwhile: it is in “${phase}” now. Nothing was changed by you.`,
+  // in the second round, where something else is to be said
+  nowSecond: {
+    student: {
+      choosing: 'If you have a project, it stays yours, and there is nothing that you have to do. If you have none, put those that you want on your list, best first, and save it.',
+    },
+    lecturer: {
+      choosing: 'Students without a project are making their lists; there is nothing that you have to do.',
+      ranking: 'Put everybody who chose a project of yours in this round on one ranking, best first, and save it.',
+    },
+    office: {
+      choosing: 'Students without a project are making their lists. When the time is over, open ranking.',
+    },
+  },
+  nextSecond: {
+    student: {
+      choosing: 'A list may be changed until the office closes the lists; what was saved last counts. Next: lecturers rank.',
+      ranking: 'Next: those without a project see here which one they have.',
+    },
+    lecturer: {},
+    office: {},
+  },
+  place: (phase, round) => (round === 2 ? `“${phase}” of round 2` : `“${phase}”`),
+  phaseMoved: (place) => `The year has gone on meanwhile: it is in ${place} now. Nothing was changed by you.`,
 
   // the catalogue
   catalogue: 'Catalogue',
@@ -113,6 +135,7 @@ export const words = {
   ],
   yourProject: 'Your project',
   ownProject: (title, lecturer) => `You have the project ${given(title)} with ${given(lecturer)}.`,
+  ownProjectByKey: (key) => `You have the project ${key}.`,
   hasOwnAlready: 'You have a project from the first round, so there is no list for you to make.',
   noProject: 'There is no project for you this time. That is no judgement of you: more wanted these places than there were. The office will talk with you about what comes next.',
 
@@ -120,7 +143,10 @@ export const words = {
   ownProjects: 'Your projects',
   ownPlaces: (count) => `You take at most ${students(count)} over all your projects.`,
   noOwnProjects: 'The portal has no project of yours yet. If one is missing, tell the office.',
+  noOwnLeft: 'No project of yours takes part in this round.',
   placesOf: (count) => places(count),
+  placesLeft: (count) => `The first round left ${places(count)}.`,
+  takesNobody: 'It takes no part in this round: it has no place left, or you take no more students.',
   chosenBy: (count) => (count === 0 ? 'Nobody chose it.' : `Chosen by ${students(count)}:`),
   applicants: 'Applicants',
   applicantsHint: 'Those who are not in your ranking yet, by key. Add each one, the best first.',
@@ -194,7 +220,7 @@ export const words = {
     openRanking: 'Students’ lists and the rolls are closed for good. Lecturers see who chose their projects, and rank them.',
     publish: 'The projects are given out: students see their own, lecturers see who has theirs. Rankings are closed for good.',
     fill: 'Each lecturer who is still to rank gets a ranking of all applicants, in the order of their keys. They may still change it until you publish.',
-    openSecond: 'Students without a project choose again, among the places that are left.',
+    openSecond: 'If you want one: students without a project choose again, among the places that are left. Whoever has a project keeps it and takes no part. Lecturers rank those who choose them now. Rolls stay closed.',
   },
   ask: {
     openChoosing: 'Open choosing now?',
@@ -207,7 +233,8 @@ export const words = {
   fillWith: 'These lecturers get a ranking by key:',
   publishMissing: 'These lecturers are still to rank, so the portal will refuse:',
   withoutList: (count) => (count === 0 ? '' : `Without a list: ${students(count)}. None can be made any more.`),
-  moved: (phase) => `Done. The year is in “${phase}” now.`,
+  secondFor: (count) => (count === 0 ? 'Everybody has a project, so nobody could choose.' : `It would be for ${students(count)}.`),
+  moved: (place) => `Done. The year is in ${place} now.`,
   filled: (keys) => (keys.length === 0 ? 'Nobody was still to rank.' : `Filled for ${keys.join(', ')}.`),
   published: 'The year is published. There is no further step.',
 

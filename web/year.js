@@ -5,10 +5,12 @@ import { roundOf, steps } from './rounds.js';
 import { words } from './words.js';
 
 export function yearPart(me) {
+  const isSecond = roundOf(me) === 2;
+  const textOf = (first, second) => (isSecond ? second[me.role][me.phase] : undefined) ?? first[me.role][me.phase];
   const parts = [make('ol', { class: 'year', role: 'list', 'aria-label': words.year }, steps(me).map(step))];
-  if (me.round !== undefined) parts.unshift(make('p', { class: 'round', text: words.round(roundOf(me)) }), make('p', { text: words.roundFor }));
-  parts.push(make('p', { class: 'now', text: words.now[me.role][me.phase] }));
-  const next = words.next[me.role][me.phase];
+  if (isSecond) parts.unshift(make('p', { class: 'round', text: words.round(roundOf(me)) }), make('p', { text: words.roundFor }));
+  parts.push(make('p', { class: 'now', text: textOf(words.now, words.nowSecond) }));
+  const next = textOf(words.next, words.nextSecond);
   if (next !== '') parts.push(make('p', { class: 'quiet', text: next }));
   return make('section', {}, parts);
 }

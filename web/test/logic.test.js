@@ -11,7 +11,7 @@ import { told, toldOfRoll } from '../refusals.js';
 import { Lost, Portal, Refused, isCode } from '../requests.js';
 import { usage } from '../result.js';
 import { KINDS, recognised, records, withCodes, written } from '../rollfile.js';
-import { canOpenSecond, countOfChoosers, hasResult, makesList, roundOf, secondRound, steps, takesRolls } from '../rounds.js';
+import { canOpenSecond, countOfChoosers, hasResult, isSameStep, makesList, placeOf, roundOf, secondRound, steps, takesRolls } from '../rounds.js';
 import { bars, missing } from '../state.js';
 import { isFound } from '../table.js';
 import { words } from '../words.js';
@@ -255,27 +255,42 @@ test('the bars and who is missing, in each phase', () => {
   assert.deepEqual(missing(published).keys, ['emil']);
 });
 
-test('one round: no reply tells it, and no second one is offered', () => {
+test('the first round: no reply tells it, and the second is offered once it is published', () => {
   const me = { phase: 'published', role: 'office' };
   assert.equal(roundOf(me), 1);
-  assert.ok(!canOpenSecond(me));
+  assert.ok(canOpenSecond(me) && !canOpenSecond({ phase: 'ranking' }));
+  assert.deepEqual(secondRound, { phase: 'choosing', round: 2 });
   assert.deepEqual(steps({ phase: 'choosing' }).map(({ phase, isCurrent }) => [phase, isCurrent]), [['setup', false], ['choosing', true], ['ranking', false], ['published', false]]);
   assert.ok(hasResult(me) && !hasResult({ phase: 'ranking' }));
   assert.ok(takesRolls({ phase: 'choosing' }) && !takesRolls({ phase: 'ranking' }));
   assert.ok(makesList({ phase: 'choosing' }, null) && !makesList({ phase: 'ranking' }, null));
+  assert.equal(placeOf(me), '“Published”');
+  assert.equal(countOfChoosers({ ...me, students: 5 }), 5);
 });
 
-test('two rounds: the second is offered, and is shown where a reply tells it', () => {
-  const has = 2;
-  assert.ok(canOpenSecond({ phase: 'published' }, has));
-  assert.ok(!canOpenSecond({ phase: 'ranking' }, has));
-  assert.ok(!canOpenSecond({ phase: 'published', round: 2 }, has));
-  assert.deepEqual(secondRound, { phase: 'choosing', round: 2 });
+test('the second round: it has no setup, no rolls, no third one, and is for those without a project', () => {
   const me = { phase: 'choosing', round: 2 };
+  assert.ok(!canOpenSecond({ phase: 'published', round: 2 }));
   assert.deepEqual(steps(me).map(({ phase }) => phase), ['choosing', 'ranking', 'published']);
   assert.ok(hasResult(me) && !takesRolls(me));
-  assert.ok(makesList(me, null) && !makesList(me, 'P1'));
+  assert.ok(makesList(me, null) && !makesList(me, 'P1') && !makesList({ phase: 'ranking', round: 2 }, null));
   assert.equal(countOfChoosers({ ...me, students: 5, unassigned: ['a', 'b'] }), 2);
+  assert.equal(placeOf(me), '“Choosing” of round 2');
+  assert.ok(isSameStep(me, { ...me }) && !isSameStep(me, { phase: 'choosing' }));
+});
+
+test('what is said otherwise in the second round is said of phases that it has', () => {
+  for (const texts of [words.nowSecond, words.nextSecond]) {
+    assert.deepEqual(Object.keys(texts).sort(), ['lecturer', 'office', 'student']);
+    for (const of of Object.values(texts)) for (const phase of Object.keys(of)) assert.ok(['choosing', 'ranking', 'published'].includes(phase), phase);
+  }
+});
+
+test('the bars in the second round: lists of those without a project, and who has one', () => {
+  const status = { lecturers: 3, projects: 5, students: 5, still_to_rank: [], without_list: ['b'], unassigned: ['a', 'b'], assigned: 3, round: 2 };
+  assert.deepEqual(bars({ ...status, phase: 'choosing' }).map(([, part, whole]) => [part, whole]), [[1, 2], [3, 5]]);
+  assert.deepEqual(missing({ ...status, phase: 'choosing' }).keys, ['b']);
+  assert.deepEqual(missing({ ...status, phase: 'published' }).keys, ['a', 'b']);
 });
 
 test('every text that is used is there, and every text that is there is used', () => {

@@ -5,7 +5,7 @@ import sys
 from pathlib import Path
 
 from browser import Browser
-from case import ADA, BELL, BEN, CLEO, DORA, NOETHER, OFFICE
+from case import ADA, BELL, BEN, CLEO, DORA, EMIL, NOETHER, OFFICE
 from door import Door
 
 LARGEST = 100_000
@@ -55,6 +55,10 @@ def play(door, browser, folder):
     for code, name in ((ADA, "student"), (NOETHER, "lecturer"), (OFFICE, "office")):
         sign_in(browser, code, "Published")
         take(browser, folder / f"{name}-published.png")
+    door.do(OFFICE, "POST", "/phase", {"phase": "choosing", "round": 2})
+    sign_in(browser, EMIL, "Choosing")
+    browser.press("Add comets")
+    take(browser, folder / "student-second.png")
 
 
 def sign_in(browser, code, phase):

@@ -1,89 +1,171 @@
-"""The second round, against replies that are written here: what the page does once the portal has one."""
+"""The second round: the office opens it, who has no project chooses again, and pages that are older than it."""
 
-import json
+from case import ADA, BELL, BEN, CLEO, DORA, EMIL, NOETHER, OFFICE, PageCase, TURING
 
-from case import PageCase
-from door import WEB
-
-CATALOGUE = {"projects": [{"capacity": 1, "id": "P3", "lecturer": "L2", "lecturer_name": "Moe", "title": "Bells"}]}
-STATUS = {"assigned": 2, "lecturers": 2, "projects": 3, "round": 2, "still_to_rank": [], "students": 3, "unassigned": ["S3"], "without_list": ["S3"]}
-SHEETS = {
-    "/allocation.csv": "student,name,project,title,lecturer\nS1,Ann,P2,Kites,L1\nS2,Bea,P1,Tides,L1\nS3,Cyr,,,\n",
-    "/report": "S1                P2                L1\nS3                (none)\n\nP1                 1 of    1\nP3                 0 of    1\n\nassigned 2 of 3\n",
-}
-STUB = """
-const replies = REPLIES;
-window.sent = [];
-const real = window.fetch;
-window.fetch = async (path, how) => {
-  if (how?.method !== 'GET' && how?.method) window.sent.push([how.method, path, how.body]);
-  const reply = replies[`${how?.method} ${path}`] ?? replies[path];
-  if (reply === undefined) return real(path, how);
-  const [status, body] = reply;
-  return new Response(typeof body === 'string' ? body : JSON.stringify(body), { status });
-};
-"""
+LISTS = {ADA: ["pulsars", "rings"], BEN: ["pulsars", "comets"], CLEO: ["rings", "patterns"], DORA: ["patterns", "groups"]}
 
 
 class Rounds(PageCase):
-    def stubbed(self, replies):
-        """The page with these replies; the tests of the second round are over replies alone."""
-        found = {path: reply if isinstance(reply, list) else [200, reply] for path, reply in replies.items()}
-        source = STUB.replace("REPLIES", json.dumps(found))
-        if hasattr(self, "script"):
-            self.browser.cdp("Page.removeScriptToEvaluateOnNewDocument", identifier=self.script)
-        self.script = self.browser.cdp("Page.addScriptToEvaluateOnNewDocument", source=source)["identifier"]
-        self.browser.open(self.door.address)
-        self.browser.driver.execute_script("sessionStorage.clear()")
-        self.browser.open(self.door.address)
-        self.browser.sign_in("code-1234")
+    def setUp(self):
+        super().setUp()
+        self.door.load_rolls()
+        self.door.move("choosing")
 
-    def student(self, key, result):
-        me = {"key": key, "name": "Cyr", "phase": "choosing", "role": "student", "round": 2}
-        return {"/me": me, "/catalogue": CATALOGUE, "GET /choices": {"projects": []}, "/result": {"project": result}}
+    def first_round(self, lists=LISTS):
+        """The first round of the example: Emil has no project, and Comets alone has a place with a lecturer who takes one more."""
+        for code, keys in lists.items():
+            self.door.do(code, "PUT", "/choices", {"projects": keys})
+        self.door.move("ranking")
+        if lists is LISTS:
+            self.door.do(BELL, "PUT", "/ranking", {"students": ["ben", "ada"]})
+        self.door.do(OFFICE, "POST", "/ranking/fill", {})
+        self.door.move("published")
 
-    def test_student_without_a_project(self):
-        self.stubbed({**self.student("S3", None), "PUT /choices": {"projects": ["P3"]}})
+    def open_second(self):
+        self.assertEqual(self.door.do(OFFICE, "POST", "/phase", {"phase": "choosing", "round": 2}), {"phase": "choosing", "round": 2})
+
+    def text(self):
+        return self.browser.page_text().replace("\u2068", "").replace("\u2069", "")
+
+    def sees(self, *parts):
+        for part in parts:
+            self.assertIn(part, self.text())
+
+    def test_second_round(self):
+        """Everybody’s page in each phase, the office’s steps by clicks."""
+        self.first_round()
+        self.open(OFFICE, "Published")
+        self.assertNotIn("Round 2", self.text())
+        said = self.answer("Open second round", "Open the second round now?", "No")
+        for part in ("Whoever has a project keeps it", "It would be for 1 student.", "This cannot be undone."):
+            self.assertIn(part, said)
+        self.assertNotIn("round", self.door.do(OFFICE, "GET", "/status"))
+        self.answer("Open second round", "Open the second round now?")
+        self.browser.says("Done. The year is in “Choosing” of round 2 now.")
+        self.office_in_choosing()
+        self.browser.sign_out()
+        self.student_without_a_project()
+        self.student_with_a_project("Choosing", "there is no list for you to make")
+        self.lecturers_in_choosing()
+        self.sign_in(OFFICE, "Choosing")
+        self.sees("With a list: 1 of 1 student")
+        self.answer("Open ranking", "Open ranking now?")
+        self.browser.says("Done. The year is in “Ranking” of round 2 now.")
+        self.sees("Still to rank: 1 of 3 lecturers", "Jocelyn Bell (bell)")
+        self.browser.sign_out()
+        self.student_with_a_project("Ranking", "there is no list for you to make")
+        self.lecturers_in_ranking()
+        self.sign_in(OFFICE, "Ranking")
+        self.answer("Publish", "Publish now?")
+        self.browser.says("Done. The year is in “Published” of round 2 now.")
+        self.sees("With a project: 5 of 5 students", "There is no further step.")
+        self.assertFalse(self.browser.has("button", "Open second round"))
+        self.browser.sign_out()
+        self.results()
+
+    def office_in_choosing(self):
         self.browser.in_phase("Choosing")
-        self.assertIn("Round 2", self.browser.page_text())
-        self.browser.press("Add P3")
+        self.sees("Round 2", "With a list: 0 of 1 student", "With a project: 4 of 5 students", "Emil Eke (emil)", "Who has what")
+        self.assertIsNone(self.file_field("Students"))
+        self.assertEqual(self.steps(), ["Choosing", "Ranking", "Published"])
+        self.assertFalse(self.browser.has("button", "Open second round"))
+
+    def steps(self):
+        return self.browser.script("[...document.querySelectorAll('[aria-label=Year] li')].map((entry) => entry.textContent)")
+
+    def student_without_a_project(self):
+        self.sign_in(EMIL, "Choosing")
+        self.sees("Round 2", "for the students whom the first one left without a project", "If you have none, put those that you want on your list")
+        self.assertNotIn("There is no project for you", self.text())
+        self.assertEqual(self.browser.entries("Your list"), [])
+        self.sees("1 project")
+        self.assertFalse(self.browser.has("button", "Add rings"))
+        self.browser.press("Add comets")
         self.browser.press("Save list")
-        self.browser.says("Saved")
-        self.assertEqual(self.browser.script("window.sent"), [["PUT", "/choices", '{"projects":["P3"]}']])
+        self.browser.says("Saved. Your list has 1 project.")
+        self.assertEqual(self.door.do(EMIL, "GET", "/choices"), {"projects": ["comets"]})
+        self.browser.sign_out()
 
-    def test_student_with_a_project(self):
-        self.stubbed(self.student("S1", "P2"))
-        self.browser.in_phase("Choosing")
-        self.assertIn("there is no list for you to make", self.browser.page_text())
-        self.assertFalse(self.browser.has("button", "Save list"))
-        self.assertFalse(self.browser.has("button", "Add P3"))
+    def student_with_a_project(self, phase, part):
+        self.sign_in(ADA, phase)
+        self.sees("Round 2", "You have the project rings", part)
+        for name in ("Save list", "Add comets"):
+            self.assertFalse(self.browser.has("button", name))
+        self.browser.sign_out()
 
-    def test_list_is_refused_to_who_has_a_project(self):
-        self.stubbed({**self.student("S1", None), "PUT /choices": [409, {"error": "already_placed"}]})
-        self.browser.in_phase("Choosing")
-        self.browser.press("Add P3")
+    def lecturers_in_choosing(self):
+        self.sign_in(BELL, "Choosing")
+        self.sees("Round 2", "Students without a project are making their lists", "Who has which project", "Ben Bode", "The first round left 1 place.",
+                  "It takes no part in this round")
+        self.browser.sign_out()
+
+    def lecturers_in_ranking(self):
+        self.sign_in(BELL, "Ranking")
+        self.sees("Round 2", "0 of 1 student", "Ben Bode")
+        self.browser.press("Add emil")
+        self.browser.press("Save ranking")
+        self.browser.says("Saved. Your ranking has 1 student.")
+        self.assertEqual(self.door.do(BELL, "GET", "/ranking"), {"students": ["emil"]})
+        self.browser.sign_out()
+        self.sign_in(NOETHER, "Ranking")
+        self.sees("Nobody chose a project of yours, so there is nothing to rank.", "No project of yours takes part in this round.", "Ada Ames")
+        self.assertFalse(self.browser.has("button", "Save ranking"))
+        self.browser.sign_out()
+
+    def results(self):
+        for code, part in ((EMIL, "You have the project Comets, seen twice with Jocelyn Bell."), (ADA, "You have the project rings."),
+                           (BELL, "Emil Eke"), (TURING, "Dora Dahl")):
+            self.sign_in(code, "Published")
+            self.sees("Round 2", part)
+            self.browser.sign_out()
+        self.sign_in(BELL, "Published")
+        self.sees("Ben Bode", "Emil Eke")
+
+    def test_page_of_the_first_round(self):
+        """Who has a project meanwhile, and sends a list from a page of the first round, is told; the page is that of the second then."""
+        self.open(ADA, "Choosing")
+        self.browser.press("Add comets")
+        self.first_round()
+        self.open_second()
         self.browser.press("Save list")
         self.browser.warns("You have a project from the first round, so you cannot hand in a list.")
-
-    def test_office_opens_it(self):
-        config = self.door.path / "site/config.js"
-        text = config.read_text()
-        self.assertIn("export const rounds = 1;", text)
-        config.unlink()
-        config.write_text(text.replace("rounds = 1;", "rounds = 2;"))
-        first = {name: value for name, value in STATUS.items() if name != "round"}
-        published = {"/me": {"phase": "published", "role": "office"}, "/catalogue": CATALOGUE, "/status": {**first, "phase": "published"}, **SHEETS}
-        self.stubbed({**published, "POST /phase": {"phase": "choosing", "round": 2}})
-        self.browser.in_phase("Published")
-        self.answer("Open second round", "Open the second round now?")
-        self.browser.wait(lambda: self.browser.script("window.sent"), "the move")
-        self.assertEqual(self.browser.script("window.sent"), [["POST", "/phase", '{"phase":"choosing","round":2}']])
-        second = {"/me": {"phase": "choosing", "role": "office", "round": 2}, "/catalogue": CATALOGUE, "/status": {**STATUS, "phase": "choosing"}, **SHEETS}
-        self.stubbed(second)
         self.browser.in_phase("Choosing")
-        text = self.browser.page_text()
-        for part in ("Round 2", "With a list: 0 of 1 student", "With a project: 2 of 3 students", "Cyr (S3)"):
-            self.assertIn(part, text)
-        self.assertFalse(self.browser.has("searchbox", "Students"))
-        self.assertIsNone(self.file_field("Students"))
-        self.browser.find("button", "Open ranking")
+        self.sees("Round 2", "You have the project rings")
+        self.assertFalse(self.browser.has("button", "Save list"))
+        self.assertEqual(self.door.do(ADA, "GET", "/choices"), {"projects": []})
+        self.browser.sign_out()
+
+    def test_project_that_is_full(self):
+        """A list from a page of the first round, with a project that has no place left, is refused and named; another is taken."""
+        self.open(EMIL, "Choosing")
+        for key in ("rings", "comets"):
+            self.browser.press(f"Add {key}")
+        self.first_round()
+        self.open_second()
+        self.browser.press("Save list")
+        self.browser.warns("Not saved because of Rings and their ideals: there is no such project, or no place in it")
+        self.browser.press("Remove rings")
+        self.browser.press("Save list")
+        self.browser.says("Saved")
+        self.assertEqual(self.door.do(EMIL, "GET", "/choices"), {"projects": ["comets"]})
+
+    def test_opened_meanwhile(self):
+        """Another browser of the office opens the second round first, or goes on in it: the page says where the year is."""
+        self.first_round()
+        self.open(OFFICE, "Published")
+        self.browser.press("Open second round")
+        self.browser.find("dialog", "Open the second round now?")
+        self.open_second()
+        self.door.move("ranking")
+        self.browser.press("Yes")
+        self.browser.warns("The year has gone on meanwhile: it is in “Ranking” of round 2 now.")
+        self.browser.in_phase("Ranking")
+        self.browser.sign_out()
+
+    def test_nobody_is_left(self):
+        """Where everybody has a project the second round is not offered."""
+        keys = dict(zip((ADA, BEN, CLEO, DORA, EMIL), ("pulsars", "comets", "rings", "groups", "patterns")))
+        self.first_round({code: [key] for code, key in keys.items()})
+        self.open(OFFICE, "Published")
+        self.assertFalse(self.browser.find("button", "Open second round").is_enabled())
+        self.sees("Everybody has a project, so nobody could choose.")

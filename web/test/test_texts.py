@@ -1,6 +1,6 @@
 """Names and titles of any kind stand on the page as they are; and how the page looks in each width."""
 
-from case import ADA, NOETHER, OFFICE, PageCase
+from case import ADA, BELL, EMIL, NOETHER, OFFICE, PageCase
 
 STRANGE = {
     "html": "<img src=x onerror=alert(1)>&amp;<b>\"bold\"</b>",
@@ -114,6 +114,16 @@ class Looks(PageCase):
         for code in (ADA, NOETHER, OFFICE):
             self.browser.sign_out()
             self.sign_in(code, "Published")
+            self.look()
+        self.browser.press("Open second round")
+        self.browser.find("button", "Yes")
+        self.look()
+        self.browser.press("Yes")
+        self.browser.in_phase("Choosing")
+        self.look()
+        for code in (ADA, EMIL, BELL):
+            self.browser.sign_out()
+            self.sign_in(code, "Choosing")
             self.look()
 
     def look(self):
