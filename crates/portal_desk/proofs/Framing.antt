@@ -5,8 +5,8 @@ use Rattle.std.proofs.lemmas.Bool.{leb-true}
 use Rattle.httparse.specs.Grammar.{RequestHead}
 use Rattle.httparse.proofs.GrammarLemmas.{request_unique}
 use Rattle.portal_wire.proofs.Exist.{not_headless}
-use Rattle.portal_desk.specs.declared.reading.Lack.{Lack}
-use Rattle.portal_desk.specs.declared.reading.Lack.TheVariants as lack
+use Rattle.portal_desk.specs.declared.reading.FrameFault.{FrameFault}
+use Rattle.portal_desk.specs.declared.reading.FrameFault.TheVariants as fault
 use Rattle.portal_frame.specs.declared.types.Frame.{Frame}
 use Rattle.portal_frame.specs.declared.types.Frame.TheVariants as frame
 use Rattle.portal_frame.specs.Stream.{Framed, IsWithinLimits, Opens, whole, fault, over, seen, refused, Asked, item_of, after_lines, asked_of, is_head, lines_of, body_length, bad_length}
@@ -55,9 +55,9 @@ none_whole bytes ended (on, inr (h, rest, n, takes, size, short)) a after (inl (
     (subst (λ r. whole a after ≡ item_of h r) (sym same.1) (subst (λ (x : RequestHead). whole a after ≡ item_of x other) (sym same.0) e))
 none_whole bytes ended (on, inr (h, rest, n, takes, size, short)) a after (inr (nothing, e)) = nothing h rest takes
 
-pub holds_none : (l : Lack) (bytes : List ℕ) → NoneWhole bytes → HoldsNone l bytes
-holds_none lack.Read bytes none = none
-holds_none lack.Memory bytes none = tt
+pub holds_none : (l : FrameFault) (bytes : List ℕ) → NoneWhole bytes → HoldsNone l bytes
+holds_none fault.Read bytes none = none
+holds_none fault.Memory bytes none = tt
 
 -- what was read so far, and a failed read
 pub stays : (old mid new : Option (List ℕ)) (before during after : List ℕ) (ended : Bool) → Reads old mid before during ended → Stays mid new during after → Stays old new before after
@@ -66,6 +66,6 @@ stays (Some more) mid new before during after ended (rest, known, same, last) st
     let s = subst (λ o. Stays o new during after) known stay in
     (s.0, s.1, s.2 ∙ same)
 
-pub holds_err : {A : Type 0} (r : Result A Lack) (bytes : List ℕ) → NoneWhole bytes → IfErr r (λ l. HoldsNone l bytes)
+pub holds_err : {A : Type 0} (r : Result A FrameFault) (bytes : List ℕ) → NoneWhole bytes → IfErr r (λ l. HoldsNone l bytes)
 holds_err (Ok a) bytes none = tt
 holds_err (Err l) bytes none = holds_none l bytes none

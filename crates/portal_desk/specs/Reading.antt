@@ -3,8 +3,8 @@ use Rattle.std.specs.Prelude.{◌≡◌, ℕ, ◌≤◌, Bool, IsTrue, List, [],
 use Rattle.portal_frame.specs.declared.types.Frame.{Frame}
 use Rattle.portal_frame.specs.declared.types.Frame.TheVariants as frame
 use Rattle.portal_frame.specs.Stream.{Asked, Opens, whole, fault, over, seen, refused}
-use Rattle.portal_desk.specs.declared.reading.Lack.{Lack}
-use Rattle.portal_desk.specs.declared.reading.Lack.TheVariants as lack
+use Rattle.portal_desk.specs.declared.reading.FrameFault.{FrameFault}
+use Rattle.portal_desk.specs.declared.reading.FrameFault.TheVariants as fault
 
 -- the buffer and what the source has left are still the stream; at the end nothing is left
 abbrev pub Reads : Option (List ℕ) → Option (List ℕ) → List ℕ → List ℕ → Bool → Type 0
@@ -38,6 +38,6 @@ abbrev pub NoneWhole : List ℕ → Type 0
 NoneWhole bytes = (a : Asked) → (after : List ℕ) → ¬ (Opens bytes (whole a after))
 
 -- where reading failed, nothing whole was held
-abbrev pub HoldsNone : Lack → List ℕ → Type 0
-HoldsNone lack.Read buffer = NoneWhole buffer
-HoldsNone lack.Memory buffer = Unit {0}
+abbrev pub HoldsNone : FrameFault → List ℕ → Type 0
+HoldsNone fault.Read buffer = NoneWhole buffer
+HoldsNone fault.Memory buffer = Unit {0}

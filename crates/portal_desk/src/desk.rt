@@ -16,7 +16,7 @@ ghost use Rattle.portal_desk.specs.declared.served.Cause.TheVariants.{Read as Re
 
 use crate::devices::{Sink, Source};
 use crate::playing::play;
-use crate::reading::{Lack, cut_front, next_frame};
+use crate::reading::{FrameFault, cut_front, next_frame};
 use crate::sending::{either, send_refusal, send_reply};
 use crate::served::{Cause, ServeFault, Served};
 use portal_core::{KeepFault, Keeper, Reply};
@@ -74,7 +74,7 @@ impl<K: Keeper> Desk<K> {
     }
 
     /// Takes what came of a call: after a fault of the store, and only then, the desk has failed.
-    fn settle(&mut self, outcome: Result<Reply, KeepFault>) -> Reply
+    fn record_outcome(&mut self, outcome: Result<Reply, KeepFault>) -> Reply
         ensures keeper { self.new.keeper ≡ self.old.keeper }
         ensures failed { self.new.failed ≡ (self.old.failed || is_store outcome) }
         ensures reply { MatchResult outcome (λ reply. result ≡ reply)
@@ -112,7 +112,7 @@ impl<K: Keeper> Desk<K> {
         match call_of(alloc, request) {
             Ok((code, call)) => {
                 let outcome = play(alloc, &mut self.keeper, code.as_slice(), &call);
-                self.settle(outcome)
+                self.record_outcome(outcome)
             }
             Err(refusal) => turn_away(alloc, &refusal),
         }
@@ -196,8 +196,8 @@ impl<K: Keeper> Desk<K> {
         loop {
             let found = match next_frame(alloc, source, &mut buffer) {
                 Ok(found) => found,
-                Err(Lack::Read) => return Err(stopped(Cause::Read, done)),
-                Err(Lack::Memory) => return Err(stopped(Cause::Memory, done)),
+                Err(FrameFault::Read) => return Err(stopped(Cause::Read, done)),
+                Err(FrameFault::Memory) => return Err(stopped(Cause::Memory, done)),
             };
             match found {
                 Frame::Need => return Err(stopped(Cause::Memory, done)),

@@ -131,7 +131,7 @@ fn publish<K: Keeper>(alloc: Global, keeper: &mut K) -> Result<(), KeepFault>
 }
 
 /// Does what was decided.
-fn carry_out<K: Keeper>(alloc: Global, keeper: &mut K, act: Act) -> Result<(), KeepFault>
+fn perform<K: Keeper>(alloc: Global, keeper: &mut K, act: Act) -> Result<(), KeepFault>
     requires good { K.clean keeper.old → Good (K.world keeper.old) }
     requires can { K.clean keeper.old → CanDo (K.world keeper.old) (does act) }
     ensures clean { K.clean keeper.new → K.clean keeper.old }
@@ -165,6 +165,6 @@ pub fn play<K: Keeper>(
     ensures whole { IfOk result (λ r. IsTold (said r.body)) }
 {
     let Decision { reply, act } = ask(alloc, keeper, code, call)?;
-    carry_out(alloc, keeper, act)?;
+    perform(alloc, keeper, act)?;
     Ok(reply)
 }

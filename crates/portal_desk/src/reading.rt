@@ -3,7 +3,7 @@
 ghost use Rattle.std.specs.Prelude.{◌≡◌, ◌≢◌, ℕ, ◌+◌, ◌-◌, ◌<◌, ◌≤◌, List, length, drop, IfOk, OnErr, IfErr, OnOk, if◌then◌else◌};
 ghost use Rattle.portal_desk.specs.Devices.{FailsAfter, TakesAtMost};
 ghost use Rattle.portal_desk.specs.Reading.{Reads, Follows, IsWithin, Stays, HoldsNone};
-ghost use Rattle.portal_desk.specs.declared.reading.Lack.TheVariants.{Memory as OutOfMemory, Read as ReadFailed};
+ghost use Rattle.portal_desk.specs.declared.reading.FrameFault.TheVariants.{Memory as OutOfMemory, Read as ReadFailed};
 
 use crate::devices::{Failed, Source};
 use portal_frame::{Frame, frame};
@@ -14,29 +14,29 @@ const LONGEST: usize = 1_064_960;
 
 /// Why no more was read.
 #[derive(Clone, Copy, Debug, PartialEq, Eq, Drop)]
-pub(crate) enum Lack {
+pub(crate) enum FrameFault {
     Read,
     Memory,
 }
 
-impl From<AllocError> for Lack {
-    ghost from_gives = { λ _ lack. lack ≡ OutOfMemory };
+impl From<AllocError> for FrameFault {
+    ghost from_gives = { λ _ fault. fault ≡ OutOfMemory };
 
-    fn from(_: AllocError) -> Lack {
-        Lack::Memory
+    fn from(_: AllocError) -> FrameFault {
+        FrameFault::Memory
     }
 }
 
-impl From<Failed> for Lack {
-    ghost from_gives = { λ _ lack. lack ≡ ReadFailed };
+impl From<Failed> for FrameFault {
+    ghost from_gives = { λ _ fault. fault ≡ ReadFailed };
 
-    fn from(_: Failed) -> Lack {
-        Lack::Read
+    fn from(_: Failed) -> FrameFault {
+        FrameFault::Read
     }
 }
 
 /// Reads a piece into the buffer, and says whether the input has ended.
-fn read_piece<R: Source>(source: &mut R, buffer: &mut Vec<u8>) -> Result<bool, Lack>
+fn read_piece<R: Source>(source: &mut R, buffer: &mut Vec<u8>) -> Result<bool, FrameFault>
     requires { length buffer.old.items < 1064960 }
     ensures bytes { IfOk result (Reads (R.remaining source.old)
         (R.remaining source.new) buffer.old.items buffer.new.items) }
@@ -44,13 +44,13 @@ fn read_piece<R: Source>(source: &mut R, buffer: &mut Vec<u8>) -> Result<bool, L
         ≤ length buffer.new.items) }
     ensures held { length buffer.new.items ≤ 1064960 }
     ensures none_lost { OnErr result (buffer.new.items ≡ buffer.old.items) }
-    ensures left { IfErr result (λ lack. lack ≡ ReadFailed
+    ensures left { IfErr result (λ fault. fault ≡ ReadFailed
         → Stays (R.remaining source.old)
         (R.remaining source.new) buffer.old.items buffer.new.items) }
     ensures taken { OnErr result (TakesAtMost (1064960 - length buffer.old.items)
         (R.remaining source.old) (R.remaining source.new)) }
     ensures calm { OnOk result (R.failed source.new ≡ R.failed source.old) }
-    ensures counts { IfErr result (λ lack. lack ≡ ReadFailed
+    ensures counts { IfErr result (λ fault. fault ≡ ReadFailed
         → FailsAfter (R.failed source.old) (R.failed source.new)) }
     ensures same_device { R.name source.new ≡ R.name source.old }
 {
@@ -69,21 +69,21 @@ pub(crate) fn next_frame<R: Source>(
     alloc: Global,
     source: &mut R,
     buffer: &mut Vec<u8>,
-) -> Result<Frame, Lack>
+) -> Result<Frame, FrameFault>
     requires { length buffer.old.items ≤ 1064960 }
     ensures follows { IfOk result (Follows (R.remaining source.old)
         (R.remaining source.new) buffer.old.items buffer.new.items) }
     ensures found { IfOk result (λ f. f ≢ Frame.Need) }
     ensures held { length buffer.new.items ≤ 1064960 }
     ensures within { IfOk result (IsWithin buffer.new.items) }
-    ensures stays { IfErr result (λ lack. lack ≡ ReadFailed
+    ensures stays { IfErr result (λ fault. fault ≡ ReadFailed
         → Stays (R.remaining source.old)
         (R.remaining source.new) buffer.old.items buffer.new.items) }
-    ensures none { IfErr result (λ lack. HoldsNone lack buffer.new.items) }
+    ensures none { IfErr result (λ fault. HoldsNone fault buffer.new.items) }
     ensures taken { OnErr result (TakesAtMost (1064960 - length buffer.old.items)
         (R.remaining source.old) (R.remaining source.new)) }
     ensures calm { OnOk result (R.failed source.new ≡ R.failed source.old) }
-    ensures counts { IfErr result (λ lack. lack ≡ ReadFailed
+    ensures counts { IfErr result (λ fault. fault ≡ ReadFailed
         → FailsAfter (R.failed source.old) (R.failed source.new)) }
     ensures same_device { R.name source.new ≡ R.name source.old }
 {

@@ -8,10 +8,10 @@ ghost use Rattle.portal_run.specs.Lines.{SaysUpgrade};
 ghost use Rattle.portal_desk.specs.Devices.{TakesAtMost as TakesFew};
 ghost use Rattle.portal_run.specs.Taken.{TakesAtMost};
 
+use crate::init::{init, upgrade_database};
 use crate::input::{InputFault, bytes_of};
-use crate::making::{init, upgrade_database};
-use crate::saying::{say, say_memory, say_read};
-use crate::year::{pipe_database, report_database, serve_database};
+use crate::output::{say, say_memory, say_read};
+use crate::serve::{pipe_database, report_database, serve_database};
 use portal_answer::{Task, answer_to};
 use portal_words::{Asked, Command, command_of};
 use std::alloc::Global;

@@ -3,11 +3,11 @@
 
 mod commands;
 mod database;
+mod init;
 mod input;
-mod making;
+mod output;
 mod refusal;
-mod saying;
-mod year;
+mod serve;
 
 pub use commands::{perform, run};
-pub use saying::say;
+pub use output::say;

@@ -3,7 +3,7 @@
 ghost use Rattle.std.specs.Prelude.{◌≡◌, ◌↔◌, IfErr, IfOk};
 ghost use Rattle.portal_run.specs.Lines.{Says, line_of, status_of};
 
-use crate::saying::{say, say_memory, say_store};
+use crate::output::{say, say_memory, say_store};
 use portal_store::{CreateFault, OpenFault, UpgradeFault};
 use std::io::Write;
 

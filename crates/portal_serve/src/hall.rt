@@ -4,7 +4,7 @@ ghost use Rattle.std.specs.Prelude.{◌≡◌, ◌≢◌, ◌+◌, ◌-◌, ◌^
 ghost use Rattle.portal_desk.specs.Outcome.{FailsByCount};
 ghost use Rattle.portal_serve.specs.Ends.{is_own_fault};
 
-use crate::line::{Ear, Line, Mouth};
+use crate::connection::{Connection, ConnectionReader, ConnectionWriter};
 use portal_core::Keeper;
 use portal_desk::{Cause, Counted, Desk, ServeFault, Served};
 use std::net::TcpListener;
@@ -78,14 +78,18 @@ pub fn serve_on<T: Clock + AllocGlobal, K: Keeper>(
             return closed(accepted, faults, Ended::ListenFault);
         };
         let _ = stream.set_nodelay(true);
-        let line = Line::new(rt, &stream);
-        let mut ear = Counted::new(Ear { line: &line });
-        let mut mouth = Counted::new(Mouth { line: &line });
-        let ended = desk.serve(rt.alloc(), &mut ear, &mut mouth);
+        let connection = Connection::new(rt, &stream);
+        let mut reader = Counted::new(ConnectionReader {
+            connection: &connection,
+        });
+        let mut writer = Counted::new(ConnectionWriter {
+            connection: &connection,
+        });
+        let ended = desk.serve(rt.alloc(), &mut reader, &mut writer);
         faults = faults_with(faults, &ended);
         if !is_fault(&ended) {
             // The last reply stands whole: the connection is ended so that the client has it.
-            let _ = line.end();
+            let _ = connection.end();
         }
         if desk.failed() {
             return closed(accepted + 1, faults, Ended::StoreFault);

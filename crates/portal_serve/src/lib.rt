@@ -1,9 +1,9 @@
 //! Serves connections over any keeper: those of a socket, one after another, or the one of a reader and a writer.
 #![tactic(auto)]
 
+mod borrowed;
+mod connection;
 mod hall;
-mod lent;
-mod line;
 mod piping;
 mod reporting;
 

@@ -7,7 +7,7 @@ ghost use Rattle.portal_desk.specs.declared.served.Cause.TheVariants.{Read as Re
 ghost use Rattle.portal_desk.specs.Devices.{TakesAtMost};
 ghost use Rattle.portal_wire.specs.Conversation.{last};
 
-use crate::lent::Lent;
+use crate::borrowed::Borrowed;
 use portal_core::Keeper;
 use portal_desk::{Desk, ServeFault, Served};
 use std::alloc::Global;
@@ -41,7 +41,7 @@ pub fn pipe<K: Keeper, R: Read, W: Write>(
         → desk.new.failed ≡ desk.old.failed) }
     ensures store { IfErr result (λ fault. fault.cause ≡ StoreFailed → desk.new.failed ≡ true) }
 {
-    let mut source = Lent::new(reader);
-    let mut sink = Lent::new(writer);
+    let mut source = Borrowed::new(reader);
+    let mut sink = Borrowed::new(writer);
     desk.serve(alloc, &mut source, &mut sink)
 }

@@ -7,8 +7,8 @@ use Rattle.std.proofs.lemmas.Bool.{and_parts, ltb-true, ne_eqb, eqb-true}
 use Rattle.std.proofs.lemmas.Str.{IsUtf8-from_is_utf8, IsUtf8-from_ascii, is_utf8-from_IsUtf8}
 use Rattle.matchit.specs.Rows.{RowsOf, param_token, catch_all_token}
 use Rattle.matchit.specs.Seek.{seek, step, own, or_else, param_step, has_slash}
-use Rattle.portal_wire.specs.declared.routes.Place.{Place}
-use Rattle.portal_wire.specs.Routes.{the_paths, look_up, place_at, row_of, the_rows}
+use Rattle.portal_wire.specs.declared.routes.Route.{Route}
+use Rattle.portal_wire.specs.Routes.{the_paths, look_up, route_at, row_of, the_rows}
 
 module _ {K : Type 0} where
   -- the first row with this pattern
@@ -91,7 +91,7 @@ seek_is {K} (b ∷ path) rows e =
     ∙ (ap (λ o. or_else A (or_else o None)) (ap (λ r. seek k r path) (after_none {K = K} b path) ∙ seek_none k path)
     ∙ (or_none A ∙ (seek_is path (step b rows) (literal_step b rows e) ∙ find_step b path rows))))
 
-map_find : (path : List ℕ) (ps : List (List ℕ × Place)) → option_map (λ r. r.value) (find path (map row_of ps)) ≡ look_up path ps
+map_find : (path : List ℕ) (ps : List (List ℕ × Route)) → option_map (λ r. r.value) (find path (map row_of ps)) ≡ look_up path ps
 map_find path [] = refl
 map_find path (p ∷ ps) = either (bytes_eq p.0 path) (map_find path ps)
   where
@@ -100,8 +100,8 @@ map_find path (p ∷ ps) = either (bytes_eq p.0 path) (map_find path ps)
     either true e = refl
     either false e = e
 
-pub first_is : (path : List ℕ) → option_map (λ r. r.value) (seek 0 the_rows path) ≡ place_at path
-unfolding the_rows the_paths place_at
+pub first_is : (path : List ℕ) → option_map (λ r. r.value) (seek 0 the_rows path) ≡ route_at path
+unfolding the_rows the_paths route_at
 first_is path = ap (option_map (λ r. r.value)) (seek_is path the_rows refl) ∙ map_find path the_paths
 
 -- a path that is no text is none of these
@@ -113,7 +113,7 @@ same_bytes (x ∷ xs) (y ∷ ys) e =
     let parts = and_parts (x == y) (bytes_eq xs ys) e in
     ap (λ z. z ∷ xs) (eqb-true x y parts.0) ∙ ap (λ zs. y ∷ zs) (same_bytes xs ys parts.1)
 
-no_text : (path : List ℕ) (ps : List (List ℕ × Place)) → list_all (λ p. is_utf8 p.0) ps ≡ true → ¬ (IsUtf8 path) → look_up path ps ≡ None
+no_text : (path : List ℕ) (ps : List (List ℕ × Route)) → list_all (λ p. is_utf8 p.0) ps ≡ true → ¬ (IsUtf8 path) → look_up path ps ≡ None
 no_text path [] e never = refl
 no_text path (p ∷ ps) e never =
     let parts = and_parts (is_utf8 p.0) (list_all (λ q. is_utf8 q.0) ps) e in
@@ -123,7 +123,7 @@ no_text path (p ∷ ps) e never =
     either true same rest = absurd (never (IsUtf8-from_is_utf8 path (subst (λ t. is_utf8 t ≡ true) (same_bytes p.0 path same) (and_parts (is_utf8 p.0) (list_all (λ q. is_utf8 q.0) ps) e).0)))
     either false same rest = rest
 
-all_text : (ps : List (List ℕ × Place)) → list_all (λ p. list_all (λ b. nat_lt b 128) p.0) ps ≡ true → list_all (λ p. is_utf8 p.0) ps ≡ true
+all_text : (ps : List (List ℕ × Route)) → list_all (λ p. list_all (λ b. nat_lt b 128) p.0) ps ≡ true → list_all (λ p. is_utf8 p.0) ps ≡ true
 all_text [] e = refl
 all_text (p ∷ ps) e =
     let parts = and_parts (list_all (λ b. nat_lt b 128) p.0) (list_all (λ q. list_all (λ b. nat_lt b 128) q.0) ps) e in
@@ -135,6 +135,6 @@ all_text (p ∷ ps) e =
     below (b ∷ bs) f zero = ltb-true b 128 (and_parts (nat_lt b 128) (list_all (λ c. nat_lt c 128) bs) f).0
     below (b ∷ bs) f (suc i) = below bs (and_parts (nat_lt b 128) (list_all (λ c. nat_lt c 128) bs) f).1 i
 
-pub none_at : (path : List ℕ) → ¬ (IsUtf8 path) → place_at path ≡ None
-unfolding place_at the_paths
+pub none_at : (path : List ℕ) → ¬ (IsUtf8 path) → route_at path ≡ None
+unfolding route_at the_paths
 none_at path never = no_text path the_paths (all_text the_paths refl) never

@@ -5,8 +5,8 @@ use Rattle.std.specs.Str.{bytes_eq}
 use Rattle.std.proofs.lemmas.List.Elements.{All-from_recursion}
 use lib.Pointwise.{bytes_decides}
 use Rattle.http_header.specs.Token.{IsToken, is_token_byte}
-use Rattle.portal_wire.specs.declared.verbs.Verb.TheVariants.{Other}
-use Rattle.portal_wire.specs.Verb.{verb_of}
+use Rattle.portal_wire.specs.declared.methods.Method.TheVariants.{Other}
+use Rattle.portal_wire.specs.Method.{method_of}
 
 differs : (bytes word : List ℕ) → IsToken word → ¬ (IsToken bytes) → (b : Bool) → bytes_eq bytes word ≡ b → b ≡ false
 differs bytes word is not true e = absurd (not (subst IsToken (sym ((bytes_decides bytes word).0 e)) is))
@@ -28,7 +28,7 @@ post : IsToken (codes "POST")
 unfolding is_token_byte
 post = (omega arith, All-from_recursion (λ x. IsTrue (is_token_byte x)) (codes "POST") (refl, (refl, (refl, (refl, tt)))))
 
-pub none_named : (bytes : List ℕ) → ¬ (IsToken bytes) → Other ≡ verb_of bytes
+pub none_named : (bytes : List ℕ) → ¬ (IsToken bytes) → Other ≡ method_of bytes
 none_named bytes not =
     rw (
       differs bytes (codes "GET") get not (bytes_eq bytes (codes "GET")) refl,

@@ -6,13 +6,15 @@ use Rattle.portal_core.specs.Run.{Wish, Calls}
 use Rattle.portal_rolls.specs.declared.fault.RollFault.{RollFault}
 use Rattle.portal_rolls.specs.declared.fault.RollFault.TheVariants as fault
 use Rattle.portal_frame.specs.Stream.{Refuses}
-use Rattle.portal_wire.specs.declared.calls.NoCall.{NoCall}
-use Rattle.portal_wire.specs.declared.calls.NoCall.TheVariants.{NoRoute, BadMethod, BadBody, BadRow, RollFull, Memory}
+use Rattle.portal_wire.specs.declared.bodies.BodyFault.{BodyFault}
+use Rattle.portal_wire.specs.declared.bodies.BodyFault.TheVariants as body
+use Rattle.portal_wire.specs.declared.calls.CallFault.{CallFault}
+use Rattle.portal_wire.specs.declared.calls.CallFault.TheVariants.{NoRoute, BadMethod, BadBody, BadRow, RollFull, Memory}
 use Rattle.portal_wire.specs.Routes.{allow_of}
 use Rattle.portal_wire.specs.Refusals.{no_route, bad_method, bad_body, bad_row, roll_full, no_memory}
 use Rattle.portal_wire.specs.Wish.{turned_away}
 
-abbrev pub told_by : NoCall → Refuses
+abbrev pub told_by : CallFault → Refuses
 told_by NoRoute = no_route
 told_by (BadMethod at) = bad_method (allow_of at)
 told_by BadBody = bad_body
@@ -21,13 +23,18 @@ told_by RollFull = roll_full
 told_by Memory = no_memory
 
 -- the call, or why there is none; want of memory may be answered in place of both
-abbrev pub Wants : Wish → Result Call NoCall → Type 0
+abbrev pub Wants : Wish → Result Call CallFault → Type 0
 Wants wish (Ok call) = wish ≡ Calls (asked call)
 Wants wish (Err Memory) = Unit {0}
 Wants wish (Err why) = wish ≡ turned_away (told_by why)
 
+-- why the fault of a body makes no call
+abbrev pub of_body : BodyFault → CallFault
+of_body body.Bad = BadBody
+of_body body.Memory = Memory
+
 -- why the fault of a roll makes no call
-abbrev pub of_roll : RollFault → NoCall
+abbrev pub of_roll : RollFault → CallFault
 of_roll fault.NoHeader = BadBody
 of_roll fault.BadHeader = BadBody
 of_roll (fault.FieldCount row) = BadRow row

@@ -1,4 +1,4 @@
-pub mod Verb
+pub mod Method
 pub mod Routes
 pub mod Bodies
 pub mod Refusals

@@ -3,77 +3,77 @@ use Rattle.std.specs.Prelude.{ℕ, List, [], ◌∷◌, codes, map, Option, Some
 use Rattle.std.specs.Str.{bytes_eq}
 use Rattle.matchit.specs.Rows.{RowsOf}
 use Rattle.matchit.specs.Router.{RouteOf}
-use Rattle.portal_wire.specs.declared.routes.Place.{Place}
-use Rattle.portal_wire.specs.declared.routes.Place.TheVariants as place
+use Rattle.portal_wire.specs.declared.routes.Route.{Route}
+use Rattle.portal_wire.specs.declared.routes.Route.TheVariants as route
 
 -- each path with what it names
-unfoldable pub the_paths : List (List ℕ × Place)
+unfoldable pub the_paths : List (List ℕ × Route)
 the_paths =
-    (codes "/allocation.csv", place.AllocationCsv) ∷
-    (codes "/allocation", place.Allocation) ∷
-    (codes "/applicants", place.Applicants) ∷
-    (codes "/catalogue", place.Catalogue) ∷
-    (codes "/choices", place.Choices) ∷
-    (codes "/me", place.Me) ∷
-    (codes "/phase", place.Phase) ∷
-    (codes "/ranking/fill", place.Fill) ∷
-    (codes "/ranking", place.Ranking) ∷
-    (codes "/report", place.Report) ∷
-    (codes "/result", place.Outcome) ∷
-    (codes "/rolls/lecturers", place.Lecturers) ∷
-    (codes "/rolls/projects", place.Projects) ∷
-    (codes "/rolls/students", place.Students) ∷
-    (codes "/status", place.Status) ∷
+    (codes "/allocation.csv", route.AllocationCsv) ∷
+    (codes "/allocation", route.Allocation) ∷
+    (codes "/applicants", route.Applicants) ∷
+    (codes "/catalogue", route.Catalogue) ∷
+    (codes "/choices", route.Choices) ∷
+    (codes "/me", route.Me) ∷
+    (codes "/phase", route.Phase) ∷
+    (codes "/ranking/fill", route.Fill) ∷
+    (codes "/ranking", route.Ranking) ∷
+    (codes "/report", route.Report) ∷
+    (codes "/result", route.Outcome) ∷
+    (codes "/rolls/lecturers", route.Lecturers) ∷
+    (codes "/rolls/projects", route.Projects) ∷
+    (codes "/rolls/students", route.Students) ∷
+    (codes "/status", route.Status) ∷
     []
 
 -- the first with this path
-abbrev pub look_up : List ℕ → List (List ℕ × Place) → Option Place
+abbrev pub look_up : List ℕ → List (List ℕ × Route) → Option Route
 look_up path [] = None
 look_up path (p ∷ ps) = if bytes_eq p.0 path then Some p.1 else look_up path ps
 
 -- what a path names: it is there byte for byte, or it names nothing
-unfoldable pub place_at : List ℕ → Option Place
-place_at path = look_up path the_paths
+unfoldable pub route_at : List ℕ → Option Route
+route_at path = look_up path the_paths
 
 -- the methods that a path takes, as Allow tells them
-abbrev pub allow_of : Place → List ℕ
-allow_of place.Choices = codes "GET, HEAD, PUT"
-allow_of place.Ranking = codes "GET, HEAD, PUT"
-allow_of place.Fill = codes "POST"
-allow_of place.Lecturers = codes "POST"
-allow_of place.Projects = codes "POST"
-allow_of place.Students = codes "POST"
-allow_of place.Phase = codes "POST"
+abbrev pub allow_of : Route → List ℕ
+allow_of route.Choices = codes "GET, HEAD, PUT"
+allow_of route.Ranking = codes "GET, HEAD, PUT"
+allow_of route.Fill = codes "POST"
+allow_of route.Lecturers = codes "POST"
+allow_of route.Projects = codes "POST"
+allow_of route.Students = codes "POST"
+allow_of route.Phase = codes "POST"
 allow_of _ = codes "GET, HEAD"
 
 -- a path without parameters as a route
-abbrev pub row_of : List ℕ × Place → List ℕ × RouteOf Place
+abbrev pub row_of : List ℕ × Route → List ℕ × RouteOf Route
 row_of p = (p.0, record { pattern = p.0; text = p.0; names = []; value = p.1 })
 
 -- the rows of the router: of all routes, of the first ones, and of these with the rolls and the phase
-unfoldable pub the_rows : RowsOf (RouteOf Place)
+unfoldable pub the_rows : RowsOf (RouteOf Route)
 the_rows = map row_of the_paths
 
-unfoldable pub own_rows : RowsOf (RouteOf Place)
+unfoldable pub own_rows : RowsOf (RouteOf Route)
 own_rows = map row_of (
-    (codes "/applicants", place.Applicants) ∷
-    (codes "/catalogue", place.Catalogue) ∷
-    (codes "/choices", place.Choices) ∷
-    (codes "/me", place.Me) ∷
-    (codes "/ranking", place.Ranking) ∷
-    (codes "/result", place.Outcome) ∷
+    (codes "/applicants", route.Applicants) ∷
+    (codes "/catalogue", route.Catalogue) ∷
+    (codes "/choices", route.Choices) ∷
+    (codes "/me", route.Me) ∷
+    (codes "/ranking", route.Ranking) ∷
+    (codes "/result", route.Outcome) ∷
     [])
 
-unfoldable pub roll_rows : RowsOf (RouteOf Place)
+unfoldable pub roll_rows : RowsOf (RouteOf Route)
 roll_rows = map row_of (
-    (codes "/applicants", place.Applicants) ∷
-    (codes "/catalogue", place.Catalogue) ∷
-    (codes "/choices", place.Choices) ∷
-    (codes "/me", place.Me) ∷
-    (codes "/phase", place.Phase) ∷
-    (codes "/ranking", place.Ranking) ∷
-    (codes "/result", place.Outcome) ∷
-    (codes "/rolls/lecturers", place.Lecturers) ∷
-    (codes "/rolls/projects", place.Projects) ∷
-    (codes "/rolls/students", place.Students) ∷
+    (codes "/applicants", route.Applicants) ∷
+    (codes "/catalogue", route.Catalogue) ∷
+    (codes "/choices", route.Choices) ∷
+    (codes "/me", route.Me) ∷
+    (codes "/phase", route.Phase) ∷
+    (codes "/ranking", route.Ranking) ∷
+    (codes "/result", route.Outcome) ∷
+    (codes "/rolls/lecturers", route.Lecturers) ∷
+    (codes "/rolls/projects", route.Projects) ∷
+    (codes "/rolls/students", route.Students) ∷
     [])

@@ -93,7 +93,7 @@ fn array_texts(alloc: Global, value: &Value) -> Result<Vec<Vec<u8>>, BodyFault>
 }
 
 /// The texts that a body lists under a name, and nothing else.
-pub(crate) fn listed(alloc: Global, body: &[u8], name: &str) -> Result<Vec<Vec<u8>>, BodyFault>
+pub(crate) fn read_list(alloc: Global, body: &[u8], name: &str) -> Result<Vec<Vec<u8>>, BodyFault>
     ensures { Gives (λ ts. map (λ t. t.items) ts.items) result (listed_in name.now body.now) }
 {
     let value = json_of(alloc, body)?;
@@ -158,7 +158,7 @@ fn named_move(value: &Value) -> Option<(Phase, Option<Round>)>
 }
 
 /// The move that a body names: a phase, and perhaps a round, and nothing else.
-pub(crate) fn named(alloc: Global, body: &[u8]) -> Result<(Phase, Option<Round>), BodyFault>
+pub(crate) fn read_move(alloc: Global, body: &[u8]) -> Result<(Phase, Option<Round>), BodyFault>
     ensures { Gives (λ m. m) result (move_in body.now) }
 {
     let value = json_of(alloc, body)?;
@@ -182,7 +182,7 @@ fn no_member(value: &Value) -> Result<(), BodyFault>
 }
 
 /// That a body is an object without members.
-pub(crate) fn nothing(alloc: Global, body: &[u8]) -> Result<(), BodyFault>
+pub(crate) fn read_empty(alloc: Global, body: &[u8]) -> Result<(), BodyFault>
     ensures { Gives (λ u. u) result (nothing_in body.now) }
 {
     let value = json_of(alloc, body)?;

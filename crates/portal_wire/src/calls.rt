@@ -7,15 +7,15 @@ ghost use Rattle.portal_rolls.specs.Rolls as roll;
 ghost use Rattle.portal_frame.specs.Stream as stream;
 ghost use Rattle.portal_frame.specs.Stream.{seen, refused};
 ghost use Rattle.portal_core.specs.Ask.{Ask};
-ghost use Rattle.portal_wire.specs.declared.calls.NoCall.TheVariants as why;
+ghost use Rattle.portal_wire.specs.declared.calls.CallFault.TheVariants as why;
 ghost use Rattle.portal_wire.specs.Refusals.{no_memory};
-ghost use Rattle.portal_wire.specs.Wish.{turned_away, shown_at, put_at, posted_at, to_move, wish_at, wish_of, by_body, by_roll};
+ghost use Rattle.portal_wire.specs.Wish.{turned_away, get_at, put_at, post_at, to_move, wish_at, wish_of, by_body, by_roll};
 ghost use Rattle.portal_wire.specs.Bodies.{move_in, nothing_in};
-ghost use Rattle.portal_wire.specs.Calls.{Wants, told_by, of_roll};
+ghost use Rattle.portal_wire.specs.Calls.{Wants, told_by, of_body, of_roll};
 
-use crate::bodies::{BodyFault, listed, named, nothing};
-use crate::routes::{Place, allow_at, place_in};
-use crate::verbs::{Verb, verb_in};
+use crate::bodies::{BodyFault, read_empty, read_list, read_move};
+use crate::methods::{Method, method_in};
+use crate::routes::{Route, allow_at, route_in};
 use matchit::InsertError;
 use portal_core::Call;
 use portal_frame::{Refusal, Request};
@@ -24,11 +24,11 @@ use std::alloc::{AllocError, Global};
 
 /// Why a request makes no call.
 #[derive(Clone, Copy, Debug, PartialEq, Eq, Drop)]
-pub(crate) enum NoCall {
+pub(crate) enum CallFault {
     /// The path is no route.
     NoRoute,
     /// The path takes other methods.
-    BadMethod(Place),
+    BadMethod(Route),
     /// The body has not its form.
     BadBody,
     /// A row of a roll has not its form; the row, from 1.
@@ -39,172 +39,161 @@ pub(crate) enum NoCall {
     Memory,
 }
 
-impl From<AllocError> for NoCall {
-    ghost from_gives = { λ _ no_call. no_call ≡ why.Memory };
+impl From<AllocError> for CallFault {
+    ghost from_gives = { λ _ fault. fault ≡ why.Memory };
 
-    fn from(_: AllocError) -> NoCall {
-        NoCall::Memory
+    fn from(_: AllocError) -> CallFault {
+        CallFault::Memory
     }
 }
 
 // The routes are literals that do not meet, so that inserting one fails for want of memory alone.
-impl From<InsertError> for NoCall {
-    ghost from_gives = { λ _ no_call. no_call ≡ why.Memory };
+impl From<InsertError> for CallFault {
+    ghost from_gives = { λ _ fault. fault ≡ why.Memory };
 
-    fn from(_: InsertError) -> NoCall {
-        NoCall::Memory
+    fn from(_: InsertError) -> CallFault {
+        CallFault::Memory
     }
 }
 
-/// Why the fault of a roll makes no call.
-fn roll_no_call(fault: RollFault) -> NoCall
-    ensures { result ≡ of_roll fault }
-{
-    match fault {
-        RollFault::NoHeader | RollFault::BadHeader => NoCall::BadBody,
-        RollFault::FieldCount(row) | RollFault::NotText(row) | RollFault::BadField(row, _) => {
-            NoCall::BadRow(row)
+impl From<BodyFault> for CallFault {
+    ghost from_gives = { λ body fault. fault ≡ of_body body };
+
+    fn from(fault: BodyFault) -> CallFault {
+        match fault {
+            BodyFault::Bad => CallFault::BadBody,
+            BodyFault::Memory => CallFault::Memory,
         }
-        RollFault::TooMany => NoCall::RollFull,
-        RollFault::Memory => NoCall::Memory,
     }
 }
 
-/// What GET and HEAD ask.
-fn shown(place: Place) -> Result<Call, NoCall>
-    ensures wish { Wants (shown_at place) result }
-    ensures form { IfOk result (λ call. HasForm (asked call)) }
-{
-    match place {
-        Place::Me => Ok(Call::Me),
-        Place::Catalogue => Ok(Call::Catalogue),
-        Place::Choices => Ok(Call::ShowChoices),
-        Place::Applicants => Ok(Call::Applicants),
-        Place::Ranking => Ok(Call::ShowRanking),
-        Place::Outcome => Ok(Call::Result),
-        Place::Status => Ok(Call::Status),
-        Place::Allocation => Ok(Call::Allocation),
-        Place::AllocationCsv => Ok(Call::AllocationCsv),
-        Place::Report => Ok(Call::Report),
-        _ => Err(NoCall::BadMethod(place)),
+impl From<RollFault> for CallFault {
+    ghost from_gives = { λ roll fault. fault ≡ of_roll roll };
+
+    fn from(fault: RollFault) -> CallFault {
+        match fault {
+            RollFault::NoHeader | RollFault::BadHeader => CallFault::BadBody,
+            RollFault::FieldCount(row) | RollFault::NotText(row) | RollFault::BadField(row, _) => {
+                CallFault::BadRow(row)
+            }
+            RollFault::TooMany => CallFault::RollFull,
+            RollFault::Memory => CallFault::Memory,
+        }
     }
 }
 
-/// What PUT asks.
-fn put(alloc: Global, place: Place, body: &[u8]) -> Result<Call, NoCall>
-    ensures wish { Wants (put_at place body.now) result }
+/// The call of GET and HEAD.
+fn get_call(route: Route) -> Result<Call, CallFault>
+    ensures wish { Wants (get_at route) result }
     ensures form { IfOk result (λ call. HasForm (asked call)) }
 {
-    match place {
-        Place::Choices => match listed(alloc, body, "projects") {
-            Ok(list) => Ok(Call::SetChoices(list)),
-            Err(BodyFault::Bad) => Err(NoCall::BadBody),
-            Err(BodyFault::Memory) => Err(NoCall::Memory),
-        },
-        Place::Ranking => match listed(alloc, body, "students") {
-            Ok(list) => Ok(Call::SetRanking(list)),
-            Err(BodyFault::Bad) => Err(NoCall::BadBody),
-            Err(BodyFault::Memory) => Err(NoCall::Memory),
-        },
-        _ => Err(NoCall::BadMethod(place)),
+    match route {
+        Route::Me => Ok(Call::Me),
+        Route::Catalogue => Ok(Call::Catalogue),
+        Route::Choices => Ok(Call::ShowChoices),
+        Route::Applicants => Ok(Call::Applicants),
+        Route::Ranking => Ok(Call::ShowRanking),
+        Route::Outcome => Ok(Call::Result),
+        Route::Status => Ok(Call::Status),
+        Route::Allocation => Ok(Call::Allocation),
+        Route::AllocationCsv => Ok(Call::AllocationCsv),
+        Route::Report => Ok(Call::Report),
+        _ => Err(CallFault::BadMethod(route)),
+    }
+}
+
+/// The call of PUT.
+fn put_call(alloc: Global, route: Route, body: &[u8]) -> Result<Call, CallFault>
+    ensures wish { Wants (put_at route body.now) result }
+    ensures form { IfOk result (λ call. HasForm (asked call)) }
+{
+    match route {
+        Route::Choices => Ok(Call::SetChoices(read_list(alloc, body, "projects")?)),
+        Route::Ranking => Ok(Call::SetRanking(read_list(alloc, body, "students")?)),
+        _ => Err(CallFault::BadMethod(route)),
     }
 }
 
 /// A move to the phase that a body names, of the round that it names or of the current one.
-fn moved(alloc: Global, body: &[u8]) -> Result<Call, NoCall>
+fn move_call(alloc: Global, body: &[u8]) -> Result<Call, CallFault>
     ensures wish { Wants (by_body to_move (move_in body.now)) result }
     ensures form { IfOk result (λ call. HasForm (asked call)) }
 {
-    match named(alloc, body) {
-        Ok((phase, round)) => Ok(Call::Move { phase, round }),
-        Err(BodyFault::Bad) => Err(NoCall::BadBody),
-        Err(BodyFault::Memory) => Err(NoCall::Memory),
-    }
+    let (phase, round) = read_move(alloc, body)?;
+    Ok(Call::Move { phase, round })
 }
 
 /// The filling of missing rankings, by a body that says nothing.
-fn filled(alloc: Global, body: &[u8]) -> Result<Call, NoCall>
+fn fill_call(alloc: Global, body: &[u8]) -> Result<Call, CallFault>
     ensures wish { Wants (by_body (λ u. Ask.FillRankings) (nothing_in body.now)) result }
     ensures form { IfOk result (λ call. HasForm (asked call)) }
 {
-    match nothing(alloc, body) {
-        Ok(()) => Ok(Call::FillRankings),
-        Err(BodyFault::Bad) => Err(NoCall::BadBody),
-        Err(BodyFault::Memory) => Err(NoCall::Memory),
-    }
+    read_empty(alloc, body)?;
+    Ok(Call::FillRankings)
 }
 
 /// The lecturers of a roll.
-fn lecturers(alloc: Global, body: &[u8]) -> Result<Call, NoCall>
+fn add_lecturers(alloc: Global, body: &[u8]) -> Result<Call, CallFault>
     ensures wish { Wants (by_roll Ask.AddLecturers (roll.lecturers body.now)) result }
     ensures form { IfOk result (λ call. HasForm (asked call)) }
 {
-    match read_lecturers(alloc, body) {
-        Ok(rows) => Ok(Call::AddLecturers(rows)),
-        Err(fault) => Err(roll_no_call(fault)),
-    }
+    Ok(Call::AddLecturers(read_lecturers(alloc, body)?))
 }
 
 /// The projects of a roll.
-fn projects(alloc: Global, body: &[u8]) -> Result<Call, NoCall>
+fn add_projects(alloc: Global, body: &[u8]) -> Result<Call, CallFault>
     ensures wish { Wants (by_roll Ask.AddProjects (roll.projects body.now)) result }
     ensures form { IfOk result (λ call. HasForm (asked call)) }
 {
-    match read_projects(alloc, body) {
-        Ok(rows) => Ok(Call::AddProjects(rows)),
-        Err(fault) => Err(roll_no_call(fault)),
-    }
+    Ok(Call::AddProjects(read_projects(alloc, body)?))
 }
 
 /// The students of a roll.
-fn students(alloc: Global, body: &[u8]) -> Result<Call, NoCall>
+fn add_students(alloc: Global, body: &[u8]) -> Result<Call, CallFault>
     ensures wish { Wants (by_roll Ask.AddStudents (roll.students body.now)) result }
     ensures form { IfOk result (λ call. HasForm (asked call)) }
 {
-    match read_students(alloc, body) {
-        Ok(rows) => Ok(Call::AddStudents(rows)),
-        Err(fault) => Err(roll_no_call(fault)),
+    Ok(Call::AddStudents(read_students(alloc, body)?))
+}
+
+/// The call of POST.
+fn post_call(alloc: Global, route: Route, body: &[u8]) -> Result<Call, CallFault>
+    ensures wish { Wants (post_at route body.now) result }
+    ensures form { IfOk result (λ call. HasForm (asked call)) }
+{
+    match route {
+        Route::Lecturers => add_lecturers(alloc, body),
+        Route::Projects => add_projects(alloc, body),
+        Route::Students => add_students(alloc, body),
+        Route::Phase => move_call(alloc, body),
+        Route::Fill => fill_call(alloc, body),
+        _ => Err(CallFault::BadMethod(route)),
     }
 }
 
-/// What POST asks.
-fn posted(alloc: Global, place: Place, body: &[u8]) -> Result<Call, NoCall>
-    ensures wish { Wants (posted_at place body.now) result }
+/// The call of a method at a route.
+fn call_at(alloc: Global, method: Method, route: Route, body: &[u8]) -> Result<Call, CallFault>
+    ensures wish { Wants (wish_at method route body.now) result }
     ensures form { IfOk result (λ call. HasForm (asked call)) }
 {
-    match place {
-        Place::Lecturers => lecturers(alloc, body),
-        Place::Projects => projects(alloc, body),
-        Place::Students => students(alloc, body),
-        Place::Phase => moved(alloc, body),
-        Place::Fill => filled(alloc, body),
-        _ => Err(NoCall::BadMethod(place)),
-    }
-}
-
-/// What a method asks at a place.
-fn asked_at(alloc: Global, verb: Verb, place: Place, body: &[u8]) -> Result<Call, NoCall>
-    ensures wish { Wants (wish_at verb place body.now) result }
-    ensures form { IfOk result (λ call. HasForm (asked call)) }
-{
-    match verb {
-        Verb::Get | Verb::Head => shown(place),
-        Verb::Put => put(alloc, place, body),
-        Verb::Post => posted(alloc, place, body),
-        Verb::Other => Err(NoCall::BadMethod(place)),
+    match method {
+        Method::Get | Method::Head => get_call(route),
+        Method::Put => put_call(alloc, route, body),
+        Method::Post => post_call(alloc, route, body),
+        Method::Other => Err(CallFault::BadMethod(route)),
     }
 }
 
 /// The call that a request makes, or why it makes none.
-fn wanted(alloc: Global, request: &Request) -> Result<Call, NoCall>
+fn routed_call(alloc: Global, request: &Request) -> Result<Call, CallFault>
     ensures wish { Wants (wish_of (seen request.now)) result }
     ensures form { IfOk result (λ call. HasForm (asked call)) }
 {
-    let Some(place) = place_in(alloc, request.path.as_slice())? else {
-        return Err(NoCall::NoRoute);
+    let Some(route) = route_in(alloc, request.path.as_slice())? else {
+        return Err(CallFault::NoRoute);
     };
-    let verb = verb_in(alloc, request.method.as_slice())?;
-    asked_at(alloc, verb, place, request.body.as_slice())
+    let method = method_in(alloc, request.method.as_slice())?;
+    call_at(alloc, method, route, request.body.as_slice())
 }
 
 /// A refusal by a status and a word alone.
@@ -220,26 +209,26 @@ fn plain(status: u16, word: &'static str) -> Refusal
 }
 
 /// The refusal of a request that makes no call.
-fn refusal_of(no_call: NoCall) -> Refusal
-    ensures { refused result ≡ told_by no_call }
+fn refusal_of(fault: CallFault) -> Refusal
+    ensures { refused result ≡ told_by fault }
 {
-    match no_call {
-        NoCall::NoRoute => plain(404, "no_route"),
-        NoCall::BadMethod(place) => Refusal {
+    match fault {
+        CallFault::NoRoute => plain(404, "no_route"),
+        CallFault::BadMethod(route) => Refusal {
             status: 405,
             word: "bad_method",
-            allow: allow_at(place),
+            allow: allow_at(route),
             row: None,
         },
-        NoCall::BadBody => plain(400, "bad_body"),
-        NoCall::BadRow(row) => Refusal {
+        CallFault::BadBody => plain(400, "bad_body"),
+        CallFault::BadRow(row) => Refusal {
             status: 422,
             word: "bad_row",
             allow: "",
             row: Some(row),
         },
-        NoCall::RollFull => plain(422, "roll_full"),
-        NoCall::Memory => plain(503, "unavailable"),
+        CallFault::RollFull => plain(422, "roll_full"),
+        CallFault::Memory => plain(503, "unavailable"),
     }
 }
 
@@ -264,10 +253,10 @@ pub fn call_of(alloc: Global, request: &Request) -> Result<(Vec<u8>, Call), Refu
         ⊎ (wish_of (seen request.now) ≡ turned_away (refused refusal))) }
 {
     let Ok(code) = copied(alloc, request.code.as_slice()) else {
-        return Err(refusal_of(NoCall::Memory));
+        return Err(refusal_of(CallFault::Memory));
     };
-    match wanted(alloc, request) {
+    match routed_call(alloc, request) {
         Ok(call) => Ok((code, call)),
-        Err(no_call) => Err(refusal_of(no_call)),
+        Err(fault) => Err(refusal_of(fault)),
     }
 }

@@ -5,10 +5,11 @@ mod bodies;
 mod calls;
 mod ending;
 pub mod laws;
+mod methods;
+mod methods;
 mod refusals;
 mod replies;
 mod routes;
-mod verbs;
 
 pub use crate::calls::call_of;
 pub use crate::ending::Ending;

@@ -2,14 +2,14 @@
 
 ghost use Rattle.std.specs.Prelude.{◌≡◌, IfOk, option_map};
 ghost use Rattle.matchit.specs.Seek.{first};
-ghost use Rattle.portal_wire.specs.Routes.{the_rows, own_rows, roll_rows, place_at, allow_of};
+ghost use Rattle.portal_wire.specs.Routes.{the_rows, own_rows, roll_rows, route_at, allow_of};
 
 use matchit::{InsertError, Router};
 use std::alloc::Global;
 
 /// What a path names.
 #[derive(Clone, Copy, Debug, PartialEq, Eq, Drop)]
-pub(crate) enum Place {
+pub(crate) enum Route {
     Me,
     Catalogue,
     Choices,
@@ -30,46 +30,46 @@ pub(crate) enum Place {
 }
 
 /// The routes of students and lecturers.
-fn own_routes(alloc: Global) -> Result<Router<Place>, InsertError>
+fn own_routes(alloc: Global) -> Result<Router<Route>, InsertError>
     ensures { IfOk result (λ router. router ≡ own_rows) }
 {
     let mut router = Router::new(alloc);
-    router.insert("/me", Place::Me)?;
-    router.insert("/catalogue", Place::Catalogue)?;
-    router.insert("/choices", Place::Choices)?;
-    router.insert("/applicants", Place::Applicants)?;
-    router.insert("/ranking", Place::Ranking)?;
-    router.insert("/result", Place::Outcome)?;
+    router.insert("/me", Route::Me)?;
+    router.insert("/catalogue", Route::Catalogue)?;
+    router.insert("/choices", Route::Choices)?;
+    router.insert("/applicants", Route::Applicants)?;
+    router.insert("/ranking", Route::Ranking)?;
+    router.insert("/result", Route::Outcome)?;
     Ok(router)
 }
 
 /// These, and those by which the office fills the rolls and moves the round.
-fn roll_routes(alloc: Global) -> Result<Router<Place>, InsertError>
+fn roll_routes(alloc: Global) -> Result<Router<Route>, InsertError>
     ensures { IfOk result (λ router. router ≡ roll_rows) }
 {
     let mut router = own_routes(alloc)?;
-    router.insert("/rolls/lecturers", Place::Lecturers)?;
-    router.insert("/rolls/projects", Place::Projects)?;
-    router.insert("/rolls/students", Place::Students)?;
-    router.insert("/phase", Place::Phase)?;
+    router.insert("/rolls/lecturers", Route::Lecturers)?;
+    router.insert("/rolls/projects", Route::Projects)?;
+    router.insert("/rolls/students", Route::Students)?;
+    router.insert("/phase", Route::Phase)?;
     Ok(router)
 }
 
 /// All routes.
-fn all_routes(alloc: Global) -> Result<Router<Place>, InsertError>
+fn all_routes(alloc: Global) -> Result<Router<Route>, InsertError>
     ensures { IfOk result (λ router. router ≡ the_rows) }
 {
     let mut router = roll_routes(alloc)?;
-    router.insert("/ranking/fill", Place::Fill)?;
-    router.insert("/status", Place::Status)?;
-    router.insert("/allocation", Place::Allocation)?;
-    router.insert("/allocation.csv", Place::AllocationCsv)?;
-    router.insert("/report", Place::Report)?;
+    router.insert("/ranking/fill", Route::Fill)?;
+    router.insert("/status", Route::Status)?;
+    router.insert("/allocation", Route::Allocation)?;
+    router.insert("/allocation.csv", Route::AllocationCsv)?;
+    router.insert("/report", Route::Report)?;
     Ok(router)
 }
 
 /// What a router finds at a path.
-fn found_by(router: &Router<Place>, path: &str) -> Option<Place>
+fn found_by(router: &Router<Route>, path: &str) -> Option<Route>
     ensures { result ≡ option_map (λ route. route.value) (first router.now path.now) }
 {
     match router.at(path) {
@@ -79,8 +79,8 @@ fn found_by(router: &Router<Place>, path: &str) -> Option<Place>
 }
 
 /// What a path names, if anything.
-pub(crate) fn place_in(alloc: Global, path: &[u8]) -> Result<Option<Place>, InsertError>
-    ensures { IfOk result (λ place. place ≡ place_at path.now) }
+pub(crate) fn route_in(alloc: Global, path: &[u8]) -> Result<Option<Route>, InsertError>
+    ensures { IfOk result (λ route. route ≡ route_at path.now) }
 {
     let Ok(text) = str::from_utf8(path) else {
         return Ok(None);
@@ -90,12 +90,12 @@ pub(crate) fn place_in(alloc: Global, path: &[u8]) -> Result<Option<Place>, Inse
 }
 
 /// The methods that a path takes.
-pub(crate) fn allow_at(place: Place) -> &'static str
-    ensures { result.now ≡ allow_of place }
+pub(crate) fn allow_at(route: Route) -> &'static str
+    ensures { result.now ≡ allow_of route }
 {
-    match place {
-        Place::Choices | Place::Ranking => "GET, HEAD, PUT",
-        Place::Fill | Place::Lecturers | Place::Projects | Place::Students | Place::Phase => "POST",
+    match route {
+        Route::Choices | Route::Ranking => "GET, HEAD, PUT",
+        Route::Fill | Route::Lecturers | Route::Projects | Route::Students | Route::Phase => "POST",
         _ => "GET, HEAD",
     }
 }

@@ -4,8 +4,8 @@ ghost use Rattle.std.specs.Prelude.{◌≡◌, ◌*◌, ◌≤◌};
 ghost use Rattle.portal_desk.specs.Devices.{TakesAtMost as TakesFew};
 
 use crate::database::{FileDesk, close, open};
+use crate::output::{say, say_memory, say_read, say_store, say_write};
 use crate::refusal::refuse;
-use crate::saying::{say, say_memory, say_read, say_store, say_write};
 use portal_core::KeepFault;
 use portal_desk::Cause;
 use portal_serve::{Ended, Hall, Unreported, pipe, report, serve_on};

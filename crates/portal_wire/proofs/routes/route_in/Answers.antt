@@ -3,13 +3,13 @@ use Rattle.std.specs.Prelude.{Option, option_map}
 use Rattle.matchit.specs.Rows.{RowsOf}
 use Rattle.matchit.specs.Router.{RouteOf}
 use Rattle.matchit.specs.Seek.{first}
-use Rattle.portal_wire.specs.declared.routes.Place.{Place}
-use Rattle.portal_wire.specs.Routes.{the_rows, place_at}
+use Rattle.portal_wire.specs.declared.routes.Route.{Route}
+use Rattle.portal_wire.specs.Routes.{the_rows, route_at}
 use Rattle.portal_wire.proofs.Literal.{first_is, none_at}
-use Rattle.portal_wire.proofs.routes.place_in.Goals as goal
+use Rattle.portal_wire.proofs.routes.route_in.Goals as goal
 
-found : (o : Option Place) (rows : RowsOf (RouteOf Place)) (text path : List ℕ) → o ≡ option_map (λ r. r.value) (first rows text) → rows ≡ the_rows → text ≡ path
-    → o ≡ place_at path
+found : (o : Option Route) (rows : RowsOf (RouteOf Route)) (text path : List ℕ) → o ≡ option_map (λ r. r.value) (first rows text) → rows ≡ the_rows → text ≡ path
+    → o ≡ route_at path
 found o rows text path is same bytes =
     is ∙ (ap (λ rs. option_map (λ r. r.value) (first rs text)) same ∙ (ap (λ t. option_map (λ r. r.value) (first the_rows t)) bytes ∙ first_is path))
 

@@ -27,7 +27,7 @@ const PIECE: usize = 4096;
 
 /// What a connection has of its time.
 #[derive(Drop)]
-pub(crate) struct Line<'a, T: Clock> {
+pub(crate) struct Connection<'a, T: Clock> {
     clock: &'a T,
     stream: &'a TcpStream,
     /// When the connection was first read from.
@@ -42,9 +42,9 @@ fn too_late() -> io::Error {
     io::Error::from(ErrorKind::TimedOut)
 }
 
-impl<'a, T: Clock> Line<'a, T> {
-    pub(crate) fn new(clock: &'a T, stream: &'a TcpStream) -> Line<'a, T> {
-        Line {
+impl<'a, T: Clock> Connection<'a, T> {
+    pub(crate) fn new(clock: &'a T, stream: &'a TcpStream) -> Connection<'a, T> {
+        Connection {
             clock,
             stream,
             began: Cell::new(None),
@@ -129,18 +129,20 @@ impl<'a, T: Clock> Line<'a, T> {
 
 /// Reads of a connection, none of which waits longer than the request may take.
 #[derive(Drop)]
-pub(crate) struct Ear<'a, T: Clock> {
-    pub(crate) line: &'a Line<'a, T>,
+pub(crate) struct ConnectionReader<'a, T: Clock> {
+    pub(crate) connection: &'a Connection<'a, T>,
 }
 
-impl<'a, T: Clock> Read for Ear<'a, T> {
+impl<'a, T: Clock> Read for ConnectionReader<'a, T> {
     fn read(&mut self, buf: &mut [u8]) -> io::Result<usize> {
-        let line = self.line;
-        line.stream.set_read_timeout(Some(line.patience()?))?;
-        let mut stream = line.stream;
+        let connection = self.connection;
+        connection
+            .stream
+            .set_read_timeout(Some(connection.patience()?))?;
+        let mut stream = connection.stream;
         let n = read_again(&mut stream, buf)?;
         if n > 0 {
-            line.note_asked()?;
+            connection.note_asked()?;
         }
         Ok(n)
     }
@@ -148,17 +150,18 @@ impl<'a, T: Clock> Read for Ear<'a, T> {
 
 /// Writes to a connection, none of which waits longer than the reply may take.
 #[derive(Drop)]
-pub(crate) struct Mouth<'a, T: Clock> {
-    pub(crate) line: &'a Line<'a, T>,
+pub(crate) struct ConnectionWriter<'a, T: Clock> {
+    pub(crate) connection: &'a Connection<'a, T>,
 }
 
-impl<'a, T: Clock> Write for Mouth<'a, T> {
+impl<'a, T: Clock> Write for ConnectionWriter<'a, T> {
     fn write(&mut self, buf: &[u8]) -> io::Result<usize> {
-        let line = self.line;
-        line.note_told()?;
-        line.stream
-            .set_write_timeout(Some(line.left(line.told.get(), WHOLE)?))?;
-        let mut stream = line.stream;
+        let connection = self.connection;
+        connection.note_told()?;
+        connection
+            .stream
+            .set_write_timeout(Some(connection.left(connection.told.get(), WHOLE)?))?;
+        let mut stream = connection.stream;
         write_again(&mut stream, buf)
     }
 

@@ -6,8 +6,8 @@ ghost use Rattle.portal_run.specs.Taken.{TakesAtMost};
 
 use crate::database::{close, connect, connect_there};
 use crate::input::{InputFault, first_bytes};
+use crate::output::{say, say_memory, say_read};
 use crate::refusal::{Refusal, not_made, not_upgraded, say_done};
-use crate::saying::{say, say_memory, say_read};
 use portal_core::{Code, CodeFault};
 use portal_store::{NotOpened, Store};
 use std::alloc::Global;

@@ -1,4 +1,4 @@
-//! A reader or a writer that is lent, as a source or a sink.
+//! A reader or a writer that is borrowed, as a source or a sink.
 
 ghost use Rattle.std.specs.Prelude.{◌≡◌};
 
@@ -8,29 +8,29 @@ use std::io::{Read, Write};
 /// A reader or a writer of somebody else, with a count of the calls that failed: it passes on what the reader or writer
 /// answers, and only an error of it, or a write that takes none of some bytes, is `Failed`.
 #[derive(Drop)]
-pub(crate) struct Lent<'a, T> {
+pub(crate) struct Borrowed<'a, T> {
     device: &'a mut T,
     failures: u64,
 }
 
-impl<'a, T> Lent<'a, T> {
-    pub(crate) fn new(device: &'a mut T) -> Lent<'a, T>
+impl<'a, T> Borrowed<'a, T> {
+    pub(crate) fn new(device: &'a mut T) -> Borrowed<'a, T>
         ensures same_device { result.device.ghost_name ≡ device.entry.ghost_name }
         ensures device { result.device.now ≡ device.old }
     {
-        Lent {
+        Borrowed {
             device,
             failures: 0,
         }
     }
 }
 
-impl<'a, T: Read> Source for Lent<'a, T> {
-    ghost remaining = { λ lent. T.remaining lent.device.now };
+impl<'a, T: Read> Source for Borrowed<'a, T> {
+    ghost remaining = { λ borrowed. T.remaining borrowed.device.now };
 
-    ghost name = { λ lent. lent.device.ghost_name };
+    ghost name = { λ borrowed. borrowed.device.ghost_name };
 
-    ghost failed = { λ lent. lent.failures };
+    ghost failed = { λ borrowed. borrowed.failures };
 
     fn read(&mut self, buf: &mut [u8]) -> Result<usize, Failed> {
         match read_again(&mut *self.device, buf) {
@@ -47,12 +47,12 @@ impl<'a, T: Read> Source for Lent<'a, T> {
     }
 }
 
-impl<'a, T: Write> Sink for Lent<'a, T> {
-    ghost contents = { λ lent. T.contents lent.device.now };
+impl<'a, T: Write> Sink for Borrowed<'a, T> {
+    ghost contents = { λ borrowed. T.contents borrowed.device.now };
 
-    ghost name = { λ lent. lent.device.ghost_name };
+    ghost name = { λ borrowed. borrowed.device.ghost_name };
 
-    ghost failed = { λ lent. lent.failures };
+    ghost failed = { λ borrowed. borrowed.failures };
 
     fn write(&mut self, buf: &[u8]) -> Result<usize, Failed> {
         match write_again(&mut *self.device, buf) {
