@@ -6,7 +6,6 @@ mod calls;
 mod ending;
 pub mod laws;
 mod methods;
-mod methods;
 mod refusals;
 mod replies;
 mod routes;
