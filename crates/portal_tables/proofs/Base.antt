@@ -1,40 +1,34 @@
 -- Names from below that the proofs use.
-pub use Rattle.portal_tables.specs.Base.{Person, put, Key, Rise, has, is, is_before, is_at, is_from_ranking, Phase, Round, First, Second, LecturerRow, Listing, ProjectRow, StudentRow, is_key, created, Binary, id_in, is_taken, next_rowid, Database, IsDatabase, Held, state, Integer, Cells, Row, bytes, column, Schema, Begins, HasCleanDisk, IsRolledBack, IsUnchanged, KeepsCommit, Shows, State, Survives, Ghosts, Table, Term, col, lit, op2, Trees, put_row, rowid, bound, Error, Transaction, Value, Blob, Int, Null, Real, Words, Column, Index, Reference, key_cmp, Compare, Eq, number_in, ascending, Order, Bool, Err, IfOk, IsTrue, List, None, Ok, OnErr, OnOk, Option, Result, Some, Vec, [], codes, false, filter, length, map, not, option_map, pos, slice_index_or, take, true, ℕ, ℤ, slice_cmp, AllByRecursion, AllZip, filter_map, find, flat_map, list_any, IsPermutation, IsSorted, is_eq, is_lt, nat_cmp, ⊤, Global}
+pub use Rattle.portal_tables.specs.Base.{Person, put, Key, Rise, has, is, is_before, Phase, Round, First, Second, LecturerRow, Listing, ProjectRow, StudentRow, is_key, created, Binary, id_in, is_taken, next_rowid, Database, IsDatabase, Held, state, Integer, Cells, Row, bytes, column, Schema, Begins, HasCleanDisk, IsRolledBack, IsUnchanged, KeepsCommit, Shows, State, Survives, Ghosts, Table, Term, col, lit, op2, Trees, put_row, rowid, bound, Error, Transaction, Value, Blob, Int, Null, Real, Words, Column, Index, Reference, key_cmp, Compare, Eq, number_in, ascending, Order, Bool, Err, IfOk, IsTrue, List, None, Ok, OnErr, OnOk, Option, Result, Some, Vec, [], codes, false, filter, length, map, not, option_map, pos, slice_index_or, take, true, ℕ, ℤ, slice_cmp, AllByRecursion, AllZip, filter_map, find, flat_map, list_any, IsPermutation, IsSorted, is_eq, is_lt, nat_cmp, ⊤, Global}
 pub use Rattle.portal_core.proofs.Adjacent.{adjacent_rise, rows_sorted}
 pub use Rattle.portal_core.proofs.AllLaws.{all_append, all_map, all_weaker, any_map, filtered_any, is_sym}
-pub use Rattle.portal_core.proofs.Fills.{before_other, rise_kept}
+pub use Rattle.portal_core.proofs.Fills.{before_other}
 pub use Rattle.portal_core.proofs.Keys.{all_unmap, is_own, is_same, not_before_itself}
 pub use Rattle.portal_core.proofs.Puts.{after_other, before_trans}
-pub use Rattle.portal_tables.specs.Callers.{applicants_told, lecturer_shown, lines_shown, own_keys, person_key, persons_at, persons_before, placed_among, placed_shown, placed_told, with_persons}
 pub use Rattle.portal_tables.specs.Changes.{AreNew, Becomes, Drops, IsApart, ListsBy, Puts, Sets, columns, every, has_number, has_text, with_rows}
-pub use Rattle.portal_tables.specs.Contents.{AreFine}
 pub use Rattle.portal_tables.specs.Decoding.{FindsAny, ShowsAs}
-pub use Rattle.portal_tables.specs.Lines.{HasTables, applicant_lines, in_round, line_at, shown_line, told_line}
-pub use Rattle.portal_tables.specs.ListTables.{add_eight_text, add_text, choices_of, clear_text, names, place_among, rankings_of, round_of, tree_of}
+pub use Rattle.portal_tables.specs.ListTables.{add_eight_text, add_text, clear_text, names, place_among, round_of, tree_of}
 pub use Rattle.portal_tables.specs.Lists.{CountUp, IsWhole, by_place, chosen, list_of, named_by, of_key, place_key, place_of}
 pub use Rattle.portal_tables.specs.Making.{Creates, Grown, Grows, IsFresh, Makes, MakesFirst, MakesSecond, Upgrades, with_second}
 pub use Rattle.portal_tables.specs.Names.{is_named_table, is_named_view}
-pub use Rattle.portal_tables.specs.Offers.{name_of, offered}
 pub use Rattle.portal_tables.specs.Office.{HasOffice, IsOffice, IsSecond, number_of}
 pub use Rattle.portal_tables.specs.Own.{HasRound, IsCurrent, IsFirst, IsOwn, SameTable}
-pub use Rattle.portal_tables.specs.Owners.{AreOwned, IsFine, IsRead, choice_shown, entry, has_list, ranking_shown, with_list}
-pub use Rattle.portal_tables.specs.Places.{HasPlace, pair_shown, place_asked, place_before, place_shown, project_in, result_shown, second_place}
+pub use Rattle.portal_tables.specs.Owners.{IsRead, choice_shown, entry, has_list, with_list}
+pub use Rattle.portal_tables.specs.Places.{pair_shown, place_asked, place_shown, project_in, result_shown, second_place}
 pub use Rattle.portal_tables.specs.Putting.{PutsList, PutsPlaces, RanksSecond, list_cells, numbered, placed}
 pub use Rattle.portal_tables.specs.Queries.{columns_of, given, roll_tree, round_asked, selection, table_round, table_tree, text_of}
 pub use Rattle.portal_tables.specs.Reading.{AsksIn, Reads, ReadsIn}
 pub use Rattle.portal_tables.specs.Rising.{is_above, rises}
-pub use Rattle.portal_tables.specs.Rolls.{by_key, lecturers_shown, projects_shown, roll_columns, row_key, students_shown}
+pub use Rattle.portal_tables.specs.Rolls.{by_key, row_key}
 pub use Rattle.portal_tables.specs.Rows.{Adds, AddsBy, Assigned, Assigns, Clears, IsOfVersion, MovesSecond, MovesTo, Ranks, assigned_by, lecturer_cells, lecturer_new, lecturer_values, pair_new, place_cells, place_new, portal_cells, portal_row, project_new, second_cells, second_row, student_new, student_shown, student_values, text_or_null, with_assigned}
-pub use Rattle.portal_tables.specs.Shown.{as_list, first, shown_lecturer, shown_name, shown_place, shown_project}
+pub use Rattle.portal_tables.specs.Shown.{as_list, first, shown_name, shown_place}
 pub use Rattle.portal_tables.specs.Steps.{Commits, Does, GoesOn, IsAfter, Leaves, Made, Ran, Stays}
 pub use Rattle.portal_tables.specs.Tables.{assigned2, assigned2_text, assigned2_tree, choice, choice2, choice2_names, choice2_tree, choice_names, choice_tree, column_of, first_schema, first_trees, first_version, lecturer, lecturer_text, lecturer_tree, list_table, list_table_text, no_schema, own_trees, portal, portal_schema, portal_text, portal_tree, project, project_text, project_tree, ranked2, ranked2_text, ranked2_tree, ranking, ranking2, ranking2_names, ranking2_tree, ranking_names, ranking_tree, second, second_text, second_tree, second_trees, student, student_text, student_tree, table_of, version}
 pub use Rattle.portal_tables.specs.declared.fault.TableFault.{TableFault}
 pub use Rattle.portal_tables.specs.declared.insert.lists.NewPlace.{NewPlace}
-pub use Rattle.portal_tables.specs.declared.lines.Line.{Line}
 pub use Rattle.portal_tables.specs.declared.list_table.Lists.{Lists}
 pub use Rattle.portal_tables.specs.declared.list_table.Lists.TheVariants.{Choices, Rankings, SecondChoices, SecondRankings}
 pub use Rattle.portal_tables.specs.declared.select.Query.TheVariants.{AllLists, Choosers, LecturerByCode, LecturerByKey, ListOf, Listed, Numbers, ProjectsOf, SecondPlaceOf, SecondRankedBy, StudentByCode, StudentTold, Whole}
-pub use Rattle.portal_tables.specs.declared.select.Roll.{Roll}
 pub use Rattle.portal_tables.specs.declared.select.Roll.TheVariants.{Lecturers, Projects, Students}
 pub use Rattle.portal_tables.specs.declared.select.Table.TheVariants.{OfLists, OfPlaces, OfRanked, OfRoll}
 pub use Rattle.sqlite.proofs.Callers.{EndsIn, IsPlain, begins_shown, begun_plain, command_of, given_begin, memory_is_clean, never_commits, one_permutation, one_step, reads_as, runs_as, statement_of, survives_begin}
@@ -78,11 +72,11 @@ pub use Rattle.sqlite_rules.specs.Action.{deed_for, pairs, work_by, works}
 pub use Rattle.sqlite_rules.specs.Calls.{ids_of}
 pub use Rattle.sqlite_rules.specs.Lists.{Has}
 pub use Rattle.sqlite_schema.specs.Program.{lets_of}
-pub use Rattle.sqlite_schema.specs.Rules.{Keeps, are_present, are_typed, differ, equal, is_of, parent_key, passes}
+pub use Rattle.sqlite_schema.specs.Rules.{Keeps, are_present, are_typed, equal, is_of, parent_key, passes}
 pub use Rattle.sqlite_schema.specs.declared.command.Command.{Command}
 pub use Rattle.sqlite_schema.specs.declared.program.Program.{Program}
 pub use Rattle.sqlite_schema.specs.declared.schema.Constraint.{Constraint}
-pub use Rattle.sqlite_schema.specs.declared.schema.Constraint.TheVariants.{Datatype, ForeignKey, NotNull, Unique}
+pub use Rattle.sqlite_schema.specs.declared.schema.Constraint.TheVariants.{Datatype, ForeignKey, NotNull}
 pub use Rattle.sqlite_schema.specs.declared.schema.Keys.TheVariants.{Enforced}
 pub use Rattle.sqlite_sql.specs.Ops.{is_null}
 pub use Rattle.sqlite_sql.specs.Program.{Ends}
@@ -93,7 +87,7 @@ pub use Rattle.sqlite_trees.proofs.TreeLemmas.{all-put_row}
 pub use Rattle.sqlite_trees.specs.Tree.{IsAscending}
 pub use Rattle.sqlite_value.proofs.OrderLemmas.{then-Equal, value_cmp-Int, value_cmp-Text, value_cmp_total}
 pub use Rattle.std.proofs.Common.{add-one, ap, ap₂, cond, drop, eqb, get_or, inl, inr, int_cmp, negsuc, refl, slice_get, subst, subst₂, suc, sym, zero, zero-add, ◌∙◌}
-pub use Rattle.std.proofs.Math.Bool.{and-false, and-true, and_comm, or-true}
+pub use Rattle.std.proofs.Math.Bool.{and-false, and-true, or-true}
 pub use Rattle.std.proofs.lemmas.Bool.{and_parts, cases_Bool, cases_lt, eq-eqb, eqb-false, or_parts}
 pub use Rattle.std.proofs.lemmas.Cmp.{nat_list_cmp_total, tied_itself}
 pub use Rattle.std.proofs.lemmas.Fn.{always_returns_same}
@@ -108,7 +102,7 @@ pub use Rattle.std.specs.Cmp.{int_cmp_is, nat_cmp_is}
 pub use Rattle.std.specs.Cmp.Lexicographic.{texts_ties}
 unfoldable pub use Rattle.std.specs.List.{IsDistinct}
 pub use Rattle.std.specs.List.{cons_option, list_all}
-pub use Rattle.std.specs.Ordering.{is_gt, is_ne, match_ordering, ordering_reverse, ordering_then}
+pub use Rattle.std.specs.Ordering.{is_gt, match_ordering, ordering_reverse, ordering_then}
 pub use Rattle.std.specs.Prelude.{IfErr, IfSome, if◌then◌else◌, option_copied}
 pub use Rattle.std.specs.Result.{IsErr}
 pub use Rattle.std.specs.declared.cmp.Ordering.{Ordering}

@@ -21,16 +21,11 @@ pub mod OfficeRow
 pub mod Sorted
 pub mod Texts
 pub mod Asking
-pub mod Owners
 pub mod Parents
 pub mod Shapes
 pub mod Putting
 pub mod NamedRows
 pub mod OneFound
-pub mod Choosers
-pub mod OneKey
-pub mod OwnProjects
-pub mod LineRows
 pub mod Assigning
 pub mod SecondRound
 pub mod SecondRows

@@ -1,6 +1,6 @@
 -- Lists of rows.
 use Rattle.std.specs.Prelude.{◌≡◌, ◌∷◌, ◌++◌, ◌&&◌, ◌||◌}
-use Rattle.portal_tables.proofs.Base.{inl, inr, ℤ, List, [], map, filter, Bool, true, false, not, cond, refl, sym, ap, subst, ◌∙◌, AllByRecursion, list_any, flat_map, is_eq, ordering_reverse, match_ordering, Ordering, Less, Equal, Greater, or_parts, Value, Int, Row, value_cmp, put_row, rowid, has_rowid, without_rowid, id_in, is_taken, without_all, Has, all_has, all-filter, value_cmp_total, IsApart}
+use Rattle.portal_tables.proofs.Base.{inl, inr, ℤ, List, [], map, filter, Bool, true, false, not, cond, refl, sym, ap, ap₂, subst, ◌∙◌, AllByRecursion, list_any, flat_map, is_eq, ordering_reverse, match_ordering, Ordering, Less, Equal, Greater, or_parts, Value, Int, Row, value_cmp, put_row, rowid, has_rowid, without_rowid, id_in, is_taken, without_all, Has, all_has, all-filter, value_cmp_total, IsApart}
 
 -- a loop that shows each element which passes
 pub looped : {X Y : Type 0} (p : X → Bool) (f : X → Y) (xs : List X) → flat_map (λ x. cond (p x) (f x ∷ []) []) xs ≡ map f (filter p xs)
@@ -120,3 +120,8 @@ put_splits new (r ∷ rows) free = go (put_splits new rows both.1) (value_cmp (r
     go rest Less is = (r ∷ rest.0, rest.1, ap (λ l. r ∷ l) rest.2, ap (λ l. r ∷ l) rest.3)
     go rest Equal is = absurd (let e : is_eq Equal ≡ false = ap is_eq (sym is) ∙ both.0 in cc)
     go rest Greater is = ([], r ∷ rows, refl, refl)
+
+-- tests that agree on all find the same
+pub any_alike : {X : Type 0} (p q : X → Bool) (xs : List X) → AllByRecursion (λ x. p x ≡ q x) xs → list_any p xs ≡ list_any q xs
+any_alike p q [] all = refl
+any_alike p q (x ∷ xs) all = ap₂ (λ a b. a || b) all.0 (any_alike p q xs all.1)

@@ -3,7 +3,7 @@ use Rattle.std.specs.Prelude.{◌≡◌, ◌≤◌, ◌&&◌, ◌∷◌}
 use Rattle.portal_tables.proofs.Base.{true, not, Option, option_map, IfSome, List, [], map, filter, length, refl, sym, ap, subst, subst₂, ◌∙◌, AllByRecursion, list_any, list_any-IsPermutation, IsPermutation, IsPermutation-map, IsPermutation-sym, length_permutation, length-map, and-true, map-map, Row, column, bytes, Database, IsDatabase, Key, is, is_sym, has, any_map, filtered_any, all_map, all_weaker, IsCurrent, OfRanked, OfPlaces, ranked2_tree, assigned2_tree, ListsBy, columns, has_text, of_key, row_key, as_list, shown_name, is_key, project_in, second_place}
 use Rattle.portal_core.specs.Words.{is_empty}
 use Rattle.std.proofs.Common.{arith}
-use Rattle.portal_tables.proofs.Choosers.{any_alike}
+use Rattle.portal_tables.proofs.Lists.{any_alike}
 use Rattle.portal_tables.proofs.Listed.{IsText, permuted}
 use Rattle.portal_tables.proofs.OneFound.{first_of, find_is, first_back, only_one, filter_alike}
 use Rattle.portal_tables.proofs.Shapes.{has_text_of}

@@ -18,7 +18,3 @@ pub mod Places
 pub mod Owners
 pub mod Names
 pub mod Putting
-pub mod Lines
-pub mod Contents
-pub mod Offers
-pub mod Callers

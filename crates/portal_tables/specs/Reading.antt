@@ -27,6 +27,10 @@ TellsIn round g old new result P = HasRound round old.schema → HasCleanDisk (s
 abbrev pub TellsSound : {S V E : Type 0} → Round → Ghosts S → Held S → Held S → Result V E → (Database → V → Type 0) → Type 0
 TellsSound round g old new result P = HasRound round old.schema → IsDatabase (state g old).now → HasCleanDisk (state g new) → IfOk result (P (state g old).now)
 
+-- this holds where a round's tables are the portal's own in a sound database, and the disk is clean
+abbrev pub OverSound : {S : Type 0} → Round → Ghosts S → Held S → Held S → Type 0 → Type 0
+OverSound round g old new So = HasRound round old.schema → IsDatabase (state g old).now → HasCleanDisk (state g new) → So
+
 -- of the first round's tables
 abbrev pub Asks : {V E : Type 0} → Result V E → State → State → Type 0
 Asks result old new = AsksIn First result old new

@@ -22,7 +22,7 @@ pub fn bytes_at(row: &Row, at: usize) -> &[u8]
 }
 
 /// The number in a cell, or 0 where there is none from 0 on.
-pub fn number_at(row: &Row, at: usize) -> u64
+pub(crate) fn number_at(row: &Row, at: usize) -> u64
     ensures { result ≡ number_in (column row.now at) }
 {
     match row.get_ref(at) {
@@ -57,7 +57,7 @@ pub fn name_at(alloc: Global, row: &Row, at: usize) -> Result<Name, TableFault>
 }
 
 /// The code in a cell. The fault is `Damaged` where the bytes have not the form of a code.
-pub fn code_at(alloc: Global, row: &Row, at: usize) -> Result<Code, TableFault>
+pub(crate) fn code_at(alloc: Global, row: &Row, at: usize) -> Result<Code, TableFault>
     ensures ok { IfOk result (λ code. code ≡ bytes (column row.now at)) }
     ensures damaged { result ≡ Err TableFault.Damaged
         → is_code (bytes (column row.now at)) ≡ false }
@@ -100,7 +100,7 @@ pub fn assigned_at(alloc: Global, row: &Row, at: usize) -> Result<Option<Key>, T
 }
 
 /// Whether a cell that may hold a key is NULL.
-pub fn is_null(row: &Row, at: usize) -> bool
+pub(crate) fn is_null(row: &Row, at: usize) -> bool
     ensures { result ≡ is_none (text_or_none (column row.now at)) }
 {
     match row.get_ref(at) {

@@ -144,7 +144,7 @@ fn do_count_up(rows: &[Row]) -> bool
 
 /// The names of a list whose rows show place and name. The fault is `Damaged` where the places are not 1, 2 and so on, or a
 /// name has not the form of a key.
-pub fn list_from(alloc: Global, rows: &[Row]) -> Result<Vec<Key>, TableFault>
+pub(crate) fn list_from(alloc: Global, rows: &[Row]) -> Result<Vec<Key>, TableFault>
     ensures names { IfOk result (λ v. v.items ≡ map shown_name rows.now) }
     ensures whole { IfOk result (λ v. CountUp 1 (map shown_place rows.now)) }
     ensures damaged { result ≡ Err TableFault.Damaged → CountUp 1 (map shown_place rows.now)

@@ -1,10 +1,10 @@
 //! The lists of the owners whose rows are shown: one owner's by a query, or several in turn.
 
 ghost use Rattle.std.specs.Prelude.{◌≡◌, ◌↔◌, ◌∷◌, if◌then◌else◌};
-ghost use Rattle.portal_tables.specs.Base.{[], false, true, Ok, Err, IfOk, OnOk, IsTrue, Some, None, option_map, map, AllByRecursion, filter_map, HasCleanDisk, IsDatabase, state, is_key, has, Rise};
+ghost use Rattle.portal_tables.specs.Base.{[], false, true, Ok, Err, IfOk, OnOk, IsTrue, Some, None, option_map, map, AllByRecursion, filter_map, HasCleanDisk, state, is_key, has, Rise};
 ghost use Rattle.portal_tables.specs.Own.{HasRound};
 ghost use Rattle.portal_tables.specs.Lists.{of_key, IsWhole, chosen};
-ghost use Rattle.portal_tables.specs.Reading.{ReadsIn, TellsIn, TellsSound};
+ghost use Rattle.portal_tables.specs.Reading.{ReadsIn, TellsIn, TellsSound, OverSound};
 ghost use Rattle.portal_tables.specs.ListTables.{round_of, tree_of};
 ghost use Rattle.portal_tables.specs.Owners.{AreOwned, has_list, entry, with_list, IsRead, IsFine};
 ghost use Rattle.portal_tables.specs.Shown.{first};
@@ -87,7 +87,7 @@ fn kept_entry(
 }
 
 /// The list of the owner whose row this is, if the owner is to have one.
-pub(crate) fn entry_in<S: Alter>(
+pub fn entry_in<S: Alter>(
     alloc: Global,
     conn: &mut Connection<S>,
     lists: Lists,
@@ -95,13 +95,11 @@ pub(crate) fn entry_in<S: Alter>(
 ) -> Result<Option<(Key, Vec<Key>)>, TableFault>
     ensures ok { TellsSound (round_of lists) S.Store conn.old conn.new result
         (λ db found. option_map with_list found ≡ entry lists db.trees owner.now) }
-    ensures read { HasRound (round_of lists) conn.old.schema
-        → IsDatabase (state S.Store conn.old).now → HasCleanDisk (state S.Store conn.new)
-        → OnOk result (IsRead lists (state S.Store conn.old).now.trees owner.now) }
-    ensures damaged { HasRound (round_of lists) conn.old.schema
-        → IsDatabase (state S.Store conn.old).now → HasCleanDisk (state S.Store conn.new)
-        → result ≡ Err TableFault.Damaged
-        → IsFine lists (state S.Store conn.old).now.trees owner.now → ⊥ }
+    ensures read { OverSound (round_of lists) S.Store conn.old conn.new
+        (OnOk result (IsRead lists (state S.Store conn.old).now.trees owner.now)) }
+    ensures damaged { OverSound (round_of lists) S.Store conn.old conn.new
+        (result ≡ Err TableFault.Damaged
+        → IsFine lists (state S.Store conn.old).now.trees owner.now → ⊥) }
     ensures reads { ReadsIn (round_of lists) result
         (state S.Store conn.old) (state S.Store conn.new) }
 {
@@ -121,14 +119,12 @@ fn entries_each<S: Alter>(
 ) -> Result<Vec<(Key, Vec<Key>)>, TableFault>
     ensures ok { TellsSound (round_of lists) S.Store conn.old conn.new result
         (λ db v. map with_list v.items ≡ filter_map (entry lists db.trees) owners.now) }
-    ensures read { HasRound (round_of lists) conn.old.schema
-        → IsDatabase (state S.Store conn.old).now → HasCleanDisk (state S.Store conn.new)
-        → OnOk result (AllByRecursion
-        (IsRead lists (state S.Store conn.old).now.trees) owners.now) }
-    ensures damaged { HasRound (round_of lists) conn.old.schema
-        → IsDatabase (state S.Store conn.old).now → HasCleanDisk (state S.Store conn.new)
-        → result ≡ Err TableFault.Damaged
-        → AllByRecursion (IsFine lists (state S.Store conn.old).now.trees) owners.now → ⊥ }
+    ensures read { OverSound (round_of lists) S.Store conn.old conn.new
+        (OnOk result (AllByRecursion
+        (IsRead lists (state S.Store conn.old).now.trees) owners.now)) }
+    ensures damaged { OverSound (round_of lists) S.Store conn.old conn.new
+        (result ≡ Err TableFault.Damaged
+        → AllByRecursion (IsFine lists (state S.Store conn.old).now.trees) owners.now → ⊥) }
     ensures reads { ReadsIn (round_of lists) result
         (state S.Store conn.old) (state S.Store conn.new) }
 {
@@ -193,15 +189,13 @@ pub fn entries_in<S: Alter>(
 ) -> Result<Vec<(Key, Vec<Key>)>, TableFault>
     ensures ok { TellsSound (round_of lists) S.Store conn.old conn.new result
         (λ db v. map with_list v.items ≡ filter_map (entry lists db.trees) owners.now) }
-    ensures read { HasRound (round_of lists) conn.old.schema
-        → IsDatabase (state S.Store conn.old).now → HasCleanDisk (state S.Store conn.new)
-        → OnOk result (AllByRecursion
-        (IsRead lists (state S.Store conn.old).now.trees) owners.now) }
-    ensures damaged { HasRound (round_of lists) conn.old.schema
-        → IsDatabase (state S.Store conn.old).now → HasCleanDisk (state S.Store conn.new)
-        → result ≡ Err TableFault.Damaged
+    ensures read { OverSound (round_of lists) S.Store conn.old conn.new
+        (OnOk result (AllByRecursion
+        (IsRead lists (state S.Store conn.old).now.trees) owners.now)) }
+    ensures damaged { OverSound (round_of lists) S.Store conn.old conn.new
+        (result ≡ Err TableFault.Damaged
         → AreOwned lists (state S.Store conn.old).now.trees owners.now
-        → AllByRecursion (IsFine lists (state S.Store conn.old).now.trees) owners.now → ⊥ }
+        → AllByRecursion (IsFine lists (state S.Store conn.old).now.trees) owners.now → ⊥) }
     ensures reads { ReadsIn (round_of lists) result
         (state S.Store conn.old) (state S.Store conn.new) }
 {

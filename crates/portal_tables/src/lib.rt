@@ -1,35 +1,42 @@
 //! The tables of the portal in a database of the crate `sqlite`: how they are made, what each statement does to one of
-//! them, what a query shows of one, and how what is shown is decoded into the portal's rows of rolls, the names of a list, the
-//! row of the office, what may be told of students, and what a lecturer and a student see. It knows rows and numbers of trees and no
-//! world.
+//! them, what a query shows of one, and how what is shown is decoded into the portal's rows of rolls, the names of a list and
+//! the row of the office. It knows rows and numbers of trees and no world.
 #![tactic(auto)]
 
-pub mod apart;
-pub mod applicants;
-pub mod assign;
+mod apart;
+mod assign;
 pub mod cells;
-pub mod contents;
 pub mod decode;
-pub mod entries;
-pub mod fault;
+mod entries;
+mod fault;
 pub mod insert;
-pub mod lecturer;
-pub mod lines;
 pub mod list_table;
-pub mod make;
-pub mod named;
+mod make;
+mod named;
 pub mod names;
-pub mod offers;
-pub mod office;
-pub mod own;
-mod persons;
-pub mod places;
-pub mod put;
-pub mod rolls;
+mod office;
+mod own;
+mod places;
+mod put;
+mod rolls;
 mod run;
-pub mod second;
+mod second;
 pub mod select;
-pub mod step;
-pub mod student;
+mod step;
 pub mod update;
-pub mod upgrade;
+mod upgrade;
+
+pub use apart::are_apart;
+pub use assign::{Assignment, assign_all};
+pub use entries::{entries_in, entry_in, has_list_in, list_in};
+pub use fault::TableFault;
+pub use make::create_portal;
+pub use named::is_named;
+pub use office::{FIRST_VERSION, Office, VERSION, office_in};
+pub use own::Pattern;
+pub use places::{pairs_in, result_in, second_place_in, takes_part};
+pub use put::{clear_list, put_list};
+pub use rolls::{Rolls, parts_of, rising, roll_in, rolls_in};
+pub use second::{put_places, rank_second, second_in, set_second};
+pub use step::{Step, commit};
+pub use upgrade::upgrade_tables;

@@ -12,38 +12,46 @@ use crate::step::{Step, commit};
 use sqlite::{Alter, Connection, Error, Transaction};
 use std::alloc::Global;
 
-const PORTAL: &str =
-    "CREATE TABLE portal (id INTEGER NOT NULL PRIMARY KEY CHECK (id = 1), version INTEGER NOT NULL, phase INTEGER NOT NULL, office TEXT NOT NULL) STRICT";
+const PORTAL: &str = "CREATE TABLE portal (id INTEGER NOT NULL PRIMARY KEY CHECK (id = 1), \
+     version INTEGER NOT NULL, phase INTEGER NOT NULL, office TEXT NOT NULL) STRICT";
 
-const LECTURER: &str =
-    "CREATE TABLE lecturer (key TEXT NOT NULL PRIMARY KEY, name TEXT NOT NULL, code TEXT NOT NULL UNIQUE, capacity INTEGER NOT NULL CHECK (capacity >= 1 AND capacity <= 200), ranked INTEGER NOT NULL CHECK (ranked = 0 OR ranked = 1)) STRICT";
+const LECTURER: &str = "CREATE TABLE lecturer (key TEXT NOT NULL PRIMARY KEY, name TEXT NOT NULL, \
+     code TEXT NOT NULL UNIQUE, \
+     capacity INTEGER NOT NULL CHECK (capacity >= 1 AND capacity <= 200), \
+     ranked INTEGER NOT NULL CHECK (ranked = 0 OR ranked = 1)) STRICT";
 
-const PROJECT: &str =
-    "CREATE TABLE project (key TEXT NOT NULL PRIMARY KEY, lecturer TEXT NOT NULL REFERENCES lecturer (key), title TEXT NOT NULL, capacity INTEGER NOT NULL CHECK (capacity >= 1 AND capacity <= 200)) STRICT";
+const PROJECT: &str = "CREATE TABLE project (key TEXT NOT NULL PRIMARY KEY, \
+     lecturer TEXT NOT NULL REFERENCES lecturer (key), title TEXT NOT NULL, \
+     capacity INTEGER NOT NULL CHECK (capacity >= 1 AND capacity <= 200)) STRICT";
 
-const STUDENT: &str =
-    "CREATE TABLE student (key TEXT NOT NULL PRIMARY KEY, name TEXT NOT NULL, code TEXT NOT NULL UNIQUE, assigned TEXT REFERENCES project (key)) STRICT";
+const STUDENT: &str = "CREATE TABLE student (key TEXT NOT NULL PRIMARY KEY, name TEXT NOT NULL, \
+     code TEXT NOT NULL UNIQUE, assigned TEXT REFERENCES project (key)) STRICT";
 
-const CHOICE: &str =
-    "CREATE TABLE choice (student TEXT NOT NULL REFERENCES student (key), place INTEGER NOT NULL, project TEXT NOT NULL REFERENCES project (key), PRIMARY KEY (student, place), UNIQUE (project, student)) STRICT";
+const CHOICE: &str = "CREATE TABLE choice (student TEXT NOT NULL REFERENCES student (key), \
+     place INTEGER NOT NULL, project TEXT NOT NULL REFERENCES project (key), \
+     PRIMARY KEY (student, place), UNIQUE (project, student)) STRICT";
 
-const RANKING: &str =
-    "CREATE TABLE ranking (lecturer TEXT NOT NULL REFERENCES lecturer (key), place INTEGER NOT NULL, student TEXT NOT NULL REFERENCES student (key), PRIMARY KEY (lecturer, place), UNIQUE (student, lecturer)) STRICT";
+const RANKING: &str = "CREATE TABLE ranking (lecturer TEXT NOT NULL REFERENCES lecturer (key), \
+     place INTEGER NOT NULL, student TEXT NOT NULL REFERENCES student (key), \
+     PRIMARY KEY (lecturer, place), UNIQUE (student, lecturer)) STRICT";
 
-const SECOND: &str =
-    "CREATE TABLE second (id INTEGER NOT NULL PRIMARY KEY CHECK (id = 1), phase INTEGER NOT NULL CHECK (phase >= 0 AND phase <= 3)) STRICT";
+const SECOND: &str = "CREATE TABLE second (id INTEGER NOT NULL PRIMARY KEY CHECK (id = 1), \
+     phase INTEGER NOT NULL CHECK (phase >= 0 AND phase <= 3)) STRICT";
 
-const CHOICE2: &str =
-    "CREATE TABLE choice2 (student TEXT NOT NULL REFERENCES student (key), place INTEGER NOT NULL, project TEXT NOT NULL REFERENCES project (key), PRIMARY KEY (student, place), UNIQUE (project, student)) STRICT";
+const CHOICE2: &str = "CREATE TABLE choice2 (student TEXT NOT NULL REFERENCES student (key), \
+     place INTEGER NOT NULL, project TEXT NOT NULL REFERENCES project (key), \
+     PRIMARY KEY (student, place), UNIQUE (project, student)) STRICT";
 
 const RANKED2: &str =
     "CREATE TABLE ranked2 (lecturer TEXT NOT NULL PRIMARY KEY REFERENCES lecturer (key)) STRICT";
 
-const RANKING2: &str =
-    "CREATE TABLE ranking2 (lecturer TEXT NOT NULL REFERENCES lecturer (key), place INTEGER NOT NULL, student TEXT NOT NULL REFERENCES student (key), PRIMARY KEY (lecturer, place), UNIQUE (student, lecturer)) STRICT";
+const RANKING2: &str = "CREATE TABLE ranking2 (lecturer TEXT NOT NULL REFERENCES lecturer (key), \
+     place INTEGER NOT NULL, student TEXT NOT NULL REFERENCES student (key), \
+     PRIMARY KEY (lecturer, place), UNIQUE (student, lecturer)) STRICT";
 
 const ASSIGNED2: &str =
-    "CREATE TABLE assigned2 (student TEXT NOT NULL PRIMARY KEY REFERENCES student (key), project TEXT NOT NULL REFERENCES project (key)) STRICT";
+    "CREATE TABLE assigned2 (student TEXT NOT NULL PRIMARY KEY REFERENCES student (key), \
+     project TEXT NOT NULL REFERENCES project (key)) STRICT";
 
 /// Makes the six tables of the first round, all empty, where the database has no table.
 fn make_first<S: Alter>(tx: &mut Transaction<'_, S>) -> Result<(), Error>
@@ -70,7 +78,7 @@ pub(crate) fn make_second<S: Alter>(tx: &mut Transaction<'_, S>) -> Result<(), E
 
 /// Makes the portal's tables, all empty, where the database has no table. An error of the store is handed on; the transaction
 /// should then be dropped, which undoes it.
-pub fn make_tables<S: Alter>(tx: &mut Transaction<'_, S>) -> Result<(), Error>
+pub(crate) fn make_tables<S: Alter>(tx: &mut Transaction<'_, S>) -> Result<(), Error>
     ensures { Does S.Store (Made Makes) result tx.old tx.new }
 {
     make_first(tx)?;

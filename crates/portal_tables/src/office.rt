@@ -1,10 +1,10 @@
 //! The row of the office.
 
 ghost use Rattle.std.specs.Prelude.{◌≡◌, ◌↔◌, ◌∷◌};
-ghost use Rattle.portal_tables.specs.Base.{[], pos, true, false, Err, IfOk, IfSome, IfNone, OnOk, OnErr, IsTrue, List, ℕ, Int, Words, Cells, column, HasCleanDisk, IsDatabase, state, is_code, ThePhase};
+ghost use Rattle.portal_tables.specs.Base.{[], pos, true, false, Err, IfOk, IfSome, IfNone, OnOk, OnErr, IsTrue, List, ℕ, Int, Words, Cells, column, HasCleanDisk, state, is_code, ThePhase, First};
 ghost use Rattle.portal_tables.specs.Tables.{portal_tree};
 ghost use Rattle.portal_tables.specs.Own.{IsOwn};
-ghost use Rattle.portal_tables.specs.Reading.{Asks};
+ghost use Rattle.portal_tables.specs.Reading.{Asks, OverSound};
 ghost use Rattle.portal_tables.specs.Rows.{portal_row};
 ghost use Rattle.portal_tables.specs.Office.{number_of, IsOffice, HasOffice};
 
@@ -103,10 +103,9 @@ pub fn office_in<S: Alter>(
     conn: &mut Connection<S>,
     version: u32,
 ) -> Result<Office, TableFault>
-    ensures row { IsOwn conn.old.schema → IsDatabase (state S.Store conn.old).now
-        → HasCleanDisk (state S.Store conn.new)
-        → IfOk result (λ office. (state S.Store conn.old).now.trees portal_tree
-        ≡ portal_row (pos version) (pos (number_of office.phase)) office.code ∷ []) }
+    ensures row { OverSound First S.Store conn.old conn.new
+        (IfOk result (λ office. (state S.Store conn.old).now.trees portal_tree
+        ≡ portal_row (pos version) (pos (number_of office.phase)) office.code ∷ [])) }
     ensures damaged { IsOwn conn.old.schema → HasCleanDisk (state S.Store conn.new)
         → result ≡ Err TableFault.Damaged
         → (office : HasOffice version ((state S.Store conn.old).now.trees portal_tree))

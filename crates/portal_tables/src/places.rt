@@ -1,11 +1,10 @@
 //! The projects that the rounds' results give to students: that of the first stands in the student's row, that of the second in a row of its own.
 
 ghost use Rattle.std.specs.Prelude.{◌≡◌, ◌≤◌, is_none, if◌then◌else◌};
-ghost use Rattle.portal_tables.specs.Base.{true, Err, None, IfOk, IfSome, option_map, length, map, AllByRecursion, filter_map, HasCleanDisk, IsDatabase, state, is_key, is_published, IsStudent, InSecond};
+ghost use Rattle.portal_tables.specs.Base.{true, Err, None, IfOk, IfSome, option_map, length, map, AllByRecursion, filter_map, state, is_key, is_published, IsStudent, InSecond};
 ghost use Rattle.portal_tables.specs.Tables.{assigned2_tree};
-ghost use Rattle.portal_tables.specs.Own.{IsCurrent, HasRound};
 ghost use Rattle.portal_tables.specs.Lists.{of_key};
-ghost use Rattle.portal_tables.specs.Reading.{ReadsIn, TellsSound};
+ghost use Rattle.portal_tables.specs.Reading.{ReadsIn, TellsSound, OverSound};
 ghost use Rattle.portal_tables.specs.Shown.{as_list, first, shown_name, shown_student};
 ghost use Rattle.portal_tables.specs.Places as meant;
 ghost use Rattle.portal_tables.specs.Places.{second_place, place_shown, place_before, result_shown, pair_shown, HasPlace};
@@ -30,19 +29,19 @@ fn only_name(alloc: Global, rows: &[Row]) -> Result<Option<Key>, TableFault>
 }
 
 /// The place in the second round of the student with the key.
-pub(crate) fn second_place_in<S: Alter>(
+pub fn second_place_in<S: Alter>(
     alloc: Global,
     conn: &mut Connection<S>,
     student: &[u8],
 ) -> Result<Option<Key>, TableFault>
     ensures ok { TellsSound InSecond S.Store conn.old conn.new result
         (λ db p. p ≡ second_place db.trees student.now) }
-    ensures damaged { IsCurrent conn.old.schema → IsDatabase (state S.Store conn.old).now
-        → HasCleanDisk (state S.Store conn.new) → result ≡ Err TableFault.Damaged
+    ensures damaged { OverSound InSecond S.Store conn.old conn.new
+        (result ≡ Err TableFault.Damaged
         → IfSome (second_place (state S.Store conn.old).now.trees student.now)
         (λ p. is_key p ≡ true)
         → length (of_key student.now ((state S.Store conn.old).now.trees assigned2_tree)) ≤ 1
-        → ⊥ }
+        → ⊥) }
     ensures reads { ReadsIn InSecond result (state S.Store conn.old) (state S.Store conn.new) }
 {
     let rows = read_rows(alloc, conn, Query::SecondPlaceOf(student))?;
@@ -51,7 +50,7 @@ pub(crate) fn second_place_in<S: Alter>(
 
 /// The place in a round of the student whose row this is. The fault is `Damaged` where it is no key or the second round has several,
 /// `Store` where the store answered an error, `Memory` where there is not enough memory.
-pub fn place_in<S: Alter>(
+pub(crate) fn place_in<S: Alter>(
     alloc: Global,
     conn: &mut Connection<S>,
     round: Round,
@@ -59,9 +58,9 @@ pub fn place_in<S: Alter>(
 ) -> Result<Option<Key>, TableFault>
     ensures ok { TellsSound round S.Store conn.old conn.new result
         (λ db p. p ≡ place_shown round db.trees row.now) }
-    ensures damaged { HasRound round conn.old.schema → IsDatabase (state S.Store conn.old).now
-        → HasCleanDisk (state S.Store conn.new) → result ≡ Err TableFault.Damaged
-        → HasPlace round (state S.Store conn.old).now.trees row.now → ⊥ }
+    ensures damaged { OverSound round S.Store conn.old conn.new
+        (result ≡ Err TableFault.Damaged
+        → HasPlace round (state S.Store conn.old).now.trees row.now → ⊥) }
     ensures reads { ReadsIn round result (state S.Store conn.old) (state S.Store conn.new) }
 {
     match round {
@@ -81,7 +80,7 @@ fn place_before_at(alloc: Global, round: Round, row: &Row) -> Result<Option<Key>
 }
 
 /// Whether the student whose row this is takes part in the round: the one before gave no place.
-pub(crate) fn takes_part(round: Round, row: &Row) -> bool
+pub fn takes_part(round: Round, row: &Row) -> bool
     ensures { result ≡ is_none (place_before round row.now) }
 {
     match round {
@@ -136,9 +135,9 @@ fn place_asked<S: Alter>(
 ) -> Result<Option<Key>, TableFault>
     ensures ok { TellsSound round S.Store conn.old conn.new result
         (λ db p. p ≡ meant.place_asked round phase db.trees row.now) }
-    ensures damaged { HasRound round conn.old.schema → IsDatabase (state S.Store conn.old).now
-        → HasCleanDisk (state S.Store conn.new) → result ≡ Err TableFault.Damaged → phase ≡ None
-        → HasPlace round (state S.Store conn.old).now.trees row.now → ⊥ }
+    ensures damaged { OverSound round S.Store conn.old conn.new
+        (result ≡ Err TableFault.Damaged → phase ≡ None
+        → HasPlace round (state S.Store conn.old).now.trees row.now → ⊥) }
     ensures reads { ReadsIn round result (state S.Store conn.old) (state S.Store conn.new) }
 {
     match phase {
@@ -172,10 +171,10 @@ fn pair_in<S: Alter>(
 ) -> Result<Option<(Key, Key)>, TableFault>
     ensures ok { TellsSound round S.Store conn.old conn.new result
         (λ db o. o ≡ pair_shown round phase db.trees row.now) }
-    ensures damaged { HasRound round conn.old.schema → IsDatabase (state S.Store conn.old).now
-        → HasCleanDisk (state S.Store conn.new) → result ≡ Err TableFault.Damaged → phase ≡ None
+    ensures damaged { OverSound round S.Store conn.old conn.new
+        (result ≡ Err TableFault.Damaged → phase ≡ None
         → IsStudent (shown_student row.now)
-        → HasPlace round (state S.Store conn.old).now.trees row.now → ⊥ }
+        → HasPlace round (state S.Store conn.old).now.trees row.now → ⊥) }
     ensures reads { ReadsIn round result (state S.Store conn.old) (state S.Store conn.new) }
 {
     let place = place_asked(alloc, conn, round, phase, row)?;
@@ -193,10 +192,10 @@ pub fn pairs_in<S: Alter>(
 ) -> Result<Vec<(Key, Key)>, TableFault>
     ensures ok { TellsSound round S.Store conn.old conn.new result
         (λ db v. v.items ≡ filter_map (pair_shown round phase db.trees) rows.now) }
-    ensures damaged { HasRound round conn.old.schema → IsDatabase (state S.Store conn.old).now
-        → HasCleanDisk (state S.Store conn.new) → result ≡ Err TableFault.Damaged → phase ≡ None
+    ensures damaged { OverSound round S.Store conn.old conn.new
+        (result ≡ Err TableFault.Damaged → phase ≡ None
         → AllByRecursion (λ c. IsStudent (shown_student c)) rows.now
-        → AllByRecursion (HasPlace round (state S.Store conn.old).now.trees) rows.now → ⊥ }
+        → AllByRecursion (HasPlace round (state S.Store conn.old).now.trees) rows.now → ⊥) }
     ensures reads { ReadsIn round result (state S.Store conn.old) (state S.Store conn.new) }
 {
     let mut pairs = Vec::new(alloc);

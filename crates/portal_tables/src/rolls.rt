@@ -1,10 +1,10 @@
 //! The three rolls of the portal, read by key and decoded.
 
 ghost use Rattle.std.specs.Prelude.{◌≡◌};
-ghost use Rattle.portal_tables.specs.Base.{Err, IfOk, List, Cells, map, AllByRecursion, HasCleanDisk, IsDatabase, state, IsLecturer, IsProject, IsStudent, Rise};
-ghost use Rattle.portal_tables.specs.Own.{IsOwn, HasRound};
+ghost use Rattle.portal_tables.specs.Base.{Err, IfOk, List, Cells, map, AllByRecursion, HasCleanDisk, state, IsLecturer, IsProject, IsStudent, Rise, First};
+ghost use Rattle.portal_tables.specs.Own.{HasRound};
 ghost use Rattle.portal_tables.specs.Queries.{Shows, round_asked};
-ghost use Rattle.portal_tables.specs.Reading.{Reads, ReadsIn, Tells, TellsIn};
+ghost use Rattle.portal_tables.specs.Reading.{Reads, ReadsIn, Tells, TellsIn, OverSound};
 ghost use Rattle.portal_tables.specs.Rolls.{roll_rows, RollRises, lecturers_shown, projects_shown, students_shown, RollsRise};
 ghost use Rattle.portal_tables.specs.Shown.{first, shown_lecturer, shown_project, shown_student};
 
@@ -40,7 +40,7 @@ fn risen(rows: Vec<Row>) -> Result<Vec<Row>, TableFault>
 
 /// The rows that a query shows, if the keys that they begin with rise. The fault is `Damaged` where they do not, `Store` where the store
 /// answered an error, `Memory` where there is not enough memory.
-pub(crate) fn rising<S: Alter>(
+pub fn rising<S: Alter>(
     alloc: Global,
     conn: &mut Connection<S>,
     query: Query<'_>,
@@ -60,16 +60,16 @@ pub(crate) fn rising<S: Alter>(
 }
 
 /// A roll by key. The fault is `Damaged` where the keys do not rise, `Store` where the store answered an error.
-pub(crate) fn roll_in<S: Alter>(
+pub fn roll_in<S: Alter>(
     alloc: Global,
     conn: &mut Connection<S>,
     roll: Roll,
 ) -> Result<Vec<Row>, TableFault>
     ensures rows { Tells S.Store conn.old conn.new result
         (λ db v. v.items ≡ roll_rows roll db.trees) }
-    ensures damaged { IsOwn conn.old.schema → IsDatabase (state S.Store conn.old).now
-        → HasCleanDisk (state S.Store conn.new) → result ≡ Err TableFault.Damaged
-        → RollRises roll (state S.Store conn.old).now.trees → ⊥ }
+    ensures damaged { OverSound First S.Store conn.old conn.new
+        (result ≡ Err TableFault.Damaged
+        → RollRises roll (state S.Store conn.old).now.trees → ⊥) }
     ensures reads { Reads result (state S.Store conn.old) (state S.Store conn.new) }
 {
     rising(alloc, conn, Query::Whole(roll))
@@ -83,9 +83,9 @@ pub fn rolls_in<S: Alter>(alloc: Global, conn: &mut Connection<S>) -> Result<Rol
         (λ db r. r.projects.items ≡ projects_shown db.trees) }
     ensures students { Tells S.Store conn.old conn.new result
         (λ db r. r.students.items ≡ students_shown db.trees) }
-    ensures damaged { IsOwn conn.old.schema → IsDatabase (state S.Store conn.old).now
-        → HasCleanDisk (state S.Store conn.new) → result ≡ Err TableFault.Damaged
-        → RollsRise (state S.Store conn.old).now.trees → ⊥ }
+    ensures damaged { OverSound First S.Store conn.old conn.new
+        (result ≡ Err TableFault.Damaged
+        → RollsRise (state S.Store conn.old).now.trees → ⊥) }
     ensures reads { Reads result (state S.Store conn.old) (state S.Store conn.new) }
 {
     let lecturers = roll_in(alloc, conn, Roll::Lecturers)?;

@@ -1,12 +1,12 @@
 //! The second round: its phase, who has a ranking in it, and its result.
 
 ghost use Rattle.std.specs.Prelude.{◌≡◌, ◌∷◌};
-ghost use Rattle.portal_tables.specs.Base.{[], pos, Err, IfOk, HasCleanDisk, IsDatabase, state, ThePhase, Second};
+ghost use Rattle.portal_tables.specs.Base.{[], pos, Err, IfOk, HasCleanDisk, state, ThePhase, Second, InSecond};
 ghost use Rattle.portal_tables.specs.Tables.{second_tree, assigned2_tree};
 ghost use Rattle.portal_tables.specs.Own.{IsCurrent};
 ghost use Rattle.portal_tables.specs.Office.{number_of, IsSecond};
 ghost use Rattle.portal_tables.specs.Putting.{PutsPlaces, RanksSecond};
-ghost use Rattle.portal_tables.specs.Reading.{AsksIn};
+ghost use Rattle.portal_tables.specs.Reading.{AsksIn, OverSound};
 ghost use Rattle.portal_tables.specs.Rows.{MovesSecond, pair_new, second_row};
 ghost use Rattle.portal_tables.specs.Steps.{Does, Made, GoesOn};
 
@@ -39,10 +39,9 @@ fn second_from(rows: &[Row]) -> Result<Phase, TableFault>
 /// The phase of the second round, of its table: setup where there is no second round. The fault is `Damaged` where the table has not the one
 /// row that tells a phase, `Store` where the store answered an error.
 pub fn second_in<S: Alter>(alloc: Global, conn: &mut Connection<S>) -> Result<Phase, TableFault>
-    ensures row { IsCurrent conn.old.schema → IsDatabase (state S.Store conn.old).now
-        → HasCleanDisk (state S.Store conn.new)
-        → IfOk result (λ phase. (state S.Store conn.old).now.trees second_tree
-        ≡ second_row (pos (number_of phase)) ∷ []) }
+    ensures row { OverSound InSecond S.Store conn.old conn.new
+        (IfOk result (λ phase. (state S.Store conn.old).now.trees second_tree
+        ≡ second_row (pos (number_of phase)) ∷ [])) }
     ensures damaged { IsCurrent conn.old.schema → HasCleanDisk (state S.Store conn.new)
         → result ≡ Err TableFault.Damaged → (phase : ThePhase)
         → (state S.Store conn.old).now.trees second_tree
@@ -96,7 +95,8 @@ impl Target<(Key, Key)> for Places {
     }
 
     fn text_of_eight<S: Alter>(&self) -> &'static str {
-        "INSERT INTO assigned2 (student, project) VALUES (?1, ?2), (?3, ?4), (?5, ?6), (?7, ?8), (?9, ?10), (?11, ?12), (?13, ?14), (?15, ?16)"
+        "INSERT INTO assigned2 (student, project) VALUES (?1, ?2), (?3, ?4), (?5, ?6), \
+         (?7, ?8), (?9, ?10), (?11, ?12), (?13, ?14), (?15, ?16)"
     }
 
     fn put_values<'v>(row: &'v (Key, Key), all: &mut Vec<ValueRef<'v>>) -> Result<(), AllocError> {

@@ -2,23 +2,18 @@
 
 use crate::tests::{change, creates, department, key, put_key, shows, tells};
 use portal_core::{LecturerView, Person, Phase, Round};
-use portal_tables::apart::are_apart;
-use portal_tables::fault::TableFault;
-use portal_tables::lecturer::lecturer_view;
 use portal_tables::list_table::Lists;
 use portal_tables::names::{Names, is_there};
-use portal_tables::office::{FIRST_VERSION, VERSION, office_in};
-use portal_tables::own::Pattern;
-use portal_tables::places::result_in;
-use portal_tables::put::put_list;
-use portal_tables::second::{put_places, rank_second, second_in, set_second};
 use portal_tables::select::{Query, Roll, Table, read, read_rows};
-use portal_tables::upgrade::upgrade_tables;
+use portal_tables::{
+    FIRST_VERSION, Pattern, TableFault, VERSION, are_apart, office_in, put_list, put_places,
+    rank_second, result_in, second_in, set_second, upgrade_tables,
+};
+use portal_views::{catalogue_in, lecturer_view};
 use spa_rows::Key;
 use sqlite::{Connection, Error, MemStore};
 use std::alloc::Global;
 use std::process::Abort;
-use std::rc::Rc;
 use std::test::Fail;
 
 /// The first four tables of version 1, as a program of that version makes them.
@@ -213,15 +208,21 @@ fn the_second_result_is_put(rt: HostRuntime) {
     shows(&rt, read(&mut conn, Query::SecondPlaces), 2, "S2 P2 /");
 }
 
-/// What Lee sees in the second round, published.
-fn seen_by_lee(rt: &(impl Abort + AllocGlobal), conn: &mut Connection<MemStore>) -> LecturerView {
+/// What Lee sees in the round, published, with the catalogue of the tables.
+fn seen_by_lee(
+    rt: &(impl Abort + AllocGlobal),
+    conn: &mut Connection<MemStore>,
+    round: Round,
+) -> LecturerView {
     let alloc = rt.alloc();
     let rows = read(conn, Query::LecturerByCode(b"lee-code-1")).expect(rt, "a row");
     let [lee] = rows.as_slice() else {
         panic!(rt; "no row");
     };
-    let catalogue = Rc::new(alloc, Vec::new(alloc)).expect(rt, "memory");
-    let view = lecturer_view(alloc, conn, Round::Second, Phase::Published, lee, catalogue);
+    let Ok(catalogue) = catalogue_in(alloc, conn) else {
+        panic!(rt; "no catalogue");
+    };
+    let view = lecturer_view(alloc, conn, round, Phase::Published, lee, catalogue);
     let Ok(view) = view else {
         panic!(rt; "no view");
     };
@@ -261,9 +262,21 @@ fn the_second_round_is_seen(rt: HostRuntime) {
         1,
         "S1 /",
     );
-    let view = seen_by_lee(&rt, &mut conn);
+    let view = seen_by_lee(&rt, &mut conn, Round::Second);
     are_at(&rt, &view.applicants, "P1 S1 /P2 /");
     are_at(&rt, &view.placed, "P1 S1 S2 /P2 /");
+}
+
+#[test]
+fn the_first_round_is_seen(rt: HostRuntime) {
+    let mut conn = department(&rt);
+    let view = seen_by_lee(&rt, &mut conn, Round::First);
+    are_at(&rt, &view.applicants, "P1 S1 S2 /P2 S1 /");
+    are_at(&rt, &view.placed, "P1 /P2 /");
+    change(&mut conn).expect(&rt, "the first result");
+    let view = seen_by_lee(&rt, &mut conn, Round::First);
+    are_at(&rt, &view.applicants, "P1 S2 /P2 /");
+    are_at(&rt, &view.placed, "P1 S2 /P2 /");
 }
 
 #[test]

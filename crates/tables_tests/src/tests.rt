@@ -1,18 +1,15 @@
 //! Each statement and each query once, over a small department.
 
 use portal_core::{Code, LecturerRow, Name, ProjectRow, Round, StudentRow};
-use portal_tables::apart;
-use portal_tables::assign::{Assignment, assign_all};
-use portal_tables::entries::entries_in;
-use portal_tables::fault::TableFault;
 use portal_tables::insert::{Lecturers, NewPlace, Projects, Students, add_all};
-use portal_tables::lines::Line;
 use portal_tables::list_table::Lists;
-use portal_tables::make::create_portal;
-use portal_tables::own::Pattern;
-use portal_tables::put::{clear_list, put_list};
 use portal_tables::select::{Query, Roll, Table, finds_any, read, read_each, read_rows};
 use portal_tables::update::{set_phase, set_ranked};
+use portal_tables::{
+    Assignment, Pattern, TableFault, are_apart, assign_all, clear_list, create_portal, entries_in,
+    put_list,
+};
+use portal_views::Line;
 use spa_rows::Key;
 use sqlite::types::ValueRef;
 use sqlite::{Connection, Error, MemStore, Row, Transaction};
@@ -227,21 +224,21 @@ pub(crate) fn change(conn: &mut Connection<MemStore>) -> Result<(), Error> {
 
 fn are_rolls_apart(conn: &mut Connection<MemStore>) -> Result<bool, Error> {
     Ok(
-        apart::are_apart(conn, Table::OfRoll(Roll::Lecturers))?
-            && apart::are_apart(conn, Table::OfRoll(Roll::Projects))?
-            && apart::are_apart(conn, Table::OfRoll(Roll::Students))?,
+        are_apart(conn, Table::OfRoll(Roll::Lecturers))?
+            && are_apart(conn, Table::OfRoll(Roll::Projects))?
+            && are_apart(conn, Table::OfRoll(Roll::Students))?,
     )
 }
 
 fn are_lists_apart(conn: &mut Connection<MemStore>) -> Result<bool, Error> {
     Ok(
-        apart::are_apart(conn, Table::OfLists(Lists::Choices))?
-            && apart::are_apart(conn, Table::OfLists(Lists::Rankings))?,
+        are_apart(conn, Table::OfLists(Lists::Choices))?
+            && are_apart(conn, Table::OfLists(Lists::Rankings))?,
     )
 }
 
 /// The rows have numbers of their own.
-fn are_apart(rt: &impl Abort, conn: &mut Connection<MemStore>) {
+fn have_numbers(rt: &impl Abort, conn: &mut Connection<MemStore>) {
     assert!(rt; are_rolls_apart(conn).expect(rt, "numbers"));
     assert!(rt; are_lists_apart(conn).expect(rt, "numbers"));
 }
@@ -376,7 +373,7 @@ fn rows_come_by_the_eight(rt: HostRuntime) -> Result<(), Fail> {
         2,
         "1 K1 /2 K2 /3 K3 /4 K4 /5 K5 /6 K6 /7 K7 /8 K8 /9 K9 /",
     );
-    are_apart(&rt, &mut conn);
+    have_numbers(&rt, &mut conn);
     Ok(())
 }
 
@@ -414,7 +411,7 @@ fn students_are_assigned(rt: HostRuntime) -> Result<(), Fail> {
         4,
         "K1 K1 code-of-K1 K1 /K2 K2 code-of-K2 K2 /K3 K3 code-of-K3 K3 /K4 K4 code-of-K4 K4 /K5 K5 code-of-K5 - /K6 K6 code-of-K6 K6 /K7 K7 code-of-K7 K7 /K8 K8 code-of-K8 K8 /K9 K9 code-of-K9 K9 /",
     );
-    are_apart(&rt, &mut conn);
+    have_numbers(&rt, &mut conn);
     Ok(())
 }
 
@@ -434,7 +431,7 @@ fn own_tables_are_told(rt: HostRuntime) -> Result<(), Fail> {
 fn rows_are_there_once(rt: HostRuntime) {
     let mut conn = department(&rt);
     assert!(rt; fill(&rt, &mut conn).is_err());
-    are_apart(&rt, &mut conn);
+    have_numbers(&rt, &mut conn);
 }
 
 #[test]
@@ -629,5 +626,5 @@ fn changes_are_shown(rt: HostRuntime) {
         read_each(rt.alloc(), &mut conn, Query::StudentTold(b"S2")),
         "S2 Bea P1 /",
     );
-    are_apart(&rt, &mut conn);
+    have_numbers(&rt, &mut conn);
 }

@@ -44,16 +44,24 @@ impl<'a> Target<NewPlace<'a>> for Lists {
     {
         match self {
             Lists::Choices => {
-                "INSERT INTO choice (student, place, project) VALUES (?1, ?2, ?3), (?4, ?5, ?6), (?7, ?8, ?9), (?10, ?11, ?12), (?13, ?14, ?15), (?16, ?17, ?18), (?19, ?20, ?21), (?22, ?23, ?24)"
+                "INSERT INTO choice (student, place, project) VALUES (?1, ?2, ?3), \
+                 (?4, ?5, ?6), (?7, ?8, ?9), (?10, ?11, ?12), (?13, ?14, ?15), (?16, ?17, ?18), \
+                 (?19, ?20, ?21), (?22, ?23, ?24)"
             }
             Lists::Rankings => {
-                "INSERT INTO ranking (lecturer, place, student) VALUES (?1, ?2, ?3), (?4, ?5, ?6), (?7, ?8, ?9), (?10, ?11, ?12), (?13, ?14, ?15), (?16, ?17, ?18), (?19, ?20, ?21), (?22, ?23, ?24)"
+                "INSERT INTO ranking (lecturer, place, student) VALUES (?1, ?2, ?3), \
+                 (?4, ?5, ?6), (?7, ?8, ?9), (?10, ?11, ?12), (?13, ?14, ?15), (?16, ?17, ?18), \
+                 (?19, ?20, ?21), (?22, ?23, ?24)"
             }
             Lists::SecondChoices => {
-                "INSERT INTO choice2 (student, place, project) VALUES (?1, ?2, ?3), (?4, ?5, ?6), (?7, ?8, ?9), (?10, ?11, ?12), (?13, ?14, ?15), (?16, ?17, ?18), (?19, ?20, ?21), (?22, ?23, ?24)"
+                "INSERT INTO choice2 (student, place, project) VALUES (?1, ?2, ?3), \
+                 (?4, ?5, ?6), (?7, ?8, ?9), (?10, ?11, ?12), (?13, ?14, ?15), (?16, ?17, ?18), \
+                 (?19, ?20, ?21), (?22, ?23, ?24)"
             }
             Lists::SecondRankings => {
-                "INSERT INTO ranking2 (lecturer, place, student) VALUES (?1, ?2, ?3), (?4, ?5, ?6), (?7, ?8, ?9), (?10, ?11, ?12), (?13, ?14, ?15), (?16, ?17, ?18), (?19, ?20, ?21), (?22, ?23, ?24)"
+                "INSERT INTO ranking2 (lecturer, place, student) VALUES (?1, ?2, ?3), \
+                 (?4, ?5, ?6), (?7, ?8, ?9), (?10, ?11, ?12), (?13, ?14, ?15), (?16, ?17, ?18), \
+                 (?19, ?20, ?21), (?22, ?23, ?24)"
             }
         }
     }

@@ -25,7 +25,10 @@ impl Target<LecturerRow> for Lecturers {
     }
 
     fn text_of_eight<S: Alter>(&self) -> &'static str {
-        "INSERT INTO lecturer (key, name, code, capacity, ranked) VALUES (?1, ?2, ?3, ?4, 0), (?5, ?6, ?7, ?8, 0), (?9, ?10, ?11, ?12, 0), (?13, ?14, ?15, ?16, 0), (?17, ?18, ?19, ?20, 0), (?21, ?22, ?23, ?24, 0), (?25, ?26, ?27, ?28, 0), (?29, ?30, ?31, ?32, 0)"
+        "INSERT INTO lecturer (key, name, code, capacity, ranked) VALUES (?1, ?2, ?3, ?4, 0), \
+         (?5, ?6, ?7, ?8, 0), (?9, ?10, ?11, ?12, 0), (?13, ?14, ?15, ?16, 0), \
+         (?17, ?18, ?19, ?20, 0), (?21, ?22, ?23, ?24, 0), (?25, ?26, ?27, ?28, 0), \
+         (?29, ?30, ?31, ?32, 0)"
     }
 
     fn put_values<'v>(row: &'v LecturerRow, all: &mut Vec<ValueRef<'v>>) -> Result<(), AllocError> {
@@ -54,7 +57,9 @@ impl Target<ProjectRow> for Projects {
     }
 
     fn text_of_eight<S: Alter>(&self) -> &'static str {
-        "INSERT INTO project (key, lecturer, title, capacity) VALUES (?1, ?2, ?3, ?4), (?5, ?6, ?7, ?8), (?9, ?10, ?11, ?12), (?13, ?14, ?15, ?16), (?17, ?18, ?19, ?20), (?21, ?22, ?23, ?24), (?25, ?26, ?27, ?28), (?29, ?30, ?31, ?32)"
+        "INSERT INTO project (key, lecturer, title, capacity) VALUES (?1, ?2, ?3, ?4), \
+         (?5, ?6, ?7, ?8), (?9, ?10, ?11, ?12), (?13, ?14, ?15, ?16), (?17, ?18, ?19, ?20), \
+         (?21, ?22, ?23, ?24), (?25, ?26, ?27, ?28), (?29, ?30, ?31, ?32)"
     }
 
     fn put_values<'v>(row: &'v ProjectRow, all: &mut Vec<ValueRef<'v>>) -> Result<(), AllocError> {
@@ -83,7 +88,8 @@ impl Target<StudentRow> for Students {
     }
 
     fn text_of_eight<S: Alter>(&self) -> &'static str {
-        "INSERT INTO student (key, name, code) VALUES (?1, ?2, ?3), (?4, ?5, ?6), (?7, ?8, ?9), (?10, ?11, ?12), (?13, ?14, ?15), (?16, ?17, ?18), (?19, ?20, ?21), (?22, ?23, ?24)"
+        "INSERT INTO student (key, name, code) VALUES (?1, ?2, ?3), (?4, ?5, ?6), (?7, ?8, ?9), \
+         (?10, ?11, ?12), (?13, ?14, ?15), (?16, ?17, ?18), (?19, ?20, ?21), (?22, ?23, ?24)"
     }
 
     fn put_values<'v>(row: &'v StudentRow, all: &mut Vec<ValueRef<'v>>) -> Result<(), AllocError> {

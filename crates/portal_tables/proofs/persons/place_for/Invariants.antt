@@ -1,8 +1,0 @@
-use Rattle.std.specs.Prelude.{◌≡◌, ◌++◌}
-use Rattle.portal_tables.proofs.Base.{take, drop, put}
-use Rattle.portal_tables.specs.Base.{Person}
-use Rattle.portal_tables.specs.Callers.{person_key}
-use Rattle.portal_tables.proofs.persons.place_for.Given as goal
-
-abbrev pub invariant-loop-i : goal.invariant-loop-i
-invariant-loop-i l = (person : Person) → person.key ≡ l.key → take l.i l.persons ++ put person_key person (drop l.i l.persons) ≡ put person_key person l.persons

@@ -1,0 +1,57 @@
+-- Names from below that the proofs use.
+pub use Rattle.portal_views.specs.Base.{AllByRecursion, Database, Err, First, Global, HasCleanDisk, IfOk, IsDatabase, Key, LecturerRow, List, Listing, None, OnOk, Option, ProjectRow, Rise, Round, Row, Second, Some, Trees, Vec, [], bytes, column, false, filter, filter_map, find, has, is, is_at, is_from_ranking, length, listing_with, map, not, option_map, put, state}
+pub use Rattle.portal_core.proofs.AllLaws.{all_map, all_weaker, any_map, filtered_any, is_sym}
+pub use Rattle.portal_core.proofs.Fills.{before_other, rise_kept}
+pub use Rattle.portal_core.proofs.Keys.{all_unmap, is_own, is_same}
+pub use Rattle.portal_core.specs.Words.{is_before}
+pub use Rattle.portal_tables.specs.Changes.{IsApart, ListsBy, columns, every, has_text}
+pub use Rattle.portal_tables.specs.Decoding.{ShowsAs}
+pub use Rattle.portal_tables.specs.ListTables.{choices_of, rankings_of, round_of, tree_of}
+pub use Rattle.portal_tables.specs.Lists.{by_place, chosen, named_by, of_key, place_key}
+pub use Rattle.portal_tables.specs.Own.{HasRound, IsCurrent, IsOwn}
+pub use Rattle.portal_tables.specs.Owners.{AreOwned, IsFine, IsRead, entry, has_list, ranking_shown, with_list}
+pub use Rattle.portal_tables.specs.Places.{HasPlace, pair_shown, place_before}
+pub use Rattle.portal_tables.specs.Queries.{columns_of, roll_tree}
+pub use Rattle.portal_tables.specs.Reading.{ReadsIn}
+pub use Rattle.portal_tables.specs.Rolls.{by_key, lecturers_shown, projects_shown, roll_columns, row_key, students_shown}
+pub use Rattle.portal_tables.specs.Shown.{first, shown_lecturer, shown_project}
+pub use Rattle.portal_tables.specs.Tables.{assigned2_tree, lecturer_tree, project_tree, student_tree}
+pub use Rattle.portal_tables.specs.declared.fault.TableFault.{TableFault}
+pub use Rattle.portal_tables.specs.declared.list_table.Lists.{Lists}
+pub use Rattle.portal_tables.specs.declared.list_table.Lists.TheVariants.{Choices, Rankings, SecondChoices, SecondRankings}
+pub use Rattle.portal_tables.specs.declared.select.Roll.{Roll}
+pub use Rattle.portal_tables.specs.declared.select.Roll.TheVariants.{Lecturers, Projects, Students}
+pub use Rattle.portal_tables.specs.declared.select.Table.TheVariants.{OfLists, OfPlaces, OfRoll}
+pub use Rattle.portal_views.specs.Callers.{applicants_told, lecturer_shown, lines_shown, own_keys, person_key, persons_at, persons_before, placed_shown, placed_told, with_persons}
+pub use Rattle.portal_views.specs.Contents.{AreFine}
+pub use Rattle.portal_views.specs.Lines.{HasTables, applicant_lines, in_round, line_at, shown_line, told_line}
+pub use Rattle.portal_views.specs.Offers.{IsOffered, catalogue_shown, name_of, offered, own_listed}
+pub use Rattle.portal_views.specs.declared.lines.Line.{Line}
+pub use Rattle.sqlite.specs.Collation.TheVariants.{Binary}
+pub use Rattle.sqlite.specs.Edit.{id_in}
+unfoldable pub use Rattle.sqlite.specs.Ops.{binary}
+pub use Rattle.sqlite.specs.Ops.{from_truth, is_true}
+pub use Rattle.sqlite.specs.Order.{Row as Cells}
+unfoldable pub use Rattle.sqlite.specs.Order.{value_cmp}
+pub use Rattle.sqlite.specs.Tree.{rowid}
+pub use Rattle.sqlite.specs.declared.types.Value.{Value}
+pub use Rattle.sqlite.specs.declared.types.Value.TheVariants.{Int, Null, Text as Words}
+pub use Rattle.sqlite_rules.specs.Lists.{Has}
+pub use Rattle.sqlite_schema.specs.Rules.{Keeps, differ, equal, passes}
+pub use Rattle.sqlite_schema.specs.declared.schema.Constraint.TheVariants.{ForeignKey, Unique}
+unfoldable pub use Rattle.sqlite_tied.specs.Compute.{everything}
+pub use Rattle.sqlite_trees.proofs.ListLemmas.{IsPermutation-filter, all-filter, all_of, filter-map, map-map}
+pub use Rattle.std.proofs.Common.{ap, ap₂, cond, drop, inl, inr, refl, subst, subst₂, sym, ◌∙◌}
+pub use Rattle.std.proofs.Math.Bool.{and_comm}
+pub use Rattle.std.proofs.lemmas.Bool.{and_parts, cases_Bool, or_parts}
+pub use Rattle.std.proofs.lemmas.List.{append-nil, map-append, map-id, take_more}
+pub use Rattle.std.proofs.lemmas.List.Elements.{filter_map-append}
+pub use Rattle.std.proofs.lemmas.List.Sorted.{list_any-IsPermutation}
+pub use Rattle.std.proofs.lemmas.Result.{IfOk-weaker}
+unfoldable pub use Rattle.std.specs.List.{IsDistinct}
+pub use Rattle.std.specs.List.{list_any}
+pub use Rattle.std.specs.List.Sorted.{IsPermutation}
+pub use Rattle.std.specs.Ordering.{is_eq, is_ne}
+pub use Rattle.std.specs.Prelude.{Bool, Ok, take, true, ℕ, ℤ}
+pub use Rattle.std.specs.declared.cmp.Ordering.{Ordering}
+pub use Rattle.std.specs.declared.cmp.Ordering.TheVariants.{Equal, Greater, Less}

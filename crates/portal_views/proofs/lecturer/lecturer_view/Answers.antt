@@ -1,0 +1,51 @@
+use Rattle.std.specs.Prelude.{◌≡◌}
+use Rattle.portal_views.proofs.Base.{◌∙◌, Vec, Global, Listing, ap, map, option_map, subst, Database, IsDatabase, state, HasCleanDisk, IfOk-weaker, with_persons, applicants_told, placed_told, ranking_shown, own_keys, lecturer_shown, HasRound, HasTables, IsOffered, first}
+use Rattle.portal_tables.proofs.InTurn.{reads_then, reads_more, reads_handed, clean_before}
+use Rattle.portal_tables.proofs.Owned.{has_round}
+use Rattle.portal_views.proofs.lecturer.lecturer_view.Goals as goal
+
+pub returns-in_err-own-clause-reads : goal.returns-in_err-own-clause-reads
+returns-in_err-own-clause-reads g c = reads_handed c.in_err-own.field-0.0 c.from_residual.result _ _ c.from_residual.ensures.0 c.in_err-own.ensures.reads
+
+pub returns-in_err-ranking-clause-reads : goal.returns-in_err-ranking-clause-reads
+returns-in_err-ranking-clause-reads g c =
+    reads_then c.in_ok-own.own _ _ _ _ c.in_ok-own.ensures.reads
+    (reads_handed c.in_err-ranking.field-0.0 c.from_residual-in_err-ranking.result _ _ c.from_residual-in_err-ranking.ensures.0 c.in_err-ranking.ensures.reads)
+
+pub returns-in_err-told-clause-reads : goal.returns-in_err-told-clause-reads
+returns-in_err-told-clause-reads g c =
+    reads_then c.in_ok-own.own _ _ _ _ c.in_ok-own.ensures.reads
+    (reads_then c.in_ok-ranking.ranking _ _ _ _ c.in_ok-ranking.ensures.reads (reads_handed c.in_err-told.field-0.0 c.from_residual-in_err-told.result _ _ c.from_residual-in_err-told.ensures.0 c.in_err-told.ensures.reads))
+
+pub returns-clause-reads : goal.returns-clause-reads
+returns-clause-reads g c =
+    reads_then c.in_ok-own.own _ _ _ _ c.in_ok-own.ensures.reads
+    (reads_then c.in_ok-ranking.ranking _ _ _ _ c.in_ok-ranking.ensures.reads (reads_more c.in_ok-told.told c.put_together.result _ _ c.in_ok-told.ensures.reads))
+
+pub returns-clause-shows : goal.returns-clause-shows
+returns-clause-shows g c tables clean =
+    let a = state g.S.Store c.args.conn.now in
+    let b = state g.S.Store c.own_projects.new.conn in
+    let d = state g.S.Store c.ranking_in.new.conn in
+    let e = state g.S.Store c.told_in.new.conn in
+    let db = a.now.trees in
+    let round = c.args.round in
+    let phase = c.args.phase in
+    let row = c.args.row.now in
+    let told = c.in_ok-told.told in
+    let keys = c.deref-3.result.now in
+    let current = has_round round a.now.schema tables.current in
+    let clean_d = clean_before d e _ c.in_ok-told.ensures.reads.crash clean in
+    let clean_b = clean_before b d _ c.in_ok-ranking.ensures.reads.crash clean_d in
+    let same_b = c.in_ok-own.ensures.reads.now current clean_b in
+    let same_d = (reads_then c.in_ok-own.own _ a b d c.in_ok-own.ensures.reads c.in_ok-ranking.ensures.reads).now current clean_d in
+    let offers : c.deref-2.result.now ≡ c.args.catalogue.value.items = c.deref-2.ensures.value ∙ ap (λ (v : Vec Listing Global). v.items) c.deref.ensures in
+    let own : IsOffered round db c.args.catalogue.value.items → keys ≡ own_keys db (first row) =
+    λ offered. c.deref-3.ensures.value ∙ c.in_ok-own.ensures.keys tables clean_b (λ is. offers ∙ offered is) ∙ ap (own_keys db) c.bytes_at.ensures in
+    let ranking = subst (λ (x : Database). HasRound round x.schema → IsDatabase x → HasCleanDisk d → option_map (λ v. v.items) c.in_ok-ranking.ranking ≡ ranking_shown round x.trees row) same_b c.in_ok-ranking.ensures.names current tables.sound clean_d in
+    let applicants = subst (λ (x : Database). HasTables x → HasCleanDisk e → map with_persons told.applicants.items ≡ applicants_told round x.trees phase keys) same_d c.in_ok-told.ensures.applicants tables clean in
+    let placed = subst (λ (x : Database). HasTables x → HasCleanDisk e → map with_persons told.placed.items ≡ placed_told round x.trees phase keys) same_d c.in_ok-told.ensures.placed tables clean in
+    let from = lecturer_shown round db phase row c.args.catalogue.value.items in
+    IfOk-weaker c.put_together.result _ _ (λ v is offered.
+    let of = own offered in
+    is ∙ (λ i. record from { applicants = (applicants ∙ ap (applicants_told round db phase) of) i; ranking = ranking i; placed = (placed ∙ ap (placed_told round db phase) of) i })) c.put_together.ensures

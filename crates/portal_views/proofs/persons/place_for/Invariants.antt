@@ -1,0 +1,8 @@
+use Rattle.std.specs.Prelude.{◌≡◌, ◌++◌}
+use Rattle.portal_views.proofs.Base.{take, drop, put}
+use Rattle.portal_views.specs.Base.{Person}
+use Rattle.portal_views.specs.Callers.{person_key}
+use Rattle.portal_views.proofs.persons.place_for.Given as goal
+
+abbrev pub invariant-loop-i : goal.invariant-loop-i
+invariant-loop-i l = (person : Person) → person.key ≡ l.key → take l.i l.persons ++ put person_key person (drop l.i l.persons) ≡ put person_key person l.persons

@@ -1,0 +1,23 @@
+-- Names from below that the definitions and the contracts use.
+pub use Rattle.portal_core.specs.Good.{IsLecturer, IsProject, IsStudent}
+pub use Rattle.portal_core.specs.Sight.{LecturerSees, StudentSees}
+pub use Rattle.portal_core.specs.View.{listing_with}
+pub use Rattle.portal_core.specs.Words.{Key, Rise, has, is, put, put_all}
+pub use Rattle.portal_core.specs.World.{is_at, is_from_ranking, is_published}
+pub use Rattle.portal_core.specs.declared.phase.Phase.{Phase}
+pub use Rattle.portal_core.specs.declared.phase.Round.{Round}
+pub use Rattle.portal_core.specs.declared.phase.Round.TheVariants.{First, Second}
+pub use Rattle.portal_core.specs.declared.rows.LecturerRow.{LecturerRow}
+pub use Rattle.portal_core.specs.declared.rows.Listing.{Listing}
+pub use Rattle.portal_core.specs.declared.rows.Person.{Person}
+pub use Rattle.portal_core.specs.declared.rows.ProjectRow.{ProjectRow}
+pub use Rattle.portal_core.specs.declared.rows.StudentRow.{StudentRow}
+pub use Rattle.sqlite.specs.Effect.{Database, IsDatabase}
+pub use Rattle.sqlite.specs.Held.{state}
+pub use Rattle.sqlite.specs.Order.{Row, bytes, column}
+pub use Rattle.sqlite.specs.State.{HasCleanDisk}
+pub use Rattle.sqlite.specs.Tree.{Trees}
+pub use Rattle.sqlite_trees.specs.Objects.{number_in}
+pub use Rattle.std.specs.List.{AllByRecursion, filter_map, find}
+pub use Rattle.std.specs.Prelude.{Err, IfOk, List, None, OnOk, Option, Some, Vec, [], false, filter, length, map, not, option_map}
+pub use Rattle.std.specs.declared.alloc.Global.{Global}

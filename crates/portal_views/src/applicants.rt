@@ -1,0 +1,177 @@
+//! Applicants and placed students of a lecturer's projects.
+
+ghost use Rattle.std.specs.Prelude.{◌≡◌, ◌∷◌, ◌++◌};
+ghost use Rattle.portal_views.specs.Base.{[], IfOk, OnOk, map, state, is_at, is_from_ranking};
+ghost use Rattle.portal_views.specs.Callers.{with_persons, lines_shown, persons_at, placed_among, persons_before, placed_shown, applicants_told, placed_told};
+ghost use Rattle.portal_views.specs.Lines.{HasTables};
+ghost use Rattle.portal_tables.specs.Reading.{ReadsIn, TellsOf};
+
+use crate::lines::{Line, lines_to, persons_of};
+use crate::persons::put_persons;
+use portal_core::{Person, Phase, Round};
+use portal_tables::TableFault;
+use spa_rows::Key;
+use sqlite::{Alter, Connection};
+use std::alloc::{AllocError, Global};
+
+/// Whether the students' lists are closed.
+pub fn are_closed(phase: Phase) -> bool
+    ensures { result ≡ is_from_ranking phase }
+{
+    match phase {
+        Phase::Setup | Phase::Choosing => false,
+        Phase::Ranking | Phase::Published => true,
+    }
+}
+
+/// The lines of the project's applicants that the phase shows.
+fn lines_in<S: Alter>(
+    alloc: Global,
+    conn: &mut Connection<S>,
+    round: Round,
+    phase: Phase,
+    project: &Key,
+) -> Result<Vec<Line>, TableFault>
+    ensures told { TellsOf HasTables S.Store conn.old conn.new result
+        (λ db v. v.items ≡ lines_shown round db.trees phase project.now) }
+    ensures reads { ReadsIn round result (state S.Store conn.old) (state S.Store conn.new) }
+{
+    if are_closed(phase) {
+        return lines_to(alloc, conn, round, project);
+    }
+    Ok(Vec::new(alloc))
+}
+
+/// Whether the result gives this project.
+fn is_placed_at(placed: &Option<Key>, project: &Key) -> bool
+    ensures { result ≡ is_at project.now placed.now }
+{
+    match placed {
+        Some(key) => key == project,
+        None => false,
+    }
+}
+
+/// The students on the lines whom the result places at the project.
+fn placed_at(alloc: Global, lines: &[Line], project: &Key) -> Result<Vec<Person>, AllocError>
+    ensures { IfOk result (λ v. v.items ≡ persons_at project.now lines.now) }
+{
+    let mut found = Vec::new(alloc);
+    for line in lines {
+        if is_placed_at(&line.placed, project) {
+            found.push(line.person.copy(alloc)?)?;
+        }
+    }
+    Ok(found)
+}
+
+/// The students on the lines whom a published result places at the project.
+fn placed_in(
+    alloc: Global,
+    phase: Phase,
+    lines: &[Line],
+    project: &Key,
+) -> Result<Vec<Person>, AllocError>
+    ensures { IfOk result (λ v. v.items ≡ placed_among phase project.now lines.now) }
+{
+    match phase {
+        Phase::Published => placed_at(alloc, lines, project),
+        Phase::Setup | Phase::Choosing | Phase::Ranking => Ok(Vec::new(alloc)),
+    }
+}
+
+/// The students whom the round before placed at the project.
+fn before_in<S: Alter>(
+    alloc: Global,
+    conn: &mut Connection<S>,
+    round: Round,
+    project: &Key,
+) -> Result<Vec<Person>, TableFault>
+    ensures told { TellsOf HasTables S.Store conn.old conn.new result
+        (λ db v. v.items ≡ persons_before round db.trees project.now) }
+    ensures reads { ReadsIn round result (state S.Store conn.old) (state S.Store conn.new) }
+{
+    match round {
+        Round::First => Ok(Vec::new(alloc)),
+        Round::Second => {
+            let lines = lines_to(alloc, conn, Round::First, project)?;
+            Ok(placed_at(alloc, &lines, project)?)
+        }
+    }
+}
+
+/// The students whom the results that are shown place at the project, by the lines of its applicants.
+fn placed_with<S: Alter>(
+    alloc: Global,
+    conn: &mut Connection<S>,
+    round: Round,
+    phase: Phase,
+    project: &Key,
+    lines: &[Line],
+) -> Result<Vec<Person>, TableFault>
+    ensures told { TellsOf HasTables S.Store conn.old conn.new result
+        (λ db v. v.items ≡ placed_shown round db.trees phase project.now lines.now) }
+    ensures reads { ReadsIn round result (state S.Store conn.old) (state S.Store conn.new) }
+{
+    let mut placed = before_in(alloc, conn, round, project)?;
+    let more = placed_in(alloc, phase, lines, project)?;
+    put_persons(&mut placed, more)?;
+    Ok(placed)
+}
+
+/// What is told of a lecturer's projects.
+#[derive(Drop)]
+pub(crate) struct Told {
+    pub applicants: Vec<(Key, Vec<Person>)>,
+    pub placed: Vec<(Key, Vec<Person>)>,
+}
+
+impl Told {
+    /// Tells of one project more, by the lines of its applicants and who is placed at it.
+    fn add(
+        &mut self,
+        alloc: Global,
+        project: &Key,
+        lines: &[Line],
+        placed: Vec<Person>,
+    ) -> Result<(), AllocError>
+        ensures applicants { OnOk result (map with_persons self.new.applicants.items
+            ≡ map with_persons self.old.applicants.items
+            ++ ((project.now, map (λ l. l.person) lines.now) ∷ [])) }
+        ensures placed { OnOk result (map with_persons self.new.placed.items
+            ≡ map with_persons self.old.placed.items ++ ((project.now, placed.items) ∷ [])) }
+    {
+        let applicants = persons_of(alloc, lines)?;
+        self.applicants.push((project.copy(alloc)?, applicants))?;
+        self.placed.push((project.copy(alloc)?, placed))?;
+        Ok(())
+    }
+}
+
+/// What is told in the phase of the projects with these keys.
+pub(crate) fn told_in<S: Alter>(
+    alloc: Global,
+    conn: &mut Connection<S>,
+    round: Round,
+    phase: Phase,
+    projects: &[Key],
+) -> Result<Told, TableFault>
+    ensures applicants { TellsOf HasTables S.Store conn.old conn.new result
+        (λ db t. map with_persons t.applicants.items
+        ≡ applicants_told round db.trees phase projects.now) }
+    ensures placed { TellsOf HasTables S.Store conn.old conn.new result
+        (λ db t. map with_persons t.placed.items
+        ≡ placed_told round db.trees phase projects.now) }
+    ensures reads { ReadsIn round result (state S.Store conn.old) (state S.Store conn.new) }
+{
+    let mut told = Told {
+        applicants: Vec::new(alloc),
+        placed: Vec::new(alloc),
+    };
+    for project in projects {
+        let lines = lines_in(alloc, conn, round, phase, project)?;
+        let placed = placed_with(alloc, conn, round, phase, project, &lines)?;
+        told.add(alloc, project, &lines, placed)?;
+    }
+    Ok(told)
+}

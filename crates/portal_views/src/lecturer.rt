@@ -1,0 +1,157 @@
+//! What a lecturer sees, by queries of the own ranking, the own projects and their applicants.
+
+ghost use Rattle.std.specs.Prelude.{◌≡◌};
+ghost use Rattle.portal_views.specs.Base.{IfOk, option_map, map, column, bytes, state};
+ghost use Rattle.portal_views.specs.Callers.{with_persons, own_keys, lecturer_with, lecturer_shown};
+ghost use Rattle.portal_views.specs.Lines.{HasTables};
+ghost use Rattle.portal_views.specs.Offers.{IsOffered, own_listed};
+ghost use Rattle.portal_tables.specs.Owners.{with_list, ranking_shown};
+ghost use Rattle.portal_tables.specs.Reading.{Reads, ReadsIn, TellsOf, TellsSound};
+ghost use Rattle.portal_tables.specs.Shown.{first};
+
+use crate::applicants::{Told, told_in};
+use crate::lines::person_at;
+use portal_core::{LecturerView, Listing, Phase, Round};
+use portal_tables::cells::{bytes_at, capacity_at, key_at};
+use portal_tables::list_table::Lists;
+use portal_tables::select::Query;
+use portal_tables::{TableFault, entry_in, rising};
+use spa_rows::Key;
+use sqlite::{Alter, Connection, Row};
+use std::alloc::{AllocError, Global};
+use std::rc::Rc;
+
+/// The keys of the lecturer's projects in the catalogue, in its order.
+fn keys_listed(
+    alloc: Global,
+    catalogue: &[Listing],
+    lecturer: &[u8],
+) -> Result<Vec<Key>, AllocError>
+    ensures { IfOk result (λ v. v.items ≡ own_listed catalogue.now lecturer.now) }
+{
+    let mut own = Vec::new(alloc);
+    for project in catalogue {
+        if project.lecturer.as_bytes() == lecturer {
+            own.push(project.key.copy(alloc)?)?;
+        }
+    }
+    Ok(own)
+}
+
+/// The keys with which the rows begin.
+fn keys_of(alloc: Global, rows: &[Row]) -> Result<Vec<Key>, TableFault>
+    ensures { IfOk result (λ v. v.items ≡ map first rows.now) }
+{
+    let mut keys = Vec::with_capacity(alloc, rows.len())?;
+    for row in rows {
+        keys.push(key_at(alloc, row, 0)?)?;
+    }
+    Ok(keys)
+}
+
+/// The keys of the lecturer's projects, by a query.
+fn keys_asked<S: Alter>(
+    alloc: Global,
+    conn: &mut Connection<S>,
+    lecturer: &[u8],
+) -> Result<Vec<Key>, TableFault>
+    ensures keys { TellsOf HasTables S.Store conn.old conn.new result
+        (λ db v. v.items ≡ own_keys db.trees lecturer.now) }
+    ensures reads { Reads result (state S.Store conn.old) (state S.Store conn.new) }
+{
+    let rows = rising(alloc, conn, Query::ProjectsOf(lecturer))?;
+    keys_of(alloc, &rows)
+}
+
+/// The keys of the lecturer's projects: in the first round those of the catalogue, which has them all, in the second by a query.
+fn own_projects<S: Alter>(
+    alloc: Global,
+    conn: &mut Connection<S>,
+    round: Round,
+    lecturer: &[u8],
+    catalogue: &[Listing],
+) -> Result<Vec<Key>, TableFault>
+    ensures keys { TellsOf HasTables S.Store conn.old conn.new result
+        (λ db v. IsOffered round db.trees catalogue.now
+        → v.items ≡ own_keys db.trees lecturer.now) }
+    ensures reads { ReadsIn round result (state S.Store conn.old) (state S.Store conn.new) }
+{
+    match round {
+        Round::First => Ok(keys_listed(alloc, catalogue, lecturer)?),
+        Round::Second => keys_asked(alloc, conn, lecturer),
+    }
+}
+
+fn list_of(entry: Option<(Key, Vec<Key>)>) -> Option<Vec<Key>>
+    ensures { option_map (λ v. v.items) result
+        ≡ option_map (λ e. e.1) (option_map with_list entry) }
+{
+    match entry {
+        Some((_, list)) => Some(list),
+        None => None,
+    }
+}
+
+/// The ranking of the lecturer whose row this is, if one is there.
+fn ranking_in<S: Alter>(
+    alloc: Global,
+    conn: &mut Connection<S>,
+    round: Round,
+    row: &Row,
+) -> Result<Option<Vec<Key>>, TableFault>
+    ensures names { TellsSound round S.Store conn.old conn.new result
+        (λ db o. option_map (λ v. v.items) o ≡ ranking_shown round db.trees row.now) }
+    ensures reads { ReadsIn round result (state S.Store conn.old) (state S.Store conn.new) }
+{
+    let entry = entry_in(alloc, conn, Lists::rankings_of(round), row)?;
+    Ok(list_of(entry))
+}
+
+/// What was read, put together.
+fn put_together(
+    alloc: Global,
+    round: Round,
+    phase: Phase,
+    row: &Row,
+    catalogue: Rc<Vec<Listing>>,
+    ranking: Option<Vec<Key>>,
+    told: Told,
+) -> Result<LecturerView, TableFault>
+    ensures { IfOk result (λ v. v
+        ≡ lecturer_with round phase row.now catalogue.value.items
+        (option_map (λ r. r.items) ranking)
+        (map with_persons told.applicants.items) (map with_persons told.placed.items)) }
+{
+    Ok(LecturerView {
+        round,
+        phase,
+        me: person_at(alloc, row)?,
+        capacity: capacity_at(row, 3)?,
+        catalogue,
+        applicants: told.applicants,
+        ranking,
+        placed: told.placed,
+    })
+}
+
+/// What the lecturer sees whose row this is, in this round and phase, with the catalogue. In the first round it is to be that of
+/// the tables: the own projects are then taken of it. The fault is `Damaged` where rows are not as the portal writes them,
+/// `Store` where the store answered an error, `Memory` where there is not enough memory.
+pub fn lecturer_view<S: Alter>(
+    alloc: Global,
+    conn: &mut Connection<S>,
+    round: Round,
+    phase: Phase,
+    row: &Row,
+    catalogue: Rc<Vec<Listing>>,
+) -> Result<LecturerView, TableFault>
+    ensures shows { TellsOf HasTables S.Store conn.old conn.new result
+        (λ db v. IsOffered round db.trees catalogue.value.items
+        → v ≡ lecturer_shown round db.trees phase row.now catalogue.value.items) }
+    ensures reads { ReadsIn round result (state S.Store conn.old) (state S.Store conn.new) }
+{
+    let own = own_projects(alloc, conn, round, bytes_at(row, 0), &catalogue)?;
+    let ranking = ranking_in(alloc, conn, round, row)?;
+    let told = told_in(alloc, conn, round, phase, &own)?;
+    put_together(alloc, round, phase, row, catalogue, ranking, told)
+}

@@ -1,0 +1,146 @@
+//! What may be told of a student: of one, of those whose keys rows begin with, and of those whose list holds a project. Each is
+//! asked for by key.
+
+ghost use Rattle.std.specs.Prelude.{◌≡◌, ◌∷◌};
+ghost use Rattle.portal_views.specs.Base.{[], IfOk, Some, map, column, bytes, state};
+ghost use Rattle.portal_tables.specs.Reading.{ReadsIn, TellsOf, TellsSound};
+ghost use Rattle.portal_tables.specs.Shown.{first};
+ghost use Rattle.portal_views.specs.Lines.{HasTables, told_line, in_round, line_at, applicant_lines};
+
+use portal_core::{Person, Round};
+use portal_tables::cells::{assigned_at, bytes_at, key_at, name_at};
+use portal_tables::decode::{FromCells, only};
+use portal_tables::select::{Query, read_each};
+use portal_tables::{TableFault, rising, second_place_in};
+use spa_rows::Key;
+use sqlite::{Alter, Connection, Row};
+use std::alloc::{AllocError, Global};
+
+/// The person whose row of a roll this is: key and name come first. The fault is `Damaged` where one of them has not its form,
+/// `Memory` where there is not enough memory.
+pub(crate) fn person_at(alloc: Global, row: &Row) -> Result<Person, TableFault>
+    ensures { IfOk result (λ p. p
+        ≡ record { key = first row.now; name = bytes (column row.now 1) }) }
+{
+    Ok(Person {
+        key: key_at(alloc, row, 0)?,
+        name: name_at(alloc, row, 1)?,
+    })
+}
+
+/// What a lecturer may be told of a student.
+#[derive(Drop)]
+pub struct Line {
+    /// Key and name.
+    pub person: Person,
+    /// The assigned project, if there is one.
+    pub placed: Option<Key>,
+}
+
+impl FromCells for Line {
+    ghost shown = { told_line };
+
+    // which rows are refused is left open
+    ghost is_fine = { λ c. ⊥ };
+
+    fn from_cells(alloc: Global, row: &Row) -> Result<Line, TableFault> {
+        Ok(Line {
+            person: person_at(alloc, row)?,
+            placed: assigned_at(alloc, row, 2)?,
+        })
+    }
+}
+
+/// The only line.
+fn only_line(lines: Vec<Line>) -> Result<Line, TableFault>
+    ensures { IfOk result (λ l. lines.items ≡ l ∷ []) }
+{
+    match only(lines)? {
+        Some(line) => Ok(line),
+        None => Err(TableFault::Damaged),
+    }
+}
+
+/// The line with the place in the round, in place of the assigned project.
+fn line_of_round<S: Alter>(
+    alloc: Global,
+    conn: &mut Connection<S>,
+    round: Round,
+    line: Line,
+) -> Result<Line, TableFault>
+    ensures told { TellsSound round S.Store conn.old conn.new result
+        (λ db l. l ≡ in_round round db.trees line) }
+    ensures reads { ReadsIn round result (state S.Store conn.old) (state S.Store conn.new) }
+{
+    match round {
+        Round::First => Ok(line),
+        Round::Second => {
+            let placed = second_place_in(alloc, conn, line.person.key.as_bytes())?;
+            Ok(Line {
+                person: line.person,
+                placed,
+            })
+        }
+    }
+}
+
+/// The line of the student with the key.
+fn line_in<S: Alter>(
+    alloc: Global,
+    conn: &mut Connection<S>,
+    round: Round,
+    key: &[u8],
+) -> Result<Line, TableFault>
+    ensures told { TellsOf HasTables S.Store conn.old conn.new result
+        (λ db l. Some l ≡ line_at round db.trees key.now) }
+    ensures reads { ReadsIn round result (state S.Store conn.old) (state S.Store conn.new) }
+{
+    let lines = read_each(alloc, conn, Query::StudentTold(key))?;
+    let line = only_line(lines)?;
+    line_of_round(alloc, conn, round, line)
+}
+
+/// The lines of the students with whose keys the rows begin.
+fn lines_from<S: Alter>(
+    alloc: Global,
+    conn: &mut Connection<S>,
+    round: Round,
+    rows: &[Row],
+) -> Result<Vec<Line>, TableFault>
+    ensures told { TellsOf HasTables S.Store conn.old conn.new result
+        (λ db v. map Some v.items ≡ map (λ c. line_at round db.trees (first c)) rows.now) }
+    ensures reads { ReadsIn round result (state S.Store conn.old) (state S.Store conn.new) }
+{
+    let mut lines = Vec::new(alloc);
+    for row in rows {
+        lines.push(line_in(alloc, conn, round, bytes_at(row, 0))?)?;
+    }
+    Ok(lines)
+}
+
+/// The lines of the students whose list of the round holds the project, by their keys. The fault is `Damaged` where rows are not as the
+/// portal writes them, `Store` where the store answered an error, `Memory` where there is not enough memory.
+pub(crate) fn lines_to<S: Alter>(
+    alloc: Global,
+    conn: &mut Connection<S>,
+    round: Round,
+    project: &Key,
+) -> Result<Vec<Line>, TableFault>
+    ensures told { TellsOf HasTables S.Store conn.old conn.new result
+        (λ db v. v.items ≡ applicant_lines round db.trees project.now) }
+    ensures reads { ReadsIn round result (state S.Store conn.old) (state S.Store conn.new) }
+{
+    let rows = rising(alloc, conn, Query::Choosers(round, project.as_bytes()))?;
+    lines_from(alloc, conn, round, &rows)
+}
+
+/// The persons of the lines, in their order. The error is want of memory.
+pub(crate) fn persons_of(alloc: Global, lines: &[Line]) -> Result<Vec<Person>, AllocError>
+    ensures { IfOk result (λ v. v.items ≡ map (λ l. l.person) lines.now) }
+{
+    let mut found = Vec::with_capacity(alloc, lines.len())?;
+    for line in lines {
+        found.push(line.person.copy(alloc)?)?;
+    }
+    Ok(found)
+}

@@ -1,0 +1,43 @@
+//! Persons put by their keys.
+
+ghost use Rattle.std.specs.Prelude.{◌≡◌, ◌≤◌, insert};
+ghost use Rattle.portal_views.specs.Base.{OnOk, length, Person as ThatPerson, put, put_all};
+ghost use Rattle.portal_views.specs.Callers.{person_key};
+
+use portal_core::Person;
+use spa_rows::Key;
+use std::alloc::AllocError;
+
+/// Where a person with this key belongs.
+fn place_for(persons: &[Person], key: &Key) -> usize
+    ensures low { result ≤ length persons.now }
+    ensures place { (person : ThatPerson) → person.key ≡ key.now
+        → insert persons.now result person ≡ put person_key person persons.now }
+{
+    for (i, person) in persons.iter().enumerate() {
+        if *key < person.key {
+            return i;
+        }
+    }
+    persons.len()
+}
+
+/// Puts a person where the key belongs.
+fn put_person(persons: &mut Vec<Person>, person: Person) -> Result<(), AllocError>
+    ensures { OnOk result (persons.new.items ≡ put person_key person persons.old.items) }
+{
+    let place = place_for(persons, &person.key);
+    persons.insert(place, person)?;
+    Ok(())
+}
+
+/// Puts persons where their keys belong. The error is want of memory.
+pub(crate) fn put_persons(persons: &mut Vec<Person>, more: Vec<Person>) -> Result<(), AllocError>
+    ensures { OnOk result (persons.new.items
+        ≡ put_all person_key more.items persons.old.items) }
+{
+    for person in more {
+        put_person(persons, person)?;
+    }
+    Ok(())
+}

@@ -1,0 +1,59 @@
+//! What a student sees, by queries of the own list and place.
+
+ghost use Rattle.std.specs.Prelude.{◌≡◌};
+ghost use Rattle.portal_views.specs.Base.{IfOk, column, bytes, state};
+ghost use Rattle.portal_views.specs.Callers.{student_with, student_shown};
+ghost use Rattle.portal_tables.specs.Reading.{ReadsIn, TellsSound};
+
+use crate::lines::person_at;
+use portal_core::{Listing, Phase, Round, StudentView};
+use portal_tables::cells::key_at;
+use portal_tables::list_table::Lists;
+use portal_tables::{TableFault, list_in, result_in};
+use spa_rows::Key;
+use sqlite::{Alter, Connection, Row};
+use std::alloc::Global;
+use std::rc::Rc;
+
+/// What was read, put together.
+fn put_together(
+    alloc: Global,
+    round: Round,
+    phase: Phase,
+    row: &Row,
+    catalogue: Rc<Vec<Listing>>,
+    choices: Vec<Key>,
+    place: Option<Key>,
+) -> Result<StudentView, TableFault>
+    ensures { IfOk result (λ v. v
+        ≡ student_with round phase row.now catalogue.value.items choices.items place) }
+{
+    Ok(StudentView {
+        round,
+        phase,
+        me: person_at(alloc, row)?,
+        catalogue,
+        choices,
+        result: place,
+    })
+}
+
+/// What the student sees whose row this is, in this round and phase, with the catalogue. The fault is `Damaged` where rows are not as the
+/// portal writes them, `Store` where the store answered an error, `Memory` where there is not enough memory.
+pub fn student_view<S: Alter>(
+    alloc: Global,
+    conn: &mut Connection<S>,
+    round: Round,
+    phase: Phase,
+    row: &Row,
+    catalogue: Rc<Vec<Listing>>,
+) -> Result<StudentView, TableFault>
+    ensures shows { TellsSound round S.Store conn.old conn.new result
+        (λ db v. v ≡ student_shown round db.trees phase row.now catalogue.value.items) }
+    ensures reads { ReadsIn round result (state S.Store conn.old) (state S.Store conn.new) }
+{
+    let student = key_at(alloc, row, 0)?;
+    let choices = list_in(alloc, conn, Lists::choices_of(round), &student)?;
+    let place = result_in(alloc, conn, round, phase, row)?;
+    put_together(alloc, round, phase, row, catalogue, choices, place)
+}
