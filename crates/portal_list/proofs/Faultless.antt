@@ -21,13 +21,14 @@ use Rattle.portal_core.specs.declared.rows.ProjectRow.{ProjectRow}
 use Rattle.portal_core.proofs.Keys.{is_same, is_own}
 use Rattle.portal_core.proofs.AllLaws as laws
 use Rattle.portal_core.proofs.Capacities.{first_plays}
+use Rattle.portal_list.specs.Entries.{entries_in}
 use Rattle.portal_list.specs.Lines.{lecturer_line, project_line, student_line, lines_of}
 use Rattle.portal_list.proofs.Rising.{map_map}
 use Rattle.portal_list.proofs.Members.{there, has_it, has_all, key_there, repeats_not, earlier_not, none_of}
 
 module _ (w : World) where
   abbrev rows : Rows
-  rows = lines_of w.lecturers w.projects w.students
+  rows = lines_of (entries_in w)
 
   -- a student's list holds a project of the lecturer
   abbrev wants : Key → Student → Bool

@@ -5,14 +5,12 @@ use Rattle.std.specs.List.{AllByRecursion}
 use Rattle.std.proofs.lemmas.List.{length-map}
 use Rattle.portal_core.specs.Words.{Key, has, is_empty, Rise, AreDistinct}
 use Rattle.portal_core.specs.World.{World, Lecturer, Student, project_key, student_key, projects_of, applicants_of, is_still_to_rank, is_published, first, first_published, first_placed}
-use Rattle.portal_core.specs.declared.rows.ProjectRow.{ProjectRow}
 use Rattle.portal_core.specs.Good.{Sound, codes_of, IsLecturer, IsStudent}
 use Rattle.portal_core.specs.Instance.{lecturer_keys, student_keys}
 use Rattle.portal_core.proofs.Keys.{all_unmap}
 use Rattle.portal_core.proofs.AllLaws as laws
 use Rattle.portal_list.specs.Rows.{Rows, rows_of, IsFitted}
 use Rattle.portal_list.specs.Fit.{lecturers_fitting, students_fitting}
-use Rattle.portal_list.specs.Entries.{HasEntries, entries_of}
 use Rattle.portal_list.specs.Parts.{codes_in, lecturer_row_keys, student_row_keys, applicant_keys, IsRanked, RollsFit, RollsOf, ListsOf}
 use Rattle.portal_list.proofs.Rising.{map_map}
 use Rattle.portal_list.proofs.Fitting.{lecturers_back, lecturers_rows, students_back, students_rows}
@@ -137,14 +135,6 @@ module _ (rows : Rows) where
 
       same_students : w.students ≡ ss
       same_students = let s : Some w.students ≡ Some ss = sym (students_of_sound w e sound) ∙ students in cc
-
-      pub entries_of_sound : (ps : List ProjectRow) → rows.projects ≡ ps → HasEntries (entries_of rows.round ls ps ss) w
-      entries_of_sound ps projects = record {
-        round_there = sym (ap (λ r. r.round) e);
-        lecturers_there = same_lecturers;
-        projects_there = sym (ap (λ r. r.projects) e) ∙ projects;
-        students_there = same_students;
-      }
 
     pub fitted_rows : IsFitted rows (record { round = rows.round; phase = rows.phase; office = rows.office; lecturers = ls; projects = rows.projects; students = ss })
     fitted_rows =

@@ -1,6 +1,8 @@
 -- The entries of a world: its rolls, each row with what its owner has made.
 use Rattle.std.specs.Prelude.{◌≡◌, Bool, true, false, List}
+use Rattle.portal_core.specs.Words.{Key}
 use Rattle.portal_core.specs.World.{World, Lecturer, Student}
+use Rattle.portal_core.specs.declared.phase.Phase.{Phase}
 use Rattle.portal_core.specs.declared.phase.Round.{Round}
 use Rattle.portal_core.specs.Change.{Change, Choices, Ranks, Lecturers, Projects, Students, To, Places, Fill, SecondRound}
 use Rattle.portal_core.specs.declared.rows.ProjectRow.{ProjectRow}
@@ -11,16 +13,17 @@ pub record AllEntries : Type 0 where
   pub projects : List ProjectRow
   pub students : List Student
 
+-- those of this world
+abbrev pub entries_in : World → AllEntries
+entries_in w = record { round = w.round; lecturers = w.lecturers; projects = w.projects; students = w.students }
+
+-- the world with these entries
+abbrev pub world_with : Phase → Key → AllEntries → World
+world_with phase office e = record { round = e.round; phase = phase; office = office; lecturers = e.lecturers; projects = e.projects; students = e.students }
+
 -- the world has these entries
 pub record HasEntries (entries : AllEntries) (w : World) : Type 0 where
-  pub round_there : w.round ≡ entries.round
-  pub lecturers_there : w.lecturers ≡ entries.lecturers
-  pub projects_there : w.projects ≡ entries.projects
-  pub students_there : w.students ≡ entries.students
-
--- three lists as the entries of a world in this round
-abbrev pub entries_of : Round → List Lecturer → List ProjectRow → List Student → AllEntries
-entries_of round lecturers projects students = record { round = round; lecturers = lecturers; projects = projects; students = students }
+  pub there : entries_in w ≡ entries
 
 -- the changes that entries follow: all but those of rolls, the result and the second round
 abbrev pub is_followed : Change → Bool

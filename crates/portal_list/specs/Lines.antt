@@ -1,9 +1,10 @@
 -- The lines that entries stand for: keys as texts, a missing ranking as the empty list.
-use Rattle.std.specs.Prelude.{List, [], map, unwrap_or}
+use Rattle.std.specs.Prelude.{[], map, unwrap_or}
 use Rattle.spa_rows.specs.Lines
 use Rattle.spa_rows.specs.Lines.{Rows}
 use Rattle.portal_core.specs.World.{Lecturer, Student}
 use Rattle.portal_core.specs.declared.rows.ProjectRow.{ProjectRow}
+use Rattle.portal_list.specs.Entries.{AllEntries}
 
 -- no fault of these lines is ever told, so that they need no row
 abbrev pub lecturer_line : Lecturer → Lines.Lecturer
@@ -15,6 +16,5 @@ project_line p = record { row = 0; key = p.key; capacity = p.capacity; lecturer 
 abbrev pub student_line : Student → Lines.Student
 student_line s = record { row = 0; key = s.row.key; list = s.choice }
 
-abbrev pub lines_of : List Lecturer → List ProjectRow → List Student → Rows
-lines_of lecturers projects students =
-    record { lecturers = map lecturer_line lecturers; projects = map project_line projects; students = map student_line students }
+abbrev pub lines_of : AllEntries → Rows
+lines_of e = record { lecturers = map lecturer_line e.lecturers; projects = map project_line e.projects; students = map student_line e.students }

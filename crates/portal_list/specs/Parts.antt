@@ -2,7 +2,6 @@
 use Rattle.std.specs.Prelude.{◌≡◌, ◌≤◌, Bool, true, false, List, [], ◌∷◌, ◌++◌, map, filter, length, Option, None, IfSome}
 use Rattle.std.specs.List.{AllByRecursion, list_any}
 use Rattle.portal_core.specs.declared.phase.Phase.{Phase}
-use Rattle.portal_core.specs.declared.phase.Round.{Round}
 use Rattle.portal_core.specs.declared.rows.LecturerRow.{LecturerRow}
 use Rattle.portal_core.specs.declared.rows.ProjectRow.{ProjectRow}
 use Rattle.portal_core.specs.declared.rows.StudentRow.{StudentRow}
@@ -10,9 +9,10 @@ use Rattle.portal_core.specs.Form.{is_code}
 use Rattle.portal_core.specs.Words.{Key, has, Rise, AreDistinct}
 use Rattle.spa_model.specs.Spa.{IsStable}
 use Rattle.portal_core.specs.Instance.{instance, matching_of}
-use Rattle.portal_core.specs.World.{World, Lecturer, Student, project_key, student_key, is_setup, is_published, is_from_ranking, is_second, is_left, projects_in}
+use Rattle.portal_core.specs.World.{World, Student, project_key, student_key, is_setup, is_published, is_from_ranking, is_second, is_left, projects_in}
 use Rattle.portal_core.specs.Good.{IsLecturer, IsProject, IsStudent, IsChoice, IsRanking}
 use Rattle.portal_core.specs.Room.{own_keys}
+use Rattle.portal_list.specs.Entries.{AllEntries, entries_in}
 
 abbrev pub codes_in : Key → List LecturerRow → List StudentRow → List Key
 codes_in office lecturers students = office ∷ map (λ l. l.code) lecturers ++ map (λ s. s.code) students
@@ -44,10 +44,10 @@ pub record RollsFit (office : Key) (lecturers : List LecturerRow) (projects : Li
   pub codes : AreDistinct (codes_in office lecturers students)
 
 -- what there may be in a phase
-pub record PhaseFits (phase : Phase) (lecturers : List Lecturer) (students : List Student) : Type 0 where
-  pub no_choices_yet : is_setup phase ≡ true → AllByRecursion (λ s. s.choice ≡ []) students
-  pub no_rankings_yet : is_from_ranking phase ≡ false → AllByRecursion (λ l. l.ranking ≡ None) lecturers
-  pub no_result_yet : is_published phase ≡ false → AllByRecursion (λ s. s.placed ≡ None) students
+pub record PhaseFits (phase : Phase) (e : AllEntries) : Type 0 where
+  pub no_choices_yet : is_setup phase ≡ true → AllByRecursion (λ s. s.choice ≡ []) e.students
+  pub no_rankings_yet : is_from_ranking phase ≡ false → AllByRecursion (λ l. l.ranking ≡ None) e.lecturers
+  pub no_result_yet : is_published phase ≡ false → AllByRecursion (λ s. s.placed ≡ None) e.students
 
 -- nothing of an earlier round is there
 abbrev pub HasNothingEarlier : Student → Type 0
@@ -58,11 +58,15 @@ abbrev pub IsOutIfPlaced : Student → Type 0
 IsOutIfPlaced s = is_left s ≡ false → (s.choice ≡ []) × (s.placed ≡ None)
 
 -- what there may be of an earlier round
-pub record RoundFits (round : Round) (phase : Phase) (lecturers : List Lecturer) (students : List Student) : Type 0 where
-  pub no_earlier_lists : is_second round ≡ false → AllByRecursion HasNothingEarlier students
-  pub no_earlier_rankings : is_second round ≡ false → AllByRecursion (λ l. l.earlier_ranking ≡ None) lecturers
-  pub no_second_setup : is_second round ≡ true → is_setup phase ≡ false
-  pub only_left : AllByRecursion IsOutIfPlaced students
+pub record RoundFits (phase : Phase) (e : AllEntries) : Type 0 where
+  pub no_earlier_lists : is_second e.round ≡ false → AllByRecursion HasNothingEarlier e.students
+  pub no_earlier_rankings : is_second e.round ≡ false → AllByRecursion (λ l. l.earlier_ranking ≡ None) e.lecturers
+  pub no_second_setup : is_second e.round ≡ true → is_setup phase ≡ false
+  pub only_left : AllByRecursion IsOutIfPlaced e.students
+
+-- each list is one of projects that take part in the round
+abbrev pub HasChoices : AllEntries → Type 0
+HasChoices e = AllByRecursion (λ s. IsChoice (map project_key (projects_in e.round e.lecturers e.projects e.students)) s.choice) e.students
 
 -- the students whose list holds one of the projects
 abbrev pub wanting : List Key → List Student → List Student
@@ -77,18 +81,18 @@ pub record IsRanked (asked : Bool) (applicants : List Key) (ranking : Option (Li
   pub whole : IfSome ranking (IsRanking applicants)
   pub there : asked ≡ true → ranking ≡ None → applicants ≡ []
 
-pub record ListsFit (round : Round) (phase : Phase) (lecturers : List Lecturer) (projects : List ProjectRow) (students : List Student) : Type 0 where
-  pub phase_fits : PhaseFits phase lecturers students
-  pub round_fits : RoundFits round phase lecturers students
-  pub choices : AllByRecursion (λ s. IsChoice (map project_key (projects_in round lecturers projects students)) s.choice) students
-  pub rankings : AllByRecursion (λ l. IsRanked (is_published phase) (applicant_keys projects students l.row.key) l.ranking) lecturers
+pub record ListsFit (phase : Phase) (e : AllEntries) : Type 0 where
+  pub phase_fits : PhaseFits phase e
+  pub round_fits : RoundFits phase e
+  pub choices : HasChoices e
+  pub rankings : AllByRecursion (λ l. IsRanked (is_published phase) (applicant_keys e.projects e.students l.row.key) l.ranking) e.lecturers
 
 -- of a world: its rolls fit, its lists fit, and its result, once published, is a stable matching
 abbrev pub RollsOf : World → Type 0
 RollsOf w = RollsFit w.office (map (λ l. l.row) w.lecturers) w.projects (map (λ s. s.row) w.students)
 
 abbrev pub ListsOf : World → Type 0
-ListsOf w = ListsFit w.round w.phase w.lecturers w.projects w.students
+ListsOf w = ListsFit w.phase (entries_in w)
 
 abbrev pub IsSettled : World → Type 0
 IsSettled w = is_published w.phase ≡ true → IsStable (instance w) (matching_of w)

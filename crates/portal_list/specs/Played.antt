@@ -7,7 +7,7 @@ use Rattle.std.specs.List.{list_any}
 use Rattle.portal_core.specs.Words.{Key, is}
 use Rattle.portal_core.specs.Room.{lecturer_left, project_left}
 use Rattle.portal_core.specs.World.{Lecturer, Student, is_left, lecturers_left, projects_left, students_left, alone_lecturer, alone_student}
-use Rattle.portal_list.specs.Entries.{AllEntries, entries_of}
+use Rattle.portal_list.specs.Entries.{AllEntries}
 
 -- the lecturer, if room is left
 abbrev pub lecturer_played : List ProjectRow → List (Key × Key) → Lecturer → Option Lecturer
@@ -18,8 +18,14 @@ abbrev pub project_played : List Lecturer → List (Key × Key) → ProjectRow �
 project_played lecturers pairs p = if list_any (λ l. is p.lecturer l.row.key) lecturers then project_left pairs p else None
 
 -- all of them
-abbrev pub all_played : List Lecturer → List ProjectRow → List Student → AllEntries
-all_played ls ps ss = entries_of First (map alone_lecturer (lecturers_left ls ps ss)) (projects_left ls ps ss) (map alone_student (students_left ss))
+abbrev pub all_played : AllEntries → AllEntries
+all_played e =
+    record {
+      round = First;
+      lecturers = map alone_lecturer (lecturers_left e.lecturers e.projects e.students);
+      projects = projects_left e.lecturers e.projects e.students;
+      students = map alone_student (students_left e.students);
+    }
 
 -- the student takes part
 abbrev pub takes_part : Round → Student → Bool

@@ -5,10 +5,10 @@ use Rattle.portal_core.specs.Words.{Key, is, has}
 use Rattle.portal_core.specs.World.{Student, Lecturer, is_at, shown_place, lecturers_in, projects_in}
 use Rattle.portal_core.specs.View.{persons, listings}
 use Rattle.portal_core.specs.declared.phase.Phase.{Phase}
-use Rattle.portal_core.specs.declared.phase.Round.{Round}
 use Rattle.portal_core.specs.declared.rows.Listing.{Listing}
 use Rattle.portal_core.specs.declared.rows.ProjectRow.{ProjectRow}
 use Rattle.portal_core.specs.declared.rows.Person.{Person}
+use Rattle.portal_list.specs.Entries.{AllEntries}
 
 -- a lecturer's projects, with the applicants once the lists are closed
 abbrev pub applicants_shown : Bool → List Student → Key → List ProjectRow → List (Key × List Person)
@@ -27,5 +27,5 @@ abbrev pub is_waiting : List Student → List ProjectRow → Lecturer → Bool
 is_waiting ss ps l = is_none l.ranking && is_wanted ss ps l.row.key
 
 -- the catalogue of a round
-abbrev pub catalogue_in : Round → List Lecturer → List ProjectRow → List Student → List Listing
-catalogue_in round ls ps ss = listings (lecturers_in round ls ps ss) (projects_in round ls ps ss)
+abbrev pub catalogue_in : AllEntries → List Listing
+catalogue_in e = listings (lecturers_in e.round e.lecturers e.projects e.students) (projects_in e.round e.lecturers e.projects e.students)

@@ -16,7 +16,7 @@ pub(crate) use fill::{applicants_by_key, fill_rankings};
 pub(crate) use opening::{lay_by_lists, lay_by_rankings};
 pub(crate) use places::place_all;
 use portal_core::copy_keys;
-pub(crate) use rolls::{add_lecturers, add_projects, add_students};
+pub(crate) use rolls::{add_rows, new_lecturers, new_students};
 use spa_rows::Key;
 use std::alloc::{AllocError, Global};
 

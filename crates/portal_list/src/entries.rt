@@ -1,13 +1,13 @@
 //! The rows of a keeper, each with what its owner has made.
 
-ghost use Rattle.std.specs.Prelude.{◌≡◌, true, false, Ok, IfOk, OnErr};
+ghost use Rattle.std.specs.Prelude.{◌≡◌, true, false, Ok, IfOk, OnOk, OnErr, map};
 ghost use Rattle.portal_core.specs.World.{World};
-ghost use Rattle.portal_core.specs.Change.{changed};
+ghost use Rattle.portal_core.specs.Change.{changed, with_place};
 ghost use Rattle.portal_core.specs.Good.{Sound};
 ghost use Rattle.portal_core.specs.Meaning.{meant};
 ghost use Rattle.portal_list.specs.Entries.{HasEntries, is_followed};
 
-use crate::changes::{fill_rankings, replace_choice, replace_ranking};
+use crate::changes::{fill_rankings, place_all, replace_choice, replace_ranking};
 use portal_core::{Change, LecturerRow, ProjectRow, Round, StudentRow};
 use spa_rows::Key;
 use std::alloc::{AllocError, Global};
@@ -67,6 +67,15 @@ impl Model for Entries {
 }
 
 impl Entries {
+    /// Gives each student who takes part the project of the pairs, or none.
+    pub(crate) fn place(&mut self, alloc: Global, pairs: &[(Key, Key)]) -> Result<(), AllocError>
+        ensures made { OnOk result (self.new
+            ≡ record self.old { students = map (with_place pairs.now) self.old.students }) }
+        ensures same { OnErr result (self.new ≡ self.old) }
+    {
+        place_all(alloc, &mut self.students, pairs)
+    }
+
     /// Follows a change of a list, a ranking, the phase, or a fill, and says so. New rolls, the result and the second round are not
     /// followed; then, and where memory is short, all stays as it was.
     pub fn follow(&mut self, alloc: Global, change: &Change) -> Result<bool, AllocError>

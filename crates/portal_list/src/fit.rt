@@ -1,14 +1,9 @@
 //! Rows put together to entries.
 
-ghost use Rattle.std.specs.Prelude.{◌≡◌, Err, IfOk, map, option_map};
-ghost use Rattle.portal_core.specs.World.{World};
-ghost use Rattle.portal_core.specs.Good.{Sound};
+ghost use Rattle.std.specs.Prelude.{◌≡◌, IfOk, map, option_map};
 ghost use Rattle.portal_list.specs.Fit.{next_for, rest_for, earlier_for, earlier_rest, lecturers_fitting, students_fitting};
-ghost use Rattle.portal_list.specs.Entries.{HasEntries};
-ghost use Rattle.portal_list.specs.Rows.{rows_of};
 
-use crate::entries::{Entries, LecturerEntry, StudentEntry};
-use crate::from_rows::{RowsFault, WorldRows};
+use crate::entries::{LecturerEntry, StudentEntry};
 use portal_core::{LecturerRow, Round, StudentRow};
 use spa_rows::Key;
 use std::alloc::{AllocError, Global};
@@ -124,51 +119,4 @@ pub(crate) fn student_entries(
     } else {
         None
     })
-}
-
-impl Entries {
-    /// The entries of the rows of a sound world. No list is judged: of other rows entries may come that mean nothing, or
-    /// `NotGood`.
-    pub fn from_rows(alloc: Global, rows: WorldRows) -> Result<Entries, RowsFault>
-        ensures entries { IfOk result (λ e. (w : World) → rows ≡ rows_of w → Sound w
-            → HasEntries e w) }
-        ensures refused { result ≡ Err RowsFault.NotGood → (w : World) → rows ≡ rows_of w → Sound w
-            → ⊥ }
-    {
-        let WorldRows {
-            round,
-            phase: _,
-            office: _,
-            lecturers,
-            projects,
-            students,
-            choices,
-            rankings,
-            pairs,
-            earlier_choices,
-            earlier_rankings,
-            earlier_pairs,
-        } = rows;
-        let Some(lecturers) = lecturer_entries(alloc, lecturers, rankings, earlier_rankings)? else {
-            return Err(RowsFault::NotGood);
-        };
-        let Some(students) = student_entries(
-            alloc,
-            round,
-            students,
-            choices,
-            pairs,
-            earlier_choices,
-            earlier_pairs,
-        )?
-        else {
-            return Err(RowsFault::NotGood);
-        };
-        Ok(Entries {
-            round,
-            lecturers,
-            projects,
-            students,
-        })
-    }
 }

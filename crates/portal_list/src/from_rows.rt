@@ -1,11 +1,10 @@
 //! A keeper of the rows of tables.
 
-ghost use Rattle.std.specs.Prelude.{◌≡◌, ◌↔◌, Err, IfOk, IsTrue, MatchOption, map};
-ghost use Rattle.portal_core.specs.Words.{Rise};
-ghost use Rattle.portal_core.specs.World.{World, project_key, student_key};
+ghost use Rattle.std.specs.Prelude.{◌≡◌, ◌↔◌, Err, IfOk, IsTrue, MatchOption};
+ghost use Rattle.portal_core.specs.World.{World};
 ghost use Rattle.portal_core.specs.Good.{Sound};
 ghost use Rattle.portal_list.specs.Entries.{HasEntries};
-ghost use Rattle.portal_list.specs.Parts.{RollsFit, ListsFit};
+ghost use Rattle.portal_list.specs.Parts.{RollsFit};
 ghost use Rattle.portal_list.specs.Rows.{rows_of, IsFitted};
 ghost use Rattle.portal_list.specs.declared.from_rows.RowsFault.TheVariants.{Memory};
 
@@ -82,23 +81,6 @@ fn rolls_of_rows_fit(alloc: Global, rows: &WorldRows) -> Result<bool, AllocError
     )
 }
 
-/// Whether lists, rankings and the result are those of a sound world.
-pub(crate) fn lists_of_keeper_fit(alloc: Global, keeper: &ListKeeper) -> Result<bool, AllocError>
-    requires projects { Rise (map project_key keeper.now.projects) }
-    requires students { Rise (map student_key keeper.now.students) }
-    ensures { IfOk result (λ yes. IsTrue yes
-        ↔ ListsFit keeper.now.round keeper.now.phase keeper.now.lecturers keeper.now.projects keeper.now.students) }
-{
-    lists_fit(
-        alloc,
-        keeper.round,
-        keeper.phase,
-        &keeper.lecturers,
-        &keeper.projects,
-        &keeper.students,
-    )
-}
-
 /// The keeper of these rows, if they are those of a world.
 fn fitted(alloc: Global, rows: WorldRows) -> Result<Option<ListKeeper>, AllocError>
     ensures { IfOk result (λ found. MatchOption found ((w : World) → rows ≡ rows_of w → Sound w → ⊥)
@@ -134,12 +116,14 @@ fn fitted(alloc: Global, rows: WorldRows) -> Result<Option<ListKeeper>, AllocErr
         return Ok(None);
     };
     Ok(Some(ListKeeper {
-        round,
         phase,
         office,
-        lecturers,
-        projects,
-        students,
+        entries: Entries {
+            round,
+            lecturers,
+            projects,
+            students,
+        },
         catalogue: None,
     }))
 }
@@ -158,7 +142,7 @@ impl ListKeeper {
         let Some(keeper) = fitted(alloc, rows)? else {
             return Err(RowsFault::NotGood);
         };
-        if !lists_of_keeper_fit(alloc, &keeper)? {
+        if !lists_fit(alloc, keeper.phase, &keeper.entries)? {
             return Err(RowsFault::NotGood);
         }
         Ok(keeper)
@@ -168,20 +152,22 @@ impl ListKeeper {
     pub fn into_entries(self) -> Entries
         ensures { HasEntries result self }
     {
-        let ListKeeper {
-            round,
-            phase: _,
-            office: _,
-            lecturers,
-            projects,
-            students,
-            catalogue: _,
-        } = self;
-        Entries {
-            round,
-            lecturers,
-            projects,
-            students,
+        self.entries
+    }
+}
+
+impl Entries {
+    /// The entries of the rows of a sound world. No list is judged: of other rows entries may come that mean nothing, or
+    /// `NotGood`.
+    pub fn from_rows(alloc: Global, rows: WorldRows) -> Result<Entries, RowsFault>
+        ensures entries { IfOk result (λ e. (w : World) → rows ≡ rows_of w → Sound w
+            → HasEntries e w) }
+        ensures refused { result ≡ Err RowsFault.NotGood → (w : World) → rows ≡ rows_of w → Sound w
+            → ⊥ }
+    {
+        match fitted(alloc, rows)? {
+            Some(keeper) => Ok(keeper.into_entries()),
+            None => Err(RowsFault::NotGood),
         }
     }
 }

@@ -9,11 +9,10 @@ ghost use Rattle.portal_list.specs.Parts.{IsSettled, RollsOf};
 ghost use Rattle.portal_list.specs.Played.{takes_part};
 
 use crate::copies::{place_copy, project_rows_of, ranking_copy};
-use crate::entries::{LecturerEntry, StudentEntry};
-use crate::from_rows::lists_of_keeper_fit;
+use crate::entries::{Entries, LecturerEntry, StudentEntry};
 use crate::instance::instance_of;
 use crate::keeper::ListKeeper;
-use crate::lists::is_published;
+use crate::lists::{is_published, lists_fit};
 use crate::played::takes_part;
 use portal_core::{Phase, Round, copy_keys};
 use spa_check::is_stable;
@@ -117,14 +116,9 @@ impl ListKeeper {
         if !is_published(self.phase) {
             return Ok(true);
         }
-        let instance = instance_of(
-            alloc,
-            self.round,
-            &self.lecturers,
-            &self.projects,
-            &self.students,
-        )?;
-        let places = places_in(alloc, &instance, self.round, &self.students)?;
+        let entries = &self.entries;
+        let instance = instance_of(alloc, entries)?;
+        let places = places_in(alloc, &instance, entries.round, &entries.students)?;
         Ok(are_stable(&instance, places))
     }
 
@@ -133,12 +127,14 @@ impl ListKeeper {
         ensures { IfOk result (λ keeper. keeper ≡ first self.now) }
     {
         Ok(ListKeeper {
-            round: Round::First,
             phase: Phase::Published,
             office: self.office.copy(alloc)?,
-            lecturers: first_lecturers(alloc, &self.lecturers)?,
-            projects: project_rows_of(alloc, &self.projects)?,
-            students: first_students(alloc, &self.students)?,
+            entries: Entries {
+                round: Round::First,
+                lecturers: first_lecturers(alloc, &self.entries.lecturers)?,
+                projects: project_rows_of(alloc, &self.entries.projects)?,
+                students: first_students(alloc, &self.entries.students)?,
+            },
             catalogue: None,
         })
     }
@@ -148,7 +144,7 @@ impl ListKeeper {
         requires { RollsOf self.now }
         ensures { IfOk result (λ yes. IsTrue yes ↔ IsRound self.now) }
     {
-        if !lists_of_keeper_fit(alloc, self)? {
+        if !lists_fit(alloc, self.phase, &self.entries)? {
             return Ok(false);
         }
         self.is_settled(alloc)
@@ -160,7 +156,7 @@ impl ListKeeper {
         ensures { IfOk result (λ yes. IsTrue yes
             ↔ (is_second self.now.round ≡ true → IsRound (first self.now))) }
     {
-        match self.round {
+        match self.entries.round {
             Round::First => Ok(true),
             Round::Second => {
                 let first = self.first(alloc)?;

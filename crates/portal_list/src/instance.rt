@@ -6,7 +6,7 @@ ghost use Rattle.portal_core.specs.World.{World, is_still_to_rank};
 ghost use Rattle.portal_core.specs.declared.phase.Round.TheVariants.{First};
 ghost use Rattle.portal_core.specs.Good.{Sound};
 ghost use Rattle.portal_core.specs.Instance as meant_by;
-ghost use Rattle.portal_list.specs.Entries.{HasEntries, entries_of};
+ghost use Rattle.portal_list.specs.Entries.{HasEntries};
 ghost use Rattle.portal_list.specs.Lines.{lecturer_line, project_line, student_line, lines_of};
 
 use crate::entries::{Entries, LecturerEntry, StudentEntry};
@@ -102,36 +102,25 @@ fn student_lines(alloc: Global, entries: &[StudentEntry]) -> Result<Vec<StudentL
 }
 
 /// The lines of the entries.
-fn rows_of(
-    alloc: Global,
-    lecturers: &[LecturerEntry],
-    projects: &[ProjectRow],
-    students: &[StudentEntry],
-) -> Result<InstanceRows, AllocError>
-    ensures { IfOk result (λ rows. rows ≡ lines_of lecturers.now projects.now students.now) }
+fn rows_of(alloc: Global, entries: &Entries) -> Result<InstanceRows, AllocError>
+    ensures { IfOk result (λ rows. rows ≡ lines_of entries.now) }
 {
     Ok(InstanceRows {
-        lecturers: lecturer_lines(alloc, lecturers)?,
-        projects: project_lines(alloc, projects)?,
-        students: student_lines(alloc, students)?,
+        lecturers: lecturer_lines(alloc, &entries.lecturers)?,
+        projects: project_lines(alloc, &entries.projects)?,
+        students: student_lines(alloc, &entries.students)?,
     })
 }
 
-/// The instance of the entries of one round, which are not judged; `NotGood` where they have none.
-fn instance_among(
-    alloc: Global,
-    lecturers: &[LecturerEntry],
-    projects: &[ProjectRow],
-    students: &[StudentEntry],
-) -> Result<Instance, RowsFault>
-    ensures instance { IfOk result (λ instance. (w : World)
-        → HasEntries (entries_of First lecturers.now projects.now students.now) w → Sound w
+/// The instance of the entries of a first round, which are not judged; `NotGood` where they have none.
+fn instance_among(alloc: Global, entries: &Entries) -> Result<Instance, RowsFault>
+    requires { entries.now.round ≡ First }
+    ensures instance { IfOk result (λ instance. (w : World) → HasEntries entries.now w → Sound w
         → instance ≡ meant_by.instance w) }
-    ensures refused { result ≡ Err RowsFault.NotGood → (w : World)
-        → HasEntries (entries_of First lecturers.now projects.now students.now) w → Sound w
-        → AllByRecursion (λ l. is_still_to_rank w l ≡ false) w.lecturers → ⊥ }
+    ensures refused { result ≡ Err RowsFault.NotGood → (w : World) → HasEntries entries.now w
+        → Sound w → AllByRecursion (λ l. is_still_to_rank w l ≡ false) w.lecturers → ⊥ }
 {
-    let rows = rows_of(alloc, lecturers, projects, students)?;
+    let rows = rows_of(alloc, entries)?;
     match Instance::build(alloc, rows) {
         Ok(instance) => {
             let _lawful = instance.students();
@@ -144,46 +133,14 @@ fn instance_among(
     }
 }
 
-/// The instance of the round of these entries, which are not judged; `NotGood` where they have none.
-fn instance_in(
-    alloc: Global,
-    round: Round,
-    lecturers: &[LecturerEntry],
-    projects: &[ProjectRow],
-    students: &[StudentEntry],
-) -> Result<Instance, RowsFault>
-    ensures instance { IfOk result (λ instance. (w : World)
-        → HasEntries (entries_of round lecturers.now projects.now students.now) w → Sound w
-        → instance ≡ meant_by.instance w) }
-    ensures refused { result ≡ Err RowsFault.NotGood → (w : World)
-        → HasEntries (entries_of round lecturers.now projects.now students.now) w → Sound w
-        → AllByRecursion (λ l. is_still_to_rank w l ≡ false) w.lecturers → ⊥ }
-{
-    match round {
-        Round::First => instance_among(alloc, lecturers, projects, students),
-        Round::Second => {
-            let left = played(alloc, lecturers, projects, students)?;
-            instance_among(alloc, &left.lecturers, &left.projects, &left.students)
-        }
-    }
-}
-
 /// The instance of the round of the entries of a sound world in which nobody is still to rank.
-pub(crate) fn instance_of(
-    alloc: Global,
-    round: Round,
-    lecturers: &[LecturerEntry],
-    projects: &[ProjectRow],
-    students: &[StudentEntry],
-) -> Result<Instance, AllocError>
-    requires ready { (w : World) × HasEntries
-        (entries_of round lecturers.now projects.now students.now) w × Sound w
+pub(crate) fn instance_of(alloc: Global, entries: &Entries) -> Result<Instance, AllocError>
+    requires ready { (w : World) × HasEntries entries.now w × Sound w
         × AllByRecursion (λ l. is_still_to_rank w l ≡ false) w.lecturers }
-    ensures instance { IfOk result (λ instance. (w : World)
-        → HasEntries (entries_of round lecturers.now projects.now students.now) w → Sound w
+    ensures instance { IfOk result (λ instance. (w : World) → HasEntries entries.now w → Sound w
         → instance ≡ meant_by.instance w) }
 {
-    match instance_in(alloc, round, lecturers, projects, students) {
+    match entries.instance(alloc) {
         Ok(instance) => Ok(instance),
         Err(RowsFault::Memory) => Err(AllocError),
         Err(RowsFault::NotGood) => unreachable!(),
@@ -199,12 +156,12 @@ impl Entries {
         ensures refused { result ≡ Err RowsFault.NotGood → (w : World) → HasEntries self.now w
             → Sound w → AllByRecursion (λ l. is_still_to_rank w l ≡ false) w.lecturers → ⊥ }
     {
-        instance_in(
-            alloc,
-            self.round,
-            &self.lecturers,
-            &self.projects,
-            &self.students,
-        )
+        match self.round {
+            Round::First => instance_among(alloc, self),
+            Round::Second => {
+                let left = played(alloc, self)?;
+                instance_among(alloc, &left)
+            }
+        }
     }
 }

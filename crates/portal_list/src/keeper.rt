@@ -1,19 +1,16 @@
 //! The keeper.
 
-ghost use Rattle.std.specs.Prelude.{◌≡◌, [], IfOk, IfErr, OnOk, OnErr};
+ghost use Rattle.std.specs.Prelude.{◌≡◌, true, [], IfOk, IfErr, OnOk, OnErr};
 ghost use Rattle.portal_core.specs.View as seen;
-ghost use Rattle.portal_core.specs.Good.{Good, CanPublish};
-ghost use Rattle.portal_core.specs.Words.{Rise};
+ghost use Rattle.portal_core.specs.Good.{Good, Sound, CanPublish};
 ghost use Rattle.portal_core.specs.Instance as meant_by;
-ghost use Rattle.portal_core.specs.Instance.{lecturer_keys, student_keys};
-ghost use Rattle.portal_core.specs.Change.{changed, Lecturers, Projects, Students, SecondRound};
+ghost use Rattle.portal_core.specs.Change.{changed, Lecturers, Projects, Students, Places, SecondRound};
 ghost use Rattle.portal_core.specs.Meaning.{meant};
+ghost use Rattle.portal_list.specs.Entries.{is_followed};
 
-use crate::changes::{
-    add_lecturers, add_projects, add_students, fill_rankings, lay_by_lists, lay_by_rankings,
-    place_all, replace_choice, replace_ranking,
-};
-use crate::entries::{LecturerEntry, StudentEntry};
+use crate::changes::{add_rows, lay_by_lists, lay_by_rankings, new_lecturers, new_students};
+use crate::copies::project_rows_of;
+use crate::entries::Entries;
 use crate::instance::instance_of;
 use crate::views::{
     catalogue_of, lecturer_view, lecturer_with, office_view, student_view, student_with,
@@ -23,6 +20,7 @@ use portal_core::{
     View,
 };
 use spa_model::Instance;
+use spa_rows::Key;
 use std::alloc::{AllocError, Global};
 use std::marker::Model;
 use std::rc::Rc;
@@ -30,12 +28,9 @@ use std::rc::Rc;
 /// A world in vectors, whose rows stand by rising key.
 #[derive(Drop)]
 pub struct ListKeeper {
-    pub(crate) round: Round,
     pub(crate) phase: Phase,
     pub(crate) office: Code,
-    pub(crate) lecturers: Vec<LecturerEntry>,
-    pub(crate) projects: Vec<ProjectRow>,
-    pub(crate) students: Vec<StudentEntry>,
+    pub(crate) entries: Entries,
     /// The catalogue of the round, once it was asked for.
     pub(crate) catalogue: Option<Rc<Vec<Listing>>>,
 }
@@ -43,13 +38,14 @@ pub struct ListKeeper {
 impl Model for ListKeeper {
     ghost use Rattle.std.specs.Prelude.{◌≡◌, IfSome};
     ghost use Rattle.portal_core.specs.World.{World};
+    ghost use Rattle.portal_list.specs.Entries.{world_with};
     ghost use Rattle.portal_list.specs.Shown.{catalogue_in};
 
     ghost Value = { World };
 
-    ghost view = { λ k. record { round = k.round; phase = k.phase; office = k.office; lecturers = k.lecturers.items; projects = k.projects.items; students = k.students.items } };
+    ghost view = { λ k. world_with k.phase k.office k.entries };
 
-    ghost invariant = { λ k. IfSome k.catalogue (λ shared. shared.value.items ≡ catalogue_in k.round k.lecturers.items k.projects.items k.students.items) };
+    ghost invariant = { λ k. IfSome k.catalogue (λ shared. shared.value.items ≡ catalogue_in k.entries) };
 }
 
 impl ListKeeper {
@@ -67,12 +63,14 @@ impl ListKeeper {
     {
         let _form = office.as_bytes();
         ListKeeper {
-            round: Round::First,
             phase: Phase::Setup,
             office,
-            lecturers: Vec::new(alloc),
-            projects: Vec::new(alloc),
-            students: Vec::new(alloc),
+            entries: Entries {
+                round: Round::First,
+                lecturers: Vec::new(alloc),
+                projects: Vec::new(alloc),
+                students: Vec::new(alloc),
+            },
             catalogue: None,
         }
     }
@@ -84,13 +82,7 @@ impl ListKeeper {
         match &self.catalogue {
             Some(shared) => shared.clone(),
             None => {
-                let listings = catalogue_of(
-                    alloc,
-                    self.round,
-                    &self.lecturers,
-                    &self.projects,
-                    &self.students,
-                )?;
+                let listings = catalogue_of(alloc, &self.entries)?;
                 Ok(Rc::new(alloc, listings)?)
             }
         }
@@ -113,10 +105,10 @@ impl ListKeeper {
             (seen.caller_among (seen.lecturer_with self.now code.now)
             (seen.student_with self.now code.now))) }
     {
-        if let Some(lecturer) = lecturer_with(&self.lecturers, code) {
+        if let Some(lecturer) = lecturer_with(&self.entries.lecturers, code) {
             return Ok(View::Lecturer(lecturer_view(alloc, self, lecturer)?));
         }
-        match student_with(&self.students, code) {
+        match student_with(&self.entries.students, code) {
             Some(student) => Ok(View::Student(student_view(alloc, self, student)?)),
             None => Ok(View::Nobody),
         }
@@ -146,9 +138,10 @@ impl ListKeeper {
         ensures made { OnOk result (self.new ≡ changed self.old (Lecturers rows.now)) }
         ensures same { OnErr result (self.new ≡ self.old) }
     {
-        match self.round {
+        match self.entries.round {
             Round::First => {
-                add_lecturers(alloc, &mut self.lecturers, rows)?;
+                let fresh = new_lecturers(alloc, rows)?;
+                add_rows(&mut self.entries.lecturers, fresh)?;
                 self.catalogue = None;
                 Ok(())
             }
@@ -161,9 +154,10 @@ impl ListKeeper {
         ensures made { OnOk result (self.new ≡ changed self.old (Projects rows.now)) }
         ensures same { OnErr result (self.new ≡ self.old) }
     {
-        match self.round {
+        match self.entries.round {
             Round::First => {
-                add_projects(alloc, &mut self.projects, rows)?;
+                let fresh = project_rows_of(alloc, rows)?;
+                add_rows(&mut self.entries.projects, fresh)?;
                 self.catalogue = None;
                 Ok(())
             }
@@ -176,8 +170,11 @@ impl ListKeeper {
         ensures made { OnOk result (self.new ≡ changed self.old (Students rows.now)) }
         ensures same { OnErr result (self.new ≡ self.old) }
     {
-        match self.round {
-            Round::First => add_students(alloc, &mut self.students, rows),
+        match self.entries.round {
+            Round::First => {
+                let fresh = new_students(alloc, rows)?;
+                add_rows(&mut self.entries.students, fresh)
+            }
             Round::Second => Ok(()),
         }
     }
@@ -186,32 +183,50 @@ impl ListKeeper {
     fn open_second(&mut self, alloc: Global)
         ensures { self.new ≡ changed self.old SecondRound }
     {
-        match (self.round, self.phase) {
+        match (self.entries.round, self.phase) {
             (Round::First, Phase::Published) => {
                 self.catalogue = None;
-                lay_by_rankings(&mut self.lecturers);
-                lay_by_lists(alloc, &mut self.students);
-                self.round = Round::Second;
+                lay_by_rankings(&mut self.entries.lecturers);
+                lay_by_lists(alloc, &mut self.entries.students);
+                self.entries.round = Round::Second;
                 self.phase = Phase::Choosing;
             }
             _ => {}
         }
     }
 
+    /// Gives each student who takes part the project of the pairs, or none, and publishes the result.
+    fn publish(&mut self, alloc: Global, pairs: &[(Key, Key)]) -> Result<(), AllocError>
+        ensures made { OnOk result (self.new ≡ changed self.old (Places pairs.now)) }
+        ensures same { OnErr result (self.new ≡ self.old) }
+    {
+        self.entries.place(alloc, pairs)?;
+        self.phase = Phase::Published;
+        Ok(())
+    }
+
+    /// Follows a change of a list or a ranking, or a fill.
+    fn follow(&mut self, alloc: Global, change: &Change) -> Result<(), AllocError>
+        requires sound { Sound self.old }
+        requires followed { is_followed (meant change.now) ≡ true }
+        requires phase { (changed self.old (meant change.now)).phase ≡ self.old.phase }
+        ensures made { OnOk result (self.new ≡ changed self.old (meant change.now)) }
+        ensures same { OnErr result (self.new ≡ self.old) }
+    {
+        self.entries.follow(alloc, change)?;
+        Ok(())
+    }
+
     /// Makes one change, or leaves all as it was where memory is short.
     pub(crate) fn make(&mut self, alloc: Global, change: &Change) -> Result<(), AllocError>
-        requires lecturers { Rise (lecturer_keys self.old) }
-        requires students { Rise (student_keys self.old) }
+        requires { Sound self.old }
         ensures made { OnOk result (self.new ≡ changed self.old (meant change.now)) }
         ensures same { OnErr result (self.new ≡ self.old) }
     {
         match change {
-            Change::Choices { student, projects } => {
-                replace_choice(alloc, &mut self.students, student, projects)
-            }
-            Change::Ranking { lecturer, students } => {
-                replace_ranking(alloc, &mut self.lecturers, lecturer, students)
-            }
+            Change::Choices { .. } => self.follow(alloc, change),
+            Change::Ranking { .. } => self.follow(alloc, change),
+            Change::Fill => self.follow(alloc, change),
             Change::Lecturers(rows) => self.enrol_lecturers(alloc, rows),
             Change::Projects(rows) => self.enrol_projects(alloc, rows),
             Change::Students(rows) => self.enrol_students(alloc, rows),
@@ -219,17 +234,7 @@ impl ListKeeper {
                 self.phase = *phase;
                 Ok(())
             }
-            Change::Result(pairs) => {
-                place_all(alloc, &mut self.students, pairs)?;
-                self.phase = Phase::Published;
-                Ok(())
-            }
-            Change::Fill => fill_rankings(
-                alloc,
-                &mut self.lecturers,
-                &self.projects,
-                &self.students,
-            ),
+            Change::Result(pairs) => self.publish(alloc, pairs),
             Change::SecondRound => {
                 self.open_second(alloc);
                 Ok(())
@@ -262,14 +267,7 @@ impl Keeper for ListKeeper {
         ensures same { self.new ≡ self.old }
         ensures memory { IfErr result (λ fault. fault ≡ KeepFault.Memory) }
     {
-        instance_of(
-            alloc,
-            self.round,
-            &self.lecturers,
-            &self.projects,
-            &self.students,
-        )
-        .map_err(|_| KeepFault::Memory)
+        instance_of(alloc, &self.entries).map_err(|_| KeepFault::Memory)
     }
 
     fn apply(&mut self, alloc: Global, change: &Change) -> Result<(), KeepFault>

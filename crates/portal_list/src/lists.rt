@@ -3,12 +3,12 @@
 ghost use Rattle.std.specs.Prelude.{◌≡◌, ◌↔◌, IfOk, IsTrue, true, map, option_map, [], None};
 ghost use Rattle.std.specs.List.{AllByRecursion};
 ghost use Rattle.portal_core.specs.Words.{has, Rise};
-ghost use Rattle.portal_core.specs.World.{project_key, student_key, is_published, projects_in};
+ghost use Rattle.portal_core.specs.World.{project_key, student_key, is_published};
 ghost use Rattle.portal_core.specs.Good.{IsChoice, IsRanking};
-ghost use Rattle.portal_list.specs.Parts.{PhaseFits, HasNothingEarlier, IsOutIfPlaced, RoundFits, applicant_keys, IsRanked, ListsFit};
+ghost use Rattle.portal_list.specs.Parts.{PhaseFits, HasNothingEarlier, IsOutIfPlaced, RoundFits, HasChoices, applicant_keys, IsRanked, ListsFit};
 
 use crate::distinct::keys_are_distinct;
-use crate::entries::{LecturerEntry, StudentEntry};
+use crate::entries::{Entries, LecturerEntry, StudentEntry};
 use crate::keyed::is_known;
 use crate::played::played;
 use crate::wanted::Wanted;
@@ -56,14 +56,17 @@ pub(crate) fn is_published(phase: Phase) -> bool
 }
 
 /// Whether nothing is there that is made in a later phase.
-fn phase_fits(phase: Phase, lecturers: &[LecturerEntry], students: &[StudentEntry]) -> bool
-    ensures { IsTrue result ↔ PhaseFits phase lecturers.now students.now }
+fn phase_fits(phase: Phase, entries: &Entries) -> bool
+    ensures { IsTrue result ↔ PhaseFits phase entries.now }
 {
+    let students = &entries.students;
     match phase {
         Phase::Setup => {
-            have_no_choices(students) && have_no_rankings(lecturers) && have_no_places(students)
+            have_no_choices(students)
+                && have_no_rankings(&entries.lecturers)
+                && have_no_places(students)
         }
-        Phase::Choosing => have_no_rankings(lecturers) && have_no_places(students),
+        Phase::Choosing => have_no_rankings(&entries.lecturers) && have_no_places(students),
         Phase::Ranking => have_no_places(students),
         Phase::Published => true,
     }
@@ -117,19 +120,14 @@ fn are_out_if_placed(students: &[StudentEntry]) -> bool
 }
 
 /// Whether what there is of an earlier round fits the round.
-fn round_fits(
-    round: Round,
-    phase: Phase,
-    lecturers: &[LecturerEntry],
-    students: &[StudentEntry],
-) -> bool
-    ensures { IsTrue result ↔ RoundFits round phase lecturers.now students.now }
+fn round_fits(phase: Phase, entries: &Entries) -> bool
+    ensures { IsTrue result ↔ RoundFits phase entries.now }
 {
-    let out = are_out_if_placed(students);
-    match round {
+    let out = are_out_if_placed(&entries.students);
+    match entries.round {
         Round::First => out
-            && have_nothing_earlier(students)
-            && have_no_earlier_rankings(lecturers),
+            && have_nothing_earlier(&entries.students)
+            && have_no_earlier_rankings(&entries.lecturers),
         Round::Second => out && phase != Phase::Setup,
     }
 }
@@ -175,25 +173,15 @@ fn choices_fit(
 }
 
 /// Whether each list is one of projects that take part in the round.
-fn choices_in_play_fit(
-    alloc: Global,
-    round: Round,
-    lecturers: &[LecturerEntry],
-    projects: &[ProjectRow],
-    students: &[StudentEntry],
-) -> Result<bool, AllocError>
-    requires { Rise (map project_key projects.now) }
-    ensures { IfOk result (λ yes. IsTrue yes
-        ↔ AllByRecursion
-        (λ s. IsChoice
-        (map project_key
-        (projects_in round lecturers.now projects.now students.now)) s.choice) students.now) }
+fn choices_in_play_fit(alloc: Global, entries: &Entries) -> Result<bool, AllocError>
+    requires { Rise (map project_key entries.now.projects) }
+    ensures { IfOk result (λ yes. IsTrue yes ↔ HasChoices entries.now) }
 {
-    match round {
-        Round::First => choices_fit(alloc, projects, students),
+    match entries.round {
+        Round::First => choices_fit(alloc, &entries.projects, &entries.students),
         Round::Second => {
-            let left = played(alloc, lecturers, projects, students)?;
-            choices_fit(alloc, &left.projects, students)
+            let left = played(alloc, entries)?;
+            choices_fit(alloc, &left.projects, &entries.students)
         }
     }
 }
@@ -298,27 +286,25 @@ fn rankings_fit(
 }
 
 /// Whether lists, rankings and the result are those of a sound world.
-pub(crate) fn lists_fit(
-    alloc: Global,
-    round: Round,
-    phase: Phase,
-    lecturers: &[LecturerEntry],
-    projects: &[ProjectRow],
-    students: &[StudentEntry],
-) -> Result<bool, AllocError>
-    requires projects { Rise (map project_key projects.now) }
-    requires students { Rise (map student_key students.now) }
-    ensures { IfOk result (λ yes. IsTrue yes
-        ↔ ListsFit round phase lecturers.now projects.now students.now) }
+pub(crate) fn lists_fit(alloc: Global, phase: Phase, entries: &Entries) -> Result<bool, AllocError>
+    requires projects { Rise (map project_key entries.now.projects) }
+    requires students { Rise (map student_key entries.now.students) }
+    ensures { IfOk result (λ yes. IsTrue yes ↔ ListsFit phase entries.now) }
 {
-    if !phase_fits(phase, lecturers, students) {
+    if !phase_fits(phase, entries) {
         return Ok(false);
     }
-    if !round_fits(round, phase, lecturers, students) {
+    if !round_fits(phase, entries) {
         return Ok(false);
     }
-    if !choices_in_play_fit(alloc, round, lecturers, projects, students)? {
+    if !choices_in_play_fit(alloc, entries)? {
         return Ok(false);
     }
-    rankings_fit(alloc, is_published(phase), lecturers, projects, students)
+    rankings_fit(
+        alloc,
+        is_published(phase),
+        &entries.lecturers,
+        &entries.projects,
+        &entries.students,
+    )
 }

@@ -157,18 +157,13 @@ fn students_played(
 }
 
 /// Who takes part in the second round, with the room that the first left.
-pub(crate) fn played(
-    alloc: Global,
-    lecturers: &[LecturerEntry],
-    projects: &[ProjectRow],
-    students: &[StudentEntry],
-) -> Result<Entries, AllocError>
-    ensures { IfOk result (λ e. e ≡ all_played lecturers.now projects.now students.now) }
+pub(crate) fn played(alloc: Global, entries: &Entries) -> Result<Entries, AllocError>
+    ensures { IfOk result (λ e. e ≡ all_played entries.now) }
 {
-    let pairs = earlier_pairs(alloc, students)?;
-    let lecturers = lecturers_played(alloc, lecturers, projects, &pairs)?;
-    let projects = projects_played(alloc, &lecturers, projects, &pairs)?;
-    let students = students_played(alloc, students)?;
+    let pairs = earlier_pairs(alloc, &entries.students)?;
+    let lecturers = lecturers_played(alloc, &entries.lecturers, &entries.projects, &pairs)?;
+    let projects = projects_played(alloc, &lecturers, &entries.projects, &pairs)?;
+    let students = students_played(alloc, &entries.students)?;
     Ok(Entries {
         round: Round::First,
         lecturers,

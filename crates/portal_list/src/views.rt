@@ -70,7 +70,7 @@ pub(crate) fn student_view(
     ensures { IfOk result (λ v. v ≡ student_sees keeper.now student.now) }
 {
     Ok(StudentView {
-        round: keeper.round,
+        round: keeper.entries.round,
         phase: keeper.phase,
         me: person_of(alloc, &student.row.key, &student.row.name)?,
         catalogue: keeper.catalogue(alloc)?,
@@ -88,8 +88,9 @@ pub(crate) fn lecturer_view(
 {
     let row = &lecturer.row;
     let closed = are_closed(keeper.phase);
+    let entries = &keeper.entries;
     Ok(LecturerView {
-        round: keeper.round,
+        round: entries.round,
         phase: keeper.phase,
         me: person_of(alloc, &row.key, &row.name)?,
         capacity: row.capacity,
@@ -97,17 +98,17 @@ pub(crate) fn lecturer_view(
         applicants: applicants_by_project(
             alloc,
             closed,
-            &keeper.students,
+            &entries.students,
             &row.key,
-            &keeper.projects,
+            &entries.projects,
         )?,
         ranking: ranking_copy(alloc, &lecturer.ranking)?,
         placed: placed_by_project(
             alloc,
             keeper.phase,
-            &keeper.students,
+            &entries.students,
             &row.key,
-            &keeper.projects,
+            &entries.projects,
         )?,
     })
 }
@@ -116,22 +117,23 @@ pub(crate) fn office_view(alloc: Global, keeper: &ListKeeper) -> Result<OfficeVi
     ensures { IfOk result (λ v. v ≡ office_sees keeper.now) }
 {
     let closed = are_closed(keeper.phase);
+    let entries = &keeper.entries;
     Ok(OfficeView {
-        round: keeper.round,
+        round: entries.round,
         phase: keeper.phase,
         office_code: keeper.office.copy(alloc)?,
-        lecturers: lecturer_rows(alloc, &keeper.lecturers)?,
-        projects: project_rows(alloc, &keeper.projects)?,
-        students: student_rows(alloc, &keeper.students)?,
+        lecturers: lecturer_rows(alloc, &entries.lecturers)?,
+        projects: project_rows(alloc, &entries.projects)?,
+        students: student_rows(alloc, &entries.students)?,
         catalogue: keeper.catalogue(alloc)?,
-        without_list: without_list(alloc, keeper.round, &keeper.students)?,
+        without_list: without_list(alloc, entries.round, &entries.students)?,
         still_to_rank: still_to_rank(
             alloc,
             closed,
-            &keeper.lecturers,
-            &keeper.projects,
-            &keeper.students,
+            &entries.lecturers,
+            &entries.projects,
+            &entries.students,
         )?,
-        pairs: pairs_of(alloc, keeper.phase, &keeper.students)?,
+        pairs: pairs_of(alloc, keeper.phase, &entries.students)?,
     })
 }

@@ -4,7 +4,7 @@ ghost use Rattle.std.specs.Prelude.{◌≡◌, IfOk, option_map};
 ghost use Rattle.portal_core.specs.View.{name_in, listing_with, listings};
 ghost use Rattle.portal_list.specs.Shown.{catalogue_in};
 
-use crate::entries::{LecturerEntry, StudentEntry};
+use crate::entries::{Entries, LecturerEntry};
 use crate::played::played;
 use portal_core::{Listing, Name, ProjectRow, Round};
 use spa_rows::Key;
@@ -54,20 +54,13 @@ fn listings_of(
 }
 
 /// The catalogue of the round.
-pub(crate) fn catalogue_of(
-    alloc: Global,
-    round: Round,
-    lecturers: &[LecturerEntry],
-    projects: &[ProjectRow],
-    students: &[StudentEntry],
-) -> Result<Vec<Listing>, AllocError>
-    ensures { IfOk result (λ v. v.items
-        ≡ catalogue_in round lecturers.now projects.now students.now) }
+pub(crate) fn catalogue_of(alloc: Global, entries: &Entries) -> Result<Vec<Listing>, AllocError>
+    ensures { IfOk result (λ v. v.items ≡ catalogue_in entries.now) }
 {
-    match round {
-        Round::First => listings_of(alloc, lecturers, projects),
+    match entries.round {
+        Round::First => listings_of(alloc, &entries.lecturers, &entries.projects),
         Round::Second => {
-            let left = played(alloc, lecturers, projects, students)?;
+            let left = played(alloc, entries)?;
             listings_of(alloc, &left.lecturers, &left.projects)
         }
     }

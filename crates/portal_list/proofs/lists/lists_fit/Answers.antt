@@ -1,19 +1,25 @@
-use Rattle.std.proofs.Common.{◌↔◌, IsTrue, subst, sym}
+use Rattle.std.proofs.Common.{◌≡◌, Bool, sym, ap, subst₂, ◌∙◌}
 use Rattle.std.specs.List.{AllByRecursion}
 use Rattle.std.proofs.lemmas.Result.{IfOk-weaker}
-use Rattle.portal_list.specs.Parts.{applicant_keys, IsRanked, ListsFit}
+use Rattle.portal_list.specs.Entries.{AllEntries}
+use Rattle.portal_list.specs.Parts.{applicant_keys, IsRanked}
 use Rattle.portal_list.proofs.lists.lists_fit.Goals as goal
 
 pub returns : goal.returns
 returns c =
-    IfOk-weaker c.rankings_fit.result (λ yes. IsTrue yes ↔ AllByRecursion (λ l. IsRanked c.is_published.result (applicant_keys c.args.projects.now c.args.students.now l.row.key) l.ranking) c.args.lecturers.now)
-    (λ yes. IsTrue yes ↔ ListsFit c.args.round c.args.phase c.args.lecturers.now c.args.projects.now c.args.students.now)
-    (λ yes same. (
-      λ e. record {
+    let e : AllEntries = c.args.entries.now in
+    let read : AllEntries = record e { lecturers = c.deref.result.now; projects = c.deref-2.result.now; students = c.deref-3.result.now } in
+    let lecturers = c.deref.ensures.value ∙ ap (λ (a : AllEntries). a.lecturers) c.entries.view_is in
+    let projects = c.deref-2.ensures.value ∙ ap (λ (a : AllEntries). a.projects) c.entries.view_is in
+    let students = c.deref-3.ensures.value ∙ ap (λ (a : AllEntries). a.students) c.entries.view_is in
+    let all : read ≡ e = λ i. record e { lecturers = lecturers i; projects = projects i; students = students i } in
+    let fits : Bool → AllEntries → Type 0 = λ asked a. AllByRecursion (λ l. IsRanked asked (applicant_keys a.projects a.students l.row.key) l.ranking) a.lecturers in
+    IfOk-weaker c.rankings_fit.result _ _ (λ yes same. (
+      λ h. record {
         phase_fits = c.phase_fits.ensures.0 c.if-not-phase_fits.false;
         round_fits = c.round_fits.ensures.0 c.if-not-round_fits.false;
         choices = c.in_ok-choices_in_play_fit.ensures.0 c.if-not-branch.false;
-        rankings = subst (λ asked. AllByRecursion (λ l. IsRanked asked (applicant_keys c.args.projects.now c.args.students.now l.row.key) l.ranking) c.args.lecturers.now) c.is_published.ensures (same.0 e);
+        rankings = subst₂ fits c.is_published.ensures all (same.0 h);
       },
-      λ fit. same.1 (subst (λ asked. AllByRecursion (λ l. IsRanked asked (applicant_keys c.args.projects.now c.args.students.now l.row.key) l.ranking) c.args.lecturers.now) (sym c.is_published.ensures) fit.rankings),
+      λ fit. same.1 (subst₂ fits (sym c.is_published.ensures) (sym all) fit.rankings),
     )) c.rankings_fit.ensures

@@ -1,22 +1,26 @@
 use Rattle.std.proofs.Common.{◌≡◌, map, ap, ◌∙◌}
+use Rattle.std.specs.Prelude.{filter}
 use Rattle.std.specs.List.{filter_map}
 use Rattle.portal_core.specs.declared.phase.Round.TheVariants.{First}
-use Rattle.portal_core.specs.World.{alone_lecturer, lecturers_left}
-use Rattle.portal_list.specs.Played.{lecturer_played, project_played}
+use Rattle.portal_core.specs.World.{Student, alone_lecturer, alone_student, lecturers_left, is_left, pairs_with}
+use Rattle.portal_list.specs.Played.{lecturer_played, project_played, all_played}
 use Rattle.portal_list.proofs.Plays.{lecturers_are, projects_are}
 use Rattle.portal_list.proofs.played.played.Goals as goal
 
 pub returns : goal.returns
 returns c =
-    let ls = c.args.lecturers.now in
-    let ps = c.args.projects.now in
-    let ss = c.args.students.now in
+    let ls = c.entries.inside.lecturers.items in
+    let ps = c.entries.inside.projects.items in
+    let ss = c.entries.inside.students.items in
+    let pairs = c.in_ok-pairs.ensures ∙ ap (pairs_with (λ (s : Student). s.earlier_place)) c.deref.ensures.value in
     let lecturers : c.in_ok-lecturers.lecturers.items ≡ map alone_lecturer (lecturers_left ls ps ss)
-    = c.in_ok-lecturers.ensures ∙ ap (λ pairs. filter_map (lecturer_played ps pairs) ls) (c.deref.ensures.value ∙ c.in_ok-pairs.ensures) ∙ lecturers_are ls ps ss in
-    let projects = c.in_ok-projects.ensures ∙ (λ i. filter_map (project_played (c.deref-2.ensures.value i) ((c.deref-3.ensures.value ∙ c.in_ok-pairs.ensures) i)) ps) ∙ projects_are ls ps ss c.in_ok-lecturers.lecturers.items lecturers in
-    λ i. record {
+    = c.in_ok-lecturers.ensures ∙ (λ i. filter_map (lecturer_played (c.deref-3.ensures.value i) ((c.deref-4.ensures.value ∙ pairs) i)) (c.deref-2.ensures.value i)) ∙ lecturers_are ls ps ss in
+    let projects = c.in_ok-projects.ensures ∙ (λ i. filter_map (project_played (c.deref-5.ensures.value i) ((c.deref-7.ensures.value ∙ pairs) i)) (c.deref-6.ensures.value i)) ∙ projects_are ls ps ss c.in_ok-lecturers.lecturers.items lecturers in
+    let students = c.in_ok-students.ensures ∙ ap (λ ss. map alone_student (filter is_left ss)) c.deref-8.ensures.value in
+    (λ i. record {
       round = First;
       lecturers = lecturers i;
       projects = projects i;
-      students = c.in_ok-students.ensures i;
-    }
+      students = students i;
+    })
+    ∙ ap all_played c.entries.view_is

@@ -4,6 +4,7 @@ use Rattle.portal_core.specs.Words.{Key, is_empty}
 use Rattle.portal_core.specs.World.{World, Lecturer, Student, is_still_to_rank, is_from_ranking, shown_place, pairs_with}
 use Rattle.portal_core.specs.declared.rows.ProjectRow.{ProjectRow}
 use Rattle.portal_core.specs.View.{office_sees, catalogue}
+use Rattle.portal_list.specs.Entries.{world_with}
 use Rattle.portal_list.specs.Played.{takes_part}
 use Rattle.portal_list.specs.Shown.{is_waiting}
 use Rattle.portal_list.proofs.Plays.{part_and}
@@ -18,17 +19,20 @@ waiting w b ls ps ss eb el ep es =
 
 pub returns : goal.returns
 returns c =
-    let w : World = record { round = c.keeper.inside.round; phase = c.keeper.inside.phase; office = c.keeper.inside.office; lecturers = c.keeper.inside.lecturers.items; projects = c.keeper.inside.projects.items; students = c.keeper.inside.students.items } in
+    let keeper = c.keeper.inside in
+    let e = c.entries.inside in
+    let w : World = record { round = e.round; phase = keeper.phase; office = keeper.office; lecturers = e.lecturers.items; projects = e.projects.items; students = e.students.items } in
+    let there : w ≡ c.args.keeper.now = ap (world_with keeper.phase keeper.office) c.entries.view_is ∙ c.keeper.view_is in
     (λ i. record {
-      round = c.keeper.inside.round;
-      phase = c.keeper.inside.phase;
+      round = e.round;
+      phase = keeper.phase;
       office_code = c.in_ok-copy.ensures i;
       lecturers = (c.in_ok-lecturer_rows.ensures ∙ ap (map (λ (l : Lecturer). l.row)) c.deref.ensures.value) i;
       projects = (c.in_ok-project_rows.ensures ∙ c.deref-2.ensures.value) i;
       students = (c.in_ok-student_rows.ensures ∙ ap (map (λ (s : Student). s.row)) c.deref-3.ensures.value) i;
-      catalogue = (c.in_ok-catalogue.ensures ∙ ap catalogue (sym c.keeper.view_is)) i;
-      without_list = (c.in_ok-without_list.ensures ∙ ap (λ ss. map (λ (s : Student). s.row.key) (filter (λ s. takes_part c.keeper.inside.round s && is_empty s.choice) ss)) c.deref-4.ensures.value ∙ ap (map (λ (s : Student). s.row.key)) (part_and (λ s. is_empty s.choice) c.keeper.inside.round c.keeper.inside.students.items)) i;
+      catalogue = (c.in_ok-catalogue.ensures ∙ ap catalogue (sym there)) i;
+      without_list = (c.in_ok-without_list.ensures ∙ ap (λ ss. map (λ (s : Student). s.row.key) (filter (λ s. takes_part e.round s && is_empty s.choice) ss)) c.deref-4.ensures.value ∙ ap (map (λ (s : Student). s.row.key)) (part_and (λ s. is_empty s.choice) e.round e.students.items)) i;
       still_to_rank = (c.in_ok-still_to_rank.ensures ∙ waiting w _ _ _ _ c.are_closed-closed.ensures c.deref-5.ensures.value c.deref-6.ensures.value c.deref-7.ensures.value) i;
-      pairs = (c.in_ok-pairs_of.ensures ∙ ap (pairs_with (shown_place c.keeper.inside.phase)) c.deref-8.ensures.value) i;
+      pairs = (c.in_ok-pairs_of.ensures ∙ ap (pairs_with (shown_place keeper.phase)) c.deref-8.ensures.value) i;
     })
-    ∙ ap office_sees c.keeper.view_is
+    ∙ ap office_sees there

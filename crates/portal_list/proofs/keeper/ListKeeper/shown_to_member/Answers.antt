@@ -2,9 +2,10 @@ use Rattle.std.proofs.Common.{◌≡◌, ap, ◌∙◌}
 use Rattle.std.specs.Prelude.{Some, None}
 use Rattle.std.specs.List.{find}
 use Rattle.portal_core.specs.Words.{is}
-use Rattle.portal_core.specs.World.{World, Lecturer, Student}
+use Rattle.portal_core.specs.World.{Lecturer, Student}
 use Rattle.portal_core.specs.View.{lecturer_with, student_with, caller_among, sight_of}
 use Rattle.portal_core.specs.declared.view.View.TheVariants as views
+use Rattle.portal_list.specs.Entries.{AllEntries, entries_in}
 use Rattle.portal_list.proofs.keeper.ListKeeper.shown_to_member.Goals as goal
 
 pub returns-in_ok-student_view-in-Some-student_with :
@@ -12,7 +13,8 @@ pub returns-in_ok-student_view-in-Some-student_with :
 returns-in_ok-student_view-in-Some-student_with c =
     let w = c.args.self.now in
     let code = c.args.code.now in
-    let none : None ≡ lecturer_with w code = c.in_default.ensures ∙ ap (find (λ (l : Lecturer). is l.row.code code)) (c.deref.ensures.value ∙ ap (λ (v : World). v.lecturers) c.self.view_is) in
+    let there = ap (λ k. k.entries) c.self-inside.view_is ∙ ap entries_in c.self.view_is in
+    let none : None ≡ lecturer_with w code = c.in_default.ensures ∙ ap (find (λ (l : Lecturer). is l.row.code code)) (c.deref.ensures.value ∙ ap (λ (a : AllEntries). a.lecturers) there) in
     let found : Some c.in-Some-student_with.student.now ≡ student_with w code
-    = c.in-Some-student_with.ensures ∙ ap (find (λ (s : Student). is s.row.code code)) (c.deref-2.ensures.value ∙ ap (λ (v : World). v.students) c.self.view_is) in
+    = c.in-Some-student_with.ensures ∙ ap (find (λ (s : Student). is s.row.code code)) (c.deref-2.ensures.value ∙ ap (λ (a : AllEntries). a.students) there) in
     ap views.Student c.in_ok-student_view-in-Some-student_with.ensures ∙ (λ i. sight_of w (caller_among (none i) (found i)))
