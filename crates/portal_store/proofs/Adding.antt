@@ -4,13 +4,11 @@ use Rattle.std.proofs.lemmas.List.{map-append}
 use Rattle.std.specs.List.{AllByRecursion, IsDistinct}
 use Rattle.std.specs.List.Sorted.{IsPermutation}
 use Rattle.std.proofs.lemmas.List.Sorted.{IsPermutation-refl, IsPermutation-trans, IsPermutation-sym, IsPermutation-middle, IsPermutation-append_right, IsPermutation-map}
-use Rattle.std.specs.Prelude.{slice_index_or}
 use Rattle.sqlite.specs.declared.types.Value.TheVariants.{Null, Int}
-use Rattle.sqlite.specs.Order.{Row, column, bytes}
+use Rattle.sqlite.specs.Order.{Row}
 use Rattle.sqlite.specs.Edit.{next_rowid}
 use Rattle.sqlite.specs.Tree.{put_row}
 use Rattle.sqlite.specs.Effect.{Database, IsDatabase}
-use Rattle.sqlite_trees.specs.Objects.{number_in}
 use Rattle.portal_core.specs.declared.phase.Round.TheVariants.{First, Second}
 use Rattle.portal_core.specs.declared.rows.LecturerRow.{LecturerRow}
 use Rattle.portal_core.specs.declared.rows.ProjectRow.{ProjectRow}
@@ -19,26 +17,27 @@ use Rattle.portal_core.specs.Words.{Key, is, has, Rise, put_all}
 use Rattle.portal_core.specs.World.{lecturer_key, project_key, student_key}
 use Rattle.portal_core.specs.Change.{changed, Lecturers, Projects, Students, new_lecturer, new_student}
 use Rattle.portal_core.specs.Good.{Good}
-use Rattle.portal_tables.specs.Tables.{portal_tree, lecturer_tree, project_tree, student_tree, choice_tree, ranking_tree, version}
+use Rattle.portal_tables.specs.Tables.{lecturer_tree, project_tree, student_tree, choice_tree, ranking_tree}
 use Rattle.portal_tables.specs.declared.list_table.Lists.TheVariants as which
 use Rattle.portal_tables.specs.Changes.{IsApart, Puts, Keeps, with_rows, AreNew}
 use Rattle.portal_tables.specs.Rows.{Adds, lecturer_new, project_new, student_new}
 use Rattle.portal_tables.proofs.Keeping.{puts_apart}
 use Rattle.portal_tables.proofs.Writes.{unnumbered}
 use Rattle.portal_tables.proofs.Lists.{put_splits}
-use Rattle.portal_tables.specs.Office.{HasOffice}
+use Rattle.portal_store.specs.Adding.{added}
+use Rattle.portal_store.specs.declared.rolls.NewRows.{NewRows}
+use Rattle.portal_store.specs.declared.rolls.NewRows.TheVariants as come
 use Rattle.portal_store.specs.Kept.{HoldsIn, TurnedIn, TurnsIn}
 use Rattle.portal_tables.specs.Lists.{of_key, IsWhole, list_of}
 use Rattle.portal_tables.specs.Rolls.{row_key}
-use Rattle.portal_store.proofs.Still.{kept_at, holds_after}
-use Rattle.portal_store.specs.World.{world_in, phase_of, project_row}
+use Rattle.portal_store.proofs.Still.{holds_after, world_after}
+use Rattle.portal_store.specs.World.{world_in, project_row}
 use Rattle.portal_store.proofs.FirstRows.{has_ranking, lecturer_of, student_of}
 use Rattle.portal_tables.proofs.Sorted.{permutes, permutes_more, more_put, rise_distinct, all_permuted, distinct_permuted, map_twice, map_alike}
 use Rattle.portal_tables.proofs.Listed.{all_map_on}
-use Rattle.portal_tables.proofs.Parents.{none_of, place_parents}
-use Rattle.portal_store.proofs.Holding.{whole_same}
+use Rattle.portal_tables.proofs.Parents.{OnRoll, none_of, place_parents}
 use Rattle.portal_core.proofs.Keys.{all_unmap}
-use Rattle.portal_core.proofs.AllLaws.{all_map, all_append}
+use Rattle.portal_core.proofs.AllLaws.{all_map, all_append, all_weaker}
 
 -- a row without its number
 abbrev pub bare : Row → Row
@@ -105,20 +104,12 @@ decoded f tree cells old new blind a =
     (IsPermutation-map f (map unnumbered cells ++ map bare (old.trees tree)) (map bare (new.trees tree)) a.rows)
 
 -- what holds of the rows that were there and of the new ones holds of all
-pub all_added : (P : Row → Type 0) (tree : ℕ) (cells : List Row) (old new : Database) → ((r : Row) → P r → P (bare r)) → ((r : Row) → P (bare r) → P r) → Added tree cells old new
+all_added : (P : Row → Type 0) (tree : ℕ) (cells : List Row) (old new : Database) → ((r : Row) → P r → P (bare r)) → ((r : Row) → P (bare r) → P r) → Added tree cells old new
     → AllByRecursion (λ c. P (unnumbered c)) cells → AllByRecursion P (old.trees tree) → AllByRecursion P (new.trees tree)
 all_added P tree cells old new to back a fresh was =
     let first : AllByRecursion P (map unnumbered cells ++ map bare (old.trees tree)) =
-    all_append P _ _ (all_map P unnumbered cells fresh) (all_map P bare (old.trees tree) (weaker (old.trees tree) was)) in
-    stronger (new.trees tree) (all_unmap P bare (new.trees tree) (all_permuted P _ _ a.rows first))
-  where
-    weaker : (rows : List Row) → AllByRecursion P rows → AllByRecursion (λ r. P (bare r)) rows
-    weaker [] h = tt
-    weaker (r ∷ rows) h = (to r h.0, weaker rows h.1)
-
-    stronger : (rows : List Row) → AllByRecursion (λ r. P (bare r)) rows → AllByRecursion P rows
-    stronger [] h = tt
-    stronger (r ∷ rows) h = (back r h.0, stronger rows h.1)
+    all_append P _ _ (all_map P unnumbered cells fresh) (all_map P bare (old.trees tree) (all_weaker P (λ r. P (bare r)) to (old.trees tree) was)) in
+    all_weaker (λ r. P (bare r)) P back (new.trees tree) (all_unmap P bare (new.trees tree) (all_permuted P _ _ a.rows first))
 
 -- keys that rise together are new
 module _ {X : Type 0} (key : X → Key) where
@@ -137,174 +128,107 @@ module _ {X : Type 0} (key : X → Key) where
       fresh_from news olds (distinct_permuted key (put_all key news (put_all key olds [])) (news ++ olds)
       (IsPermutation-sym _ _ (IsPermutation-trans _ _ _ (IsPermutation-append_right news _ _ (permutes key olds)) (permutes_more key news (put_all key olds [])))) (rise_distinct _ up))
 
+-- what holds of the keys of the rows that were there and of the new ones holds of all
+keyed_added : (P : Key → Type 0) (tree : ℕ) (cells : List Row) (old new : Database) → Added tree cells old new → AllByRecursion (λ c. P (row_key (unnumbered c))) cells → AllByRecursion (λ r. P (row_key r)) (old.trees tree)
+    → AllByRecursion (λ r. P (row_key r)) (new.trees tree)
+keyed_added P tree cells old new = all_added (λ r. P (row_key r)) tree cells old new (λ r h. subst P (sym (key_bare r)) h) (λ r h. subst P (key_bare r) h)
+
+-- the roll has the new rows, by a reading that does not look at their numbers
+roll_added : {X Y : Type 0} (key : Y → Key) (cells : X → Row) (show : Row → Y) (rows : List X) (news : List Y) (tree : ℕ) (old new : Database) → ((r : Row) → show (bare r) ≡ show r) → map (λ x. show (unnumbered (cells x))) rows ≡ news
+    → Added tree (map cells rows) old new → Rise (map key (put_all key news (put_all key (map show (old.trees tree)) []))) → put_all key (map show (new.trees tree)) [] ≡ put_all key news (put_all key (map show (old.trees tree)) [])
+roll_added key cells show rows news tree old new blind are a =
+    more_put key news (map show (old.trees tree)) (map show (new.trees tree))
+    (subst (λ l. IsPermutation (l ++ map show (old.trees tree)) (map show (new.trees tree))) (sym (map_twice (λ c. show (unnumbered c)) cells rows) ∙ are) (decoded show tree (map cells rows) old new blind a))
+
+-- no row of a list is that of an owner who is new
+none_yet : {X Y : Type 0} (Q : Row → Type 0) (key : Y → Key) (of : X → Y) (show : Row → Y) (rows : List X) (roll lists : List Row) → map key (map show roll) ≡ map row_key roll → AllByRecursion (λ r. OnRoll roll (row_key r) × Q r) lists
+    → Rise (map key (put_all key (map of rows) (put_all key (map show roll) []))) → AllByRecursion (λ x. of_key (key (of x)) lists ≡ []) rows
+none_yet Q key of show rows roll lists keys owned up =
+    all_weaker (λ x. has (map row_key roll) (key (of x)) ≡ false) (λ x. of_key (key (of x)) lists ≡ []) (λ x off. none_of Q roll (key (of x)) lists owned off) rows
+    (all_unmap (λ y. has (map row_key roll) (key y) ≡ false) of rows (subst (λ ks. AllByRecursion (λ y. has ks (key y) ≡ false) (map of rows)) keys (are_fresh key (map of rows) (map show roll) up)))
+
+whole_none : {X : Type 0} (key : X → Key) (lists : List Row) (xs : List X) → AllByRecursion (λ x. of_key (key x) lists ≡ []) xs → AllByRecursion (λ x. IsWhole (of_key (key x) lists)) xs
+whole_none key lists xs = all_weaker (λ x. of_key (key x) lists ≡ []) (λ x. IsWhole (of_key (key x) lists)) (λ x none. subst IsWhole (sym none) tt) xs
+
 module _ (rows : List LecturerRow) (old new : Database) (was : HoldsIn First old) (better : Good (changed (world_in First old.trees) (Lecturers rows))) (a : Added lecturer_tree (map lecturer_new rows) old new) where
-  lecturers_up : Rise (map lecturer_key (put_all lecturer_key (map new_lecturer rows) (put_all lecturer_key (map (lecturer_of (old.trees ranking_tree)) (old.trees lecturer_tree)) [])))
+  abbrev lists : List Row
+  lists = old.trees ranking_tree
+
+  lecturers_up : Rise (map lecturer_key (put_all lecturer_key (map new_lecturer rows) (put_all lecturer_key (map (lecturer_of lists) (old.trees lecturer_tree)) [])))
   unfolding world_in
   lecturers_up = better.sound.lecturers_rise
 
-  unranked_yet : AllByRecursion (λ r. of_key r.key (old.trees ranking_tree) ≡ []) rows
-  unranked_yet = go rows (all_unmap (λ l. has (map row_key (old.trees lecturer_tree)) (lecturer_key l) ≡ false) new_lecturer rows
-      (subst (λ keys. AllByRecursion (λ l. has keys (lecturer_key l) ≡ false) (map new_lecturer rows)) (sym (map_twice lecturer_key (lecturer_of (old.trees ranking_tree)) (old.trees lecturer_tree)))
-      (are_fresh lecturer_key (map new_lecturer rows) (map (lecturer_of (old.trees ranking_tree)) (old.trees lecturer_tree)) lecturers_up)))
-    where
-      go : (rs : List LecturerRow) → AllByRecursion (λ r. has (map row_key (old.trees lecturer_tree)) r.key ≡ false) rs → AllByRecursion (λ r. of_key r.key (old.trees ranking_tree) ≡ []) rs
-      go [] h = tt
-      go (r ∷ rs) h = (none_of _ (old.trees lecturer_tree) r.key (old.trees ranking_tree) (place_parents old which.Rankings was.own was.sound was.apart.1.1.1.1.1.0) h.0, go rs h.1)
+  unranked_yet : AllByRecursion (λ r. of_key r.key lists ≡ []) rows
+  unranked_yet = none_yet _ lecturer_key new_lecturer (lecturer_of lists) rows (old.trees lecturer_tree) lists (sym (map_twice lecturer_key (lecturer_of lists) (old.trees lecturer_tree)))
+      (place_parents old which.Rankings was.own was.sound was.apart.1.1.1.1.1.0) lecturers_up
 
   lecturers_turned : TurnedIn First (Lecturers rows) old new
   unfolding world_in
-  lecturers_turned =
-      let portal : new.trees portal_tree ≡ old.trees portal_tree = kept_at lecturer_tree old new a.others portal_tree refl refl in
-      let projects : new.trees project_tree ≡ old.trees project_tree = kept_at lecturer_tree old new a.others project_tree refl refl in
-      let students : new.trees student_tree ≡ old.trees student_tree = kept_at lecturer_tree old new a.others student_tree refl refl in
-      let choices : new.trees choice_tree ≡ old.trees choice_tree = kept_at lecturer_tree old new a.others choice_tree refl refl in
-      let rankings : new.trees ranking_tree ≡ old.trees ranking_tree = kept_at lecturer_tree old new a.others ranking_tree refl refl in
-      let ready = was.apart in
-      let f = lecturer_of (old.trees ranking_tree) in
-      let news : map (λ c. f (unnumbered c)) (map lecturer_new rows) ≡ map new_lecturer rows = sym (map_twice (λ c. f (unnumbered c)) lecturer_new rows) in
-      let same : IsPermutation (map new_lecturer rows ++ map f (old.trees lecturer_tree)) (map f (new.trees lecturer_tree)) =
-      subst (λ l. IsPermutation (l ++ map f (old.trees lecturer_tree)) (map f (new.trees lecturer_tree))) news (decoded f lecturer_tree (map lecturer_new rows) old new (lecturer_bare (old.trees ranking_tree)) a) in
-      let roll : put_all lecturer_key (map (lecturer_of (new.trees ranking_tree)) (new.trees lecturer_tree)) [] ≡ put_all lecturer_key (map new_lecturer rows) (put_all lecturer_key (map f (old.trees lecturer_tree)) []) =
-      ap (λ l. put_all lecturer_key (map (lecturer_of l) (new.trees lecturer_tree)) []) rankings
-      ∙ more_put lecturer_key (map new_lecturer rows) (map f (old.trees lecturer_tree)) (map f (new.trees lecturer_tree)) same lecturers_up in
-      record {
-        holds = holds_after lecturer_tree old new refl was a.others a.schema_is (a.sound was.sound) (a.apart ready.1.0) (subst (HasOffice version) (sym portal) was.office) (record {
-          choices = subst₂ (λ x y. AllByRecursion (λ r. IsWhole (of_key (row_key r) y)) x) (sym students) (sym choices) was.whole.choices;
-          rankings = subst (λ y. AllByRecursion (λ r. IsWhole (of_key (row_key r) y)) (new.trees lecturer_tree)) (sym rankings)
-              (all_added (λ r. IsWhole (of_key (row_key r) (old.trees ranking_tree))) lecturer_tree (map lecturer_new rows) old new
-              (λ r h. subst (λ k. IsWhole (of_key k (old.trees ranking_tree))) (sym (key_bare r)) h) (λ r h. subst (λ k. IsWhole (of_key k (old.trees ranking_tree))) (key_bare r) h) a
-              (all_map (λ c. IsWhole (of_key (row_key (unnumbered c)) (old.trees ranking_tree))) lecturer_new rows (whole_yet rows unranked_yet)) was.whole.rankings);
-          ranked = subst (λ y. AllByRecursion (λ r. has_ranking r ≡ false → of_key (row_key r) y ≡ []) (new.trees lecturer_tree)) (sym rankings)
-              (all_added (λ r. has_ranking r ≡ false → of_key (row_key r) (old.trees ranking_tree) ≡ []) lecturer_tree (map lecturer_new rows) old new
-              (λ r h e. ap (λ k. of_key k (old.trees ranking_tree)) (key_bare r) ∙ h (sym (ranked_bare r) ∙ e)) (λ r h e. sym (ap (λ k. of_key k (old.trees ranking_tree)) (key_bare r)) ∙ h (ranked_bare r ∙ e)) a
-              (all_map (λ c. has_ranking (unnumbered c) ≡ false → of_key (row_key (unnumbered c)) (old.trees ranking_tree) ≡ []) lecturer_new rows (none_yet rows unranked_yet)) was.whole.ranked);
-        });
-        world = λ i. record {
-          round = First;
-          phase = phase_of (number_in (column (slice_index_or (portal i) 0 []) 3));
-          office = bytes (column (slice_index_or (portal i) 0 []) 4);
-          lecturers = roll i;
-          projects = put_all project_key (map project_row (projects i)) [];
-          students = put_all student_key (map (student_of (choices i)) (students i)) [];
-        };
-      }
-    where
-      whole_yet : (rs : List LecturerRow) → AllByRecursion (λ r. of_key r.key (old.trees ranking_tree) ≡ []) rs → AllByRecursion (λ r. IsWhole (of_key r.key (old.trees ranking_tree))) rs
-      whole_yet [] h = tt
-      whole_yet (r ∷ rs) h = (subst IsWhole (sym h.0) tt, whole_yet rs h.1)
-
-      none_yet : (rs : List LecturerRow) → AllByRecursion (λ r. of_key r.key (old.trees ranking_tree) ≡ []) rs → AllByRecursion (λ r. has_ranking (unnumbered (lecturer_new r)) ≡ false → of_key r.key (old.trees ranking_tree) ≡ []) rs
-      none_yet [] h = tt
-      none_yet (r ∷ rs) h = (λ _. h.0, none_yet rs h.1)
+  lecturers_turned = record {
+    holds = holds_after lecturer_tree old new refl was a.others a.schema_is (a.sound was.sound) (a.apart was.apart.1.0) was.office (record {
+      choices = was.whole.choices;
+      rankings = keyed_added (λ k. IsWhole (of_key k lists)) lecturer_tree (map lecturer_new rows) old new a
+          (all_map (λ c. IsWhole (of_key (row_key (unnumbered c)) lists)) lecturer_new rows (whole_none (λ (r : LecturerRow). r.key) lists rows unranked_yet)) was.whole.rankings;
+      ranked = all_added (λ r. has_ranking r ≡ false → of_key (row_key r) lists ≡ []) lecturer_tree (map lecturer_new rows) old new
+          (λ r h e. ap (λ k. of_key k lists) (key_bare r) ∙ h (sym (ranked_bare r) ∙ e)) (λ r h e. sym (ap (λ k. of_key k lists) (key_bare r)) ∙ h (ranked_bare r ∙ e)) a
+          (all_map (λ c. has_ranking (unnumbered c) ≡ false → of_key (row_key (unnumbered c)) lists ≡ []) lecturer_new rows (all_weaker (λ (r : LecturerRow). of_key r.key lists ≡ []) (λ r. has_ranking (unnumbered (lecturer_new r)) ≡ false → of_key r.key lists ≡ []) (λ r none e. none) rows unranked_yet)) was.whole.ranked;
+    });
+    world = world_after First lecturer_tree old new a.others
+        ∙ ap (λ l. record (world_in First old.trees) { lecturers = l }) (roll_added lecturer_key lecturer_new (lecturer_of lists) rows (map new_lecturer rows) lecturer_tree old new (lecturer_bare lists) refl a lecturers_up);
+  }
 
 pub lecturers_turn : (rows : List LecturerRow) (old new : Database) → Adds lecturer_tree (map lecturer_new rows) old new → TurnsIn First (Lecturers rows) old new
 lecturers_turn rows old new adds was good better = lecturers_turned rows old new was better (added_of _ _ old new (adds was.current))
 
-module _ (rows : List ProjectRow) (old new : Database) (was : HoldsIn First old) (better : Good (changed (world_in First old.trees) (Projects rows))) (a : Added project_tree (map project_new rows) old new) where
-  projects_up : Rise (map project_key (put_all project_key rows (put_all project_key (map project_row (old.trees project_tree)) [])))
-  unfolding world_in
-  projects_up = better.sound.projects_rise
-
-  projects_turned : TurnedIn First (Projects rows) old new
-  unfolding world_in
-  projects_turned =
-      let portal : new.trees portal_tree ≡ old.trees portal_tree = kept_at project_tree old new a.others portal_tree refl refl in
-      let lecturers : new.trees lecturer_tree ≡ old.trees lecturer_tree = kept_at project_tree old new a.others lecturer_tree refl refl in
-      let students : new.trees student_tree ≡ old.trees student_tree = kept_at project_tree old new a.others student_tree refl refl in
-      let choices : new.trees choice_tree ≡ old.trees choice_tree = kept_at project_tree old new a.others choice_tree refl refl in
-      let rankings : new.trees ranking_tree ≡ old.trees ranking_tree = kept_at project_tree old new a.others ranking_tree refl refl in
-      let ready = was.apart in
-      let news : map (λ c. project_row (unnumbered c)) (map project_new rows) ≡ rows = sym (map_twice (λ c. project_row (unnumbered c)) project_new rows) ∙ map_itself rows in
-      let same : IsPermutation (rows ++ map project_row (old.trees project_tree)) (map project_row (new.trees project_tree)) =
-      subst (λ l. IsPermutation (l ++ map project_row (old.trees project_tree)) (map project_row (new.trees project_tree))) news (decoded project_row project_tree (map project_new rows) old new project_bare a) in
-      let roll : put_all project_key (map project_row (new.trees project_tree)) [] ≡ put_all project_key rows (put_all project_key (map project_row (old.trees project_tree)) []) =
-      more_put project_key rows (map project_row (old.trees project_tree)) (map project_row (new.trees project_tree)) same projects_up in
-      record {
-        holds = holds_after project_tree old new refl was a.others a.schema_is (a.sound was.sound) (a.apart ready.1.1.0) (subst (HasOffice version) (sym portal) was.office) (whole_same old.trees new.trees lecturers students choices rankings was.whole);
-        world = λ i. record {
-          round = First;
-          phase = phase_of (number_in (column (slice_index_or (portal i) 0 []) 3));
-          office = bytes (column (slice_index_or (portal i) 0 []) 4);
-          lecturers = put_all lecturer_key (map (lecturer_of (rankings i)) (lecturers i)) [];
-          projects = roll i;
-          students = put_all student_key (map (student_of (choices i)) (students i)) [];
-        };
-      }
-    where
-      map_itself : (rs : List ProjectRow) → map (λ r. project_row (unnumbered (project_new r))) rs ≡ rs
-      map_itself [] = refl
-      map_itself (r ∷ rs) = ap (λ l. r ∷ l) (map_itself rs)
-
 pub projects_turn : (rows : List ProjectRow) (old new : Database) → Adds project_tree (map project_new rows) old new → TurnsIn First (Projects rows) old new
-projects_turn rows old new adds was good better = projects_turned rows old new was better (added_of _ _ old new (adds was.current))
+unfolding world_in
+projects_turn rows old new adds was good better =
+    let a = added_of _ _ old new (adds was.current) in
+    record {
+      holds = holds_after project_tree old new refl was a.others a.schema_is (a.sound was.sound) (a.apart was.apart.1.1.0) was.office (record { choices = was.whole.choices; rankings = was.whole.rankings; ranked = was.whole.ranked });
+      world = world_after First project_tree old new a.others
+          ∙ ap (λ l. record (world_in First old.trees) { projects = l }) (roll_added project_key project_new project_row rows rows project_tree old new project_bare (itself rows) a better.sound.projects_rise);
+    }
+  where
+    itself : (rs : List ProjectRow) → map (λ r. project_row (unnumbered (project_new r))) rs ≡ rs
+    itself [] = refl
+    itself (r ∷ rs) = ap (λ l. r ∷ l) (itself rs)
 
 module _ (rows : List StudentRow) (old new : Database) (was : HoldsIn First old) (better : Good (changed (world_in First old.trees) (Students rows))) (a : Added student_tree (map student_new rows) old new) where
-  students_up : Rise (map student_key (put_all student_key (map new_student rows) (put_all student_key (map (student_of (old.trees choice_tree)) (old.trees student_tree)) [])))
+  abbrev chosen : List Row
+  chosen = old.trees choice_tree
+
+  students_up : Rise (map student_key (put_all student_key (map new_student rows) (put_all student_key (map (student_of chosen) (old.trees student_tree)) [])))
   unfolding world_in
   students_up = better.sound.students_rise
 
-  unlisted_yet : AllByRecursion (λ r. of_key r.key (old.trees choice_tree) ≡ []) rows
-  unlisted_yet = go rows (all_unmap (λ l. has (map row_key (old.trees student_tree)) (student_key l) ≡ false) new_student rows
-      (subst (λ keys. AllByRecursion (λ l. has keys (student_key l) ≡ false) (map new_student rows)) (sym (map_twice student_key (student_of (old.trees choice_tree)) (old.trees student_tree)))
-      (are_fresh student_key (map new_student rows) (map (student_of (old.trees choice_tree)) (old.trees student_tree)) students_up)))
-    where
-      go : (rs : List StudentRow) → AllByRecursion (λ r. has (map row_key (old.trees student_tree)) r.key ≡ false) rs → AllByRecursion (λ r. of_key r.key (old.trees choice_tree) ≡ []) rs
-      go [] h = tt
-      go (r ∷ rs) h = (none_of _ (old.trees student_tree) r.key (old.trees choice_tree) (place_parents old which.Choices was.own was.sound was.apart.1.1.1.1.0) h.0, go rs h.1)
+  unlisted_yet : AllByRecursion (λ r. of_key r.key chosen ≡ []) rows
+  unlisted_yet = none_yet _ student_key new_student (student_of chosen) rows (old.trees student_tree) chosen (sym (map_twice student_key (student_of chosen) (old.trees student_tree)))
+      (place_parents old which.Choices was.own was.sound was.apart.1.1.1.1.0) students_up
 
   students_turned : TurnedIn First (Students rows) old new
   unfolding world_in
   students_turned =
-      let portal : new.trees portal_tree ≡ old.trees portal_tree = kept_at student_tree old new a.others portal_tree refl refl in
-      let lecturers : new.trees lecturer_tree ≡ old.trees lecturer_tree = kept_at student_tree old new a.others lecturer_tree refl refl in
-      let projects : new.trees project_tree ≡ old.trees project_tree = kept_at student_tree old new a.others project_tree refl refl in
-      let choices : new.trees choice_tree ≡ old.trees choice_tree = kept_at student_tree old new a.others choice_tree refl refl in
-      let rankings : new.trees ranking_tree ≡ old.trees ranking_tree = kept_at student_tree old new a.others ranking_tree refl refl in
-      let ready = was.apart in
-      let f = student_of (old.trees choice_tree) in
-      let news : map (λ c. f (unnumbered c)) (map student_new rows) ≡ map new_student rows =
-      sym (map_twice (λ c. f (unnumbered c)) student_new rows) ∙ all_map_on (λ r. of_key r.key (old.trees choice_tree) ≡ []) (λ r. f (unnumbered (student_new r))) new_student rows unlisted_yet
+      let news : map (λ r. student_of chosen (unnumbered (student_new r))) rows ≡ map new_student rows =
+      all_map_on (λ r. of_key r.key chosen ≡ []) (λ r. student_of chosen (unnumbered (student_new r))) new_student rows unlisted_yet
       (λ r h. ap (λ l. record { row = r; choice = list_of l; placed = None; earlier_choice = []; earlier_place = None }) h) in
-      let same : IsPermutation (map new_student rows ++ map f (old.trees student_tree)) (map f (new.trees student_tree)) =
-      subst (λ l. IsPermutation (l ++ map f (old.trees student_tree)) (map f (new.trees student_tree))) news (decoded f student_tree (map student_new rows) old new (student_bare (old.trees choice_tree)) a) in
-      let roll : put_all student_key (map (student_of (new.trees choice_tree)) (new.trees student_tree)) [] ≡ put_all student_key (map new_student rows) (put_all student_key (map f (old.trees student_tree)) []) =
-      ap (λ l. put_all student_key (map (student_of l) (new.trees student_tree)) []) choices
-      ∙ more_put student_key (map new_student rows) (map f (old.trees student_tree)) (map f (new.trees student_tree)) same students_up in
       record {
-        holds = holds_after student_tree old new refl was a.others a.schema_is (a.sound was.sound) (a.apart ready.1.1.1.0) (subst (HasOffice version) (sym portal) was.office) (record {
-          choices = subst (λ y. AllByRecursion (λ r. IsWhole (of_key (row_key r) y)) (new.trees student_tree)) (sym choices)
-              (all_added (λ r. IsWhole (of_key (row_key r) (old.trees choice_tree))) student_tree (map student_new rows) old new
-              (λ r h. subst (λ k. IsWhole (of_key k (old.trees choice_tree))) (sym (key_bare r)) h) (λ r h. subst (λ k. IsWhole (of_key k (old.trees choice_tree))) (key_bare r) h) a
-              (all_map (λ c. IsWhole (of_key (row_key (unnumbered c)) (old.trees choice_tree))) student_new rows (whole_yet rows unlisted_yet)) was.whole.choices);
-          rankings = subst₂ (λ x y. AllByRecursion (λ r. IsWhole (of_key (row_key r) y)) x) (sym lecturers) (sym rankings) was.whole.rankings;
-          ranked = subst₂ (λ x y. AllByRecursion (λ r. has_ranking r ≡ false → of_key (row_key r) y ≡ []) x) (sym lecturers) (sym rankings) was.whole.ranked;
+        holds = holds_after student_tree old new refl was a.others a.schema_is (a.sound was.sound) (a.apart was.apart.1.1.1.0) was.office (record {
+          choices = keyed_added (λ k. IsWhole (of_key k chosen)) student_tree (map student_new rows) old new a
+              (all_map (λ c. IsWhole (of_key (row_key (unnumbered c)) chosen)) student_new rows (whole_none (λ (r : StudentRow). r.key) chosen rows unlisted_yet)) was.whole.choices;
+          rankings = was.whole.rankings;
+          ranked = was.whole.ranked;
         });
-        world = λ i. record {
-          round = First;
-          phase = phase_of (number_in (column (slice_index_or (portal i) 0 []) 3));
-          office = bytes (column (slice_index_or (portal i) 0 []) 4);
-          lecturers = put_all lecturer_key (map (lecturer_of (rankings i)) (lecturers i)) [];
-          projects = put_all project_key (map project_row (projects i)) [];
-          students = roll i;
-        };
+        world = world_after First student_tree old new a.others
+            ∙ ap (λ l. record (world_in First old.trees) { students = l }) (roll_added student_key student_new (student_of chosen) rows (map new_student rows) student_tree old new (student_bare chosen) news a students_up);
       }
-    where
-      whole_yet : (rs : List StudentRow) → AllByRecursion (λ r. of_key r.key (old.trees choice_tree) ≡ []) rs → AllByRecursion (λ r. IsWhole (of_key r.key (old.trees choice_tree))) rs
-      whole_yet [] h = tt
-      whole_yet (r ∷ rs) h = (subst IsWhole (sym h.0) tt, whole_yet rs h.1)
 
 pub students_turn : (rows : List StudentRow) (old new : Database) → Adds student_tree (map student_new rows) old new → TurnsIn First (Students rows) old new
 students_turn rows old new adds was good better = students_turned rows old new was better (added_of _ _ old new (adds was.current))
 
 -- in the second round none come
-pub no_lecturers : (rows : List LecturerRow) (db : Database) → TurnsIn Second (Lecturers rows) db db
+pub no_rows : (rows : NewRows) (db : Database) → TurnsIn Second (added rows) db db
 unfolding world_in
-no_lecturers rows db holds good then = record { holds = holds; world = refl }
-
-pub no_projects : (rows : List ProjectRow) (db : Database) → TurnsIn Second (Projects rows) db db
-unfolding world_in
-no_projects rows db holds good then = record { holds = holds; world = refl }
-
-pub no_students : (rows : List StudentRow) (db : Database) → TurnsIn Second (Students rows) db db
-unfolding world_in
-no_students rows db holds good then = record { holds = holds; world = refl }
+no_rows (come.Lecturers rows) db holds good then = record { holds = holds; world = refl }
+no_rows (come.Projects rows) db holds good then = record { holds = holds; world = refl }
+no_rows (come.Students rows) db holds good then = record { holds = holds; world = refl }

@@ -26,16 +26,16 @@ use Rattle.portal_core.proofs.AllLaws.{all_weaker, all_map}
 use Rattle.portal_tables.specs.Changes.{ListsBy, columns, has_text}
 use Rattle.portal_tables.specs.ListTables.{choices_of, tree_of}
 use Rattle.portal_tables.specs.Tables.{project_tree, student_tree}
-use Rattle.portal_tables.specs.declared.lines.Line.{Line}
+use Rattle.portal_views.specs.declared.lines.Line.{Line}
 use Rattle.portal_store.specs.Kept.{HasSecond, HoldsIn}
-use Rattle.portal_tables.specs.Lines.{shown_line, applicant_lines}
+use Rattle.portal_views.specs.Lines.{shown_line, applicant_lines}
 use Rattle.portal_tables.specs.Owners.{choice_shown}
 use Rattle.portal_tables.specs.Rolls.{row_key, by_key, roll_columns}
 use Rattle.portal_store.specs.World.{world_in, student_in, project_row}
 use Rattle.portal_tables.specs.Shown.{first}
-use Rattle.portal_tables.specs.Callers.{person_key, lines_shown, persons_at, persons_before, placed_among, placed_shown, applicants_told, placed_told, own_keys, lecturer_shown}
+use Rattle.portal_views.specs.Callers.{person_key, lines_shown, persons_at, persons_before, placed_among, placed_shown, applicants_told, placed_told, own_keys, lecturer_shown}
 use Rattle.portal_store.specs.Queried.{lecturer_from}
-use Rattle.portal_tables.proofs.Choosers.{chooser}
+use Rattle.portal_views.proofs.Choosers.{chooser}
 use Rattle.portal_tables.proofs.Sorted.{distinct_permuted, map_alike, one_rise, permutes_more, put_all_map, rise_distinct, rise_put_all}
 use Rattle.portal_store.proofs.Holding.{has_tables}
 use Rattle.portal_store.proofs.Loaded.{none_earlier, projects_by_key, students_by_key}

@@ -1,6 +1,5 @@
 -- Queries in turn, and what `open` makes of them.
 use Rattle.std.proofs.Common.{List, [], ◌∷◌, pos, ◌≡◌, ◌≢◌, ◌⊎◌, inl, inr, ℕ, Bool, true, false, not, IsTrue, IfErr, Ok, Err, Result, OnOk, map, length, filter, slice_index_or, refl, sym, ap, subst, ◌∙◌}
-use Rattle.std.specs.List.{AllByRecursion}
 use Rattle.std.specs.Result.{IsErr, IsErrAnd}
 use Rattle.std.specs.List.Sorted.{IsPermutation}
 use Rattle.std.proofs.lemmas.List.Sorted.{length_permutation}
@@ -26,7 +25,7 @@ use Rattle.portal_tables.specs.Queries.{selection, Shows}
 use Rattle.portal_tables.specs.declared.select.Query.{Query}
 use Rattle.portal_core.specs.Words.{is_empty}
 use Rattle.std.proofs.lemmas.Result.{on_ok_weaker, on_err_weaker}
-use Rattle.portal_store.specs.Kept.{HasSecond, IsUnopened, Holds, HoldsIn, IsKept, Stands}
+use Rattle.portal_store.specs.Kept.{AllApart, HasSecond, IsUnopened, Holds, HoldsIn, IsKept, Stands}
 use Rattle.portal_tables.proofs.InTurn.{clean_before, unchanged_then, then_leaves, reads_of}
 use Rattle.portal_tables.proofs.Keeping.{apart_one, apart_none}
 use Rattle.portal_tables.proofs.Owned.{current_own, has_round}
@@ -229,7 +228,7 @@ found_some q db found all h some none =
     absurd (cc)
 
 -- row numbers differ in the tables of both rounds
-pub apart_all : (db : Trees) (of : ℕ) → AdmitsAs of db → IsUnopened db → AllByRecursion (λ t. IsApart (db t)) own_trees
+pub apart_all : (db : Trees) (of : ℕ) → AdmitsAs of db → IsUnopened db → AllApart own_trees db
 apart_all db of admits second =
     let six = admits.apart in
     let none = second.says in (
@@ -260,7 +259,7 @@ second_apart : (round : Round) (db : Trees) → HasSecond round db → IsApart (
 second_apart First db h = apart_one (db second_tree) (second_row (pos 0)) (pos 1) refl h.is
 second_apart Second db h = apart_one (db second_tree) (second_row (pos (number_of h.phase))) (pos 1) refl h.is
 
-pub apart_both : (db : Trees) (round : Round) → HasOffice version (db portal_tree) → HasSecond round db → AreApart db → AllByRecursion (λ t. IsApart (db t)) own_trees
+pub apart_both : (db : Trees) (round : Round) → HasOffice version (db portal_tree) → HasSecond round db → AreApart db → AllApart own_trees db
 apart_both db round office second many = (
   apart_one (db portal_tree) (portal_row (pos version) (pos (number_of office.phase)) office.office) (pos 1) refl office.is,
   (

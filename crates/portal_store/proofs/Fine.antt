@@ -37,7 +37,7 @@ use Rattle.portal_store.specs.Kept.{StandsAs, StandsIn, Whole}
 use Rattle.portal_tables.specs.Shown.{shown_lecturer, shown_project, shown_student}
 use Rattle.portal_tables.specs.Places.{HasPlace}
 use Rattle.portal_tables.specs.Owners.{IsFine}
-use Rattle.portal_tables.specs.Contents.{AreFine}
+use Rattle.portal_views.specs.Contents.{AreFine}
 use Rattle.portal_store.proofs.Loaded.{has_choice, has_ranked, lecturers_by_key, projects_by_key, students_by_key}
 use Rattle.portal_tables.proofs.Sorted.{all_permuted, all_two, permutes}
 use Rattle.sqlite_trees.proofs.ListLemmas.{map-map, all-filter}

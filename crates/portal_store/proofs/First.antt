@@ -12,7 +12,7 @@ use Rattle.portal_core.specs.Form.{is_code}
 use Rattle.portal_core.specs.Words.{Key, put_all}
 use Rattle.portal_core.specs.World.{lecturer_key, project_key, student_key}
 use Rattle.portal_core.specs.Good.{Good}
-use Rattle.portal_tables.specs.Tables.{no_schema, portal_tree, lecturer_tree, project_tree, student_tree, choice_tree, ranking_tree, second_tree, choice2_tree, ranked2_tree, ranking2_tree, assigned2_tree}
+use Rattle.portal_tables.specs.Tables.{no_schema, portal_tree, second_tree}
 use Rattle.portal_tables.specs.Making.{IsFresh, Creates}
 use Rattle.portal_tables.specs.Steps.{Commits}
 use Rattle.portal_tables.proofs.Keeping.{others_are}
@@ -22,31 +22,24 @@ use Rattle.portal_tables.proofs.Fresh.{fresh_apart}
 use Rattle.portal_list.proofs.Fresh.{fresh_good}
 use Rattle.portal_store.specs.World.{world_in, world_of, phase_of, project_row}
 use Rattle.portal_store.proofs.FirstRows.{lecturer_of, student_of}
-use Rattle.portal_store.specs.Kept.{Holds, HoldsIn, IsKept}
+use Rattle.portal_store.specs.Kept.{Holds, HoldsIn, IsKept, early_trees, later_trees}
 use Rattle.portal_store.specs.Made.{first_world}
 use Rattle.portal_store.proofs.Rounds.{world_told}
-
--- the trees between that of `portal` and that of `second`, and those behind
-abbrev middle : List ℕ
-middle = lecturer_tree ∷ project_tree ∷ student_tree ∷ choice_tree ∷ ranking_tree ∷ []
-
-abbrev last : List ℕ
-last = choice2_tree ∷ ranked2_tree ∷ ranking2_tree ∷ assigned2_tree ∷ []
 
 none : (P : Row → Type 0) (rows : List Row) → rows ≡ [] → AllByRecursion P rows
 none P rows is = subst (AllByRecursion P) (sym is) tt
 
 module _ (office : Key) (db : Database) (f : IsFresh office db) where
   -- all tables but `portal` and `second` are empty
-  parts : AllByRecursion (λ t. t ≢ portal_tree → t ≢ second_tree → db.trees t ≡ []) middle × AllByRecursion (λ t. t ≢ portal_tree → t ≢ second_tree → db.trees t ≡ []) (second_tree ∷ last)
-  parts = parts_of (λ t. t ≢ portal_tree → t ≢ second_tree → db.trees t ≡ []) middle (second_tree ∷ last) f.others.1
+  parts : AllByRecursion (λ t. t ≢ portal_tree → t ≢ second_tree → db.trees t ≡ []) early_trees × AllByRecursion (λ t. t ≢ portal_tree → t ≢ second_tree → db.trees t ≡ []) (second_tree ∷ later_trees)
+  parts = parts_of (λ t. t ≢ portal_tree → t ≢ second_tree → db.trees t ≡ []) early_trees (second_tree ∷ later_trees) f.others.1
 
   empty : (trees : List ℕ) → list_all (λ t. not (eqb t portal_tree)) trees ≡ true → list_all (λ t. not (eqb t second_tree)) trees ≡ true
       → AllByRecursion (λ t. t ≢ portal_tree → t ≢ second_tree → db.trees t ≡ []) trees → AllByRecursion (λ t. db.trees t ≡ []) trees
   empty trees p s all = others_are (λ t. db.trees t ≡ []) second_tree trees s (others_are (λ t. t ≢ second_tree → db.trees t ≡ []) portal_tree trees p all)
 
-  firsts : AllByRecursion (λ t. db.trees t ≡ []) middle
-  firsts = empty middle refl refl parts.0
+  firsts : AllByRecursion (λ t. db.trees t ≡ []) early_trees
+  firsts = empty early_trees refl refl parts.0
 
   lecturers : db.trees 1 ≡ []
   lecturers = firsts.0
@@ -64,7 +57,7 @@ module _ (office : Key) (db : Database) (f : IsFresh office db) where
     sound = f.sound;
     apart = fresh_apart office db f;
     office = record { phase = Setup; office = office; is = f.row };
-    second = record { is = f.second; says = empty last refl refl parts.1.1 };
+    second = record { is = f.second; says = empty later_trees refl refl parts.1.1 };
     whole = record { choices = none _ (db.trees 6) students; rankings = none _ (db.trees 1) lecturers; ranked = none _ (db.trees 1) lecturers };
   }
 

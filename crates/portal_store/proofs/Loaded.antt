@@ -28,10 +28,14 @@ use Rattle.portal_store.specs.Loads.{Loads, LoadsIn, after_first}
 use Rattle.portal_tables.specs.Shown.{shown_lecturer, shown_project, shown_student}
 use Rattle.portal_tables.specs.Places.{pair_shown}
 use Rattle.portal_tables.specs.Owners.{entry, has_list, IsRead}
-use Rattle.portal_tables.specs.Contents.{AllRows, AreRead, rows_from}
+use Rattle.portal_views.specs.Contents.{AllRows, AreRead, rows_from}
 use Rattle.portal_tables.proofs.Sorted.{all_permuted, map_alike, permutes, put_all_map}
 use Rattle.portal_store.proofs.Rounds.{phase_back}
 use Rattle.portal_store.proofs.RowsOnce.{HasNothingBefore, nothing_before}
+
+-- these are the rows of the rolls and lists of a round in the tables, as they are read
+abbrev pub HasRead : Round → AllRows → Trees → Type 0
+HasRead round rows db = (rows ≡ rows_from round db (lecturers_shown db) (projects_shown db) (students_shown db)) × AreRead round db (lecturers_shown db) (students_shown db)
 
 -- the rows of a world: that of the office, and the others
 abbrev pub with_office : Phase → Key → AllRows → Rows
@@ -236,12 +240,11 @@ module _ (db : Trees) where
         earlier_pairs = sym earlier_pairs i;
       }
 
-  loads : (of : ℕ) (phase : Phase) (code : Key) → db portal_tree ≡ portal_row (pos of) (pos (number_of phase)) code ∷ [] → (rows : AllRows)
-      → rows ≡ rows_from First db (lecturers_shown db) (projects_shown db) (students_shown db) → AreRead First db (lecturers_shown db) (students_shown db) → Loads of db (with_office phase code rows)
-  loads of phase code office rows is read = record {
+  pub loads : (of : ℕ) (phase : Phase) (code : Key) → db portal_tree ≡ portal_row (pos of) (pos (number_of phase)) code ∷ [] → (rows : AllRows) → HasRead First rows db → Loads of db (with_office phase code rows)
+  loads of phase code office rows read = record {
     office = record { phase = phase; office = code; is = office };
-    whole = whole_is First db read;
-    rows_are = ap (with_office phase code) is ∙ rows_are of phase code office;
+    whole = whole_is First db read.1;
+    rows_are = ap (with_office phase code) read.0 ∙ rows_are of phase code office;
   }
 
   -- after the rows of the first round, those of the second
@@ -269,25 +272,12 @@ module _ (db : Trees) where
         earlier_pairs = pairs i;
       }
 
-  loads_after : (first : Rows) (phase : Phase) → Loads version db first → db second_tree ≡ second_row (pos (number_of phase)) ∷ [] → (rows : AllRows)
-      → rows ≡ rows_from Second db (lecturers_shown db) (projects_shown db) (students_shown db) → AreRead Second db (lecturers_shown db) (students_shown db) → LoadsIn Second db (after_first first phase rows)
-  loads_after first phase loads row rows is read = record {
+  pub loads_after : (first : Rows) (phase : Phase) → Loads version db first → db second_tree ≡ second_row (pos (number_of phase)) ∷ [] → (rows : AllRows) → HasRead Second rows db → LoadsIn Second db (after_first first phase rows)
+  loads_after first phase loads row rows read = record {
     office = loads.office;
-    whole = (loads.whole, whole_is Second db read);
-    rows_are = ap (after_first first phase) is ∙ after_rows first phase loads.rows_are row;
+    whole = (loads.whole, whole_is Second db read.1);
+    rows_are = ap (after_first first phase) read.0 ∙ after_rows first phase loads.rows_are row;
   }
-
--- the same, where they were read later
-pub loaded : (of : ℕ) (db there : Trees) → there ≡ db → (phase : Phase) (code : Key) → db portal_tree ≡ portal_row (pos of) (pos (number_of phase)) code ∷ [] → (rows : AllRows)
-    → rows ≡ rows_from First there (lecturers_shown there) (projects_shown there) (students_shown there) → AreRead First there (lecturers_shown there) (students_shown there) → Loads of db (with_office phase code rows)
-loaded of db there same phase code office rows is read =
-    loads db of phase code office rows (subst (λ t. rows ≡ rows_from First t (lecturers_shown t) (projects_shown t) (students_shown t)) same is) (subst (λ t. AreRead First t (lecturers_shown t) (students_shown t)) same read)
-
-pub loaded_after : (db then there : Trees) → then ≡ db → there ≡ db → (first : Rows) (phase : Phase) → db second_tree ≡ second_row (pos (number_of phase)) ∷ [] → Loads version then first → (rows : AllRows)
-    → rows ≡ rows_from Second there (lecturers_shown there) (projects_shown there) (students_shown there) → AreRead Second there (lecturers_shown there) (students_shown there) → LoadsIn Second db (after_first first phase rows)
-loaded_after db then there was same first phase row loads rows is read =
-    loads_after db first phase (subst (λ t. Loads version t first) was loads) row rows (subst (λ t. rows ≡ rows_from Second t (lecturers_shown t) (projects_shown t) (students_shown t)) same is)
-    (subst (λ t. AreRead Second t (lecturers_shown t) (students_shown t)) same read)
 
 -- an error that is handed on is the one that was answered
 pub same_error : {V U E : Type 0} (r : Result V E) (e want : E) → IsErrAnd r (λ f. f ≡ e) → r ≡ Err want → ◌≡◌ {A = Result U E} (Err e) (Err want)
@@ -301,6 +291,5 @@ nothing_earlier First db e = nothing_before (world_in First db) (world_alone db)
 nothing_earlier Second db e = absurd (cc)
 
 -- the rows of the round of the tables
-pub loads_first : (db there : Trees) (rows : Rows) → there ≡ db → round_in db ≡ First → Loads version there rows → LoadsIn (round_in db) db rows
-loads_first db there rows same is loads =
-    subst (λ r. LoadsIn r db rows) (sym is) (subst (λ t. LoadsIn First t rows) same (record { office = loads.office; whole = loads.whole; rows_are = loads.rows_are }))
+pub loads_first : (db : Trees) (rows : Rows) → round_in db ≡ First → Loads version db rows → LoadsIn (round_in db) db rows
+loads_first db rows is loads = subst (λ r. LoadsIn r db rows) (sym is) (record { office = loads.office; whole = loads.whole; rows_are = loads.rows_are })

@@ -27,7 +27,7 @@ use Rattle.portal_list.proofs.Members.{has_all}
 use Rattle.portal_tables.specs.ListTables.{choices_of, rankings_of, tree_of}
 use Rattle.portal_tables.specs.Owners.{choice_shown}
 use Rattle.portal_tables.specs.Tables.{lecturer_tree, student_tree}
-use Rattle.portal_tables.proofs.Lists.{eq_self}
+use Rattle.portal_tables.proofs.Lists.{any_alike, eq_self}
 use Rattle.portal_tables.specs.Changes.{ListsBy, columns, has_text, has_number}
 use Rattle.portal_store.specs.Kept.{HoldsIn, AreWhole, Whole}
 use Rattle.portal_tables.specs.Rolls.{row_key, by_key, lecturers_shown, projects_shown, students_shown, lecturer_columns, roll_columns}
@@ -38,7 +38,7 @@ use Rattle.portal_tables.specs.Places.{pair_shown, place_before}
 use Rattle.portal_store.specs.Queried.{student_from, unlisted, waiting_key, office_from}
 use Rattle.portal_store.proofs.Applying.{choosers}
 use Rattle.portal_store.proofs.Holding.{has_tables}
-use Rattle.portal_tables.proofs.Choosers.{any_alike, named_where, choices_formed, choices_parents, choosers_known as shown_known}
+use Rattle.portal_views.proofs.Choosers.{named_where, choices_formed, choices_parents, choosers_known as shown_known}
 use Rattle.portal_store.proofs.Loaded.{none_earlier, lecturers_by_key, students_by_key, round_rows, has_ranked, each_found, some_mapped}
 use Rattle.portal_store.proofs.Queried.{student_is}
 use Rattle.portal_tables.proofs.Parents.{none_of}

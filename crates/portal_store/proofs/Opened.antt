@@ -28,7 +28,7 @@ use Rattle.portal_store.specs.Ending.{Ends}
 use Rattle.portal_store.proofs.Ended.{ends_more}
 use Rattle.portal_store.proofs.Rounds.{from_in, world_told}
 use Rattle.portal_store.proofs.SecondRows.{lecturer_after, student_after}
-use Rattle.portal_store.proofs.Still.{apart_kept, kept_at, lists_same}
+use Rattle.portal_store.proofs.Still.{apart_kept, first_kept, kept_at, whole_first}
 
 module _ (old new : Database) (holds : HoldsIn First old) (published : phase_in First old.trees ≡ Published) (moves : MovesSecond 1 old new) where
   abbrev done : Becomes second_tree (second_row (pos 1)) old new
@@ -92,7 +92,7 @@ module _ (old new : Database) (holds : HoldsIn First old) (published : phase_in 
       first = ap (λ rows. phase_of (number_in (column (slice_index_or rows 0 []) 3))) (kept portal_tree refl refl) ∙ published;
     };
     whole = (
-      lists_same First old.trees new.trees (kept lecturer_tree refl refl) (kept student_tree refl refl) (kept choice_tree refl refl) (kept ranking_tree refl refl) (kept ranked2_tree refl refl) holds.whole,
+      whole_first old.trees new.trees (first_kept second_tree old new refl done.others) holds.whole,
       lists_none,
     );
   }

@@ -1,36 +1,33 @@
 -- What the UPDATEs of the students' places are to the world.
-use Rattle.std.proofs.Common.{◌≡◌, inl, inr, true, false, ◌||◌, cond, Option, Some, None, List, [], ◌∷◌, map, filter, refl, sym, ap, subst, subst₂, ◌∙◌}
+use Rattle.std.proofs.Common.{◌≡◌, inl, inr, true, ◌||◌, cond, Option, Some, None, List, [], ◌∷◌, map, filter, refl, sym, ap, subst, subst₂, ◌∙◌}
 use Rattle.std.proofs.lemmas.Bool.{cases_Bool}
 use Rattle.std.specs.List.{AllByRecursion}
 use Rattle.std.specs.List.Sorted.{IsPermutation}
 use Rattle.std.proofs.lemmas.List.Sorted.{IsPermutation-sym, IsPermutation-map}
-use Rattle.std.specs.Prelude.{slice_index_or}
 use Rattle.sqlite.specs.declared.types.Value.{Value}
-use Rattle.sqlite.specs.Order.{Row, column, bytes}
+use Rattle.sqlite.specs.Order.{Row, column}
 use Rattle.sqlite.specs.Effect.{Database}
 use Rattle.sqlite.specs.State.{State}
 use Rattle.portal_tables.specs.Steps.{Made, GoesOn}
-use Rattle.sqlite_trees.specs.Objects.{number_in}
 use Rattle.portal_core.specs.declared.phase.Phase.TheVariants.{Published}
 use Rattle.portal_core.specs.declared.phase.Round.TheVariants.{First}
 use Rattle.portal_core.specs.Words.{Key, is, has, Rise, put_all}
-use Rattle.portal_core.specs.World.{World, Student, lecturer_key, project_key, student_key}
+use Rattle.portal_core.specs.World.{World, Student, student_key}
 use Rattle.portal_core.specs.Change.{place_in, with_place}
 use Rattle.portal_core.specs.Good.{Good}
 use Rattle.portal_core.proofs.Keys.{is_same, all_unmap}
 use Rattle.portal_core.proofs.AllLaws.{map_same, all_map}
 use Rattle.portal_core.proofs.Kept.{place_row}
-use Rattle.portal_tables.specs.Tables.{portal_tree, lecturer_tree, project_tree, student_tree, choice_tree, ranking_tree, version}
+use Rattle.portal_tables.specs.Tables.{student_tree, choice_tree}
 use Rattle.portal_tables.specs.Changes.{has_text, columns, every}
 use Rattle.portal_tables.specs.Rows.{MovesTo, Assigns, assigned_by, with_assigned, student_shown, text_or_null}
-use Rattle.portal_tables.specs.Office.{HasOffice}
 use Rattle.portal_store.specs.Kept.{HoldsIn}
 use Rattle.portal_tables.specs.Lists.{of_key, IsWhole}
 use Rattle.portal_tables.specs.Rolls.{row_key}
 use Rattle.portal_tables.specs.Shown.{first, text_or_none}
-use Rattle.portal_store.proofs.Still.{kept_at, holds_after}
-use Rattle.portal_store.specs.World.{world_in, phase_of, project_row}
-use Rattle.portal_store.proofs.FirstRows.{has_ranking, lecturer_of, student_of}
+use Rattle.portal_store.proofs.Still.{holds_after, world_after}
+use Rattle.portal_store.specs.World.{world_in}
+use Rattle.portal_store.proofs.FirstRows.{student_of}
 use Rattle.portal_store.specs.Placing.{assigned_of, ShowsRoll, TurnsShown}
 use Rattle.portal_tables.proofs.Lists.{filter_all}
 use Rattle.portal_tables.proofs.Sorted.{all_permuted, put_same, put_all_map, map_twice, map_alike, map_alike_on, at, all_has, has_of}
@@ -119,33 +116,17 @@ placed_all pairs shown old new assigns was good shows =
     map_same student_key (with_place pairs) same_key (map f roll) ∙ sym (map_twice student_key f roll) in
     let kept : IsPermutation (map row_key roll) (map row_key (new.trees student_tree)) =
     subst₂ IsPermutation before (sym (map_twice student_key f (new.trees student_tree))) (IsPermutation-map student_key _ _ same) in
-    let portal : new.trees portal_tree ≡ old.trees portal_tree = kept_at student_tree old new a.others portal_tree refl refl in
-    let lecturers : new.trees lecturer_tree ≡ old.trees lecturer_tree = kept_at student_tree old new a.others lecturer_tree refl refl in
-    let projects : new.trees project_tree ≡ old.trees project_tree = kept_at student_tree old new a.others project_tree refl refl in
-    let choices : new.trees choice_tree ≡ old.trees choice_tree = kept_at student_tree old new a.others choice_tree refl refl in
-    let rankings : new.trees ranking_tree ≡ old.trees ranking_tree = kept_at student_tree old new a.others ranking_tree refl refl in
     let put : put_all student_key (map (with_place pairs) (map f roll)) [] ≡ map (with_place pairs) (put_all student_key (map f roll) []) = put_all_map student_key student_key (with_place pairs) same_key (map f roll) [] in
     let up : Rise (map student_key (put_all student_key (map (with_place pairs) (map f roll)) [])) =
     subst Rise (sym (ap (map student_key) put ∙ map_same student_key (with_place pairs) same_key (put_all student_key (map f roll) []))) good.sound.students_rise in
-    let students : put_all student_key (map (student_of (new.trees choice_tree)) (new.trees student_tree)) [] ≡ map (with_place pairs) (put_all student_key (map f roll) []) =
-    ap (λ l. put_all student_key (map (student_of l) (new.trees student_tree)) []) choices ∙ put_same student_key (map (with_place pairs) (map f roll)) (map f (new.trees student_tree)) same up ∙ put in
+    let students : put_all student_key (map f (new.trees student_tree)) [] ≡ map (with_place pairs) (put_all student_key (map f roll) []) =
+    put_same student_key (map (with_place pairs) (map f roll)) (map f (new.trees student_tree)) same up ∙ put in
     let lists : AllByRecursion (λ r. IsWhole (of_key (row_key r) (old.trees choice_tree))) (new.trees student_tree) =
     all_unmap (λ k. IsWhole (of_key k (old.trees choice_tree))) row_key (new.trees student_tree)
     (all_permuted (λ k. IsWhole (of_key k (old.trees choice_tree))) _ _ kept (all_map (λ k. IsWhole (of_key k (old.trees choice_tree))) row_key roll was.whole.choices)) in
     record {
-      holds = holds_after student_tree old new refl was a.others a.schema_is a.sound a.apart (subst (HasOffice version) (sym portal) was.office) (record {
-        choices = subst (λ y. AllByRecursion (λ r. IsWhole (of_key (row_key r) y)) (new.trees student_tree)) (sym choices) lists;
-        rankings = subst₂ (λ x y. AllByRecursion (λ r. IsWhole (of_key (row_key r) y)) x) (sym lecturers) (sym rankings) was.whole.rankings;
-        ranked = subst₂ (λ x y. AllByRecursion (λ r. has_ranking r ≡ false → of_key (row_key r) y ≡ []) x) (sym lecturers) (sym rankings) was.whole.ranked;
-      });
-      world = λ i. record {
-        round = First;
-        phase = phase_of (number_in (column (slice_index_or (portal i) 0 []) 3));
-        office = bytes (column (slice_index_or (portal i) 0 []) 4);
-        lecturers = put_all lecturer_key (map (lecturer_of (rankings i)) (lecturers i)) [];
-        projects = put_all project_key (map project_row (projects i)) [];
-        students = students i;
-      };
+      holds = holds_after student_tree old new refl was a.others a.schema_is a.sound a.apart was.office (record { choices = lists; rankings = was.whole.rankings; ranked = was.whole.ranked });
+      world = world_after First student_tree old new a.others ∙ ap (λ l. record (world_in First old.trees) { students = l }) students;
     }
 
 pub now_published : {v w : World} → v ≡ w → ◌≡◌ {A = World} (record v { phase = Published }) (record w { phase = Published })

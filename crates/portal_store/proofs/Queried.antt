@@ -18,13 +18,13 @@ use Rattle.portal_core.specs.declared.phase.Round.{Round}
 use Rattle.portal_core.specs.declared.phase.Round.TheVariants.{First, Second}
 use Rattle.portal_tables.specs.Tables.{lecturer_tree, student_tree}
 use Rattle.portal_tables.specs.Changes.{ListsBy, columns, has_text}
-use Rattle.portal_tables.specs.Contents.{AllRows}
+use Rattle.portal_views.specs.Contents.{AllRows}
 use Rattle.portal_store.specs.Kept.{HoldsIn}
 use Rattle.portal_tables.specs.Rolls.{lecturer_columns, roll_columns}
 use Rattle.portal_store.specs.World.{world_in, lecturer_in, student_in}
 use Rattle.portal_tables.specs.Shown.{as_list}
-use Rattle.portal_tables.specs.Offers.{name_of, offered, catalogue_shown}
-use Rattle.portal_tables.specs.Callers.{student_shown}
+use Rattle.portal_views.specs.Offers.{name_of, offered, catalogue_shown}
+use Rattle.portal_views.specs.Callers.{student_shown}
 use Rattle.portal_store.specs.Queried.{lecturer_from, student_from}
 use Rattle.portal_tables.proofs.OneFound.{found}
 use Rattle.portal_store.proofs.Loaded.{lecturers_by_key, students_by_key, round_rows, world_first, some_alike}

@@ -1,23 +1,23 @@
 -- Putting a lecturer's ranking turns the tables to the world with that ranking.
-use Rattle.std.proofs.Common.{◌≡◌, inl, inr, ℕ, ℤ, pos, Bool, true, false, not, ◌||◌, cond, Some, None, List, [], ◌∷◌, ◌++◌, map, filter, slice_index_or, refl, sym, ap, subst, ◌∙◌}
+use Rattle.std.proofs.Common.{◌≡◌, inl, inr, ℕ, ℤ, pos, Bool, true, false, not, ◌||◌, cond, Some, None, List, [], ◌∷◌, ◌++◌, map, filter, refl, sym, ap, subst, ◌∙◌}
 use Rattle.std.proofs.lemmas.Bool.{cases_Bool}
 use Rattle.std.specs.List.{AllByRecursion, IsDistinct}
 use Rattle.std.specs.List.Sorted.{IsPermutation}
 use Rattle.std.proofs.lemmas.List.Sorted.{IsPermutation-refl, IsPermutation-trans, IsPermutation-sym, IsPermutation-cons, IsPermutation-middle, IsPermutation-map}
 use Rattle.sqlite.specs.declared.types.Value.TheVariants.{Int}
-use Rattle.sqlite.specs.Order.{Row, column, bytes}
+use Rattle.sqlite.specs.Order.{Row, column}
+use Rattle.sqlite.specs.Tree.{Trees}
 use Rattle.sqlite.specs.Effect.{Database}
 use Rattle.sqlite.specs.State.{State}
-use Rattle.sqlite_trees.specs.Objects.{number_in}
 use Rattle.portal_core.specs.declared.phase.Round.TheVariants.{First}
 use Rattle.portal_core.specs.Words.{Key, is, has, put_all, Rise}
-use Rattle.portal_core.specs.World.{Lecturer, lecturer_key, project_key, student_key}
+use Rattle.portal_core.specs.World.{Lecturer, lecturer_key}
 use Rattle.portal_core.specs.Change.{changed, Ranks, with_ranking}
 use Rattle.portal_core.proofs.Keys.{is_same, is_own}
 use Rattle.portal_core.proofs.AllLaws.{all_weaker, is_sym, map_same}
 use Rattle.portal_list.proofs.Replaced.{ranking_here, ranking_elsewhere}
 use Rattle.portal_tables.specs.Own.{IsOwn, IsCurrent}
-use Rattle.portal_tables.specs.Tables.{portal_tree, lecturer_tree, project_tree, student_tree, choice_tree, ranking_tree, version}
+use Rattle.portal_tables.specs.Tables.{lecturer_tree, ranking_tree, own_trees, version}
 use Rattle.portal_tables.specs.Changes.{IsApart, Sets, has_text}
 use Rattle.portal_tables.specs.Rows as rows
 use Rattle.portal_tables.specs.Rows.{lecturer_cells}
@@ -26,9 +26,9 @@ use Rattle.portal_tables.proofs.Lists.{put_splits}
 use Rattle.portal_tables.proofs.Keeping.{sets_apart}
 use Rattle.portal_tables.proofs.Runs.{goes_then}
 use Rattle.portal_tables.specs.Lists.{of_key, chosen, IsWhole}
-use Rattle.portal_store.proofs.Still.{kept_at, apart_kept, second_kept}
-use Rattle.portal_store.specs.World.{world_in, phase_of, lecturer_row, project_row}
-use Rattle.portal_store.proofs.FirstRows.{student_of, lecturer_of, has_ranking}
+use Rattle.portal_store.proofs.Still.{but_two, two_changed, world_same, whole_same, kept_at, apart_kept, second_kept}
+use Rattle.portal_store.specs.World.{world_in, lecturer_row}
+use Rattle.portal_store.proofs.FirstRows.{lecturer_of, has_ranking}
 use Rattle.portal_tables.specs.Rolls.{row_key}
 use Rattle.portal_tables.specs.Office.{HasOffice}
 use Rattle.portal_store.specs.Kept.{Whole, HoldsIn}
@@ -122,23 +122,8 @@ module _ (k : Key) (list : List Key) (first mid now : Database) (put : HasPut ra
   abbrev rest : List Row
   rest = filter (λ r. not (has_text 1 k r)) (first.trees lecturer_tree)
 
-  portal : now.trees 0 ≡ first.trees 0
-  portal = kept_at lecturer_tree mid now set.others portal_tree refl refl ∙ kept_at ranking_tree first mid put.tables portal_tree refl refl
-
   lecturers : mid.trees 1 ≡ first.trees 1
   lecturers = kept_at ranking_tree first mid put.tables lecturer_tree refl refl
-
-  projects : now.trees 4 ≡ first.trees 4
-  projects = kept_at lecturer_tree mid now set.others project_tree refl refl ∙ kept_at ranking_tree first mid put.tables project_tree refl refl
-
-  students : now.trees 6 ≡ first.trees 6
-  students = kept_at lecturer_tree mid now set.others student_tree refl refl ∙ kept_at ranking_tree first mid put.tables student_tree refl refl
-
-  choices : now.trees 9 ≡ first.trees 9
-  choices = kept_at lecturer_tree mid now set.others choice_tree refl refl ∙ kept_at ranking_tree first mid put.tables choice_tree refl refl
-
-  rankings : now.trees 12 ≡ mid.trees 12
-  rankings = kept_at lecturer_tree mid now set.others ranking_tree refl refl
 
   old_rows : IsPermutation (first.trees 1) (before ∷ rest)
   old_rows = subst (λ l. IsPermutation (first.trees 1) (l ++ rest)) one (split_filter (has_text 1 k) (first.trees 1))
@@ -171,7 +156,7 @@ module _ (k : Key) (list : List Key) (first mid now : Database) (put : HasPut ra
       λ i. this_row i ∷ others i
 
   roll_is : Rise (map lecturer_key (put_all lecturer_key (map (lecturer_of (first.trees 12)) (first.trees 1)) []))
-      → put_all lecturer_key (map (lecturer_of (now.trees 12)) (now.trees 1)) [] ≡ map (with_ranking k list) (put_all lecturer_key (map (lecturer_of (first.trees 12)) (first.trees 1)) [])
+      → put_all lecturer_key (map (lecturer_of (mid.trees 12)) (now.trees 1)) [] ≡ map (with_ranking k list) (put_all lecturer_key (map (lecturer_of (first.trees 12)) (first.trees 1)) [])
   roll_is up =
       let show : Row → Lecturer = lecturer_of (first.trees 12) in
       let turn : Lecturer → Lecturer = with_ranking k list in
@@ -182,22 +167,19 @@ module _ (k : Key) (list : List Key) (first mid now : Database) (put : HasPut ra
       ap (λ l. put_all lecturer_key l []) all_rows ∙ put_all_map lecturer_key lecturer_key turn (same_key k list) (map show (before ∷ rest)) [] ∙ ap (map turn) front in
       let still : Rise (map lecturer_key (put_all lecturer_key (map (lecturer_of (mid.trees 12)) (after ∷ rest)) [])) =
       subst Rise (sym (ap (map lecturer_key) turned ∙ map_same lecturer_key turn (same_key k list) olds)) up in
-      ap (λ t. put_all lecturer_key (map (lecturer_of t) (now.trees 1)) []) rankings
-      ∙ put_same lecturer_key (map (lecturer_of (mid.trees 12)) (after ∷ rest)) (map (lecturer_of (mid.trees 12)) (now.trees 1)) (IsPermutation-map (lecturer_of (mid.trees 12)) _ _ new_rows) still
+      put_same lecturer_key (map (lecturer_of (mid.trees 12)) (after ∷ rest)) (map (lecturer_of (mid.trees 12)) (now.trees 1)) (IsPermutation-map (lecturer_of (mid.trees 12)) _ _ new_rows) still
       ∙ turned
+
+  -- the tables at the start, with the new rankings and lecturers
+  abbrev there : Trees
+  there = but_two ranking_tree lecturer_tree first mid now
+
+  same : AllByRecursion (λ t. now.trees t ≡ there t) own_trees
+  same = two_changed ranking_tree lecturer_tree first mid now put.tables set.others
 
   rank_world : Rise (map lecturer_key (world_in First first.trees).lecturers) → world_in First now.trees ≡ changed (world_in First first.trees) (Ranks k list)
   unfolding world_in
-  rank_world up =
-      let roll = roll_is up in
-      λ i. record {
-        round = First;
-        phase = phase_of (number_in (column (slice_index_or (portal i) 0 []) 3));
-        office = bytes (column (slice_index_or (portal i) 0 []) 4);
-        lecturers = roll i;
-        projects = put_all project_key (map project_row (projects i)) [];
-        students = put_all student_key (map (student_of (choices i)) (students i)) [];
-      }
+  rank_world up = world_same First there now.trees same ∙ ap (λ l. record (world_in First first.trees) { lecturers = l }) (roll_is up)
 
   rank_whole : Whole First first.trees → Whole First now.trees
   rank_whole was =
@@ -207,11 +189,11 @@ module _ (k : Key) (list : List Key) (first mid now : Database) (put : HasPut ra
       let all_new : AllByRecursion (WholeIn (mid.trees 12)) (after ∷ rest) = (whole before all_old.0, all_weaker _ _ whole rest all_old.1) in
       let ranked_new : AllByRecursion (NoneUnranked (mid.trees 12)) (after ∷ rest) =
       (λ e. absurd (cc), all_two (λ r. is (row_key r) k ≡ false) _ _ (λ r other h e. put.others (row_key r) other ∙ h e) rest apart_rest ranked_old.1) in
-      record {
-        choices = subst (λ rows. AllByRecursion (WholeIn rows) (now.trees 6)) (sym choices) (subst (AllByRecursion (WholeIn (first.trees 9))) (sym students) was.choices);
-        rankings = subst (λ rows. AllByRecursion (WholeIn rows) (now.trees 1)) (sym rankings) (all_permuted _ (after ∷ rest) (now.trees 1) new_rows all_new);
-        ranked = subst (λ rows. AllByRecursion (NoneUnranked rows) (now.trees 1)) (sym rankings) (all_permuted _ (after ∷ rest) (now.trees 1) new_rows ranked_new);
-      }
+      whole_same First there now.trees same (record {
+        choices = was.choices;
+        rankings = all_permuted _ (after ∷ rest) (now.trees 1) new_rows all_new;
+        ranked = all_permuted _ (after ∷ rest) (now.trees 1) new_rows ranked_new;
+      })
 
   rank_holds : HoldsIn First first → HoldsIn First now
   rank_holds was = record {
@@ -219,7 +201,7 @@ module _ (k : Key) (list : List Key) (first mid now : Database) (put : HasPut ra
     own = subst IsOwn (sym (set.schema_is ∙ put.schema_is)) was.own;
     sound = set.sound;
     apart = apart_kept lecturer_tree mid now set.others (sets_apart lecturer_tree (has_text 1 k) after n mid now refl set (subst IsApart (sym lecturers) was.apart.1.0)) (apart_kept ranking_tree first mid put.tables put.apart was.apart);
-    office = subst (HasOffice version) (sym portal) was.office;
+    office = subst (HasOffice version) (sym same.0) was.office;
     second = second_kept lecturer_tree mid now refl set.others (second_kept ranking_tree first mid refl put.tables was.second);
     whole = rank_whole was.whole;
   }

@@ -1,5 +1,5 @@
 -- What the rows of the second round's result are to the world.
-use Rattle.std.proofs.Common.{◌≡◌, inl, inr, ℕ, pos, ◌+ℤ◌, ◌+◌, ◌<◌, Bool, true, false, ◌||◌, cond, if◌then◌else◌, Option, Some, None, option_map, List, [], ◌∷◌, ◌++◌, map, slice_index_or, append_assoc, append-nil, refl, sym, ap, subst, ◌∙◌, arith, Less}
+use Rattle.std.proofs.Common.{◌≡◌, inl, inr, ℕ, pos, ◌+ℤ◌, ◌+◌, ◌<◌, Bool, true, false, ◌||◌, cond, if◌then◌else◌, Option, Some, None, option_map, List, [], ◌∷◌, ◌++◌, map, append_assoc, append-nil, refl, sym, ap, subst, ◌∙◌, arith, Less}
 use Rattle.std.specs.Prelude.{is_none}
 use Rattle.std.proofs.lemmas.Bool.{cases_Bool}
 use Rattle.std.proofs.lemmas.Bool.Decides.{nat_tests}
@@ -11,17 +11,16 @@ use Rattle.std.proofs.lemmas.List.Sorted.{IsPermutation-sym}
 use Rattle.sqlite.specs.declared.types.Value.TheVariants.{Null, Int}
 use Rattle.sqlite.specs.Order.{Row, column, bytes, value_cmp}
 use Rattle.sqlite.specs.Edit.{next_rowid}
-use Rattle.sqlite.specs.Tree.{put_row, rowid}
+use Rattle.sqlite.specs.Tree.{Trees, put_row, rowid}
 use Rattle.sqlite.specs.Effect.{Database}
 use Rattle.sqlite.specs.State.{State}
 use Rattle.sqlite_rules.proofs.TableLemmas.{next_after}
-use Rattle.sqlite_trees.specs.Objects.{number_in}
 use Rattle.sqlite_value.proofs.OrderLemmas.{value_cmp-Int}
 use Rattle.sqlite_rules.specs.Lists.{Has}
 use Rattle.portal_core.specs.declared.phase.Phase.TheVariants.{Published}
 use Rattle.portal_core.specs.declared.phase.Round.TheVariants.{Second}
 use Rattle.portal_core.specs.Words.{Key, is, has, put_all}
-use Rattle.portal_core.specs.World.{Student, is_left, lecturer_key, project_key, student_key}
+use Rattle.portal_core.specs.World.{Student, is_left, student_key}
 use Rattle.portal_core.specs.Change.{place_in, with_place}
 use Rattle.portal_core.specs.Good.{Good}
 use Rattle.portal_core.proofs.Keys.{is_same, is_own, find_map, all_unmap}
@@ -33,18 +32,17 @@ use Rattle.portal_tables.specs.Putting.{HasPlaces, PutsPlaces}
 use Rattle.portal_tables.specs.Rows.{MovesSecond, pair_new}
 use Rattle.portal_tables.specs.Steps.{Made, GoesOn}
 use Rattle.portal_tables.specs.Shown.{first, text_or_none}
-use Rattle.portal_tables.specs.Tables.{portal_tree, lecturer_tree, project_tree, student_tree, choice_tree, ranking_tree, second_tree, choice2_tree, ranked2_tree, ranking2_tree, assigned2_tree}
+use Rattle.portal_tables.specs.Tables.{student_tree, assigned2_tree}
 use Rattle.portal_tables.proofs.Lists.{filter_all}
 use Rattle.portal_tables.proofs.Listed.{permuted}
 use Rattle.portal_tables.proofs.Runs.{goes_then}
 use Rattle.portal_tables.proofs.Sorted.{all_permuted, at, distinct_if_rise, map_alike_on, map_twice, permutes, put_all_map}
-use Rattle.portal_store.specs.World.{world_in, phase_of, project_row}
+use Rattle.portal_store.specs.World.{world_in, student_in}
 use Rattle.portal_store.specs.Kept.{HoldsIn}
 use Rattle.portal_store.specs.Placing.{pair_left, ShowsRoll, TurnsLeft}
 use Rattle.portal_store.proofs.Holding.{second_turned}
 use Rattle.portal_store.proofs.Places.{now_published, shown_known}
-use Rattle.portal_store.proofs.SecondRows.{lecturer_after, student_after}
-use Rattle.portal_store.proofs.Still.{kept_at, opened_kept, holds_there, lists_same}
+use Rattle.portal_store.proofs.Still.{but_one, opened_kept, holds_there, world_after}
 
 -- rows that come to an empty table, one after the other
 
@@ -160,10 +158,11 @@ module _ (pairs left : List (Key × Key)) (shown : List Row) (old new : Database
   roll = old.trees student_tree
 
   abbrev before : Row → Student
-  before = student_after (old.trees 16) (old.trees 24) (old.trees 9)
+  before = student_in Second old.trees
 
-  abbrev after : Row → Student
-  after = student_after (old.trees 16) (new.trees 24) (old.trees 9)
+  -- the tables at the start, with the places
+  abbrev after : Trees
+  after = but_one assigned2_tree old new
 
   distinct : IsDistinct is (map row_key roll)
   unfolding world_in
@@ -183,7 +182,7 @@ module _ (pairs left : List (Key × Key)) (shown : List Row) (old new : Database
       let same : IsPermutation (map show roll) shown = subst (λ rows. IsPermutation (map show rows) shown) (filter_all roll) (permuted (1 ∷ []) every show roll shown shows) in
       all_permuted P (map show roll) shown same (all_map P show roll (all_weaker _ _ (λ y one hit. ap (λ z. text_or_none (column z 4)) (one hit)) roll (one_with r roll distinct there)))
 
-  one : (r : Row) → Has roll r → after r ≡ with_place pairs (before r)
+  one : (r : Row) → Has roll r → student_in Second after r ≡ with_place pairs (before r)
   one r there =
       let k = row_key r in
       let earlier = text_or_none (column r 4) in
@@ -192,55 +191,17 @@ module _ (pairs left : List (Key × Key)) (shown : List Row) (old new : Database
       place_told (new.trees 24) left k put.rows ∙ ap (λ ps. place_in ps k) is_left_of ∙ place_at pairs k earlier shown (earlier_shown r there) ∙ ap (λ b. cond b (place_left pairs earlier k) None) known in
       (λ i. record (before r) { placed = place i }) ∙ with_left pairs (before r) (at (λ x. is_left (before x) ≡ false → (before x).placed ≡ None) roll r only there)
 
-  portal : new.trees 0 ≡ old.trees 0
-  portal = kept_at assigned2_tree old new put.tables portal_tree refl refl
-
-  lecturers : new.trees 1 ≡ old.trees 1
-  lecturers = kept_at assigned2_tree old new put.tables lecturer_tree refl refl
-
-  projects : new.trees 4 ≡ old.trees 4
-  projects = kept_at assigned2_tree old new put.tables project_tree refl refl
-
-  students : new.trees 6 ≡ old.trees 6
-  students = kept_at assigned2_tree old new put.tables student_tree refl refl
-
-  choices : new.trees 9 ≡ old.trees 9
-  choices = kept_at assigned2_tree old new put.tables choice_tree refl refl
-
-  rankings : new.trees 12 ≡ old.trees 12
-  rankings = kept_at assigned2_tree old new put.tables ranking_tree refl refl
-
-  second : new.trees 15 ≡ old.trees 15
-  second = kept_at assigned2_tree old new put.tables second_tree refl refl
-
-  choices2 : new.trees 16 ≡ old.trees 16
-  choices2 = kept_at assigned2_tree old new put.tables choice2_tree refl refl
-
-  ranked2 : new.trees 19 ≡ old.trees 19
-  ranked2 = kept_at assigned2_tree old new put.tables ranked2_tree refl refl
-
-  rankings2 : new.trees 21 ≡ old.trees 21
-  rankings2 = kept_at assigned2_tree old new put.tables ranking2_tree refl refl
-
   placed_all : IsPlaced pairs old new
   unfolding world_in
   placed_all =
       let same_key : (s : Student) → student_key (with_place pairs s) ≡ student_key s = λ s. ap (λ r. r.key) (place_row pairs s) in
-      let turned : put_all student_key (map (student_after (new.trees 16) (new.trees 24) (new.trees 9)) (new.trees 6)) [] ≡ map (with_place pairs) (put_all student_key (map before roll) []) =
-      (λ i. put_all student_key (map (student_after (choices2 i) (new.trees 24) (choices i)) (students i)) [])
-      ∙ ap (λ l. put_all student_key l []) (map_alike_on after (λ r. with_place pairs (before r)) roll one ∙ map_twice (with_place pairs) before roll)
+      let turned : put_all student_key (map (student_in Second after) roll) [] ≡ map (with_place pairs) (put_all student_key (map before roll) []) =
+      ap (λ l. put_all student_key l []) (map_alike_on (student_in Second after) (λ r. with_place pairs (before r)) roll one ∙ map_twice (with_place pairs) before roll)
       ∙ put_all_map student_key student_key (with_place pairs) same_key (map before roll) [] in
       record {
-        holds = holds_there assigned2_tree old new refl was put.tables put.schema_is put.sound put.apart (opened_kept old.trees new.trees portal second was.second)
-            (lists_same Second old.trees new.trees lecturers students choices2 rankings2 ranked2 was.whole.1);
-        world = λ i. record {
-          round = Second;
-          phase = phase_of (number_in (column (slice_index_or (second i) 0 []) 2));
-          office = bytes (column (slice_index_or (portal i) 0 []) 4);
-          lecturers = put_all lecturer_key (map (lecturer_after (ranked2 i) (rankings2 i) (rankings i)) (lecturers i)) [];
-          projects = put_all project_key (map project_row (projects i)) [];
-          students = turned i;
-        };
+        holds = holds_there assigned2_tree old new refl was put.tables put.schema_is put.sound put.apart (opened_kept old.trees after refl refl was.second)
+            (record { choices = was.whole.1.choices; rankings = was.whole.1.rankings; ranked = was.whole.1.ranked });
+        world = world_after Second assigned2_tree old new put.tables ∙ ap (λ l. record (world_in Second old.trees) { students = l }) turned;
       }
 
 -- the places, and then the phase

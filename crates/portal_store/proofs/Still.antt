@@ -1,48 +1,123 @@
--- What stays where one table has changed.
-use Rattle.std.proofs.Common.{◌≡◌, ◌≢◌, inl, inr, ℕ, Bool, true, false, not, ◌||◌, eqb, map, List, [], ◌∷◌, slice_index_or, sym, ap, subst, ◌∙◌}
+-- What stays where one or two tables have changed.
+use Rattle.std.proofs.Common.{◌≡◌, ◌≢◌, inl, inr, ℕ, Bool, true, false, not, ◌||◌, cond, eqb, if◌then◌else◌, List, [], ◌∷◌, slice_index_or, refl, sym, ap, subst, ◌∙◌}
 use Rattle.std.specs.List.{AllByRecursion, list_all, list_any}
 use Rattle.std.proofs.lemmas.Bool.{eqb-false}
 use Rattle.std.proofs.lemmas.Bool.Decides.{eqb_tells}
-use Rattle.sqlite.specs.Order.{Row, column}
-use Rattle.sqlite.specs.Tree.{Trees}
+use Rattle.sqlite.specs.Order.{column}
 use Rattle.sqlite.specs.Effect.{Database, IsDatabase}
 use Rattle.sqlite_trees.specs.Objects.{number_in}
+use Rattle.sqlite_trees.specs.Tree.{Trees, with_tree}
 use Rattle.portal_core.specs.declared.phase.Round.{Round}
 use Rattle.portal_core.specs.declared.phase.Round.TheVariants.{First, Second}
-use Rattle.portal_core.specs.Words.{has}
+use Rattle.portal_core.proofs.AllLaws.{all_weaker}
 use Rattle.portal_tables.specs.Own.{IsOwn, IsCurrent}
 use Rattle.portal_tables.specs.Changes.{IsApart, Keeps}
 use Rattle.portal_tables.specs.Office.{HasOffice}
 use Rattle.portal_tables.specs.ListTables.{tree_of}
 use Rattle.portal_tables.specs.Lists.{of_key, IsWhole}
 use Rattle.portal_tables.specs.Rolls.{row_key}
-use Rattle.portal_tables.specs.Tables.{portal_tree, lecturer_tree, student_tree, second_tree, ranked2_tree, first_trees, second_trees, own_trees, version}
+use Rattle.portal_tables.specs.Tables.{portal_tree, lecturer_tree, student_tree, second_tree, first_trees, second_trees, own_trees, version}
 use Rattle.portal_tables.proofs.Keeping.{others_are}
 use Rattle.portal_tables.proofs.Making.{parts_of}
 use Rattle.portal_tables.proofs.Sorted.{all_two}
-use Rattle.portal_store.specs.World.{choices_of, rankings_of, is_ranked, phase_of}
-use Rattle.portal_store.specs.Kept.{IsUnopened, IsOpened, HoldsIn, Whole}
+use Rattle.portal_store.specs.World.{choices_of, rankings_of, is_ranked, phase_of, world_in}
+use Rattle.portal_store.specs.Kept.{AllApart, IsUnopened, IsOpened, HoldsIn, Whole}
 
 -- numbers of rows differ, where they do in the one table that has changed
-pub apart_kept : (tree : ℕ) (old new : Database) → Keeps tree old new → IsApart (new.trees tree) → AllByRecursion (λ t. IsApart (old.trees t)) own_trees → AllByRecursion (λ t. IsApart (new.trees t)) own_trees
-apart_kept tree old new keeps apart was =
-    all_two (λ t. t ≢ tree → new.trees t ≡ old.trees t) (λ t. IsApart (old.trees t)) (λ t. IsApart (new.trees t)) (λ t same a. elim (eqb_tells t tree) [
-      | inl met ↦ subst (λ x. IsApart (new.trees x)) (sym met.1) apart
+pub apart_among : (trees : List ℕ) (tree : ℕ) (old new : Trees) → AllByRecursion (λ t. t ≢ tree → new t ≡ old t) trees → IsApart (new tree) → AllApart trees old → AllApart trees new
+apart_among trees tree old new keeps apart was =
+    all_two (λ t. t ≢ tree → new t ≡ old t) (λ t. IsApart (old t)) (λ t. IsApart (new t)) (λ t same a. elim (eqb_tells t tree) [
+      | inl met ↦ subst (λ x. IsApart (new x)) (sym met.1) apart
       | inr missed ↦ subst IsApart (sym (same missed.1)) a
-    ]) own_trees keeps was
+    ]) trees keeps was
+
+pub apart_kept : (tree : ℕ) (old new : Database) → Keeps tree old new → IsApart (new.trees tree) → AllApart own_trees old.trees → AllApart own_trees new.trees
+apart_kept tree old new = apart_among own_trees tree old.trees new.trees
+
+-- what is so of each of the trees is so of one of them
+one_of : (P : ℕ → Type 0) (trees : List ℕ) → AllByRecursion P trees → (t : ℕ) → list_any (λ x. eqb x t) trees ≡ true → P t
+one_of P [] all t h = absurd (cc)
+one_of P (x ∷ trees) all t h = elim (eqb_tells x t) [
+  | inl met ↦ subst P met.1 all.0
+  | inr missed ↦ one_of P trees all.1 t (ap (λ b. b || list_any (λ y. eqb y t) trees) (sym missed.0) ∙ h)
+]
 
 -- a table that is another than the one that has changed
 pub kept_at : (tree : ℕ) (old new : Database) → Keeps tree old new → (t : ℕ) → list_any (λ x. eqb x t) own_trees ≡ true → eqb t tree ≡ false → new.trees t ≡ old.trees t
-kept_at tree old new keeps t there other = go own_trees keeps there
-  where
-    go : (ts : List ℕ) → AllByRecursion (λ x. x ≢ tree → new.trees x ≡ old.trees x) ts → list_any (λ x. eqb x t) ts ≡ true → new.trees t ≡ old.trees t
-    go [] k h = absurd (cc)
-    go (x ∷ ts) k h = elim (eqb_tells x t) [
-      | inl met ↦ subst (λ y. new.trees y ≡ old.trees y) met.1 (k.0 (λ is. eqb-false t tree other (sym met.1 ∙ is)))
-      | inr missed ↦ go ts k.1 (ap (λ b. b || list_any (λ y. eqb y t) ts) (sym missed.0) ∙ h)
-    ]
+kept_at tree old new keeps t there other = one_of (λ x. x ≢ tree → new.trees x ≡ old.trees x) own_trees keeps t there (eqb-false t tree other)
 
--- the second round's tables, where that one is of the first
+-- Tables are compared by those of some trees alone: what reads no others reads the same of both, by computation.
+
+abbrev among : List ℕ → Trees → Trees
+among trees db t = if list_any (λ x. eqb x t) trees then db t else []
+
+same_among : (trees : List ℕ) (old new : Trees) → AllByRecursion (λ t. new t ≡ old t) trees → among trees new ≡ among trees old
+same_among trees old new same = λ i t. go t (list_any (λ x. eqb x t) trees) (one_of (λ x. new x ≡ old x) trees same t) i
+  where
+    go : (t : ℕ) (b : Bool) → (b ≡ true → new t ≡ old t) → (if b then new t else []) ≡ (if b then old t else [])
+    go t true h = h refl
+    go t false h = refl
+
+-- the old tables but for this one, which is the new; and but for two, of which one changed first
+abbrev pub but_one : ℕ → Database → Database → Trees
+but_one tree old new = with_tree old.trees tree (new.trees tree)
+
+abbrev pub but_two : ℕ → ℕ → Database → Database → Database → Trees
+but_two s t old mid new = with_tree (but_one s old mid) t (new.trees t)
+
+pub one_among : (trees : List ℕ) (tree : ℕ) (old new : Trees) → AllByRecursion (λ t. t ≢ tree → new t ≡ old t) trees → AllByRecursion (λ t. new t ≡ with_tree old tree (new tree) t) trees
+one_among trees tree old new keeps =
+    all_weaker (λ t. t ≢ tree → new t ≡ old t) (λ t. new t ≡ with_tree old tree (new tree) t) (λ t same. elim (eqb_tells t tree) [
+      | inl met ↦ ap new met.1 ∙ sym (ap (λ b. cond b (new tree) (old t)) met.0)
+      | inr missed ↦ same missed.1 ∙ sym (ap (λ b. cond b (new tree) (old t)) missed.0)
+    ]) trees keeps
+
+pub one_changed : (tree : ℕ) (old new : Database) → Keeps tree old new → AllByRecursion (λ t. new.trees t ≡ but_one tree old new t) own_trees
+one_changed tree old new = one_among own_trees tree old.trees new.trees
+
+pub two_changed : (s t : ℕ) (old mid new : Database) → Keeps s old mid → Keeps t mid new → AllByRecursion (λ x. new.trees x ≡ but_two s t old mid new x) own_trees
+two_changed s t old mid new first next =
+    all_two (λ x. mid.trees x ≡ but_one s old mid x) (λ x. new.trees x ≡ but_one t mid new x) (λ x. new.trees x ≡ but_two s t old mid new x) (λ x p q. q ∙ ap (λ rows. cond (eqb x t) (new.trees t) rows) p) own_trees
+    (one_changed s old mid first) (one_changed t mid new next)
+
+-- the world of tables that are the same
+
+first_of : (old new : Trees) → AllByRecursion (λ t. new t ≡ old t) own_trees → AllByRecursion (λ t. new t ≡ old t) first_trees
+first_of old new same = (parts_of (λ t. new t ≡ old t) first_trees second_trees same).0
+
+pub world_first : (old new : Trees) → AllByRecursion (λ t. new t ≡ old t) first_trees → world_in First new ≡ world_in First old
+unfolding world_in
+world_first old new same = ap (world_in First) (same_among first_trees old new same)
+
+pub world_same : (round : Round) (old new : Trees) → AllByRecursion (λ t. new t ≡ old t) own_trees → world_in round new ≡ world_in round old
+unfolding world_in
+world_same First old new same = world_first old new (first_of old new same)
+world_same Second old new same = ap (world_in Second) (same_among own_trees old new same)
+
+pub world_after : (round : Round) (tree : ℕ) (old new : Database) → Keeps tree old new → world_in round new.trees ≡ world_in round (but_one tree old new)
+world_after round tree old new keeps = world_same round (but_one tree old new) new.trees (one_changed tree old new keeps)
+
+-- their lists
+
+abbrev Lists : Round → Trees → Type 0
+Lists round db =
+    AllByRecursion (λ r. IsWhole (of_key (row_key r) (db (tree_of (choices_of round))))) (db student_tree)
+    × AllByRecursion (λ r. IsWhole (of_key (row_key r) (db (tree_of (rankings_of round))))) (db lecturer_tree)
+    × AllByRecursion (λ r. is_ranked round db r ≡ false → of_key (row_key r) (db (tree_of (rankings_of round))) ≡ []) (db lecturer_tree)
+
+whole_of : (round : Round) (db : Trees) → Lists round db → Whole round db
+whole_of round db lists = record { choices = lists.0; rankings = lists.1; ranked = lists.2 }
+
+pub whole_first : (old new : Trees) → AllByRecursion (λ t. new t ≡ old t) first_trees → Whole First old → Whole First new
+whole_first old new same was = whole_of First new (subst (Lists First) (sym (same_among first_trees old new same)) (was.choices, was.rankings, was.ranked))
+
+pub whole_same : (round : Round) (old new : Trees) → AllByRecursion (λ t. new t ≡ old t) own_trees → Whole round old → Whole round new
+whole_same First old new same was = whole_first old new (first_of old new same) was
+whole_same Second old new same was = whole_of Second new (subst (Lists Second) (sym (same_among own_trees old new same)) (was.choices, was.rankings, was.ranked))
+
+-- In the first round
+
+-- the second round's tables, where the one that has changed is of the first
 abbrev pub IsOfFirst : ℕ → Type 0
 IsOfFirst tree = list_all (λ t. not (eqb t tree)) second_trees ≡ true
 
@@ -57,46 +132,20 @@ second_kept tree old new of_first keeps was =
 
 -- what the store keeps, where one table of the first round has changed
 pub holds_after : (tree : ℕ) (old new : Database) → IsOfFirst tree → HoldsIn First old → Keeps tree old new → new.schema ≡ old.schema → IsDatabase new → IsApart (new.trees tree)
-    → HasOffice version (new.trees portal_tree) → Whole First new.trees → HoldsIn First new
-holds_after tree old new of_first was keeps schema sound apart office whole = record {
-  current = subst IsCurrent (sym schema) was.current;
-  own = subst IsOwn (sym schema) was.own;
-  sound = sound;
-  apart = apart_kept tree old new keeps apart was.apart;
-  office = office;
-  second = second_kept tree old new of_first keeps was.second;
-  whole = whole;
-}
+    → HasOffice version (but_one tree old new portal_tree) → Whole First (but_one tree old new) → HoldsIn First new
+holds_after tree old new of_first was keeps schema sound apart office whole =
+    let same = one_changed tree old new keeps in
+    record {
+      current = subst IsCurrent (sym schema) was.current;
+      own = subst IsOwn (sym schema) was.own;
+      sound = sound;
+      apart = apart_kept tree old new keeps apart was.apart;
+      office = subst (HasOffice version) (sym same.0) office;
+      second = second_kept tree old new of_first keeps was.second;
+      whole = whole_same First (but_one tree old new) new.trees same whole;
+    }
 
--- the lists of a round are whole where its tables are as they were
-
-abbrev has_key : List Row → Row → Bool
-has_key rows r = has (map row_key rows) (row_key r)
-
-pub rankings_same : (round : Round) (old new : Trees) → new lecturer_tree ≡ old lecturer_tree → new (tree_of (rankings_of round)) ≡ old (tree_of (rankings_of round)) → new ranked2_tree ≡ old ranked2_tree → Whole round old
-    → AllByRecursion (λ r. IsWhole (of_key (row_key r) (new (tree_of (rankings_of round))))) (new lecturer_tree) × AllByRecursion (λ r. is_ranked round new r ≡ false → of_key (row_key r) (new (tree_of (rankings_of round))) ≡ []) (new lecturer_tree)
-rankings_same First old new l r k was = (
-  subst (λ x. AllByRecursion (λ r. IsWhole (of_key (row_key r) x)) (new 1)) (sym r) (subst (AllByRecursion (λ r. IsWhole (of_key (row_key r) (old 12)))) (sym l) was.rankings),
-  subst (λ x. AllByRecursion (λ y. is_ranked First new y ≡ false → of_key (row_key y) x ≡ []) (new 1)) (sym r) (subst (AllByRecursion (λ y. is_ranked First old y ≡ false → of_key (row_key y) (old 12) ≡ [])) (sym l) was.ranked),
-)
-rankings_same Second old new l r k was = (
-  subst (λ x. AllByRecursion (λ r. IsWhole (of_key (row_key r) x)) (new 1)) (sym r) (subst (AllByRecursion (λ r. IsWhole (of_key (row_key r) (old 21)))) (sym l) was.rankings),
-  subst (λ ks. AllByRecursion (λ y. has_key ks y ≡ false → of_key (row_key y) (new 21) ≡ []) (new 1)) (sym k)
-      (subst (λ x. AllByRecursion (λ y. has_key (old 19) y ≡ false → of_key (row_key y) x ≡ []) (new 1)) (sym r) (subst (AllByRecursion (λ y. has_key (old 19) y ≡ false → of_key (row_key y) (old 21) ≡ [])) (sym l) was.ranked)),
-)
-
-pub choices_same : (round : Round) (old new : Trees) → new student_tree ≡ old student_tree → new (tree_of (choices_of round)) ≡ old (tree_of (choices_of round)) → Whole round old
-    → AllByRecursion (λ r. IsWhole (of_key (row_key r) (new (tree_of (choices_of round))))) (new student_tree)
-choices_same round old new s c was =
-    subst (λ x. AllByRecursion (λ r. IsWhole (of_key (row_key r) x)) (new 6)) (sym c) (subst (AllByRecursion (λ r. IsWhole (of_key (row_key r) (old (tree_of (choices_of round)))))) (sym s) was.choices)
-
-pub lists_same : (round : Round) (old new : Trees) → new lecturer_tree ≡ old lecturer_tree → new student_tree ≡ old student_tree → new (tree_of (choices_of round)) ≡ old (tree_of (choices_of round))
-    → new (tree_of (rankings_of round)) ≡ old (tree_of (rankings_of round)) → new ranked2_tree ≡ old ranked2_tree → Whole round old → Whole round new
-lists_same round old new l s c r k was =
-    let ranks = rankings_same round old new l r k was in
-    record { choices = choices_same round old new s c was; rankings = ranks.0; ranked = ranks.1 }
-
--- in the second round
+-- In the second round
 
 abbrev pub IsOfSecond : ℕ → Type 0
 IsOfSecond tree = list_all (λ t. not (eqb t tree)) first_trees ≡ true
@@ -121,7 +170,7 @@ opened_kept old new portal second was = record {
 }
 
 -- what the store keeps, where the first round's tables are as they were
-pub holds_second : (old new : Database) → HoldsIn Second old → KeepsFirst old new → new.schema ≡ old.schema → IsDatabase new → AllByRecursion (λ t. IsApart (new.trees t)) own_trees → IsOpened new.trees → Whole Second new.trees
+pub holds_second : (old new : Database) → HoldsIn Second old → KeepsFirst old new → new.schema ≡ old.schema → IsDatabase new → AllApart own_trees new.trees → IsOpened new.trees → Whole Second new.trees
     → HoldsIn Second new
 holds_second old new was same schema sound apart opened whole = record {
   current = subst IsCurrent (sym schema) was.current;
@@ -130,17 +179,13 @@ holds_second old new was same schema sound apart opened whole = record {
   apart = apart;
   office = subst (HasOffice version) (sym same.0) was.office;
   second = opened;
-  whole = (
-    record {
-      choices = choices_same First old.trees new.trees same.1.1.1.0 same.1.1.1.1.0 was.whole.0;
-      rankings = subst (λ x. AllByRecursion (λ r. IsWhole (of_key (row_key r) x)) (new.trees 1)) (sym same.1.1.1.1.1.0) (subst (AllByRecursion (λ r. IsWhole (of_key (row_key r) (old.trees 12)))) (sym same.1.0) was.whole.0.rankings);
-      ranked = subst (λ x. AllByRecursion (λ y. is_ranked First new.trees y ≡ false → of_key (row_key y) x ≡ []) (new.trees 1)) (sym same.1.1.1.1.1.0)
-          (subst (AllByRecursion (λ y. is_ranked First old.trees y ≡ false → of_key (row_key y) (old.trees 12) ≡ [])) (sym same.1.0) was.whole.0.ranked);
-    },
-    whole,
-  );
+  whole = (whole_first old.trees new.trees same was.whole.0, whole);
 }
 
 -- where one table of the second round has changed
-pub holds_there : (tree : ℕ) (old new : Database) → IsOfSecond tree → HoldsIn Second old → Keeps tree old new → new.schema ≡ old.schema → IsDatabase new → IsApart (new.trees tree) → IsOpened new.trees → Whole Second new.trees → HoldsIn Second new
-holds_there tree old new of_second was keeps schema sound apart opened whole = holds_second old new was (first_kept tree old new of_second keeps) schema sound (apart_kept tree old new keeps apart was.apart) opened whole
+pub holds_there : (tree : ℕ) (old new : Database) → IsOfSecond tree → HoldsIn Second old → Keeps tree old new → new.schema ≡ old.schema → IsDatabase new → IsApart (new.trees tree)
+    → IsOpened (but_one tree old new) → Whole Second (but_one tree old new) → HoldsIn Second new
+holds_there tree old new of_second was keeps schema sound apart opened whole =
+    let same = one_changed tree old new keeps in
+    holds_second old new was (first_kept tree old new of_second keeps) schema sound (apart_kept tree old new keeps apart was.apart)
+    (opened_kept (but_one tree old new) new.trees same.0 same.1.1.1.1.1.1.0 opened) (whole_same Second (but_one tree old new) new.trees same whole)

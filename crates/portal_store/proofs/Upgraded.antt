@@ -1,21 +1,19 @@
 -- Tables of version 1 that were upgraded stand for the world that they stood for.
-use Rattle.std.proofs.Common.{◌≡◌, pos, Bool, false, ◌||◌, IsTrue, List, [], ◌∷◌, map, slice_index_or, refl, sym, ap, subst, ◌∙◌}
-use Rattle.std.specs.List.{AllZip, list_any}
+use Rattle.std.proofs.Common.{◌≡◌, pos, Bool, false, ◌||◌, IsTrue, List, [], ◌∷◌, slice_index_or, refl, sym, ap, subst, ◌∙◌}
+use Rattle.std.specs.List.{AllByRecursion, AllZip, list_any}
 use Rattle.sqlite.specs.Order.{column, bytes}
 use Rattle.sqlite.specs.Effect.{Database}
 use Rattle.sqlite.specs.Store.{Ghosts}
 use Rattle.sqlite.specs.Held.{Held, state}
 use Rattle.sqlite_trees.specs.Objects.{number_in}
+use Rattle.sqlite_trees.specs.Tree.{Trees, with_tree}
 use Rattle.sqlite.specs.Table.{Table}
 use Rattle.sqlite.specs.Schema.{Schema}
 use Rattle.sqlite_tied.specs.Compute.{everything}
 use Rattle.portal_core.specs.declared.phase.Round.TheVariants.{First}
 use Rattle.portal_core.specs.Good.{Good}
-use Rattle.portal_core.specs.Words.{put_all}
-use Rattle.portal_core.specs.World.{lecturer_key, project_key, student_key}
-use Rattle.portal_tables.specs.Tables.{portal_tree, version, first_version, first_schema}
+use Rattle.portal_tables.specs.Tables.{portal_tree, first_trees, version, first_version, first_schema}
 use Rattle.portal_tables.specs.Own.{IsFirst, SameTable}
-use Rattle.portal_tables.specs.Changes.{IsApart}
 use Rattle.portal_tables.specs.Making.{Upgraded, Upgrades}
 use Rattle.portal_tables.specs.Names.{has_name, has_names, is_named_table, is_named_view}
 use Rattle.portal_tables.specs.declared.names.Names.{Names}
@@ -25,29 +23,20 @@ use Rattle.portal_tables.specs.Rows.{portal_row}
 use Rattle.portal_tables.specs.Steps.{Commits}
 use Rattle.portal_tables.proofs.Keeping.{apart_one}
 use Rattle.portal_tables.proofs.Owned.{current_own}
-use Rattle.portal_store.specs.World.{world_in, world_of, phase_of, project_row}
-use Rattle.portal_store.proofs.FirstRows.{lecturer_of, student_of}
+use Rattle.portal_store.specs.World.{world_in, world_of, phase_of}
 use Rattle.portal_store.specs.Kept.{HoldsIn, IsKept, IsUnopened, Stands, StandsAs}
 use Rattle.portal_store.specs.Asked.{AdmitsAs}
 use Rattle.portal_store.proofs.Asked.{apart_all}
-use Rattle.portal_store.proofs.Holding.{whole_same}
 use Rattle.portal_store.proofs.Rounds.{world_told}
+use Rattle.portal_store.proofs.Still.{apart_among, one_among, whole_first, world_first}
 
 module _ (old new : Database) (office : HasOffice first_version (old.trees portal_tree)) (up : Upgraded (pos (number_of office.phase)) office.office old new) where
-  lecturers : new.trees 1 ≡ old.trees 1
-  lecturers = up.others.1.0 (λ e. absurd (cc))
+  -- the first round's tables, with the new row of the office
+  abbrev there : Trees
+  there = with_tree old.trees portal_tree (new.trees portal_tree)
 
-  projects : new.trees 4 ≡ old.trees 4
-  projects = up.others.1.1.0 (λ e. absurd (cc))
-
-  students : new.trees 6 ≡ old.trees 6
-  students = up.others.1.1.1.0 (λ e. absurd (cc))
-
-  choices : new.trees 9 ≡ old.trees 9
-  choices = up.others.1.1.1.1.0 (λ e. absurd (cc))
-
-  rankings : new.trees 12 ≡ old.trees 12
-  rankings = up.others.1.1.1.1.1.0 (λ e. absurd (cc))
+  same : AllByRecursion (λ t. new.trees t ≡ there t) first_trees
+  same = one_among first_trees portal_tree old.trees new.trees up.others
 
   pub upgraded_world : world_in First new.trees ≡ world_in First old.trees
   unfolding world_in
@@ -56,14 +45,7 @@ module _ (old new : Database) (office : HasOffice first_version (old.trees porta
       ap (λ rows. column (slice_index_or rows 0 []) 3) up.portal ∙ sym (ap (λ rows. column (slice_index_or rows 0 []) 3) office.is) in
       let codes : column (slice_index_or (new.trees 0) 0 []) 4 ≡ column (slice_index_or (old.trees 0) 0 []) 4 =
       ap (λ rows. column (slice_index_or rows 0 []) 4) up.portal ∙ sym (ap (λ rows. column (slice_index_or rows 0 []) 4) office.is) in
-      λ i. record {
-        round = First;
-        phase = phase_of (number_in (phases i));
-        office = bytes (codes i);
-        lecturers = put_all lecturer_key (map (lecturer_of (rankings i)) (lecturers i)) [];
-        projects = put_all project_key (map project_row (projects i)) [];
-        students = put_all student_key (map (student_of (choices i)) (students i)) [];
-      }
+      world_first there new.trees same ∙ (λ i. record (world_in First old.trees) { phase = phase_of (number_in (phases i)); office = bytes (codes i) })
 
   pub second : IsUnopened new.trees
   second = record { is = up.second; says = up.empty }
@@ -71,22 +53,13 @@ module _ (old new : Database) (office : HasOffice first_version (old.trees porta
   first_stands : StandsAs first_version old.trees → StandsAs version new.trees
   first_stands was = record {
     office = record { phase = office.phase; office = office.office; is = up.portal };
-    whole = whole_same old.trees new.trees lecturers students choices rankings was.whole;
+    whole = whole_first there new.trees same (record { choices = was.whole.choices; rankings = was.whole.rankings; ranked = was.whole.ranked });
     good = subst Good (sym upgraded_world) was.good;
   }
 
   admits : AdmitsAs first_version old.trees → AdmitsAs version new.trees
   admits was = record {
-    apart = (
-      apart_one (new.trees 0) (portal_row (pos version) (pos (number_of office.phase)) office.office) (pos 1) refl up.portal,
-      (
-        subst IsApart (sym lecturers) was.apart.1.0,
-        (
-          subst IsApart (sym projects) was.apart.1.1.0,
-          (subst IsApart (sym students) was.apart.1.1.1.0, (subst IsApart (sym choices) was.apart.1.1.1.1.0, (subst IsApart (sym rankings) was.apart.1.1.1.1.1.0, tt))),
-        ),
-      ),
-    );
+    apart = apart_among first_trees portal_tree old.trees new.trees up.others (apart_one (new.trees 0) (portal_row (pos version) (pos (number_of office.phase)) office.office) (pos 1) refl up.portal) was.apart;
     stands = first_stands was.stands;
   }
 

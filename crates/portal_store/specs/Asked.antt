@@ -1,15 +1,13 @@
 -- What a refusal to open or to upgrade says of the tables.
-use Rattle.std.specs.Prelude.{◌≡◌, ◌≢◌, ℕ, [], ◌∷◌, pos}
-use Rattle.std.specs.List.{AllByRecursion}
+use Rattle.std.specs.Prelude.{◌≡◌, ◌≢◌, ℕ, [], ◌∷◌, ◌++◌, pos}
 use Rattle.sqlite.specs.declared.types.Value.TheVariants.{Int}
 use Rattle.sqlite.specs.Order.{Row, column}
 use Rattle.sqlite.specs.Tree.{Trees}
 use Rattle.portal_core.specs.Good.{Good}
-use Rattle.portal_tables.specs.Tables.{portal_tree, lecturer_tree, project_tree, student_tree, choice_tree, ranking_tree, choice2_tree, ranked2_tree, ranking2_tree, assigned2_tree, first_trees, own_trees, version, first_version}
+use Rattle.portal_tables.specs.Tables.{portal_tree, first_trees, own_trees, version, first_version}
 use Rattle.portal_tables.specs.Office.{HasOffice}
 use Rattle.portal_store.specs.World.{round_in, world_of}
-use Rattle.portal_tables.specs.Changes.{IsApart}
-use Rattle.portal_store.specs.Kept.{AreWhole, Stands, StandsAs}
+use Rattle.portal_store.specs.Kept.{AllApart, AreWhole, Stands, StandsAs, early_trees, later_trees}
 use Rattle.portal_store.specs.declared.store.OpenFault.{OpenFault}
 use Rattle.portal_store.specs.declared.store.OpenFault.TheVariants as opening
 use Rattle.portal_store.specs.declared.store.UpgradeFault.{UpgradeFault}
@@ -61,8 +59,7 @@ Bars upgrading.Exists db = ⊥
 
 -- row numbers of the tables of many rows differ
 abbrev pub AreApart : Trees → Type 0
-AreApart db =
-    AllByRecursion (λ t. IsApart (db t)) (lecturer_tree ∷ project_tree ∷ student_tree ∷ choice_tree ∷ ranking_tree ∷ choice2_tree ∷ ranked2_tree ∷ ranking2_tree ∷ assigned2_tree ∷ [])
+AreApart = AllApart (early_trees ++ later_trees)
 
 -- the lists of the tables' rounds are whole, and their world is good
 pub record IsJudged (db : Trees) : Type 0 where
@@ -72,10 +69,10 @@ pub record IsJudged (db : Trees) : Type 0 where
 
 -- row numbers of the first round's tables differ, and as tables of this version they stand for a good world
 pub record AdmitsAs (of : ℕ) (db : Trees) : Type 0 where
-  pub apart : AllByRecursion (λ t. IsApart (db t)) first_trees
+  pub apart : AllApart first_trees db
   pub stands : StandsAs of db
 
 -- the same of the tables of both rounds
 pub record Admits (db : Trees) : Type 0 where
-  pub apart : AllByRecursion (λ t. IsApart (db t)) own_trees
+  pub apart : AllApart own_trees db
   pub stands : Stands db

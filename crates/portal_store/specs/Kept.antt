@@ -1,5 +1,5 @@
 -- What a store keeps true between two calls, and what a change of the world is to the tables.
-use Rattle.std.specs.Prelude.{◌≡◌, ◌⊎◌, ℕ, pos, ◌+◌, ◌-◌, ◌^◌, ◌≤◌, min, Bool, false, [], ◌∷◌, Option, IfSome, IsTrue, refl}
+use Rattle.std.specs.Prelude.{◌≡◌, ◌⊎◌, ℕ, pos, ◌+◌, ◌-◌, ◌^◌, ◌≤◌, min, Bool, false, List, [], ◌∷◌, Option, IfSome, IsTrue, refl}
 use Rattle.std.specs.Coded.{Coded, code_by, coded×, coded_bool, coded_ℕ}
 use Rattle.std.specs.List.{AllByRecursion}
 use Rattle.sqlite.specs.Tree.{Trees}
@@ -20,7 +20,7 @@ use Rattle.portal_core.specs.Remembered.{Remembers}
 use Rattle.portal_core.specs.declared.remembered.Remembered.{Remembered}
 use Rattle.portal_list.specs.Entries.{AllEntries, HasEntries}
 use Rattle.portal_tables.specs.ListTables.{tree_of}
-use Rattle.portal_tables.specs.Tables.{portal_tree, lecturer_tree, student_tree, second_tree, choice2_tree, ranked2_tree, ranking2_tree, assigned2_tree, own_trees, version}
+use Rattle.portal_tables.specs.Tables.{portal_tree, lecturer_tree, project_tree, student_tree, choice_tree, ranking_tree, second_tree, choice2_tree, ranked2_tree, ranking2_tree, assigned2_tree, own_trees, version}
 use Rattle.portal_tables.specs.Own.{IsOwn, IsCurrent}
 use Rattle.portal_tables.specs.Changes.{IsApart}
 use Rattle.portal_tables.specs.Lists.{of_key, IsWhole}
@@ -35,9 +35,20 @@ pub record Whole (round : Round) (db : Trees) : Type 0 where
   pub rankings : AllByRecursion (λ r. IsWhole (of_key (row_key r) (db (tree_of (rankings_of round))))) (db lecturer_tree)
   pub ranked : AllByRecursion (λ r. is_ranked round db r ≡ false → of_key (row_key r) (db (tree_of (rankings_of round))) ≡ []) (db lecturer_tree)
 
--- the tables of the choices, rankings and places of a second round have no row
+-- the tables of many rows: the rolls and the lists of the first round, and the lists and places of the second
+abbrev pub early_trees : List ℕ
+early_trees = lecturer_tree ∷ project_tree ∷ student_tree ∷ choice_tree ∷ ranking_tree ∷ []
+
+abbrev pub later_trees : List ℕ
+later_trees = choice2_tree ∷ ranked2_tree ∷ ranking2_tree ∷ assigned2_tree ∷ []
+
+-- there is no list and no place of a second round
 abbrev pub AreEmpty : Trees → Type 0
-AreEmpty db = AllByRecursion (λ t. db t ≡ []) (choice2_tree ∷ ranked2_tree ∷ ranking2_tree ∷ assigned2_tree ∷ [])
+AreEmpty db = AllByRecursion (λ t. db t ≡ []) later_trees
+
+-- row numbers of these tables differ
+abbrev pub AllApart : List ℕ → Trees → Type 0
+AllApart trees db = AllByRecursion (λ t. IsApart (db t)) trees
 
 -- the one row of `second` tells that there is no second round, and nothing of one is there
 pub record IsUnopened (db : Trees) : Type 0 where
@@ -82,7 +93,7 @@ pub record HoldsIn (round : Round) (db : Database) : Type 0 where
   pub current : IsCurrent db.schema
   pub own : IsOwn db.schema
   pub sound : IsDatabase db
-  pub apart : AllByRecursion (λ t. IsApart (db.trees t)) own_trees
+  pub apart : AllApart own_trees db.trees
   pub office : HasOffice version (db.trees portal_tree)
   pub second : HasSecond round db.trees
   pub whole : AreWhole round db.trees

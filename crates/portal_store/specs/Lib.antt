@@ -1,3 +1,4 @@
+pub mod Adding
 pub mod Asked
 pub mod Crash
 pub mod Ending

@@ -3,7 +3,7 @@ use Rattle.std.specs.Prelude.{◌≡◌, ℕ}
 use Rattle.sqlite.specs.Tree.{Trees}
 use Rattle.portal_core.specs.declared.phase.Phase.{Phase}
 use Rattle.portal_list.specs.Rows.{Rows, rows_of}
-use Rattle.portal_tables.specs.Contents.{AllRows}
+use Rattle.portal_views.specs.Contents.{AllRows}
 use Rattle.portal_tables.specs.Tables.{portal_tree, version}
 use Rattle.portal_store.specs.World.{world_in}
 use Rattle.portal_tables.specs.Office.{HasOffice}

@@ -17,12 +17,11 @@ use crate::lists::{PutChoices, replace_ranking};
 use crate::opening::open_second;
 use crate::phase::set_phase;
 use crate::placing::publish;
-use crate::rolls::{add_lecturers, add_projects, add_students};
+use crate::rolls::{NewRows, add_rows};
 use crate::round::round_in;
 use portal_core::{Change, KeepFault, Round};
 use portal_list::Entries;
-use portal_tables::fault::TableFault;
-use portal_tables::step::commit;
+use portal_tables::{TableFault, commit};
 use sqlite::{Alter, Connection};
 use std::alloc::Global;
 
@@ -59,9 +58,9 @@ fn take_in<S: Alter>(
         Change::Ranking { lecturer, students } => {
             replace_ranking(alloc, conn, round, lecturer, students)
         }
-        Change::Lecturers(rows) => add_lecturers(alloc, conn, round, rows),
-        Change::Projects(rows) => add_projects(alloc, conn, round, rows),
-        Change::Students(rows) => add_students(alloc, conn, round, rows),
+        Change::Lecturers(rows) => add_rows(alloc, conn, round, NewRows::Lecturers(rows)),
+        Change::Projects(rows) => add_rows(alloc, conn, round, NewRows::Projects(rows)),
+        Change::Students(rows) => add_rows(alloc, conn, round, NewRows::Students(rows)),
         Change::Phase(phase) => set_phase(alloc, conn, entries, round, *phase),
         Change::SecondRound => open_second(alloc, conn, round),
         Change::Result(pairs) => publish(alloc, conn, round, pairs),

@@ -16,10 +16,8 @@ ghost use Rattle.portal_store.specs.Made.{first_world};
 use crate::fault::create_fault_of;
 use crate::store::{CreateFault, NotOpened, Store};
 use portal_core::{Code, Remembered};
-use portal_tables::fault::TableFault;
-use portal_tables::make::create_portal;
 use portal_tables::names::{Names, is_empty, is_there};
-use portal_tables::own::Pattern;
+use portal_tables::{Pattern, TableFault, create_portal};
 use sqlite::{Alter, Connection, MemStore};
 use std::alloc::Global;
 

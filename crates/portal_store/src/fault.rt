@@ -12,7 +12,7 @@ ghost use Rattle.portal_store.specs.Asked.{SaysNothing, Blames, Bars};
 use crate::store::{CreateFault, OpenFault, UpgradeFault};
 use portal_core::KeepFault;
 use portal_list::RowsFault;
-use portal_tables::fault::TableFault;
+use portal_tables::TableFault;
 use sqlite::{Error, ErrorCode};
 
 /// Want of memory, or a fault of the store; never that tables are there.

@@ -14,8 +14,7 @@ use crate::lists::PutRanking;
 use crate::load::load_entries;
 use portal_core::Round;
 use portal_list::Entries;
-use portal_tables::fault::TableFault;
-use portal_tables::step::{Step, commit};
+use portal_tables::{Step, TableFault, commit};
 use spa_rows::Key;
 use sqlite::{Alter, Connection, Error, Transaction};
 use std::alloc::Global;
@@ -27,7 +26,8 @@ struct PutRankings<'a> {
 }
 
 impl Step for PutRankings<'_> {
-    ghost makes = { λ s. TurnsAll s.round (map {B = words.Key × List words.Key} (λ f. (f.0, f.1.items)) s.rankings.now) };
+    ghost makes = { λ s. TurnsAll s.round
+        (map {B = words.Key × List words.Key} (λ f. (f.0, f.1.items)) s.rankings.now) };
 
     fn take<S: Alter>(self, alloc: Global, tx: &mut Transaction<'_, S>) -> Result<(), Error> {
         let PutRankings { round, rankings } = self;

@@ -23,7 +23,7 @@ use crate::office::office_of;
 use crate::queries::view_with;
 use crate::store::Store;
 use portal_core::{Change, Code, KeepFault, Keeper, View};
-use portal_tables::fault::TableFault;
+use portal_tables::TableFault;
 use spa_model::Instance;
 use sqlite::Alter;
 use std::alloc::Global;
@@ -37,93 +37,6 @@ impl<S: Alter> Store<S> {
             return Ok(());
         }
         Err(TableFault::Store)
-    }
-
-    /// Makes one change of a good world, which has to leave a good world, in one transaction. After Ok the change is on the
-    /// disk. `Memory` and `Store` leave all as it was, where the store is clean; a crash leaves the tables before or after.
-    pub fn change(&mut self, alloc: Global, change: &Change) -> Result<(), KeepFault>
-        requires good { IsCleanStore S.Store self.old → Good (kept_world S.Store self.old) }
-        requires leaves_good { IsCleanStore S.Store self.old
-            → Good (changed (kept_world S.Store self.old) (meant change.now)) }
-        ensures clean { IsCleanStore S.Store self.new → IsCleanStore S.Store self.old }
-        ensures made { OnOk result (IsCleanStore S.Store self.new
-            → kept_world S.Store self.new
-            ≡ changed (kept_world S.Store self.old) (meant change.now)) }
-        ensures same { OnErr result (IsCleanStore S.Store self.new
-            → kept_world S.Store self.new ≡ kept_world S.Store self.old) }
-        ensures own { self.new.own ≡ self.old.own }
-        ensures commits { IsTrue self.old.own → HasCleanDisk (state S.Store self.new.conn)
-            → OnOk result (Commits (Turns (meant change.now)) (state S.Store self.old.conn)
-            (state S.Store self.new.conn)) }
-        ensures durable { IsTrue self.old.own → HasCleanDisk (state S.Store self.new.conn)
-            → OnOk result (LeavesOnly (state S.Store self.new.conn)) }
-        ensures crash { IsTrue self.old.own
-            → Survives (state S.Store self.old.conn) (state S.Store self.new.conn)
-            (IsAfter (Turns (meant change.now)) (state S.Store self.old.conn)) }
-        ensures lasts { Lasts S.Store self.old self.new }
-        ensures counts { CountsFaults result self.old.faults self.new.faults }
-        ensures left { IsCleanStore S.Store self.old → HasCleanDisk (state S.Store self.new.conn)
-            → (db : Trees) → (state S.Store self.new.conn).may_leave db
-            → IsLeft (meant change.now) (state S.Store self.old.conn).now db }
-    {
-        if let Err(fault) = self.check_own() {
-            return Err(told(&mut self.faults, fault));
-        }
-        let made = make(
-            alloc,
-            &mut self.conn,
-            &mut self.entries,
-            &mut self.faults,
-            change,
-        );
-        self.mind.follow(change, &made);
-        follow(alloc, &mut self.entries, change, &made);
-        made
-    }
-
-    /// The instance of the world of the tables, where that is good: of the entries that are remembered, or of what is read.
-    fn meant(&mut self, alloc: Global) -> Result<Instance, KeepFault>
-        ensures clean { IsCleanStore S.Store self.new → IsCleanStore S.Store self.old }
-        ensures instance { IfOk result (λ i. IsCleanStore S.Store self.new
-            → Good (kept_world S.Store self.old)
-            → i ≡ meant_by.instance (kept_world S.Store self.old)) }
-        ensures same { IsCleanStore S.Store self.new
-            → kept_world S.Store self.new ≡ kept_world S.Store self.old }
-        ensures own { self.new.own ≡ self.old.own }
-        ensures lasts { Lasts S.Store self.old self.new }
-        ensures counts { CountsFaults result self.old.faults self.new.faults }
-    {
-        if let Err(fault) = self.check_own() {
-            return Err(told(&mut self.faults, fault));
-        }
-        match &self.entries {
-            Some(entries) => instance_of(alloc, entries, &mut self.faults),
-            None => instance_in(alloc, &mut self.conn, &mut self.faults),
-        }
-    }
-
-    /// What the caller with this code sees, by queries of what that caller may see.
-    fn shown(&mut self, alloc: Global, code: &[u8]) -> Result<View, KeepFault>
-        ensures clean { IsCleanStore S.Store self.new → IsCleanStore S.Store self.old }
-        ensures shown { IfOk result (λ view. IsCleanStore S.Store self.new
-            → Good (kept_world S.Store self.old)
-            → view ≡ seen.view (kept_world S.Store self.old) code.now) }
-        ensures same { IsCleanStore S.Store self.new
-            → kept_world S.Store self.new ≡ kept_world S.Store self.old }
-        ensures own { self.new.own ≡ self.old.own }
-        ensures lasts { Lasts S.Store self.old self.new }
-        ensures counts { CountsFaults result self.old.faults self.new.faults }
-    {
-        if let Err(fault) = self.check_own() {
-            return Err(told(&mut self.faults, fault));
-        }
-        view_with(
-            alloc,
-            &mut self.conn,
-            &mut self.mind,
-            &mut self.faults,
-            code,
-        )
     }
 
     /// The code of the office. `Store` comes for an error of the connection, and where there is no row of the office.
@@ -151,6 +64,7 @@ impl<S: Alter> Keeper for Store<S> {
 
     ghost faults = { λ s. s.faults };
 
+    /// What the caller with this code sees, by queries of what that caller may see.
     fn view(&mut self, alloc: Global, code: &[u8]) -> Result<View, KeepFault>
         ensures clean { IsCleanStore S.Store self.new → IsCleanStore S.Store self.old }
         ensures shown { IfOk result (λ view. IsCleanStore S.Store self.new
@@ -162,9 +76,19 @@ impl<S: Alter> Keeper for Store<S> {
         ensures lasts { Lasts S.Store self.old self.new }
         ensures counts { CountsFaults result self.old.faults self.new.faults }
     {
-        self.shown(alloc, code)
+        if let Err(fault) = self.check_own() {
+            return Err(told(&mut self.faults, fault));
+        }
+        view_with(
+            alloc,
+            &mut self.conn,
+            &mut self.mind,
+            &mut self.faults,
+            code,
+        )
     }
 
+    /// The instance of the world of the tables: of the entries that are remembered, or of what is read.
     fn instance(&mut self, alloc: Global) -> Result<Instance, KeepFault>
         requires good { IsCleanStore S.Store self.old → Good (kept_world S.Store self.old) }
         ensures clean { IsCleanStore S.Store self.new → IsCleanStore S.Store self.old }
@@ -176,9 +100,17 @@ impl<S: Alter> Keeper for Store<S> {
         ensures lasts { Lasts S.Store self.old self.new }
         ensures counts { CountsFaults result self.old.faults self.new.faults }
     {
-        self.meant(alloc)
+        if let Err(fault) = self.check_own() {
+            return Err(told(&mut self.faults, fault));
+        }
+        match &self.entries {
+            Some(entries) => instance_of(alloc, entries, &mut self.faults),
+            None => instance_in(alloc, &mut self.conn, &mut self.faults),
+        }
     }
 
+    /// Makes one change of a good world, which has to leave a good world, in one transaction. After Ok the change is on the
+    /// disk. `Memory` and `Store` leave all as it was, where the store is clean; a crash leaves the tables before or after.
     fn apply(&mut self, alloc: Global, change: &Change) -> Result<(), KeepFault>
         requires good { IsCleanStore S.Store self.old → Good (kept_world S.Store self.old) }
         requires leaves_good { IsCleanStore S.Store self.old
@@ -204,6 +136,18 @@ impl<S: Alter> Keeper for Store<S> {
             → (db : Trees) → (state S.Store self.new.conn).may_leave db
             → IsLeft (meant change.now) (state S.Store self.old.conn).now db }
     {
-        self.change(alloc, change)
+        if let Err(fault) = self.check_own() {
+            return Err(told(&mut self.faults, fault));
+        }
+        let made = make(
+            alloc,
+            &mut self.conn,
+            &mut self.entries,
+            &mut self.faults,
+            change,
+        );
+        self.mind.follow(change, &made);
+        follow(alloc, &mut self.entries, change, &made);
+        made
     }
 }

@@ -9,13 +9,10 @@ ghost use Rattle.portal_store.specs.Putting.{TurnsThere};
 ghost use Rattle.portal_store.specs.World as world;
 
 use portal_core::Round;
-use portal_tables::fault::TableFault;
 use portal_tables::list_table::Lists;
-use portal_tables::put::put_list;
-use portal_tables::second::rank_second;
 use portal_tables::select::{Query, read};
-use portal_tables::step::{Step, commit};
 use portal_tables::update::set_ranked;
+use portal_tables::{Step, TableFault, commit, put_list, rank_second};
 use spa_rows::Key;
 use sqlite::{Alter, Connection, Error, Transaction};
 use std::alloc::Global;
@@ -95,8 +92,8 @@ pub(crate) fn replace_ranking<S: Alter>(
 ) -> Result<(), TableFault>
     requires idle { conn.old.in_transaction ≡ false }
     ensures idle { conn.new.in_transaction ≡ false }
-    ensures ends { Ends (TurnsIn round (Ranks lecturer.now students.now)) result (state S.Store conn.old)
-        (state S.Store conn.new) }
+    ensures ends { Ends (TurnsIn round (Ranks lecturer.now students.now)) result
+        (state S.Store conn.old) (state S.Store conn.new) }
 {
     let _idle = conn.is_autocommit();
     let there = read(conn, Query::LecturerByKey(lecturer.as_bytes()))?;

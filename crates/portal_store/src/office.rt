@@ -9,7 +9,7 @@ ghost use Rattle.portal_store.specs.Reading.{shown, OverOwn};
 
 use crate::fault::told;
 use portal_core::{Code, KeepFault};
-use portal_tables::office::{VERSION, office_in};
+use portal_tables::{VERSION, office_in};
 use sqlite::{Alter, Connection};
 use std::alloc::Global;
 

@@ -1,21 +1,18 @@
 //! Opens a store over tables that are there.
 
 ghost use Rattle.std.specs.Prelude.{◌≡◌, ◌≢◌, ◌↔◌, false, [], Err, IfOk, IfErr, OnOk, IsTrue, ◌∷◌};
-ghost use Rattle.std.specs.List.{AllByRecursion};
 ghost use Rattle.sqlite.specs.State.{HasCleanDisk, IsUnchanged, Survives};
 ghost use Rattle.sqlite.specs.Held.{state};
 ghost use Rattle.portal_core.specs.Good.{Good};
 ghost use Rattle.portal_core.specs.World.{is_setup};
 ghost use Rattle.portal_core.specs.declared.phase.Round.TheVariants.{First, Second};
 ghost use Rattle.portal_core.specs.declared.phase.Phase.TheVariants.{Published};
-ghost use Rattle.portal_tables.specs.Changes.{IsApart};
-ghost use Rattle.portal_tables.specs.Tables.{choice2_tree, ranked2_tree, ranking2_tree, assigned2_tree};
 ghost use Rattle.portal_tables.specs.Own.{HasRound, IsCurrent};
 ghost use Rattle.portal_tables.specs.Queries.{round_asked};
 ghost use Rattle.portal_tables.specs.Reading.{Asks, AsksIn};
 ghost use Rattle.portal_tables.specs.Steps.{Stays};
 ghost use Rattle.portal_list.specs.Entries.{HasEntries};
-ghost use Rattle.portal_store.specs.Kept.{AreEmpty, HasSecond, Stands, StandsIn, IsCleanStore, kept_world};
+ghost use Rattle.portal_store.specs.Kept.{AllApart, AreEmpty, HasSecond, Stands, StandsIn, IsCleanStore, kept_world, later_trees};
 ghost use Rattle.portal_store.specs.World.{phase_in, round_in, world_of};
 ghost use Rattle.portal_store.specs.Asked.{AreApart, Denies, IsJudged, SaysNothing, Refutes, Admits};
 ghost use Rattle.portal_store.specs.Reading.{ReadsAll, OverBoth, OverLive, OverOwn, shown, table_of};
@@ -27,12 +24,9 @@ use crate::sound::load_keeper;
 use crate::store::{NotOpened, OpenFault, Store};
 use portal_core::{Phase, Remembered};
 use portal_list::Entries;
-use portal_tables::apart::are_apart;
 use portal_tables::list_table::Lists;
-use portal_tables::office::VERSION;
-use portal_tables::own::Pattern;
-use portal_tables::second::second_in;
 use portal_tables::select::{Query, Table, finds_any, read};
+use portal_tables::{Pattern, VERSION, are_apart, second_in};
 use sqlite::{Alter, Connection};
 use std::alloc::Global;
 
@@ -147,8 +141,7 @@ fn see_second_apart<S: Alter>(conn: &mut Connection<S>) -> Result<(), OpenFault>
     ensures asks { AsksIn Second result (state S.Store conn.old) (state S.Store conn.new) }
     ensures refused { IfErr result SaysNothing }
     ensures apart { IsCurrent conn.old.schema → HasCleanDisk (state S.Store conn.new)
-        → OnOk result (AllByRecursion (λ t. IsApart (shown S.Store conn.old t))
-        (choice2_tree ∷ ranked2_tree ∷ ranking2_tree ∷ assigned2_tree ∷ [])) }
+        → OnOk result (AllApart later_trees (shown S.Store conn.old)) }
 {
     apart(are_apart(conn, Table::OfLists(Lists::SecondChoices)))?;
     apart(are_apart(conn, Table::OfRanked))?;

@@ -10,9 +10,7 @@ ghost use Rattle.portal_store.specs.Opening.{Opens};
 
 use crate::round::first_phase;
 use portal_core::{Phase, Round};
-use portal_tables::fault::TableFault;
-use portal_tables::second::set_second;
-use portal_tables::step::{Step, commit};
+use portal_tables::{Step, TableFault, commit, set_second};
 use sqlite::{Alter, Connection, Error, Transaction};
 use std::alloc::Global;
 

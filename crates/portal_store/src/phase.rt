@@ -12,10 +12,8 @@ ghost use Rattle.portal_store.specs.Reading.{KeepsEntries};
 use crate::load::load_entries;
 use portal_core::{Phase, Round};
 use portal_list::Entries;
-use portal_tables::fault::TableFault;
-use portal_tables::second::set_second;
-use portal_tables::step::{Step, commit};
 use portal_tables::update::set_phase as set_phase_number;
+use portal_tables::{Step, TableFault, commit, set_second};
 use sqlite::{Alter, Connection, Error, Transaction};
 use std::alloc::Global;
 

@@ -12,13 +12,11 @@ ghost use Rattle.portal_tables.specs.Shown.{text_or_none};
 ghost use Rattle.portal_core.specs.declared.phase.Round.TheVariants.{First};
 
 use portal_core::{Pairs, Round};
-use portal_tables::assign::{Assignment, assign_all};
 use portal_tables::cells::{bytes_at, key_at};
-use portal_tables::fault::TableFault;
-use portal_tables::second::{put_places, set_second};
 use portal_tables::select::{Query, Roll, read};
-use portal_tables::step::{Step, commit};
-use portal_tables::update;
+use portal_tables::{
+    Assignment, Step, TableFault, assign_all, commit, put_places, set_second, update,
+};
 use spa_rows::Key;
 use sqlite::types::ValueRef;
 use sqlite::{Alter, Connection, Error, Row, Transaction};

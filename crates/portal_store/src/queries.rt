@@ -26,10 +26,8 @@ use caller::{lecturer_in, student_in};
 use offers::shared_catalogue;
 use office::office_view;
 use portal_core::{KeepFault, OfficeView, Phase, Remembered, Round, View};
-use portal_tables::fault::TableFault;
-use portal_tables::lecturer::lecturer_view;
-use portal_tables::office::Office;
-use portal_tables::student::student_view;
+use portal_tables::{Office, TableFault};
+use portal_views::{lecturer_view, student_view};
 use sqlite::{Alter, Connection};
 use std::alloc::Global;
 

@@ -11,9 +11,7 @@ ghost use Rattle.portal_store.specs.Reading.{shown, IsNow, OverBoth, OverOwn};
 ghost use Rattle.portal_store.specs.Kept.{HasSecond, StandsIn};
 
 use portal_core::{Phase, Round};
-use portal_tables::fault::TableFault;
-use portal_tables::office::{Office, VERSION, office_in};
-use portal_tables::second::second_in;
+use portal_tables::{Office, TableFault, VERSION, office_in, second_in};
 use sqlite::{Alter, Connection};
 use std::alloc::Global;
 

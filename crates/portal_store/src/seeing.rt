@@ -1,7 +1,6 @@
 //! What is seen of tables that are there, of either version.
 
 ghost use Rattle.std.specs.Prelude.{◌≡◌, ◌≢◌, ◌↔◌, ◌⊎◌, false, true, [], ◌∷◌, pos, Ok, Err, List, IfOk, IfErr, OnOk, IsTrue};
-ghost use Rattle.std.specs.List.{AllByRecursion};
 ghost use Rattle.sqlite.specs.declared.types.Value.TheVariants.{Int};
 ghost use Rattle.sqlite.specs.Order.{Row as Cells, column};
 ghost use Rattle.sqlite.specs.State.{HasCleanDisk};
@@ -10,10 +9,9 @@ ghost use Rattle.portal_core.specs.Good.{Good, Sound};
 ghost use Rattle.portal_core.specs.declared.phase.Round.TheVariants.{First};
 ghost use Rattle.portal_tables.specs.Tables.{lecturer_tree, project_tree, student_tree, choice_tree, ranking_tree};
 ghost use Rattle.portal_tables.specs.Own.{IsOwn};
-ghost use Rattle.portal_tables.specs.Changes.{IsApart};
 ghost use Rattle.portal_tables.specs.Reading.{Asks};
 ghost use Rattle.portal_list.specs.Entries.{HasEntries};
-ghost use Rattle.portal_store.specs.Kept.{StandsAs};
+ghost use Rattle.portal_store.specs.Kept.{AllApart, StandsAs, early_trees};
 ghost use Rattle.portal_store.specs.World.{world_in};
 ghost use Rattle.portal_store.specs.Asked.{HasVersion, Denies, SaysNothing, Blames, AdmitsAs};
 ghost use Rattle.portal_store.specs.Reading.{shown, OverOwn, OverLive};
@@ -22,7 +20,7 @@ use crate::fault::{load_open_fault_of, open_fault_of, table_fault_of};
 use crate::sound::first_keeper;
 use crate::store::OpenFault;
 use portal_list::{Entries, ListKeeper};
-use portal_tables::apart::are_apart;
+use portal_tables::are_apart;
 use portal_tables::list_table::Lists;
 use portal_tables::select::{Query, Roll, Table, read};
 use sqlite::types::ValueRef;
@@ -145,8 +143,8 @@ fn see_rolls_apart<S: Alter>(conn: &mut Connection<S>) -> Result<(), OpenFault>
     ensures asks { Asks result (state S.Store conn.old) (state S.Store conn.new) }
     ensures refused { IfErr result SaysNothing }
     ensures apart { IsOwn conn.old.schema → HasCleanDisk (state S.Store conn.new)
-        → OnOk result (AllByRecursion (λ t. IsApart (shown S.Store conn.old t))
-        (lecturer_tree ∷ project_tree ∷ student_tree ∷ [])) }
+        → OnOk result (AllApart (lecturer_tree ∷ project_tree ∷ student_tree ∷ [])
+        (shown S.Store conn.old)) }
 {
     apart(are_apart(conn, Table::OfRoll(Roll::Lecturers)))?;
     apart(are_apart(conn, Table::OfRoll(Roll::Projects)))?;
@@ -160,8 +158,7 @@ fn see_lists_apart<S: Alter>(conn: &mut Connection<S>) -> Result<(), OpenFault>
     ensures asks { Asks result (state S.Store conn.old) (state S.Store conn.new) }
     ensures refused { IfErr result SaysNothing }
     ensures apart { IsOwn conn.old.schema → HasCleanDisk (state S.Store conn.new)
-        → OnOk result (AllByRecursion (λ t. IsApart (shown S.Store conn.old t))
-        (choice_tree ∷ ranking_tree ∷ [])) }
+        → OnOk result (AllApart (choice_tree ∷ ranking_tree ∷ []) (shown S.Store conn.old)) }
 {
     apart(are_apart(conn, Table::OfLists(Lists::Choices)))?;
     apart(are_apart(conn, Table::OfLists(Lists::Rankings)))
@@ -214,8 +211,7 @@ pub(crate) fn see_first_apart<S: Alter>(conn: &mut Connection<S>) -> Result<(), 
     ensures asks { Asks result (state S.Store conn.old) (state S.Store conn.new) }
     ensures refused { IfErr result SaysNothing }
     ensures apart { IsOwn conn.old.schema → HasCleanDisk (state S.Store conn.new)
-        → OnOk result (AllByRecursion (λ t. IsApart (shown S.Store conn.old t))
-        (lecturer_tree ∷ project_tree ∷ student_tree ∷ choice_tree ∷ ranking_tree ∷ [])) }
+        → OnOk result (AllApart early_trees (shown S.Store conn.old)) }
 {
     see_rolls_apart(conn)?;
     see_lists_apart(conn)

@@ -14,7 +14,7 @@ ghost use Rattle.portal_store.specs.Reading.{shown, OverBoth, OverOwn};
 use crate::fault::rows_fault_of;
 use crate::load::{load, load_first};
 use portal_list::ListKeeper;
-use portal_tables::fault::TableFault;
+use portal_tables::TableFault;
 use sqlite::{Alter, Connection};
 use std::alloc::Global;
 

@@ -4,7 +4,7 @@ ghost use Rattle.std.specs.Prelude.{◌≡◌, false};
 
 use portal_core::Remembered;
 use portal_list::Entries;
-use portal_tables::own::Pattern;
+use portal_tables::Pattern;
 use sqlite::{Alter, Connection};
 use std::marker::Model;
 

@@ -24,9 +24,7 @@ use crate::store::{NotOpened, OpenFault, Store, UpgradeFault};
 use portal_core::Remembered;
 use portal_list::Entries;
 use portal_tables::names::{Names, is_there};
-use portal_tables::office::FIRST_VERSION;
-use portal_tables::own::Pattern;
-use portal_tables::upgrade::upgrade_tables;
+use portal_tables::{FIRST_VERSION, Pattern, upgrade_tables};
 use sqlite::{Alter, Connection};
 use std::alloc::Global;
 

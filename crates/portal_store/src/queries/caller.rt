@@ -9,8 +9,8 @@ ghost use Rattle.portal_tables.specs.Reading.{Reads};
 ghost use Rattle.portal_store.specs.Reading.{OverRound, shown};
 ghost use Rattle.portal_store.specs.Queried.{lecturer_from, student_from};
 
+use portal_tables::TableFault;
 use portal_tables::decode::only;
-use portal_tables::fault::TableFault;
 use portal_tables::select::{Query, read_rows};
 use sqlite::{Alter, Connection, Row};
 use std::alloc::Global;

@@ -14,16 +14,11 @@ ghost use Rattle.portal_store.specs.Queried.{unlisted, waiting_key, office_from}
 ghost use Rattle.portal_store.specs.Reading.{IsNow, OverRound, shown};
 
 use portal_core::{Listing, OfficeView, Phase, Round};
-use portal_tables::applicants::are_closed;
 use portal_tables::cells::{bytes_at, key_at};
-use portal_tables::entries::has_list_in;
-use portal_tables::fault::TableFault;
 use portal_tables::list_table::Lists;
-use portal_tables::named::keys_left;
-use portal_tables::office::Office;
-use portal_tables::places::pairs_in;
-use portal_tables::rolls::{Rolls, parts_of, rolls_in};
 use portal_tables::select::{Query, finds_any, read_rows};
+use portal_tables::{Office, Rolls, TableFault, has_list_in, pairs_in, parts_of, rolls_in};
+use portal_views::{are_closed, keys_left};
 use spa_rows::Key;
 use sqlite::{Alter, Connection, Row};
 use std::alloc::Global;

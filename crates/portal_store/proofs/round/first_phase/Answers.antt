@@ -11,10 +11,10 @@ returns-in_err-office-clause-damaged g c own sound clean damaged round stands =
 
 pub returns-in_err-office-clause-asks : goal.returns-in_err-office-clause-asks
 returns-in_err-office-clause-asks g c =
-    asks_err _ c.from_residual.result (state g.S.Store c.args.conn.now) (state g.S.Store c.office_in.new.conn) c.from_residual.ensures.0 c.in_err-office.ensures.asks
+    asks_err _ c.from_residual.result _ _ c.from_residual.ensures.0 c.in_err-office.ensures.asks
 
 pub returns-clause-phase : goal.returns-clause-phase
 returns-clause-phase g c own sound clean = first_phase (state g.S.Store c.args.conn.now).now.trees c.in_ok-office.office.phase c.in_ok-office.office.code (c.in_ok-office.ensures.row own sound clean)
 
 pub returns-clause-asks : goal.returns-clause-asks
-returns-clause-asks g c = asks_more c.in_ok-office.office _ (state g.S.Store c.args.conn.now) (state g.S.Store c.office_in.new.conn) c.in_ok-office.ensures.asks
+returns-clause-asks g c = asks_more c.in_ok-office.office _ _ _ c.in_ok-office.ensures.asks

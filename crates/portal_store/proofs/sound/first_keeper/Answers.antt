@@ -18,10 +18,10 @@ returns-in-Ok-clause-found g c own sound clean =
 
 pub returns-in_err-rows-clause-asks : goal.returns-in_err-rows-clause-asks
 returns-in_err-rows-clause-asks g c =
-    asks_err _ c.from_residual.result (state g.S.Store c.args.conn.now) (state g.S.Store c.load_first.new.conn) c.from_residual.ensures.0 c.in_err-rows.ensures.asks
+    asks_err _ c.from_residual.result _ _ c.from_residual.ensures.0 c.in_err-rows.ensures.asks
 
 pub returns-in-Ok-clause-asks : goal.returns-in-Ok-clause-asks
-returns-in-Ok-clause-asks g c = asks_more c.in_ok-rows.rows _ (state g.S.Store c.args.conn.now) (state g.S.Store c.load_first.new.conn) c.in_ok-rows.ensures.asks
+returns-in-Ok-clause-asks g c = asks_more c.in_ok-rows.rows _ _ _ c.in_ok-rows.ensures.asks
 
 pub returns-in-Err-clause-asks : goal.returns-in-Err-clause-asks
-returns-in-Err-clause-asks g c = asks_more c.in_ok-rows.rows _ (state g.S.Store c.args.conn.now) (state g.S.Store c.load_first.new.conn) c.in_ok-rows.ensures.asks
+returns-in-Err-clause-asks g c = asks_more c.in_ok-rows.rows _ _ _ c.in_ok-rows.ensures.asks

@@ -11,7 +11,7 @@ use Rattle.portal_store.proofs.upgrade.examine_first.Goals as goal
 
 pub returns-in_err-see_first-clause-asks : goal.returns-in_err-see_first-clause-asks
 returns-in_err-see_first-clause-asks g c mine =
-    asks_err _ c.from_residual.result (state g.S.Store c.args.conn.now) (state g.S.Store c.see_first.new.conn) c.from_residual.ensures.0 (c.in_err-see_first.ensures.asks mine)
+    asks_err _ c.from_residual.result _ _ c.from_residual.ensures.0 (c.in_err-see_first.ensures.asks mine)
 
 pub returns-in_err-see_first-clause-refused : goal.returns-in_err-see_first-clause-refused
 returns-in_err-see_first-clause-refused g c mine own live clean =
@@ -20,7 +20,7 @@ returns-in_err-see_first-clause-refused g c mine own live clean =
 
 pub returns-clause-asks : goal.returns-clause-asks
 returns-clause-asks g c mine =
-    asks_then c.in_ok-see_first.field-0 c.judge.result (state g.S.Store c.args.conn.now) (state g.S.Store c.see_first.new.conn) (state g.S.Store c.judge.new.conn) (c.in_ok-see_first.ensures.asks mine) c.judge.ensures.asks
+    asks_then c.in_ok-see_first.field-0 c.judge.result _ _ _ (c.in_ok-see_first.ensures.asks mine) c.judge.ensures.asks
 
 pub returns-clause-refused : goal.returns-clause-refused
 returns-clause-refused g c mine own live clean =

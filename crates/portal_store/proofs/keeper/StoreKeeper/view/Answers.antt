@@ -2,15 +2,14 @@ use Rattle.std.proofs.Common.{◌≡◌, IsTrue, ap, sym, subst, ◌∙◌}
 use Rattle.sqlite.specs.State.{HasCleanDisk}
 use Rattle.sqlite.specs.Held.{Held, state}
 use Rattle.portal_tables.proofs.Runs.{clean_if_open}
-use Rattle.std.proofs.lemmas.Result.{}
 use Rattle.std.proofs.lemmas.Result.{IfOk-weaker}
 use Rattle.portal_core.specs.Good.{Good}
 use Rattle.portal_core.specs.View as seen
 use Rattle.portal_store.specs.World.{world_of}
 use Rattle.portal_store.specs.Kept.{IsCleanStore, kept_world}
 use Rattle.portal_store.proofs.Keeps.{lasts_by, read_keeps, read_shown, read_still, read_clean, read_same, read_holds, when_ok}
-use Rattle.portal_store.proofs.store.Store.shown.Given.{Over}
-use Rattle.portal_store.proofs.store.Store.shown.Goals as goal
+use Rattle.portal_store.proofs.keeper.StoreKeeper.view.Given.{Over}
+use Rattle.portal_store.proofs.keeper.StoreKeeper.view.Goals as goal
 
 law : (g : Over) (h : Held g.row.S.Denot) → IsTrue (state g.S.Store h).is_open → HasCleanDisk (state g.S.Store h)
 law g h = clean_if_open (state g.S.Store h).is_clean (state g.S.Store h).is_open (g.met.S.Store.shut_if_dirty h.store)

@@ -8,8 +8,8 @@ use Rattle.portal_store.proofs.Keeps.{lasts_by, change_keeps, change_shown, chan
 use Rattle.portal_tables.specs.Own.{IsCurrent}
 use Rattle.portal_store.specs.Kept.{Seen, Turns}
 use Rattle.portal_tables.specs.Steps.{IsAfter}
-use Rattle.portal_store.proofs.store.Store.change.Given.{Over}
-use Rattle.portal_store.proofs.store.Store.change.Goals as goal
+use Rattle.portal_store.proofs.keeper.StoreKeeper.apply.Given.{Over}
+use Rattle.portal_store.proofs.keeper.StoreKeeper.apply.Goals as goal
 
 law : (g : Over) (h : Held g.row.S.Denot) → IsTrue (state g.S.Store h).is_open → HasCleanDisk (state g.S.Store h)
 law g h = clean_if_open (state g.S.Store h).is_clean (state g.S.Store h).is_open (g.met.S.Store.shut_if_dirty h.store)

@@ -5,10 +5,10 @@ use Rattle.portal_tables.proofs.Runs.{clean_if_open}
 use Rattle.portal_core.specs.Good.{Good}
 use Rattle.portal_core.specs.Instance.{instance}
 use Rattle.std.proofs.lemmas.Result.{IfOk-weaker}
-use Rattle.portal_store.specs.Kept.{AreEntries, kept_world}
+use Rattle.portal_store.specs.Kept.{AreEntries, IsCleanStore, kept_world}
 use Rattle.portal_store.proofs.Keeps.{lasts_by, read_keeps, read_shown, read_still, read_clean, read_same, read_holds, when_ok}
-use Rattle.portal_store.proofs.store.Store.meant.Given.{Over}
-use Rattle.portal_store.proofs.store.Store.meant.Goals as goal
+use Rattle.portal_store.proofs.keeper.StoreKeeper.instance.Given.{Over}
+use Rattle.portal_store.proofs.keeper.StoreKeeper.instance.Goals as goal
 
 law : (g : Over) (h : Held g.row.S.Denot) → IsTrue (state g.S.Store h).is_open → HasCleanDisk (state g.S.Store h)
 law g h = clean_if_open (state g.S.Store h).is_clean (state g.S.Store h).is_open (g.met.S.Store.shut_if_dirty h.store)
@@ -38,16 +38,18 @@ returns-in-None-clause-instance g c =
     when_ok _ _ _ c.instance_in.result
     (λ on. read_holds g.S.Store c.self.inside.conn c.instance_in.new.conn c.self.inside.own c.self.inside.faults c.args.self.now c.self.view_is c.self.invariant.kept c.instance_in.ensures.idle c.in_default.ensures (law g c.instance_in.new.conn)
     c.instance_in.result c.instance_in.ensures.asks _ (λ own clean holds. c.instance_in.ensures.instance own holds.1.sound clean) on)
-    (λ i meant on good. meant on (subst (λ s. Good (kept_world g.S.Store s)) (sym c.self.view_is) good).sound ∙ ap (λ s. instance (kept_world g.S.Store s)) c.self.view_is)
+    (λ i meant on. meant on (subst (λ s. Good (kept_world g.S.Store s)) (sym c.self.view_is) (c.requires.good (read_clean g.S.Store c.self.inside.conn c.instance_in.new.conn c.self.inside.own c.self.inside.faults c.args.self.now c.self.view_is c.self.invariant.kept c.instance_in.ensures.idle c.in_default.ensures (law g c.instance_in.new.conn)
+    c.instance_in.result c.instance_in.ensures.asks on))).sound
+    ∙ ap (λ s. instance (kept_world g.S.Store s)) c.self.view_is)
 
 -- of the entries that are remembered
 
 pub returns-in-Some-clause-instance : goal.returns-in-Some-clause-instance
 returns-in-Some-clause-instance g c =
-    IfOk-weaker c.instance_of.result _ _ (λ i meant on good.
+    IfOk-weaker c.instance_of.result _ _ (λ i meant on.
     let w = kept_world g.S.Store (record { conn = c.self.inside.conn; own = c.self.inside.own; faults = c.self.inside.faults }) in
     let told : AreEntries c.self.inside.entries w = c.self.invariant.entered on in
-    meant w (subst (λ o. AreEntries o w) c.in-Some.is told) (subst (λ s. Good (kept_world g.S.Store s)) (sym c.self.view_is) good).sound
+    meant w (subst (λ o. AreEntries o w) c.in-Some.is told) (subst (λ s. Good (kept_world g.S.Store s)) (sym c.self.view_is) (c.requires.good (subst (λ s. IsCleanStore g.S.Store s) c.self.view_is on))).sound
     ∙ ap (λ s. instance (kept_world g.S.Store s)) c.self.view_is)
     c.instance_of.ensures.instance
 

@@ -1,0 +1,11 @@
+-- New rows of a roll.
+use Rattle.portal_core.specs.Change.{Change}
+use Rattle.portal_core.specs.Change as changes
+use Rattle.portal_store.specs.declared.rolls.NewRows.{NewRows}
+use Rattle.portal_store.specs.declared.rolls.NewRows.TheVariants.{Lecturers, Projects, Students}
+
+-- the change of the world that they are
+abbrev pub added : NewRows → Change
+added (Lecturers rows) = changes.Lecturers rows.now
+added (Projects rows) = changes.Projects rows.now
+added (Students rows) = changes.Students rows.now
