@@ -1,6 +1,8 @@
-//! A lecturer whom many students chose.
+//! A lecturer whom many students chose, in either round.
 
-use crate::tests::steps::{LEE, ROLLS, fresh, play_parts};
+use crate::tests::steps::{
+    LEE, LISTS, MOE, MemDesk, PUBLICATION, ROLLS, SECOND_OPENING, TO_RANKING, fresh, play_parts,
+};
 use portal_core::{LecturerView, View};
 use portal_store::queries::view;
 use sqlite::types::ValueRef;
@@ -16,8 +18,8 @@ fn key_of(rt: &(impl Abort + AllocGlobal), at: usize) -> String {
     format!(in rt.alloc(); "key-{number}").expect(rt, "memory")
 }
 
-/// They come to the tables, the last key first, each with the first project as the only choice.
-fn add_crowd(rt: &(impl Abort + AllocGlobal), conn: &mut Connection<MemStore>) {
+/// They come to the tables, the last key first, each with the choice that this statement gives.
+fn add_crowd(rt: &(impl Abort + AllocGlobal), conn: &mut Connection<MemStore>, statement: &str) {
     for back in 0..CROWD {
         let key = key_of(rt, CROWD.saturating_sub(back));
         let text = ValueRef::Text(key.as_bytes());
@@ -26,37 +28,69 @@ fn add_crowd(rt: &(impl Abort + AllocGlobal), conn: &mut Connection<MemStore>) {
             &[text],
         );
         student.expect(rt, "a student");
-        let choice = conn.execute(
-            "INSERT INTO choice (student, place, project) VALUES (?1, 1, 'P1')",
-            &[text],
-        );
-        choice.expect(rt, "a choice");
+        conn.execute(statement, &[text]).expect(rt, "a choice");
     }
 }
 
-/// All of them are seen at the first project, by key, and nobody at the second.
-fn sees_all(rt: &(impl Abort + AllocGlobal), lecturer: &LecturerView) {
-    assert!(rt; lecturer.applicants.len() == 2);
+/// So many projects are seen, and all of the crowd at the first, by key.
+fn sees_all(rt: &(impl Abort + AllocGlobal), lecturer: &LecturerView, projects: usize) {
+    assert!(rt; lecturer.applicants.len() == projects && projects > 0);
     let (_, seen) = &lecturer.applicants[0];
     assert_eq!(rt; seen.len(), CROWD);
     for (back, person) in seen.iter().enumerate() {
         let key = key_of(rt, back.saturating_add(1));
         assert_eq!(rt; person.key.as_bytes(), key.as_bytes());
     }
-    assert!(rt; lecturer.applicants[1].1.is_empty());
+}
+
+/// Nobody is seen at the projects behind the first.
+fn sees_no_other(rt: &(impl Abort + AllocGlobal), lecturer: &LecturerView) {
+    for (_, seen) in lecturer.applicants.iter().skip(1) {
+        assert!(rt; seen.is_empty());
+    }
+}
+
+/// The crowd comes by this statement, in ranking, and this lecturer sees it.
+fn is_seen(
+    rt: &(impl Abort + AllocGlobal),
+    desk: MemDesk,
+    statements: (&str, &str),
+    code: &str,
+    projects: usize,
+) {
+    let (choice, ranking) = statements;
+    let mut conn = desk.into_keeper().into_connection();
+    add_crowd(rt, &mut conn, choice);
+    conn.execute(ranking, &[]).expect(rt, "a statement");
+    assert!(rt; conn.is_autocommit());
+    match view(rt.alloc(), &mut conn, code.as_bytes()).expect(rt, "a view") {
+        View::Lecturer(lecturer) => {
+            sees_all(rt, &lecturer, projects);
+            sees_no_other(rt, &lecturer);
+        }
+        _ => assert!(rt; false, "no lecturer"),
+    }
 }
 
 #[test]
 fn a_crowd_is_seen_by_key(rt: HostRuntime) {
     let mut desk = fresh(&rt);
     play_parts(&rt, &mut desk, &[ROLLS]);
-    let mut conn = desk.into_keeper().into_connection();
-    add_crowd(&rt, &mut conn);
-    let ranking = conn.execute("UPDATE portal SET phase = 2 WHERE id = 1", &[]);
-    ranking.expect(&rt, "a statement");
-    assert!(rt; conn.is_autocommit());
-    match view(rt.alloc(), &mut conn, LEE.as_bytes()).expect(&rt, "a view") {
-        View::Lecturer(lecturer) => sees_all(&rt, &lecturer),
-        _ => assert!(rt; false, "no lecturer"),
-    }
+    let statements = (
+        "INSERT INTO choice (student, place, project) VALUES (?1, 1, 'P1')",
+        "UPDATE portal SET phase = 2 WHERE id = 1",
+    );
+    is_seen(&rt, desk, statements, LEE, 2);
+}
+
+#[test]
+fn a_crowd_of_the_second_round_is_seen_by_key(rt: HostRuntime) {
+    let mut desk = fresh(&rt);
+    let parts = [ROLLS, LISTS, TO_RANKING, PUBLICATION, SECOND_OPENING];
+    play_parts(&rt, &mut desk, &parts);
+    let statements = (
+        "INSERT INTO choice2 (student, place, project) VALUES (?1, 1, 'P3')",
+        "UPDATE second SET phase = 2 WHERE id = 1",
+    );
+    is_seen(&rt, desk, statements, MOE, 1);
 }

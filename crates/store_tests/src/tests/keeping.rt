@@ -1,7 +1,8 @@
 //! A database that is closed and opened again, and one that is there already.
 
 use crate::tests::steps::{
-    ANN, LISTS, MemDesk, OFFICE, PUBLICATION, ROLLS, Step, TO_RANKING, fresh, office_code, play,
+    ANN, LISTS, MemDesk, OFFICE, PUBLICATION, ROLLS, SECOND_LISTS, SECOND_OPENING,
+    SECOND_PUBLICATION, SECOND_TO_RANKING, Step, TO_RANKING, fresh, office_code, play,
 };
 use portal_desk::Desk;
 use portal_store::{CreateFault, NotOpened, Store};
@@ -24,10 +25,25 @@ fn again(rt: &(impl Abort + AllocGlobal), desk: MemDesk) -> MemDesk {
 
 const RESULT: &[Step] = &[("GET", "/result", ANN, "", "200 OK", r#"{"project":"P2"}"#)];
 
+/// A year in two rounds, the first result of which is shown from then on.
+const YEAR: &[&[Step]] = &[
+    ROLLS,
+    LISTS,
+    TO_RANKING,
+    PUBLICATION,
+    RESULT,
+    SECOND_OPENING,
+    SECOND_LISTS,
+    RESULT,
+    SECOND_TO_RANKING,
+    RESULT,
+    SECOND_PUBLICATION,
+];
+
 #[test]
 fn a_year_over_connections_of_their_own(rt: HostRuntime) {
     let mut desk = fresh(&rt);
-    for part in [ROLLS, LISTS, TO_RANKING, PUBLICATION, RESULT] {
+    for part in YEAR {
         play(&rt, &mut desk, part);
         desk = again(&rt, desk);
     }

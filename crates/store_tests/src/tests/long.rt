@@ -1,4 +1,4 @@
-//! Twenty of each, and a student who asks a thousand times.
+//! Twenty of each, in one round or two, and a student who asks a thousand times.
 
 use crate::tests::steps::{OFFICE, asks, fresh, fresh_lists, reply, request, written};
 use portal_core::Keeper;
@@ -66,15 +66,16 @@ fn moves<K: Keeper>(rt: &(impl Abort + AllocGlobal), desk: &mut Desk<K>, phase: 
     asks(rt, desk, ("POST", "/phase", OFFICE, phase), "200 OK", phase);
 }
 
-/// Each of the twenty puts the same list.
+/// Each of these puts the same list.
 fn puts_all<K: Keeper>(
     rt: &(impl Abort + AllocGlobal),
     desk: &mut Desk<K>,
     path: &str,
     code: &str,
+    numbers: &[&str],
     list: &str,
 ) {
-    for number in NUMBERS {
+    for number in numbers {
         let code = format!(in rt.alloc(); "{code}{number}").expect(rt, "memory");
         asks(rt, desk, ("PUT", path, &code, list), "200 OK", list);
     }
@@ -114,12 +115,61 @@ fn asks_on<K: Keeper>(rt: &(impl Abort + AllocGlobal), desk: &mut Desk<K>) {
 fn runs<K: Keeper>(rt: &(impl Abort + AllocGlobal), desk: &mut Desk<K>) {
     loads_all(rt, desk);
     moves(rt, desk, r#"{"phase":"choosing"}"#);
-    puts_all(rt, desk, "/choices", "stud-code-", LIST);
+    puts_all(rt, desk, "/choices", "stud-code-", &NUMBERS, LIST);
     moves(rt, desk, r#"{"phase":"ranking"}"#);
-    puts_all(rt, desk, "/ranking", "lect-code-", RANKING);
+    puts_all(rt, desk, "/ranking", "lect-code-", &NUMBERS, RANKING);
     moves(rt, desk, r#"{"phase":"published"}"#);
     asks_on(rt, desk);
     have_all(rt, desk);
+}
+
+/// The first ten, and the others.
+const FIRST_TEN: [&str; 10] = ["01", "02", "03", "04", "05", "06", "07", "08", "09", "10"];
+
+const OTHER_TEN: [&str; 10] = ["11", "12", "13", "14", "15", "16", "17", "18", "19", "20"];
+
+/// Each ranking of the first round, where ten alone choose.
+const FIRST_RANKING: &str =
+    r#"{"students":["S01","S02","S03","S04","S05","S06","S07","S08","S09","S10"]}"#;
+
+/// Each list of the second round, of what the first has left.
+const SECOND_LIST: &str =
+    r#"{"projects":["P11","P12","P13","P14","P15","P16","P17","P18","P19","P20"]}"#;
+
+/// Each ranking of the second round.
+const SECOND_RANKING: &str =
+    r#"{"students":["S11","S12","S13","S14","S15","S16","S17","S18","S19","S20"]}"#;
+
+/// The whole run, in which ten have a project by the first round and ten by the second.
+fn runs_twice<K: Keeper>(rt: &(impl Abort + AllocGlobal), desk: &mut Desk<K>) {
+    loads_all(rt, desk);
+    moves(rt, desk, r#"{"phase":"choosing"}"#);
+    puts_all(rt, desk, "/choices", "stud-code-", &FIRST_TEN, LIST);
+    moves(rt, desk, r#"{"phase":"ranking"}"#);
+    puts_all(rt, desk, "/ranking", "lect-code-", &NUMBERS, FIRST_RANKING);
+    moves(rt, desk, r#"{"phase":"published"}"#);
+    moves(rt, desk, r#"{"phase":"choosing","round":2}"#);
+    puts_all(rt, desk, "/choices", "stud-code-", &OTHER_TEN, SECOND_LIST);
+    moves(rt, desk, r#"{"phase":"ranking","round":2}"#);
+    puts_all(
+        rt,
+        desk,
+        "/ranking",
+        "lect-code-",
+        &OTHER_TEN,
+        SECOND_RANKING,
+    );
+    moves(rt, desk, r#"{"phase":"published","round":2}"#);
+    asks_on(rt, desk);
+    have_all(rt, desk);
+}
+
+#[test]
+fn a_long_run_of_two_rounds(rt: HostRuntime) {
+    let mut desk = fresh(&rt);
+    runs_twice(&rt, &mut desk);
+    let mut lists = fresh_lists(&rt);
+    runs_twice(&rt, &mut lists);
 }
 
 #[test]

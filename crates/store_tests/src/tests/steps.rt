@@ -253,3 +253,54 @@ pub(crate) const PUBLICATION: &[Step] = &[
         r#"{"phase":"published"}"#,
     ),
 ];
+
+/// The second round is opened.
+pub(crate) const SECOND_OPENING: &[Step] = &[(
+    "POST",
+    "/phase",
+    OFFICE,
+    r#"{"phase":"choosing","round":2}"#,
+    "200 OK",
+    r#"{"phase":"choosing","round":2}"#,
+)];
+
+/// Who has no project hands in a list.
+pub(crate) const SECOND_LISTS: &[Step] = &[(
+    "PUT",
+    "/choices",
+    CYR,
+    r#"{"projects":["P3"]}"#,
+    "200 OK",
+    r#"{"projects":["P3"]}"#,
+)];
+
+/// The move to ranking in the second round.
+pub(crate) const SECOND_TO_RANKING: &[Step] = &[(
+    "POST",
+    "/phase",
+    OFFICE,
+    r#"{"phase":"ranking"}"#,
+    "200 OK",
+    r#"{"phase":"ranking","round":2}"#,
+)];
+
+/// The ranking of the second round, the publication and its result.
+pub(crate) const SECOND_PUBLICATION: &[Step] = &[
+    (
+        "PUT",
+        "/ranking",
+        MOE,
+        r#"{"students":["S3"]}"#,
+        "200 OK",
+        r#"{"students":["S3"]}"#,
+    ),
+    (
+        "POST",
+        "/phase",
+        OFFICE,
+        r#"{"phase":"published"}"#,
+        "200 OK",
+        r#"{"phase":"published","round":2}"#,
+    ),
+    ("GET", "/result", CYR, "", "200 OK", r#"{"project":"P3"}"#),
+];

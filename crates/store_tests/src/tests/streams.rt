@@ -1,7 +1,8 @@
 //! Streams of requests to a desk, over a database in memory and over lists.
 
 use crate::tests::steps::{
-    LISTS, PUBLICATION, ROLLS, Step, TO_RANKING, fresh, fresh_lists, play_parts, written,
+    LISTS, PUBLICATION, ROLLS, SECOND_PUBLICATION, SECOND_TO_RANKING, Step, TO_RANKING, fresh,
+    fresh_lists, play_parts, written,
 };
 use portal_core::Keeper;
 use portal_desk::{Counted, Desk};
@@ -106,6 +107,55 @@ fn streams_are_served(rt: HostRuntime) {
         let mut desk = fresh(&rt);
         gives(&rt, &mut desk, served);
         let mut lists = fresh_lists(&rt);
+        gives(&rt, &mut lists, served);
+    }
+}
+
+/// The sheets of both rounds' results.
+const BOTH_SHEETS: &str =
+    "HTTP/1.1 200 OK\r\ncontent-type: text/csv; charset=utf-8\r\ncontent-length: 100\r\n\r\nstudent,name,project,title,lecturer\nS1,Ann,P2,Kites,L1\nS2,\"Roe, Bea\",P1,Tides,L1\nS3,Cyr,P3,Bells,L2\nHTTP/1.1 200 OK\r\ncontent-type: text/plain; charset=utf-8\r\ncontent-length: 222\r\n\r\nS1                P2                L1\nS2                P1                L1\nS3                P3                L2\n\nP1                 1 of    1\nP2                 1 of    1\nP3                 1 of    1\n\nassigned 3 of 3\n";
+
+/// The second round is opened, and who has a project makes no list.
+const LISTS_ASKED: &str =
+    "POST /phase HTTP/1.1\r\nHost: h\r\nPortal-Code: office-code-0\r\nContent-Length: 30\r\n\r\n{\"phase\":\"choosing\",\"round\":2}PUT /choices HTTP/1.1\r\nHost: h\r\nPortal-Code: ann-code-1\r\nContent-Length: 15\r\n\r\n{\"projects\":[]}PUT /choices HTTP/1.1\r\nHost: h\r\nPortal-Code: cyr-code-3\r\nContent-Length: 19\r\n\r\n{\"projects\":[\"P3\"]}GET /result HTTP/1.1\r\nHost: h\r\nPortal-Code: ann-code-1\r\n\r\n";
+
+const LISTS_REPLIES: &str =
+    "HTTP/1.1 200 OK\r\ncontent-type: application/json\r\ncontent-length: 30\r\n\r\n{\"phase\":\"choosing\",\"round\":2}HTTP/1.1 409 Conflict\r\ncontent-type: application/json\r\ncontent-length: 26\r\n\r\n{\"error\":\"already_placed\"}HTTP/1.1 200 OK\r\ncontent-type: application/json\r\ncontent-length: 19\r\n\r\n{\"projects\":[\"P3\"]}HTTP/1.1 200 OK\r\ncontent-type: application/json\r\ncontent-length: 16\r\n\r\n{\"project\":\"P2\"}";
+
+/// Its rankings.
+const RANKING_ASKED: &str =
+    "GET /applicants HTTP/1.1\r\nHost: h\r\nPortal-Code: moe-code-02\r\n\r\nPOST /phase HTTP/1.1\r\nHost: h\r\nPortal-Code: office-code-0\r\nContent-Length: 19\r\n\r\n{\"phase\":\"ranking\"}PUT /ranking HTTP/1.1\r\nHost: h\r\nPortal-Code: moe-code-02\r\nContent-Length: 19\r\n\r\n{\"students\":[\"S1\"]}";
+
+const RANKING_REPLIES: &str =
+    "HTTP/1.1 200 OK\r\ncontent-type: application/json\r\ncontent-length: 67\r\n\r\n{\"projects\":[{\"applicants\":[{\"key\":\"S3\",\"name\":\"Cyr\"}],\"id\":\"P3\"}]}HTTP/1.1 200 OK\r\ncontent-type: application/json\r\ncontent-length: 29\r\n\r\n{\"phase\":\"ranking\",\"round\":2}HTTP/1.1 422 Unprocessable Content\r\ncontent-type: application/json\r\ncontent-length: 54\r\n\r\n{\"at\":1,\"error\":\"bad_list\",\"fault\":\"not_an_applicant\"}";
+
+/// Its result.
+const RESULT_ASKED: &str =
+    "POST /phase HTTP/1.1\r\nHost: h\r\nPortal-Code: office-code-0\r\nContent-Length: 21\r\n\r\n{\"phase\":\"published\"}GET /result HTTP/1.1\r\nHost: h\r\nPortal-Code: cyr-code-3\r\n\r\nHEAD /me HTTP/1.1\r\nHost: h\r\nPortal-Code: cyr-code-3\r\n\r\n";
+
+const RESULT_REPLIES: &str =
+    "HTTP/1.1 200 OK\r\ncontent-type: application/json\r\ncontent-length: 31\r\n\r\n{\"phase\":\"published\",\"round\":2}HTTP/1.1 200 OK\r\ncontent-type: application/json\r\ncontent-length: 16\r\n\r\n{\"project\":\"P3\"}HTTP/1.1 200 OK\r\ncontent-type: application/json\r\ncontent-length: 72\r\n\r\n";
+
+/// The connections of a second round, one after the other. What they ask may be asked twice.
+const SECOND_SERVED: &[Served] = &[
+    (
+        &[ROLLS, LISTS, TO_RANKING, PUBLICATION],
+        LISTS_ASKED,
+        LISTS_REPLIES,
+    ),
+    (&[], SHEETS, SHEET_REPLIES),
+    (&[SECOND_TO_RANKING], RANKING_ASKED, RANKING_REPLIES),
+    (&[], SHEETS, SHEET_REPLIES),
+    (&[SECOND_PUBLICATION], RESULT_ASKED, RESULT_REPLIES),
+    (&[], SHEETS, BOTH_SHEETS),
+];
+
+#[test]
+fn the_second_round_is_served(rt: HostRuntime) {
+    let mut desk = fresh(&rt);
+    let mut lists = fresh_lists(&rt);
+    for served in SECOND_SERVED {
+        gives(&rt, &mut desk, served);
         gives(&rt, &mut lists, served);
     }
 }

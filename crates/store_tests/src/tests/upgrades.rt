@@ -1,7 +1,8 @@
 //! Databases of version 1 that become those of version 2, with the world that they had.
 
 use crate::tests::steps::{
-    ANN, LISTS, MemDesk, PUBLICATION, ROLLS, Step, TO_RANKING, fresh, play_parts, seen,
+    ANN, LISTS, MemDesk, PUBLICATION, ROLLS, SECOND_LISTS, SECOND_OPENING, SECOND_PUBLICATION,
+    SECOND_TO_RANKING, Step, TO_RANKING, fresh, play_parts, seen,
 };
 use crate::tests::version1;
 use portal_desk::Desk;
@@ -107,7 +108,16 @@ fn setup_is_upgraded(rt: HostRuntime) {
         &rt,
         &[version1::TABLES, version1::ROLLS],
         &[ROLLS],
-        &[LISTS, TO_RANKING, PUBLICATION, RESULT],
+        &[
+            LISTS,
+            TO_RANKING,
+            PUBLICATION,
+            RESULT,
+            SECOND_OPENING,
+            SECOND_LISTS,
+            SECOND_TO_RANKING,
+            SECOND_PUBLICATION,
+        ],
     );
 }
 
@@ -142,7 +152,14 @@ fn published_is_upgraded(rt: HostRuntime) {
         &rt,
         version1::PUBLISHED,
         &[ROLLS, LISTS, TO_RANKING, PUBLICATION],
-        &[RESULT],
+        &[
+            RESULT,
+            SECOND_OPENING,
+            SECOND_LISTS,
+            RESULT,
+            SECOND_TO_RANKING,
+            SECOND_PUBLICATION,
+        ],
     );
 }
 

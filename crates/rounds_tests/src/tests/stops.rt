@@ -1,6 +1,6 @@
 //! Databases whose disk stops at a write, or fails once at a write or a read, and that are opened again.
 
-use crate::tests::steps::{ANN, BEA, LEE, OFFICE, SEEN, office_code, request, seen, written};
+use crate::tests::steps::{ANN, BEA, LEE, OFFICE, SEEN, asked, office_code, request, seen};
 use crate::tests::trial::{Fault, Plan, Trial};
 use crate::tests::version1;
 use portal_core::Keeper;
@@ -226,7 +226,7 @@ fn desk_over<'a>(
 
 /// A change of what the files hold.
 #[derive(Clone, Copy)]
-enum Ask {
+pub(crate) enum Ask {
     /// The portal is made.
     Making,
     /// Tables of version 1 are upgraded.
@@ -265,8 +265,7 @@ fn tried<'a>(
         Ask::Request(method, path, code, body) => {
             let mut desk = desk_over(rt, conn);
             plan.arm(calls);
-            let bytes = request(rt, (method, path, code, body));
-            let reply = written(rt, &mut desk, bytes.as_bytes());
+            let reply = asked(rt, &mut desk, (method, path, code, body));
             let is_done = reply.starts_with(b"HTTP/1.1 200");
             assert!(rt; is_done || reply.starts_with(b"HTTP/1.1 503"));
             (is_done, desk.into_keeper().into_connection())
@@ -389,6 +388,15 @@ fn after(rt: &(impl Abort + AllocGlobal), before: Image, asks: &[Ask]) -> Image 
     image
 }
 
+/// The files after these parts of a year.
+fn files_after(rt: &(impl Abort + AllocGlobal), played: &[&[Ask]]) -> Image {
+    let mut image = blank(rt);
+    for part in played {
+        image = after(rt, image, part);
+    }
+    image
+}
+
 /// A change of files that show this, and the files after it.
 fn case_of(
     rt: &(impl Abort + AllocGlobal),
@@ -422,25 +430,31 @@ fn meets(rt: &(impl Abort + AllocGlobal), fault: Fault, before: Image, asks: &[A
     count
 }
 
+/// So often at least the fault comes in these changes, behind those that are played.
+pub(crate) fn comes(
+    rt: &(impl Abort + AllocGlobal),
+    fault: Fault,
+    played: &[&[Ask]],
+    asks: &[Ask],
+    least: u64,
+) {
+    let count = meets(rt, fault, files_after(rt, played), asks);
+    assert!(rt; count >= least, "{count} times");
+}
+
 /// So often at least the fault comes in setup.
 fn comes_in_setup(rt: &(impl Abort + AllocGlobal), fault: Fault, least: u64) {
-    let count = meets(rt, fault, blank(rt), SETUP);
-    assert!(rt; count >= least, "{count} times");
+    comes(rt, fault, &[], SETUP, least);
 }
 
 /// So often at least the fault comes in choosing.
 fn comes_in_choosing(rt: &(impl Abort + AllocGlobal), fault: Fault, least: u64) {
-    let before = after(rt, blank(rt), SETUP);
-    let count = meets(rt, fault, before, CHOOSING);
-    assert!(rt; count >= least, "{count} times");
+    comes(rt, fault, &[SETUP], CHOOSING, least);
 }
 
 /// So often at least the fault comes in ranking.
 fn comes_in_ranking(rt: &(impl Abort + AllocGlobal), fault: Fault, least: u64) {
-    let setup = after(rt, blank(rt), SETUP);
-    let before = after(rt, setup, CHOOSING);
-    let count = meets(rt, fault, before, RANKING);
-    assert!(rt; count >= least, "{count} times");
+    comes(rt, fault, &[SETUP, CHOOSING], RANKING, least);
 }
 
 #[test]
@@ -507,7 +521,8 @@ fn a_read_fails_in_ranking(rt: HostRuntime) {
 fn earlier(rt: &(impl Abort + AllocGlobal)) -> Image {
     let plan = Plan::new(Fault::Stop);
     let mut conn = connected(rt, &blank(rt), &plan, TIGHT);
-    version1::run_all(rt, &mut conn, version1::PUBLISHED);
+    conn.execute_batch(version1::PUBLISHED)
+        .expect(rt, "statements");
     left_of(rt, conn).0
 }
 
@@ -564,11 +579,17 @@ fn is_dead<K: Keeper>(rt: &(impl Abort + AllocGlobal), desk: &mut Desk<K>, ask: 
     assert!(rt; desk.failed());
 }
 
-/// A disk that fails at a change: from then on the desk serves nobody.
-fn dies(rt: &(impl Abort + AllocGlobal), fault: Fault, change: &str) {
-    let setup = after(rt, blank(rt), SETUP);
+/// A disk that fails at a change, behind these parts of a year: from then on the desk serves nobody.
+pub(crate) fn dies(
+    rt: &(impl Abort + AllocGlobal),
+    fault: Fault,
+    played: &[&[Ask]],
+    change: (&str, &str, &str, &str),
+) {
+    let change = request(rt, change);
+    let image = files_after(rt, played);
     let plan = Plan::new(fault);
-    let mut desk = desk_over(rt, connected(rt, &setup, &plan, TIGHT));
+    let mut desk = desk_over(rt, connected(rt, &image, &plan, TIGHT));
     let (cause, _) = stopped(
         rt,
         &mut desk,
@@ -577,17 +598,17 @@ fn dies(rt: &(impl Abort + AllocGlobal), fault: Fault, change: &str) {
     assert_eq!(rt; cause, None);
     assert!(rt; !desk.failed());
     plan.arm(0);
-    is_dead(rt, &mut desk, change);
+    is_dead(rt, &mut desk, &change);
     for (path, code) in SEEN {
         is_dead(rt, &mut desk, &request(rt, ("GET", path, code, "")));
     }
-    is_dead(rt, &mut desk, change);
+    is_dead(rt, &mut desk, &change);
     let _left = left_of(rt, desk.into_keeper().into_connection());
 }
 
 #[test]
 fn a_store_that_failed_is_served_no_more(rt: HostRuntime) {
-    let change = request(&rt, ("POST", "/phase", OFFICE, r#"{"phase":"choosing"}"#));
-    dies(&rt, Fault::Stop, &change);
-    dies(&rt, Fault::Refusal, &change);
+    let change = ("POST", "/phase", OFFICE, r#"{"phase":"choosing"}"#);
+    dies(&rt, Fault::Stop, &[SETUP], change);
+    dies(&rt, Fault::Refusal, &[SETUP], change);
 }

@@ -1,0 +1,12 @@
+//! A desk over a database in memory, or on a disk that fails, by the bytes of its requests and replies.
+
+mod second;
+mod second_damages;
+mod second_lists;
+mod second_runs;
+mod second_stops;
+mod steps;
+mod stops;
+mod trial;
+mod version1;
+mod wide;

@@ -1,0 +1,299 @@
+//! Databases of the wider department that were changed by others, and are opened again.
+
+use crate::tests::steps::{Deed, does_parts, fresh};
+use crate::tests::wide::{
+    CHOOSING, PUBLISHED, RANKING, ROLLS, SECOND_CHOOSING, SECOND_PUBLISHED, SECOND_RANKING,
+};
+use portal_store::{NotOpened, OpenFault, Store};
+use sqlite::{Connection, MemStore};
+use std::process::Abort;
+
+/// The database, with the world that is played in it.
+fn database(rt: &(impl Abort + AllocGlobal), played: &[&[Deed]]) -> Connection<MemStore> {
+    let mut desk = fresh(rt);
+    does_parts(rt, &mut desk, played);
+    desk.into_keeper().into_connection()
+}
+
+/// How the database is answered when it is opened.
+fn opened(rt: &(impl Abort + AllocGlobal), conn: Connection<MemStore>) -> Option<OpenFault> {
+    assert!(rt; conn.is_autocommit());
+    match Store::open(rt.alloc(), conn) {
+        Ok(store) => {
+            let _conn = store.into_connection();
+            None
+        }
+        Err(
+            NotOpened {
+                fault,
+                connection: _,
+            },
+        ) => Some(fault),
+    }
+}
+
+/// Behind each of these texts the database is answered so.
+fn are_answered(
+    rt: &(impl Abort + AllocGlobal),
+    played: &[&[Deed]],
+    texts: &[&str],
+    wanted: Option<OpenFault>,
+) {
+    for text in texts {
+        let mut conn = database(rt, played);
+        conn.execute_batch(text).expect(rt, "statements");
+        let found = opened(rt, conn);
+        assert!(rt; found == wanted, "{text}");
+    }
+}
+
+/// So it is answered in the first round, published.
+fn in_the_first(rt: &(impl Abort + AllocGlobal), texts: &[&str], wanted: Option<OpenFault>) {
+    let played = [ROLLS, CHOOSING, RANKING, PUBLISHED];
+    are_answered(rt, &played, texts, wanted);
+}
+
+/// So it is answered in the second round, in choosing.
+fn in_choosing(rt: &(impl Abort + AllocGlobal), texts: &[&str], wanted: Option<OpenFault>) {
+    let played = [ROLLS, CHOOSING, RANKING, PUBLISHED, SECOND_CHOOSING];
+    are_answered(rt, &played, texts, wanted);
+}
+
+/// So it is answered in ranking.
+fn in_ranking(rt: &(impl Abort + AllocGlobal), texts: &[&str], wanted: Option<OpenFault>) {
+    let played = [
+        ROLLS,
+        CHOOSING,
+        RANKING,
+        PUBLISHED,
+        SECOND_CHOOSING,
+        SECOND_RANKING,
+    ];
+    are_answered(rt, &played, texts, wanted);
+}
+
+/// So it is answered in published.
+fn in_published(rt: &(impl Abort + AllocGlobal), texts: &[&str], wanted: Option<OpenFault>) {
+    let played = [
+        ROLLS,
+        CHOOSING,
+        RANKING,
+        PUBLISHED,
+        SECOND_CHOOSING,
+        SECOND_RANKING,
+        SECOND_PUBLISHED,
+    ];
+    are_answered(rt, &played, texts, wanted);
+}
+
+/// Rows of the second round while there is none, or no row that tells of it.
+const NO_ROUND: &[&str] = &[
+    "DELETE FROM second",
+    "INSERT INTO choice2 (student, place, project) VALUES ('S4', 1, 'P4')",
+    "INSERT INTO ranked2 (lecturer) VALUES ('L1')",
+    "INSERT INTO ranking2 (lecturer, place, student) VALUES ('L2', 1, 'S4')",
+    "INSERT INTO assigned2 (student, project) VALUES ('S4', 'P4')",
+];
+
+/// A second round before the first is published.
+const TOO_EARLY: &[&str] = &[
+    "UPDATE second SET phase = 1",
+    "UPDATE second SET phase = 2",
+    "UPDATE second SET phase = 3",
+];
+
+/// What the rows of the first round may not be in any phase of the second.
+const OF_THE_FIRST: &[&str] = &[
+    "DELETE FROM second",
+    "UPDATE second SET phase = 0",
+    "UPDATE portal SET phase = 0",
+    "UPDATE portal SET phase = 2",
+    "UPDATE portal SET phase = 4",
+    "UPDATE student SET assigned = NULL WHERE key = 'S1'",
+    "UPDATE student SET assigned = 'P4' WHERE key = 'S3'",
+    "UPDATE student SET assigned = 'P3' WHERE key = 'S4'",
+    "UPDATE lecturer SET ranked = 0 WHERE key = 'L2'",
+    "DELETE FROM ranking WHERE lecturer = 'L2'",
+    "UPDATE choice SET place = 2 WHERE student = 'S3'",
+    "UPDATE lecturer SET capacity = 1 WHERE key = 'L1'",
+];
+
+/// What lists may not be in any phase of the second: of who has a project, of what is not offered in this round, or with a gap; and
+/// there may not be less room than they need.
+const OF_THE_LISTS: &[&str] = &[
+    "INSERT INTO choice2 (student, place, project) VALUES ('S1', 1, 'P3')",
+    "INSERT INTO choice2 (student, place, project) VALUES ('S6', 2, 'P1')",
+    "INSERT INTO choice2 (student, place, project) VALUES ('S6', 2, 'P2')",
+    "INSERT INTO choice2 (student, place, project) VALUES ('S6', 3, 'P3')",
+    "UPDATE choice2 SET place = 3 WHERE student = 'S4' AND place = 2",
+    "UPDATE choice2 SET place = 0 WHERE student = 'S4' AND place = 1",
+    "UPDATE project SET capacity = 1 WHERE key = 'P5'",
+    "UPDATE lecturer SET capacity = 1 WHERE key = 'L2'",
+];
+
+/// What is in no form, and codes that name two.
+const FORMS: &[&str] = &[
+    "UPDATE student SET code = 'lee-code-01' WHERE key = 'S9'",
+    "UPDATE student SET code = 'office-code-0' WHERE key = 'S4'",
+    "UPDATE portal SET office = 'stud-code-1'",
+    "UPDATE portal SET office = 'short'",
+    "UPDATE student SET name = '' WHERE key = 'S4'",
+    "UPDATE project SET title = '' WHERE key = 'P4'",
+    "INSERT INTO student (key, name, code, assigned) VALUES ('S 0', 'Zoe', 'stud-code-0', NULL)",
+    "INSERT INTO student (key, name, code, assigned) VALUES ('S0', 'Zoe', 'short', NULL)",
+];
+
+/// What there may not be in choosing: a ranking, or a result.
+const DAMAGED_CHOOSING: &[&str] = &[
+    "UPDATE second SET phase = 3",
+    "INSERT INTO ranked2 (lecturer) VALUES ('L1')",
+    "INSERT INTO ranked2 (lecturer) VALUES ('L2')",
+    "INSERT INTO ranking2 (lecturer, place, student) VALUES ('L2', 1, 'S4')",
+    "INSERT INTO assigned2 (student, project) VALUES ('S4', 'P3')",
+    "INSERT INTO assigned2 (student, project) VALUES ('S1', 'P1')",
+];
+
+/// What there may not be in ranking: a ranking of others than the applicants, or of nobody's; a result.
+const DAMAGED_RANKING: &[&str] = &[
+    "DELETE FROM ranking2 WHERE lecturer = 'L2'",
+    "DELETE FROM ranking2 WHERE lecturer = 'L2' AND place = 3",
+    "DELETE FROM ranking2 WHERE lecturer = 'L2' AND place = 1",
+    "DELETE FROM ranked2 WHERE lecturer = 'L2'",
+    "INSERT INTO ranking2 (lecturer, place, student) VALUES ('L2', 4, 'S8')",
+    "INSERT INTO ranking2 (lecturer, place, student) VALUES ('L2', 4, 'S3')",
+    "INSERT INTO ranking2 (lecturer, place, student) VALUES ('L1', 1, 'S4')",
+    "INSERT INTO ranked2 (lecturer) VALUES ('L1'); INSERT INTO ranking2 (lecturer, place, student) VALUES ('L1', 1, 'S4')",
+    "UPDATE second SET phase = 1",
+    "UPDATE second SET phase = 3",
+    "INSERT INTO assigned2 (student, project) VALUES ('S4', 'P3')",
+];
+
+/// What the result may not be: there too early, of others than those who are left, not to be had by their lists, above a capacity
+/// of a project or a lecturer with the first one's, or blocked by a pair; and nobody may be still to rank.
+const DAMAGED_PUBLISHED: &[&str] = &[
+    "UPDATE second SET phase = 2",
+    "DELETE FROM assigned2",
+    "DELETE FROM assigned2 WHERE student = 'S4'",
+    "INSERT INTO assigned2 (student, project) VALUES ('S1', 'P1')",
+    "INSERT INTO assigned2 (student, project) VALUES ('S1', 'P5')",
+    "INSERT INTO assigned2 (student, project) VALUES ('S6', 'P5')",
+    "INSERT INTO assigned2 (student, project) VALUES ('S9', 'P5')",
+    "INSERT INTO assigned2 (student, project) VALUES ('S6', 'P4')",
+];
+
+/// The same, further.
+const DAMAGED_RESULT: &[&str] = &[
+    "UPDATE assigned2 SET project = 'P4' WHERE student = 'S4'",
+    "UPDATE assigned2 SET project = 'P3' WHERE student = 'S5'; UPDATE assigned2 SET project = 'P4' WHERE student = 'S4'",
+    "UPDATE assigned2 SET student = 'S6' WHERE student = 'S5'",
+    "UPDATE assigned2 SET student = 'S9' WHERE student = 'S8'",
+    "UPDATE assigned2 SET student = 'S1' WHERE student = 'S8'",
+    "UPDATE project SET capacity = 3 WHERE key = 'P5'",
+    "UPDATE lecturer SET capacity = 4 WHERE key = 'L2'",
+    "DELETE FROM ranked2 WHERE lecturer = 'L2'; DELETE FROM ranking2 WHERE lecturer = 'L2'",
+];
+
+/// A list of twenty-one: eighteen projects are added.
+const TOO_LONG: &[&str] = &[
+    "INSERT INTO project (key, lecturer, title, capacity) VALUES ('Q1', 'L3', 'Q', 1), ('Q2', 'L3', 'Q', 1), ('Q3', 'L3', 'Q', 1), ('Q4', 'L3', 'Q', 1), ('Q5', 'L3', 'Q', 1), ('Q6', 'L3', 'Q', 1), ('Q7', 'L3', 'Q', 1), ('Q8', 'L3', 'Q', 1), ('Q9', 'L3', 'Q', 1), ('R1', 'L3', 'Q', 1), ('R2', 'L3', 'Q', 1), ('R3', 'L3', 'Q', 1), ('R4', 'L3', 'Q', 1), ('R5', 'L3', 'Q', 1), ('R6', 'L3', 'Q', 1), ('R7', 'L3', 'Q', 1), ('R8', 'L3', 'Q', 1), ('R9', 'L3', 'Q', 1); INSERT INTO choice2 (student, place, project) VALUES ('S6', 2, 'P3'), ('S6', 3, 'Q1'), ('S6', 4, 'Q2'), ('S6', 5, 'Q3'), ('S6', 6, 'Q4'), ('S6', 7, 'Q5'), ('S6', 8, 'Q6'), ('S6', 9, 'Q7'), ('S6', 10, 'Q8'), ('S6', 11, 'Q9'), ('S6', 12, 'R1'), ('S6', 13, 'R2'), ('S6', 14, 'R3'), ('S6', 15, 'R4'), ('S6', 16, 'R5'), ('S6', 17, 'R6'), ('S6', 18, 'R7'), ('S6', 19, 'R8'), ('S6', 20, 'R9'), ('S6', 21, 'P5')",
+];
+
+/// The same of twenty.
+const LONGEST: &[&str] = &[
+    "INSERT INTO project (key, lecturer, title, capacity) VALUES ('Q1', 'L3', 'Q', 1), ('Q2', 'L3', 'Q', 1), ('Q3', 'L3', 'Q', 1), ('Q4', 'L3', 'Q', 1), ('Q5', 'L3', 'Q', 1), ('Q6', 'L3', 'Q', 1), ('Q7', 'L3', 'Q', 1), ('Q8', 'L3', 'Q', 1), ('Q9', 'L3', 'Q', 1), ('R1', 'L3', 'Q', 1), ('R2', 'L3', 'Q', 1), ('R3', 'L3', 'Q', 1), ('R4', 'L3', 'Q', 1), ('R5', 'L3', 'Q', 1), ('R6', 'L3', 'Q', 1), ('R7', 'L3', 'Q', 1), ('R8', 'L3', 'Q', 1), ('R9', 'L3', 'Q', 1); INSERT INTO choice2 (student, place, project) VALUES ('S6', 2, 'P3'), ('S6', 3, 'Q1'), ('S6', 4, 'Q2'), ('S6', 5, 'Q3'), ('S6', 6, 'Q4'), ('S6', 7, 'Q5'), ('S6', 8, 'Q6'), ('S6', 9, 'Q7'), ('S6', 10, 'Q8'), ('S6', 11, 'Q9'), ('S6', 12, 'R1'), ('S6', 13, 'R2'), ('S6', 14, 'R3'), ('S6', 15, 'R4'), ('S6', 16, 'R5'), ('S6', 17, 'R6'), ('S6', 18, 'R7'), ('S6', 19, 'R8'), ('S6', 20, 'R9')",
+];
+
+/// What may be: the next phase, where nothing is missing; lists that are taken back, lists in another order, more room, and one
+/// student more.
+const GOOD_CHOOSING: &[&str] = &[
+    "UPDATE portal SET id = 1",
+    "UPDATE second SET phase = 2",
+    "DELETE FROM choice2",
+    "UPDATE choice2 SET place = 9 WHERE student = 'S4' AND place = 1; UPDATE choice2 SET place = 1 WHERE student = 'S4' AND place = 2; UPDATE choice2 SET place = 2 WHERE student = 'S4' AND place = 9",
+    "UPDATE lecturer SET capacity = 200 WHERE key = 'L2'",
+    "INSERT INTO student (key, name, code, assigned) VALUES ('S0', 'Zoe', 'stud-code-0', NULL)",
+];
+
+/// A ranking of nobody, where there is no applicant; a lecturer who is still to rank.
+const GOOD_RANKING: &[&str] = &[
+    "INSERT INTO ranked2 (lecturer) VALUES ('L1')",
+    "DELETE FROM ranking2 WHERE lecturer = 'L2'; DELETE FROM ranked2 WHERE lecturer = 'L2'",
+];
+
+/// More room with a lecturer whose projects are full.
+const GOOD_PUBLISHED: &[&str] = &["UPDATE lecturer SET capacity = 4 WHERE key = 'L3'"];
+
+/// Tables that are not there, in any phase, and another version.
+const NO_PORTAL: &[&str] = &[
+    "DELETE FROM portal",
+    "DROP TABLE second",
+    "DROP TABLE choice2",
+    "DROP TABLE ranked2",
+    "DROP TABLE ranking2",
+    "DROP TABLE assigned2; DELETE FROM second",
+];
+
+const OTHER_VERSION: &[&str] = &[
+    "UPDATE portal SET version = 1",
+    "UPDATE portal SET version = 3; DROP TABLE choice2",
+];
+
+#[test]
+fn no_round_has_no_rows(rt: HostRuntime) {
+    let damaged = Some(OpenFault::Damaged);
+    in_the_first(&rt, NO_ROUND, damaged);
+    are_answered(&rt, &[ROLLS], TOO_EARLY, damaged);
+    are_answered(&rt, &[ROLLS, CHOOSING], TOO_EARLY, damaged);
+    are_answered(&rt, &[ROLLS, CHOOSING, RANKING], TOO_EARLY, damaged);
+    in_the_first(&rt, &["UPDATE second SET phase = 1"], None);
+}
+
+#[test]
+fn the_first_round_stays(rt: HostRuntime) {
+    let damaged = Some(OpenFault::Damaged);
+    in_choosing(&rt, OF_THE_FIRST, damaged);
+    in_ranking(&rt, OF_THE_FIRST, damaged);
+    in_published(&rt, OF_THE_FIRST, damaged);
+}
+
+#[test]
+fn the_lists_are_of_what_is_left(rt: HostRuntime) {
+    let damaged = Some(OpenFault::Damaged);
+    in_choosing(&rt, OF_THE_LISTS, damaged);
+    in_ranking(&rt, OF_THE_LISTS, damaged);
+    in_published(&rt, OF_THE_LISTS, damaged);
+}
+
+#[test]
+fn forms_stay(rt: HostRuntime) {
+    in_choosing(&rt, FORMS, Some(OpenFault::Damaged));
+    in_published(&rt, FORMS, Some(OpenFault::Damaged));
+}
+
+#[test]
+fn a_list_has_twenty(rt: HostRuntime) {
+    in_choosing(&rt, LONGEST, None);
+    in_choosing(&rt, TOO_LONG, Some(OpenFault::Damaged));
+}
+
+#[test]
+fn each_damage_of_a_phase_is_told(rt: HostRuntime) {
+    let damaged = Some(OpenFault::Damaged);
+    in_choosing(&rt, DAMAGED_CHOOSING, damaged);
+    in_ranking(&rt, DAMAGED_RANKING, damaged);
+    in_published(&rt, DAMAGED_PUBLISHED, damaged);
+    in_published(&rt, DAMAGED_RESULT, damaged);
+}
+
+#[test]
+fn nothing_else_is_told(rt: HostRuntime) {
+    in_choosing(&rt, GOOD_CHOOSING, None);
+    in_ranking(&rt, GOOD_RANKING, None);
+    in_published(&rt, GOOD_PUBLISHED, None);
+}
+
+#[test]
+fn other_tables_are_told(rt: HostRuntime) {
+    in_ranking(&rt, NO_PORTAL, Some(OpenFault::NotPortal));
+    in_ranking(&rt, OTHER_VERSION, Some(OpenFault::OtherVersion));
+}
