@@ -50,6 +50,12 @@ fn sees_no_other(rt: &(impl Abort + AllocGlobal), lecturer: &LecturerView) {
     }
 }
 
+/// What the caller with this code sees.
+fn seen_by(rt: &(impl Abort + AllocGlobal), conn: &mut Connection<MemStore>, code: &str) -> View {
+    assert!(rt; conn.is_autocommit());
+    view(rt.alloc(), conn, code.as_bytes()).expect(rt, "a view")
+}
+
 /// The crowd comes by this statement, in ranking, and this lecturer sees it.
 fn is_seen(
     rt: &(impl Abort + AllocGlobal),
@@ -62,8 +68,7 @@ fn is_seen(
     let mut conn = desk.into_keeper().into_connection();
     add_crowd(rt, &mut conn, choice);
     conn.execute(ranking, &[]).expect(rt, "a statement");
-    assert!(rt; conn.is_autocommit());
-    match view(rt.alloc(), &mut conn, code.as_bytes()).expect(rt, "a view") {
+    match seen_by(rt, &mut conn, code) {
         View::Lecturer(lecturer) => {
             sees_all(rt, &lecturer, projects);
             sees_no_other(rt, &lecturer);
