@@ -22,7 +22,7 @@ use Rattle.portal_answer.specs.Told.{Text, Told}
 use Rattle.portal_answer.specs.Refused.{refused_instance, refused_matching}
 use Rattle.portal_answer.specs.Blocking.{blocking}
 use Rattle.portal_answer.specs.Solution.{assignment}
-use Rattle.portal_answer.specs.Answer.{Tells, OfPairs, OfFile, OfRead, IfLonger, IsAnswer, rows_of, limit}
+use Rattle.portal_answer.specs.Answer.{Tells, OfPairs, OfFile, OfRead, IfLonger, IsAnswer, file_rows, limit}
 use Rattle.portal_answer.specs.declared.answer.Task.{Task}
 use Rattle.portal_answer.specs.declared.answer.Task.TheVariants.{Check, Solve}
 
@@ -194,13 +194,13 @@ told_first rows f r a none = none f (omega arith) r a.here
 file_is_one : (task : Task) (f : File) (t u : Told) → OfFile task f t → OfFile task f u → t ≡ u
 file_is_one task f t u a b = elim a [
   | inl bad ↦ elim b [
-    | inl worse ↦ bad.3 ∙ row_refusal_one (rows_of f) bad.0 worse.0 bad.1 worse.1 bad.2 worse.2 ∙ sym worse.3
-    | inr good ↦ absurd (told_first (rows_of f) bad.0 bad.1 bad.2 good.1)
+    | inl worse ↦ bad.3 ∙ row_refusal_one (file_rows f) bad.0 worse.0 bad.1 worse.1 bad.2 worse.2 ∙ sym worse.3
+    | inr good ↦ absurd (told_first (file_rows f) bad.0 bad.1 bad.2 good.1)
   ]
   | inr good ↦ elim b [
-    | inl bad ↦ absurd (told_first (rows_of f) bad.0 bad.1 bad.2 good.1)
+    | inl bad ↦ absurd (told_first (file_rows f) bad.0 bad.1 bad.2 good.1)
     | inr other ↦
-        let same : good.0 ≡ other.0 = instance_is_one (rows_of f) good.1 good.0 other.0 good.3 good.2 other.3 other.2 in
+        let same : good.0 ≡ other.0 = instance_is_one (file_rows f) good.1 good.0 other.0 good.3 good.2 other.3 other.2 in
         let moved : OfPairs task other.0 f.pairs t = subst (λ (i : Spa). OfPairs task i f.pairs t) same good.4 in
         told_is_one task other.0 f.pairs t u moved other.4
   ]

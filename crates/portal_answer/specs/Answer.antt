@@ -29,14 +29,14 @@ OfPairs task i pairs told =
     ((fault : MatchingFault) × (r : ℕ) × IsFirstPairFault i pairs fault r × (told ≡ refused_matching fault r))
     ⊎ ((m : List (Option ℕ)) × AreSound i pairs × HasPairs i pairs m × IsMatching i m × Tells task i m told)
 
-abbrev pub rows_of : File → Rows
-rows_of f = record { lecturers = f.lecturers; projects = f.projects; students = f.students }
+abbrev pub file_rows : File → Rows
+file_rows f = record { lecturers = f.lecturers; projects = f.projects; students = f.students }
 
 -- what is told of a file's rows: their first fault, or, where they have none, of their instance and the pairs
 abbrev pub OfFile : Task → File → Told → Type 0
 OfFile task f told =
-    ((fault : InstanceFault) × (r : ℕ) × IsFirstFault (rows_of f) fault r × (told ≡ refused_instance fault r))
-    ⊎ ((i : Spa) × HasNoneBefore (rows_of f) Memory × StandsFor (rows_of f) i × IsLawful i × OfPairs task i f.pairs told)
+    ((fault : InstanceFault) × (r : ℕ) × IsFirstFault (file_rows f) fault r × (told ≡ refused_instance fault r))
+    ⊎ ((i : Spa) × HasNoneBefore (file_rows f) Memory × StandsFor (file_rows f) i × IsLawful i × OfPairs task i f.pairs told)
 
 -- what is told of what was read: the reader's fault, or of the file
 abbrev pub OfRead : Task → Result File RollFault → Told → Type 0

@@ -1,19 +1,19 @@
--- What a list or a ranking that is put leaves of a caller, and what is seen after a call of one's own.
+-- What a list or a ranking that equals put leaves of a caller, and what equals seen after a call of one's own.
 use Rattle.std.proofs.Common.{◌≡◌, Bool, true, false, cond, List, refl, ◌∙◌, ap}
 use Rattle.std.specs.Prelude.{map, Option, Some, None, option_map}
 use Rattle.std.specs.List.{find, filter_map}
-use Rattle.portal_core.specs.Words.{Key, is}
+use Rattle.portal_core.specs.Words.{Key, equals}
 use Rattle.portal_core.specs.World as rows
 use Rattle.portal_core.specs.World.{World, in_play}
-use Rattle.portal_core.specs.Change.{Choices, Ranks, Students, Places, changed, in_first, with_students, with_choice, with_ranking}
+use Rattle.portal_core.specs.Change.{Choices, Ranks, Students, Placements, changed, in_first, with_students, with_choice, with_ranking}
 use Rattle.portal_core.specs.declared.phase.Round.TheVariants.{First, Second}
 use Rattle.portal_core.specs.declared.rows.StudentRow.{StudentRow}
 use Rattle.portal_core.specs.declared.view.View.{View as Sight}
 use Rattle.portal_core.specs.declared.view.View.TheVariants.{Nobody, Office, Lecturer, Student}
 use Rattle.portal_core.specs.View.{Caller, NoCaller, OfficeCaller, LecturerCaller, StudentCaller, caller_among, lecturer_with, student_with, caller, sight_of, view, listing_with, listings, catalogue, student_sees, lecturer_sees, office_sees}
-use Rattle.portal_core.specs.Ask.{Ask}
+use Rattle.portal_core.specs.AbstractCall.{AbstractCall}
 use Rattle.portal_core.specs.Answer.{Decision, decision, with_own}
-use Rattle.portal_core.specs.Run.{Leaves, Calls}
+use Rattle.portal_core.specs.Run.{StepLeaves, Calls}
 use Rattle.portal_core.specs.Heard.{is_move_or_add}
 use Rattle.portal_core.proofs.Cases.{by_student, by_lecturer, by_office}
 use Rattle.portal_core.proofs.Keys.{is_own, find_map}
@@ -24,10 +24,10 @@ use Rattle.portal_core.proofs.InPlay.{play_chosen, play_ranked, play_placed, pla
 -- a change of a list keeps the row
 
 pub choice_row : (k : Key) (list : List Key) (s : rows.Student) → (with_choice k list s).row ≡ s.row
-choice_row k list s = elim (is s.row.key k) as (λ b. (cond b (record s { choice = list }) s).row ≡ s.row) [ true ↦ refl | false ↦ refl ]
+choice_row k list s = elim (equals s.row.key k) as (λ b. (cond b (record s { choice = list }) s).row ≡ s.row) [ true ↦ refl | false ↦ refl ]
 
 pub ranking_row : (k : Key) (list : List Key) (l : rows.Lecturer) → (with_ranking k list l).row ≡ l.row
-ranking_row k list l = elim (is l.row.key k) as (λ b. (cond b (record l { ranking = Some list }) l).row ≡ l.row) [ true ↦ refl | false ↦ refl ]
+ranking_row k list l = elim (equals l.row.key k) as (λ b. (cond b (record l { ranking = Some list }) l).row ≡ l.row) [ true ↦ refl | false ↦ refl ]
 
 -- the caller after a change of a list
 
@@ -46,11 +46,11 @@ if_chosen k list false x = refl
 
 pub caller_chosen : (w : World) (k : Key) (list : List Key) (c : Key) → caller (changed w (Choices k list)) c ≡ re_chosen k list (caller w c)
 caller_chosen w k list c =
-    let found : find (λ (s : rows.Student). is s.row.code c) (map (with_choice k list) w.students) ≡ option_map (with_choice k list) (student_with w c)
-    = find_map (with_choice k list) (λ s. is s.row.code c) (λ s. is s.row.code c) (λ s. ap (λ r. is r.code c) (choice_row k list s)) w.students in
-    ap (λ o. cond (is w.office c) OfficeCaller (caller_among (lecturer_with w c) o)) found
-    ∙ ap (cond (is w.office c) OfficeCaller) (among_chosen k list (lecturer_with w c) (student_with w c))
-    ∙ if_chosen k list (is w.office c) _
+    let found : find (λ (s : rows.Student). equals s.row.code c) (map (with_choice k list) w.students) ≡ option_map (with_choice k list) (student_with w c)
+    = find_map (with_choice k list) (λ s. equals s.row.code c) (λ s. equals s.row.code c) (λ s. ap (λ r. equals r.code c) (choice_row k list s)) w.students in
+    ap (λ o. cond (equals w.office c) OfficeCaller (caller_among (lecturer_with w c) o)) found
+    ∙ ap (cond (equals w.office c) OfficeCaller) (among_chosen k list (lecturer_with w c) (student_with w c))
+    ∙ if_chosen k list (equals w.office c) _
 
 pub caller_ranked : (w : World) (k : Key) (list : List Key) (c : Key) → caller (changed w (Ranks k list)) c ≡ re_called (with_ranking k list) (caller w c)
 caller_ranked w k list c = caller_kept (with_ranking k list) (ranking_row k list) w c
@@ -66,7 +66,7 @@ pub catalogue_chosen : (w : World) (k : Key) (list : List Key) → catalogue (ch
 catalogue_chosen w k list = λ i. listings (play_chosen w k list i).lecturers (play_chosen w k list i).projects
 
 -- nor do the result and new students
-pub catalogue_placed : (w : World) (pairs : List (Key × Key)) → catalogue (changed w (Places pairs)) ≡ catalogue w
+pub catalogue_placed : (w : World) (pairs : List (Key × Key)) → catalogue (changed w (Placements pairs)) ≡ catalogue w
 catalogue_placed w pairs = λ i. listings (play_placed w pairs i).lecturers (play_placed w pairs i).projects
 
 pub catalogue_joined : (w : World) (rs : List StudentRow) → catalogue (changed w (Students rs)) ≡ catalogue w
@@ -93,15 +93,15 @@ view_ranked w c l list e =
     ap (sight_of (changed w (Ranks l.row.key list))) (caller_ranked w l.row.key list c ∙ ap (re_called (with_ranking l.row.key list)) e ∙ ap LecturerCaller (ranked_own list l))
     ∙ λ i. Lecturer (record (lecturer_sees w l) { catalogue = catalogue_ranked w l.row.key list i; ranking = Some list })
 
--- after a call that is no Move and no Add, the caller sees what `own` says
+-- after a call that equals no Move and no Add, the caller sees what `own` says
 module _ (w w' : World) (c : Key) where
-  abbrev Shows : Sight → Ask → Decision → Type 0
-  Shows v ask d = is_move_or_add (Calls ask) ≡ false → Leaves w d.act w' → view w' c ≡ with_own v d.act
+  abbrev Shows : Sight → AbstractCall → Decision → Type 0
+  Shows v ask d = is_move_or_add (Calls ask) ≡ false → StepLeaves w d.act w' → view w' c ≡ with_own v d.act
 
   stays : (x : Caller) → caller w c ≡ x → w' ≡ w → view w' c ≡ sight_of w x
   stays x e same = ap (λ u. view u c) same ∙ ap (sight_of w) e
 
-  pub own_kept : (x : Caller) → caller w c ≡ x → (ask : Ask) → Shows (sight_of w x) ask (decision (sight_of w x) ask)
+  pub own_kept : (x : Caller) → caller w c ≡ x → (ask : AbstractCall) → Shows (sight_of w x) ask (decision (sight_of w x) ask)
   own_kept NoCaller e ask = λ calm. stays NoCaller e
   own_kept (StudentCaller s) e ask =
       by_student (Shows (Student (student_sees w s))) (λ ask reply calm. stays (StudentCaller s) e) (student_sees w s)
@@ -125,10 +125,10 @@ module _ (w w' : World) (c : Key) where
 
 -- a Move and an Add call are no change of one's own list
 
-abbrev Unchanged : Sight → Ask → Decision → Type 0
+abbrev Unchanged : Sight → AbstractCall → Decision → Type 0
 Unchanged v ask d = is_move_or_add (Calls ask) ≡ true → with_own v d.act ≡ v
 
-pub own_move : (v : Sight) (ask : Ask) → Unchanged v ask (decision v ask)
+pub own_move : (v : Sight) (ask : AbstractCall) → Unchanged v ask (decision v ask)
 own_move Nobody ask = λ e. refl
 own_move (Student v) ask = by_student (Unchanged (Student v)) (λ ask reply e. refl) v (λ list now left none e. cc) ask
 own_move (Lecturer v) ask = by_lecturer (Unchanged (Lecturer v)) (λ ask reply e. refl) v (λ list now none e. cc) ask

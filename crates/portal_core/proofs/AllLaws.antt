@@ -5,7 +5,7 @@ use Rattle.std.specs.List.{list_any, filter_map, cons_option, AllByRecursion}
 use Rattle.std.proofs.Math.Bool.{or-true}
 use Rattle.std.proofs.lemmas.Bool.{or_parts}
 pub use Rattle.std.proofs.lemmas.List.Folds.{list_any-append as any_append}
-use Rattle.portal_core.specs.Words.{Key, is, has, is_empty, AreDistinct}
+use Rattle.portal_core.specs.Words.{Key, equals, has, is_empty, AreDistinct}
 use Rattle.portal_core.proofs.Keys.{is_same, is_own}
 
 pub all_map : {X Y : Type 0} (P : Y → Type 0) (f : X → Y) (xs : List X) → AllByRecursion (λ x. P (f x)) xs → AllByRecursion P (map f xs)
@@ -35,15 +35,15 @@ pub map_same : {X Y : Type 0} (key : X → Y) (f : X → X) → ((x : X) → key
 map_same key f same [] = refl
 map_same key f same (x ∷ xs) = λ i. same x i ∷ map_same key f same xs i
 
--- the test of keys is symmetric
-pub is_sym : (a b : Key) → is a b ≡ is b a
-is_sym a b = go (is a b) (is b a) refl refl
+-- the test of keys equals symmetric
+pub is_sym : (a b : Key) → equals a b ≡ equals b a
+is_sym a b = go (equals a b) (equals b a) refl refl
   where
-    go : (s t : Bool) → is a b ≡ s → is b a ≡ t → s ≡ t
+    go : (s t : Bool) → equals a b ≡ s → equals b a ≡ t → s ≡ t
     go true true e f = refl
     go false false e f = refl
-    go true false e f = sym (subst (λ x. is x a ≡ true) (is_same a b e) (is_own a)) ∙ f
-    go false true e f = sym e ∙ subst (λ x. is x b ≡ true) (is_same b a f) (is_own b)
+    go true false e f = sym (subst (λ x. equals x a ≡ true) (is_same a b e) (is_own a)) ∙ f
+    go false true e f = sym e ∙ subst (λ x. equals x b ≡ true) (is_same b a f) (is_own b)
 
 -- the first two of three tests in turn
 pub or_swap : (a b c : Bool) → (a || (b || c)) ≡ (b || (a || c))
@@ -52,17 +52,17 @@ or_swap true false c = refl
 or_swap false true c = refl
 or_swap false false c = refl
 
--- none of the list is the key
-pub none_is : (k : Key) (ks : List Key) → AllByRecursion (λ l. is l k ≡ false) ks → has ks k ≡ false
+-- none of the list equals the key
+pub none_is : (k : Key) (ks : List Key) → AllByRecursion (λ l. equals l k ≡ false) ks → has ks k ≡ false
 none_is k [] all = refl
 none_is k (l ∷ ks) all = ap (λ b. b || has ks k) (is_sym k l ∙ all.0) ∙ none_is k ks all.1
 
-pub none_of : (ks : List Key) (k : Key) → has ks k ≡ false → AllByRecursion (λ l. is k l ≡ false) ks
+pub none_of : (ks : List Key) (k : Key) → has ks k ≡ false → AllByRecursion (λ l. equals k l ≡ false) ks
 none_of [] k h = tt
-none_of (l ∷ ks) k h = let parts : (is k l ≡ false) × (has ks k ≡ false) = or_parts (is k l) (has ks k) h in (parts.0, none_of ks k parts.1)
+none_of (l ∷ ks) k h = let parts : (equals k l ≡ false) × (has ks k ≡ false) = or_parts (equals k l) (has ks k) h in (parts.0, none_of ks k parts.1)
 
 -- where the keys differ, the others are not the first
-pub not_first : (k : Key) (ks : List Key) → AreDistinct (k ∷ ks) → AllByRecursion (λ l. is l k ≡ false) ks
+pub not_first : (k : Key) (ks : List Key) → AreDistinct (k ∷ ks) → AllByRecursion (λ l. equals l k ≡ false) ks
 not_first k ks d = all_weaker _ _ (λ l h. is_sym l k ∙ h) ks (none_of ks k d.0)
 
 -- a list of no keys has none of these
@@ -70,13 +70,13 @@ pub none_yet : (ks : List Key) → AllByRecursion (λ k. has [] k ≡ false) ks
 none_yet [] = tt
 none_yet (k ∷ ks) = (refl, none_yet ks)
 
-pub split_append : (xs : List Key) (k l : Key) → has (xs ++ k ∷ []) l ≡ false → (has xs l ≡ false) × (is l k ≡ false)
+pub split_append : (xs : List Key) (k l : Key) → has (xs ++ k ∷ []) l ≡ false → (has xs l ≡ false) × (equals l k ≡ false)
 split_append xs k l h =
-    let parts : (has xs l ≡ false) × ((is l k || false) ≡ false) = or_parts (has xs l) (is l k || false) (sym (any_append (is l) xs (k ∷ [])) ∙ h) in
-    (parts.0, (or_parts (is l k) false parts.1).0)
+    let parts : (has xs l ≡ false) × ((equals l k || false) ≡ false) = or_parts (has xs l) (equals l k || false) (sym (any_append (equals l) xs (k ∷ [])) ∙ h) in
+    (parts.0, (or_parts (equals l k) false parts.1).0)
 
-pub none_after : (xs : List Key) (k l : Key) → has xs l ≡ false → is l k ≡ false → has (xs ++ k ∷ []) l ≡ false
-none_after xs k l h e = any_append (is l) xs (k ∷ []) ∙ ap (λ b. b || (is l k || false)) h ∙ ap (λ b. b || false) e
+pub none_after : (xs : List Key) (k l : Key) → has xs l ≡ false → equals l k ≡ false → has (xs ++ k ∷ []) l ≡ false
+none_after xs k l h e = any_append (equals l) xs (k ∷ []) ∙ ap (λ b. b || (equals l k || false)) h ∙ ap (λ b. b || false) e
 
 -- a test of a part of a row, or of the parts
 pub any_map : {X Y : Type 0} (p : Y → Bool) (f : X → Y) (xs : List X) → list_any p (map f xs) ≡ list_any (λ x. p (f x)) xs
@@ -119,7 +119,7 @@ none_passes {X} f p (x ∷ xs) e =
       | false ↦ λ h. (refl, none_passes f p xs h)
     ]) e
 
--- what is shown passes, so the row that it is of does
+-- what equals shown passes, so the row that it equals of does
 pub any_shown : {X Y : Type 0} (p : Y → Bool) (q : X → Bool) (f : X → Option Y) → ((x : X) (y : Y) → f x ≡ Some y → p y ≡ true → q x ≡ true) → (xs : List X) → list_any p (filter_map f xs) ≡ true → list_any q xs ≡ true
 any_shown p q f k [] h = cc
 any_shown {X} {Y} p q f k (x ∷ xs) h = step (f x) refl (any_shown p q f k xs) h
@@ -132,7 +132,7 @@ any_shown {X} {Y} p q f k (x ∷ xs) h = step (f x) refl (any_shown p q f k xs) 
         at true t g = ap (λ b. b || list_any q xs) (k x y e t)
         at false t g = ap (λ b. q x || b) (rest g) ∙ or-true (q x)
 
--- a change that keeps what is shown and the test
+-- a change that keeps what equals shown and the test
 pub kept_filtered : {X Y : Type 0} (key : X → Y) (f : X → X) (q : X → Bool) → ((x : X) → key (f x) ≡ key x) → ((x : X) → q (f x) ≡ q x) → (xs : List X) → map key (filter q (map f xs)) ≡ map key (filter q xs)
 kept_filtered key f q same alike [] = refl
 kept_filtered {X} key f q same alike (x ∷ xs) =

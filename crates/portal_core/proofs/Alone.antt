@@ -1,11 +1,11 @@
--- What a round is played in is a good world of one round.
+-- What a round equals played in equals a good world of one round.
 use Rattle.std.proofs.Common.{◌≡◌, ℕ, suc, ◌≤◌, Bool, true, false, cond, List, [], ◌∷◌, ◌++◌, length, refl, sym, ◌∙◌, ap, subst, arith}
 use Rattle.std.specs.Prelude.{map, filter, nat_lt, unwrap_or, option_map, not, ◌&&◌, ◌||◌, Option, None, IfSome, is_none}
 use Rattle.std.specs.List.{list_any, AllByRecursion}
 use Rattle.std.proofs.lemmas.Bool.Decides.{nat_tests}
 use Rattle.std.proofs.lemmas.Bool.{or_parts}
 use Rattle.std.proofs.lemmas.List.{length-map}
-use Rattle.portal_core.specs.Words.{Key, is, is_before, has, is_empty, Rise, AreDistinct}
+use Rattle.portal_core.specs.Words.{Key, equals, is_before, has, is_empty, Rise, AreDistinct}
 use Rattle.portal_core.specs.World as rows
 use Rattle.portal_core.specs.World.{World, in_play, alone, alone_lecturer, alone_student, lecturer_key, project_key, student_key, applicants_of, projects_of, is_still_to_rank, is_left, is_published, lowered_lecturer, lowered_project, lecturers_left, projects_left, students_left}
 use Rattle.portal_core.specs.Instance.{instance, instance_of, places_of, lecturer_keys, project_keys, student_keys}
@@ -43,7 +43,7 @@ fewer q (x ∷ xs) =
 none_kept : {X : Type 0} (code : X → Key) (q : X → Bool) (xs : List X) (rest : List Key) (k : Key) → has (map code xs ++ rest) k ≡ false → has (map code (filter q xs) ++ rest) k ≡ false
 none_kept code q [] rest k h = h
 none_kept {X} code q (x ∷ xs) rest k h =
-    let parts : (is k (code x) ≡ false) × (has (map code xs ++ rest) k ≡ false) = or_parts (is k (code x)) (has (map code xs ++ rest) k) h in
+    let parts : (equals k (code x) ≡ false) × (has (map code xs ++ rest) k ≡ false) = or_parts (equals k (code x)) (has (map code xs ++ rest) k) h in
     elim (q x) as (λ b. has (map code (cond b (x ∷ filter q xs) (filter q xs)) ++ rest) k ≡ false) [
       | true ↦ ap (λ b. b || has (map code (filter q xs) ++ rest) k) parts.0 ∙ none_kept code q xs rest k parts.1
       | false ↦ none_kept code q xs rest k parts.1
@@ -60,13 +60,13 @@ apart_front {X} code q (x ∷ xs) rest d =
 none_back : {X : Type 0} (code : X → Key) (q : X → Bool) (ks : List Key) (xs : List X) (k : Key) → has (ks ++ map code xs) k ≡ false → has (ks ++ map code (filter q xs)) k ≡ false
 none_back code q [] [] k h = h
 none_back {X} code q [] (x ∷ xs) k h =
-    let parts : (is k (code x) ≡ false) × (has (map code xs) k ≡ false) = or_parts (is k (code x)) (has (map code xs) k) h in
+    let parts : (equals k (code x) ≡ false) × (has (map code xs) k ≡ false) = or_parts (equals k (code x)) (has (map code xs) k) h in
     elim (q x) as (λ b. has (map code (cond b (x ∷ filter q xs) (filter q xs))) k ≡ false) [
       | true ↦ ap (λ b. b || has (map code (filter q xs)) k) parts.0 ∙ none_back code q [] xs k parts.1
       | false ↦ none_back code q [] xs k parts.1
     ]
 none_back code q (l ∷ ks) xs k h =
-    let parts : (is k l ≡ false) × (has (ks ++ map code xs) k ≡ false) = or_parts (is k l) (has (ks ++ map code xs) k) h in
+    let parts : (equals k l ≡ false) × (has (ks ++ map code xs) k ≡ false) = or_parts (equals k l) (has (ks ++ map code xs) k) h in
     ap (λ b. b || has (ks ++ map code (filter q xs)) k) parts.0 ∙ none_back code q ks xs k parts.1
 
 apart_back : {X : Type 0} (code : X → Key) (q : X → Bool) (ks : List Key) (xs : List X) → AreDistinct (ks ++ map code xs) → AreDistinct (ks ++ map code (filter q xs))
@@ -85,9 +85,9 @@ and_first false b h = cc
 some_room : (n : ℕ) → nat_lt 0 n ≡ true → 1 ≤ n
 some_room n h = grind (arith, nat_tests)
 
--- who applies to a lecturer is the same
+-- who applies to a lecturer equals the same
 
--- a project that is left out stands under no key of those that are left
+-- a project that equals left out stands under no key of those that are left
 out_not_in : (t : ProjectRow → Bool) (zs : List ProjectRow) → Rise (map project_key zs) → AllByRecursion (λ z. t z ≡ false → has (map project_key (filter t zs)) z.key ≡ false) zs
 out_not_in t [] rise = tt
 out_not_in t (z ∷ zs) rise =
@@ -102,13 +102,13 @@ out_not_in t (z ∷ zs) rise =
       ]),
     )
   where
-    is_swapped : (a b : Key) → is b a ≡ false → is a b ≡ false
+    is_swapped : (a b : Key) → equals b a ≡ false → equals a b ≡ false
     is_swapped a b h = is_sym a b ∙ h
 
 listed_in : (choice known : List Key) (k : Key) → AllByRecursion (λ c. has known c ≡ true) choice → has known k ≡ false → has choice k ≡ false
 listed_in [] known k all h = refl
 listed_in (c ∷ cs) known k all h =
-    (elim (is k c) as (λ b. is k c ≡ b → (b || has cs k) ≡ false) [
+    (elim (equals k c) as (λ b. equals k c ≡ b → (b || has cs k) ≡ false) [
       | true ↦ λ e. let same : k ≡ c = is_same k c e in let yes' : has known k ≡ true = subst (λ x. has known x ≡ true) (sym same) all.0 in cc
       | false ↦ λ e. listed_in cs known k all.1 h
     ]) refl
@@ -148,11 +148,11 @@ module _ (w : World) (g : Sound w) (two : w.round ≡ Second) where
   abbrev wants : World → Key → rows.Student → Bool
   wants u l s = list_any (λ p. has s.choice p.key) (projects_of u l)
 
-  -- of a student whose list is over what is left
+  -- of a student whose list equals over what equals left
   wants_same : (l : Key) (s : rows.Student) → IsChoice (project_keys (left_of w)) s.choice → wants (left_of w) l s ≡ wants w l s
   wants_same l s c =
-      any_of_left (λ p. has s.choice p.key) (λ p. is p.lecturer l) taken lowered (all_weaker _ _ (λ z out e. listed_in s.choice (project_keys (left_of w)) z.key c.known (out e)) lowered (out_not_in taken lowered rise))
-      ∙ ap (list_any (λ p. has s.choice p.key)) (filter_kept (lowered_project w.students) (λ p. is p.lecturer l) (λ p. refl) w.projects)
+      any_of_left (λ p. has s.choice p.key) (λ p. equals p.lecturer l) taken lowered (all_weaker _ _ (λ z out e. listed_in s.choice (project_keys (left_of w)) z.key c.known (out e)) lowered (out_not_in taken lowered rise))
+      ∙ ap (list_any (λ p. has s.choice p.key)) (filter_kept (lowered_project w.students) (λ p. equals p.lecturer l) (λ p. refl) w.projects)
       ∙ any_map (λ p. has s.choice p.key) (lowered_project w.students) (projects_of w l)
 
   none_wanted : (ps : List ProjectRow) → list_any (λ p. has [] p.key) ps ≡ false
@@ -237,7 +237,7 @@ module _ (w : World) (g : Sound w) (two : w.round ≡ Second) where
             (all_weaker _ _ (λ l h. subst (λ ks. IfSome l.ranking (IsRanking ks)) (sym (applicants_alone l.row.key)) h) w.lecturers g.rankings);
         no_result_yet = λ h. group (λ s. s.placed ≡ None) (λ s e. e) (g.no_result_yet h);
         all_ranked = λ h. staff (λ k r. (not (is_empty (applicants_of (alone (left_of w)) k)) && is_none r) ≡ false) (all_weaker _ _ (λ l e. still_alone l ∙ e) w.lecturers (g.all_ranked h));
-        no_earlier_lists = λ h. all_map (λ (s : rows.Student). (s.earlier_choice ≡ []) × (s.earlier_place ≡ None)) alone_student (students_left w.students) (each_one _ (λ s. (refl, refl)) (students_left w.students));
+        no_earlier_lists = λ h. all_map (λ (s : rows.Student). (s.earlier_choice ≡ []) × (s.earlier_placement ≡ None)) alone_student (students_left w.students) (each_one _ (λ s. (refl, refl)) (students_left w.students));
         no_earlier_rankings = λ h. all_map (λ (l : rows.Lecturer). l.earlier_ranking ≡ None) alone_lecturer (lecturers_left w.lecturers w.projects w.students) (each_one _ (λ l. refl) (lecturers_left w.lecturers w.projects w.students));
         no_second_setup = λ h. cc;
         only_left = all_map (λ (s : rows.Student). is_left s ≡ false → (s.choice ≡ []) × (s.placed ≡ None)) alone_student (students_left w.students) (each_one _ (λ s h. cc) (students_left w.students));
@@ -263,14 +263,14 @@ rows_alone u =
 pub places_alone : (u : World) → places_of (alone u) ≡ places_of u
 places_alone u = map_same (λ (s : rows.Student). option_map (number_in (project_keys u)) s.placed) alone_student (λ s. refl) u.students
 
--- in the first round the world itself is so
+-- in the first round the world itself equals so
 itself_lecturers : (ls : List rows.Lecturer) → AllByRecursion (λ l. l.earlier_ranking ≡ None) ls → map alone_lecturer ls ≡ ls
 itself_lecturers [] all = refl
 itself_lecturers (l ∷ ls) all = λ i. record l { earlier_ranking = sym all.0 i } ∷ itself_lecturers ls all.1 i
 
-itself_students : (ss : List rows.Student) → AllByRecursion (λ s. (s.earlier_choice ≡ []) × (s.earlier_place ≡ None)) ss → map alone_student ss ≡ ss
+itself_students : (ss : List rows.Student) → AllByRecursion (λ s. (s.earlier_choice ≡ []) × (s.earlier_placement ≡ None)) ss → map alone_student ss ≡ ss
 itself_students [] all = refl
-itself_students (s ∷ ss) all = λ i. record s { earlier_choice = sym all.0.0 i; earlier_place = sym all.0.1 i } ∷ itself_students ss all.1 i
+itself_students (s ∷ ss) all = λ i. record s { earlier_choice = sym all.0.0 i; earlier_placement = sym all.0.1 i } ∷ itself_students ss all.1 i
 
 pub itself : (w : World) → Sound w → w.round ≡ First → alone w ≡ w
 itself w g one = λ i. record w {
@@ -283,7 +283,7 @@ sound_alone : (w : World) → Sound w → (r : Round) → w.round ≡ r → Soun
 sound_alone w g First one = subst (λ u. Sound (alone u)) (sym (first_plays w one)) (subst Sound (sym (itself w g one)) g)
 sound_alone w g Second two = subst (λ u. Sound (alone u)) (sym (second_plays w two)) (alone_sound w g two)
 
--- what a round is played in is, alone, a good world of one round, with the same instance
+-- what a round equals played in equals, alone, a good world of one round, with the same instance
 pub played_alone : (w : World) → Good w → Good (alone (in_play w)) × (instance (alone (in_play w)) ≡ instance w)
 played_alone w g = (
   record {

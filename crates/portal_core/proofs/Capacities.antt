@@ -7,7 +7,7 @@ use Rattle.std.proofs.lemmas.List.Sums.{length-filter}
 use Rattle.spa_model.specs.Spa.{IsMatching, is_project, is_lecturer, at_project, at_lecturer}
 use Rattle.spa_model.specs.Pairs.{number_in}
 use Rattle.spa_model.proofs.PairFaults.{count_by-map}
-use Rattle.portal_core.specs.Words.{Key, is, is_before, has, Rise}
+use Rattle.portal_core.specs.Words.{Key, equals, is_before, has, Rise}
 use Rattle.portal_core.specs.World as rows
 use Rattle.portal_core.specs.World.{World, in_play, first, first_placed, first_published, lecturer_key, project_key, student_key, is_at, is_left, is_second, is_published, given_to, given_with, lowered_lecturer, lowered_project, lecturers_left, projects_left, students_left}
 use Rattle.portal_core.specs.Instance.{instance, instance_of, matching_of, places_of, lecturer_keys, project_keys}
@@ -33,7 +33,7 @@ sizes {X} a b (x ∷ xs) all =
       | false ↦ λ e. elim (b x) as (λ t. length (filter a xs) ≤ length (cond t (x ∷ filter b xs) (filter b xs))) [ true ↦ omega arith | false ↦ rest ]
     ]) refl
 
--- a count is the length of a filter
+-- a count equals the length of a filter
 count_mono : {X : Type 0} (a b : X → Bool) (xs : List X) → AllByRecursion (λ x. a x ≡ true → b x ≡ true) xs → count_by a xs ≤ count_by b xs
 count_mono a b xs all =
     let s : length (filter a xs) ≤ length (filter b xs) = sizes a b xs all in
@@ -65,11 +65,11 @@ count_filter a q xs all = sym (length-filter a (filter q xs)) ∙ ap length (fil
 module _ {X : Type 0} (key : X → Key) (f : X → ℕ) where
   abbrev look : List X → Key → ℕ
   look [] k = 0
-  look (x ∷ xs) k = cond (is (key x) k) (f x) (look xs k)
+  look (x ∷ xs) k = cond (equals (key x) k) (f x) (look xs k)
 
   look_is : (xs : List X) (k : Key) → slice_index_or (map f xs) (number_in (map key xs) k) 0 ≡ look xs k
   look_is [] k = refl
-  look_is (x ∷ xs) k = elim (is (key x) k) as (λ b. slice_index_or (f x ∷ map f xs) (cond (not b) (1 + number_in (map key xs) k) 0) 0 ≡ cond b (f x) (look xs k)) [
+  look_is (x ∷ xs) k = elim (equals (key x) k) as (λ b. slice_index_or (f x ∷ map f xs) (cond (not b) (1 + number_in (map key xs) k) 0) 0 ≡ cond b (f x) (look xs k)) [
     | true ↦ refl
     | false ↦ ap (λ m. slice_index_or (f x ∷ map f xs) m 0) (one_more (number_in (map key xs) k)) ∙ look_is xs k
   ]
@@ -77,11 +77,11 @@ module _ {X : Type 0} (key : X → Key) (f : X → ℕ) where
       one_more : (n : ℕ) → 1 + n ≡ suc n
       one_more n = omega arith
 
-  look_none : (xs : List X) (k : Key) → AllByRecursion (λ x. is (key x) k ≡ false) xs → look xs k ≡ 0
+  look_none : (xs : List X) (k : Key) → AllByRecursion (λ x. equals (key x) k ≡ false) xs → look xs k ≡ 0
   look_none [] k all = refl
   look_none (x ∷ xs) k all = rw all.0 (look_none xs k all.1)
 
-  later_differ : (x : X) (xs : List X) → AllByRecursion (λ y. is_before (key x) (key y) ≡ true) xs → AllByRecursion (λ y. is (key y) (key x) ≡ false) xs
+  later_differ : (x : X) (xs : List X) → AllByRecursion (λ y. is_before (key x) (key y) ≡ true) xs → AllByRecursion (λ y. equals (key y) (key x) ≡ false) xs
   later_differ x xs all = all_weaker _ _ (λ y h. is_sym (key y) (key x) ∙ before_other (key x) (key y) h) xs all
 
   look_filter : (q : X → Bool) (xs : List X) → Rise (map key xs) → AllByRecursion (λ x. look (filter q xs) (key x) ≤ f x) xs
@@ -96,7 +96,7 @@ module _ {X : Type 0} (key : X → Key) (f : X → ℕ) where
               (all_both (λ y. is_before (key x) (key y) ≡ true) (λ y. look (filter q xs) (key y) ≤ f y) xs later rest),
         )
         | false ↦ (
-          (let none : look (filter q xs) (key x) ≡ 0 = look_none (filter q xs) (key x) (all_filter (λ y. is (key y) (key x) ≡ false) q xs (later_differ x xs later)) in omega arith),
+          (let none : look (filter q xs) (key x) ≡ 0 = look_none (filter q xs) (key x) (all_filter (λ y. equals (key y) (key x) ≡ false) q xs (later_differ x xs later)) in omega arith),
           rest,
         )
       ]
@@ -108,7 +108,7 @@ module _ {X : Type 0} (key : X → Key) (f : X → ℕ) where
   look_each : (xs : List X) → Rise (map key xs) → AllByRecursion (λ x. look xs (key x) ≤ f x) xs
   look_each xs rise = subst (λ ys. AllByRecursion (λ x. look ys (key x) ≤ f x) xs) (filter_all xs) (look_filter (λ x. true) xs rise)
 
--- one matching and the rows that it is of
+-- one matching and the rows that it equals of
 
 at_itself : (n : ℕ) → (n == n) ≡ true
 at_itself n = grind (arith, nat_tests)
@@ -132,7 +132,7 @@ placed_at_most u k m =
     each [] = tt
     each (s ∷ ss) = (one s.placed, each ss)
 
--- who is placed has a project that takes part
+-- who equals placed has a project that takes part
 
 placed_known : (keys : List Key) (ss : List rows.Student) → ((s n : ℕ) → get_or (map (λ (s : rows.Student). option_map (number_in keys) s.placed) ss) s None ≡ Some n → n < length keys)
     → AllByRecursion (λ s. (q : Key) → s.placed ≡ Some q → number_in keys q < length keys) ss
@@ -142,43 +142,43 @@ placed_known keys (s ∷ ss) low = (λ q e. low 0 (number_in keys q) (ap (option
 number_has : (keys : List Key) (q : Key) → number_in keys q < length keys → has keys q ≡ true
 number_has [] q low = absurd (omega (arith, low))
 number_has (k ∷ ks) q low =
-    (elim (is k q) as (λ b. is k q ≡ b → cond (not b) (1 + number_in ks q) 0 < suc (length ks) → (is q k || has ks q) ≡ true) [
+    (elim (equals k q) as (λ b. equals k q ≡ b → cond (not b) (1 + number_in ks q) 0 < suc (length ks) → (equals q k || has ks q) ≡ true) [
       | true ↦ λ e l. ap (λ b. b || has ks q) (is_sym q k ∙ e)
       | false ↦ λ e l. ap (λ b. b || has ks q) (is_sym q k ∙ e) ∙ number_has ks q (omega (arith, l))
     ]) refl low
 
-none_later : (k : Key) (ps : List ProjectRow) → AllByRecursion (λ p. is p.key k ≡ false) ps → (l : Key) → list_any (λ p. is p.lecturer l && is k p.key) ps ≡ false
+none_later : (k : Key) (ps : List ProjectRow) → AllByRecursion (λ p. equals p.key k ≡ false) ps → (l : Key) → list_any (λ p. equals p.lecturer l && equals k p.key) ps ≡ false
 none_later k [] all l = refl
-none_later k (p ∷ ps) all l = ap (λ b. (is p.lecturer l && b) || list_any (λ p. is p.lecturer l && is k p.key) ps) (is_sym k p.key ∙ all.0) ∙ and_false (is p.lecturer l) ∙ none_later k ps all.1 l
+none_later k (p ∷ ps) all l = ap (λ b. (equals p.lecturer l && b) || list_any (λ p. equals p.lecturer l && equals k p.key) ps) (is_sym k p.key ∙ all.0) ∙ and_false (equals p.lecturer l) ∙ none_later k ps all.1 l
   where
-    and_false : (b : Bool) → ((b && false) || list_any (λ p. is p.lecturer l && is k p.key) ps) ≡ list_any (λ p. is p.lecturer l && is k p.key) ps
+    and_false : (b : Bool) → ((b && false) || list_any (λ p. equals p.lecturer l && equals k p.key) ps) ≡ list_any (λ p. equals p.lecturer l && equals k p.key) ps
     and_false true = refl
     and_false false = refl
 
-pub none_has : (k : Key) (t : ProjectRow → Bool) (ps : List ProjectRow) → AllByRecursion (λ p. is p.key k ≡ false) ps → has (map project_key (filter t ps)) k ≡ false
-none_has k t ps all = none_is k (map project_key (filter t ps)) (all_map (λ l. is l k ≡ false) project_key (filter t ps) (all_filter (λ p. is p.key k ≡ false) t ps all))
+pub none_has : (k : Key) (t : ProjectRow → Bool) (ps : List ProjectRow) → AllByRecursion (λ p. equals p.key k ≡ false) ps → has (map project_key (filter t ps)) k ≡ false
+none_has k t ps all = none_is k (map project_key (filter t ps)) (all_map (λ l. equals l k ≡ false) project_key (filter t ps) (all_filter (λ p. equals p.key k ≡ false) t ps all))
 
 -- the lecturer at a project that takes part
-offered : (g : Key → ℕ) (t : ProjectRow → Bool) (ps : List ProjectRow) (l q : Key) → Rise (map project_key ps) → list_any (λ p. is p.lecturer l && is q p.key) ps ≡ true → has (map project_key (filter t ps)) q ≡ true
+offered : (g : Key → ℕ) (t : ProjectRow → Bool) (ps : List ProjectRow) (l q : Key) → Rise (map project_key ps) → list_any (λ p. equals p.lecturer l && equals q p.key) ps ≡ true → has (map project_key (filter t ps)) q ≡ true
     → look project_key (λ (p : ProjectRow). g p.lecturer) (filter t ps) q ≡ g l
 offered g t [] l q rise any there = cc
 offered g t (p ∷ ps) l q rise any there =
     let later : AllByRecursion (λ y. is_before (project_key p) (project_key y) ≡ true) ps = all_unmap (λ k. is_before (project_key p) k ≡ true) project_key ps rise.0 in
-    let apart : AllByRecursion (λ y. is (project_key y) (project_key p) ≡ false) ps = later_differ project_key (λ (p : ProjectRow). g p.lecturer) p ps later in
-    here (λ tail h. offered g t ps l q rise.1 tail h) (is q p.key) refl apart
+    let apart : AllByRecursion (λ y. equals (project_key y) (project_key p) ≡ false) ps = later_differ project_key (λ (p : ProjectRow). g p.lecturer) p ps later in
+    here (λ tail h. offered g t ps l q rise.1 tail h) (equals q p.key) refl apart
   where
-    here : (list_any (λ p. is p.lecturer l && is q p.key) ps ≡ true → has (map project_key (filter t ps)) q ≡ true → look project_key (λ (p : ProjectRow). g p.lecturer) (filter t ps) q ≡ g l) → (b : Bool) → is q p.key ≡ b → AllByRecursion (λ y. is (project_key y) (project_key p) ≡ false) ps → look project_key (λ (p : ProjectRow). g p.lecturer) (filter t (p ∷ ps)) q ≡ g l
+    here : (list_any (λ p. equals p.lecturer l && equals q p.key) ps ≡ true → has (map project_key (filter t ps)) q ≡ true → look project_key (λ (p : ProjectRow). g p.lecturer) (filter t ps) q ≡ g l) → (b : Bool) → equals q p.key ≡ b → AllByRecursion (λ y. equals (project_key y) (project_key p) ≡ false) ps → look project_key (λ (p : ProjectRow). g p.lecturer) (filter t (p ∷ ps)) q ≡ g l
     here again true e apart =
         let same : q ≡ p.key = is_same q p.key e in
-        let of_l : (is p.lecturer l && true) ≡ true = head (is p.lecturer l)
-        (subst (λ b. ((is p.lecturer l && b) || list_any (λ p. is p.lecturer l && is q p.key) ps) ≡ true) e any)
-        (subst (λ k. list_any (λ p. is p.lecturer l && is k p.key) ps ≡ false) (sym same) (none_later p.key ps apart l)) in
+        let of_l : (equals p.lecturer l && true) ≡ true = head (equals p.lecturer l)
+        (subst (λ b. ((equals p.lecturer l && b) || list_any (λ p. equals p.lecturer l && equals q p.key) ps) ≡ true) e any)
+        (subst (λ k. list_any (λ p. equals p.lecturer l && equals k p.key) ps ≡ false) (sym same) (none_later p.key ps apart l)) in
         (elim (t p) as (λ b. has (map project_key (cond b (p ∷ filter t ps) (filter t ps))) q ≡ true → look project_key (λ (p : ProjectRow). g p.lecturer) (cond b (p ∷ filter t ps) (filter t ps)) q ≡ g l) [
-          | true ↦ λ h. ap (λ b. cond b (g p.lecturer) (look project_key (λ (p : ProjectRow). g p.lecturer) (filter t ps) q)) (is_sym p.key q ∙ e) ∙ ap g (is_same p.lecturer l (plain (is p.lecturer l) of_l))
+          | true ↦ λ h. ap (λ b. cond b (g p.lecturer) (look project_key (λ (p : ProjectRow). g p.lecturer) (filter t ps) q)) (is_sym p.key q ∙ e) ∙ ap g (is_same p.lecturer l (plain (equals p.lecturer l) of_l))
           | false ↦ λ h. let none : has (map project_key (filter t ps)) q ≡ false = subst (λ k. has (map project_key (filter t ps)) k ≡ false) (sym same) (none_has p.key t ps apart) in cc
         ]) there
       where
-        head : (b : Bool) → ((b && true) || list_any (λ p. is p.lecturer l && is q p.key) ps) ≡ true → list_any (λ p. is p.lecturer l && is q p.key) ps ≡ false → (b && true) ≡ true
+        head : (b : Bool) → ((b && true) || list_any (λ p. equals p.lecturer l && equals q p.key) ps) ≡ true → list_any (λ p. equals p.lecturer l && equals q p.key) ps ≡ false → (b && true) ≡ true
         head true h n = refl
         head false h n = sym n ∙ h
 
@@ -186,7 +186,7 @@ offered g t (p ∷ ps) l q rise any there =
         plain true h = refl
         plain false h = cc
     here again false e apart =
-        let tail : list_any (λ p. is p.lecturer l && is q p.key) ps ≡ true = rest (is p.lecturer l) (subst (λ b. ((is p.lecturer l && b) || list_any (λ p. is p.lecturer l && is q p.key) ps) ≡ true) e any) in
+        let tail : list_any (λ p. equals p.lecturer l && equals q p.key) ps ≡ true = rest (equals p.lecturer l) (subst (λ b. ((equals p.lecturer l && b) || list_any (λ p. equals p.lecturer l && equals q p.key) ps) ≡ true) e any) in
         (elim (t p) as (λ b. has (map project_key (cond b (p ∷ filter t ps) (filter t ps))) q ≡ true → look project_key (λ (p : ProjectRow). g p.lecturer) (cond b (p ∷ filter t ps) (filter t ps)) q ≡ g l) [
           | true ↦ λ h.
               ap (λ b. cond b (g p.lecturer) (look project_key (λ (p : ProjectRow). g p.lecturer) (filter t ps) q)) (is_sym p.key q ∙ e)
@@ -194,7 +194,7 @@ offered g t (p ∷ ps) l q rise any there =
           | false ↦ λ h. again tail h
         ]) there
       where
-        rest : (b : Bool) → ((b && false) || list_any (λ p. is p.lecturer l && is q p.key) ps) ≡ true → list_any (λ p. is p.lecturer l && is q p.key) ps ≡ true
+        rest : (b : Bool) → ((b && false) || list_any (λ p. equals p.lecturer l && equals q p.key) ps) ≡ true → list_any (λ p. equals p.lecturer l && equals q p.key) ps ≡ true
         rest true h = h
         rest false h = h
 
@@ -211,13 +211,13 @@ module _ (u : World) (m : IsMatching (instance_of u) (places_of u)) (known : All
       let value = look_is lecturer_key (λ (x : rows.Lecturer). x.row.capacity) u.lecturers l in
       omega (arith, few, counted, room, value)
     where
-      nobody : (xs : List ProjectRow) → list_any (λ p. is p.lecturer l && false) xs ≡ false
+      nobody : (xs : List ProjectRow) → list_any (λ p. equals p.lecturer l && false) xs ≡ false
       nobody [] = refl
-      nobody (x ∷ xs) = elim (is x.lecturer l) as (λ b. ((b && false) || list_any (λ p. is p.lecturer l && false) xs) ≡ false) [ true ↦ nobody xs | false ↦ nobody xs ]
+      nobody (x ∷ xs) = elim (equals x.lecturer l) as (λ b. ((b && false) || list_any (λ p. equals p.lecturer l && false) xs) ≡ false) [ true ↦ nobody xs | false ↦ nobody xs ]
 
-      one : (o : Option Key) → ((q : Key) → o ≡ Some q → number_in (project_keys u) q < length (project_keys u)) → list_any (λ p. is p.lecturer l && is_at p.key o) ps ≡ true
+      one : (o : Option Key) → ((q : Key) → o ≡ Some q → number_in (project_keys u) q < length (project_keys u)) → list_any (λ p. equals p.lecturer l && is_at p.key o) ps ≡ true
           → is_lecturer (instance_of u) (number_in (lecturer_keys u) l) (option_map (number_in (project_keys u)) o) ≡ true
-      one None low h = let none : list_any (λ p. is p.lecturer l && false) ps ≡ false = nobody ps in cc
+      one None low h = let none : list_any (λ p. equals p.lecturer l && false) ps ≡ false = nobody ps in cc
       one (Some q) low h =
           let there : has (map project_key (filter t ps)) q ≡ true = subst (λ xs. has (map project_key xs) q ≡ true) (sym these) (number_has (project_keys u) q (low q refl)) in
           let at : look project_key (λ (p : ProjectRow). number_in (lecturer_keys u) p.lecturer) u.projects q ≡ number_in (lecturer_keys u) l
@@ -225,11 +225,11 @@ module _ (u : World) (m : IsMatching (instance_of u) (places_of u)) (known : All
           subst (λ n. (n == number_in (lecturer_keys u) l) ≡ true) (sym (look_is project_key (λ (p : ProjectRow). number_in (lecturer_keys u) p.lecturer) u.projects q ∙ at)) (at_itself (number_in (lecturer_keys u) l))
 
       each : (ss : List rows.Student) → AllByRecursion (λ s. (q : Key) → s.placed ≡ Some q → number_in (project_keys u) q < length (project_keys u)) ss
-          → AllByRecursion (λ s. list_any (λ p. is p.lecturer l && is_at p.key s.placed) ps ≡ true → is_lecturer (instance_of u) (number_in (lecturer_keys u) l) (option_map (number_in (project_keys u)) s.placed) ≡ true) ss
+          → AllByRecursion (λ s. list_any (λ p. equals p.lecturer l && is_at p.key s.placed) ps ≡ true → is_lecturer (instance_of u) (number_in (lecturer_keys u) l) (option_map (number_in (project_keys u)) s.placed) ≡ true) ss
       each [] all = tt
       each (s ∷ ss) all = (one s.placed all.0, each ss all.1)
 
--- one round that is published, by what takes part
+-- one round that equals published, by what takes part
 module _ (w : World) (sound : Sound w) (m : IsMatching (instance w) (matching_of w)) where
   known_in : AllByRecursion (λ s. (q : Key) → s.placed ≡ Some q → number_in (project_keys (in_play w)) q < length (project_keys (in_play w))) (in_play w).students
   known_in = placed_known (project_keys (in_play w)) (in_play w).students (λ s n e. on_roll (project_keys (in_play w)) (in_play w).students (choices_in w sound) s n (m.acceptable s n e))
@@ -257,26 +257,26 @@ first_fits w g one m =
 
 -- no place, no count
 
-nobody_at : (l : Key) (ps : List ProjectRow) → list_any (λ p. is p.lecturer l && false) ps ≡ false
+nobody_at : (l : Key) (ps : List ProjectRow) → list_any (λ p. equals p.lecturer l && false) ps ≡ false
 nobody_at l [] = refl
-nobody_at l (p ∷ ps) = elim (is p.lecturer l) as (λ b. ((b && false) || list_any (λ p. is p.lecturer l && false) ps) ≡ false) [ true ↦ nobody_at l ps | false ↦ nobody_at l ps ]
+nobody_at l (p ∷ ps) = elim (equals p.lecturer l) as (λ b. ((b && false) || list_any (λ p. equals p.lecturer l && false) ps) ≡ false) [ true ↦ nobody_at l ps | false ↦ nobody_at l ps ]
 
 not_at : (k : Key) (o : Option Key) → o ≡ None → is_at k o ≡ false
 not_at k o e = ap (is_at k) e
 
-not_with : (l : Key) (ps : List ProjectRow) (o : Option Key) → o ≡ None → list_any (λ p. is p.lecturer l && is_at p.key o) ps ≡ false
-not_with l ps o e = ap (λ x. list_any (λ p. is p.lecturer l && is_at p.key x) ps) e ∙ nobody_at l ps
+not_with : (l : Key) (ps : List ProjectRow) (o : Option Key) → o ≡ None → list_any (λ p. equals p.lecturer l && is_at p.key o) ps ≡ false
+not_with l ps o e = ap (λ x. list_any (λ p. equals p.lecturer l && is_at p.key x) ps) e ∙ nobody_at l ps
 
-none_given : (ps : List ProjectRow) (ss : List rows.Student) → AllByRecursion (λ s. s.earlier_place ≡ None) ss → ((k : Key) → given_to ss k ≡ 0) × ((l : Key) → given_with ps ss l ≡ 0)
+none_given : (ps : List ProjectRow) (ss : List rows.Student) → AllByRecursion (λ s. s.earlier_placement ≡ None) ss → ((k : Key) → given_to ss k ≡ 0) × ((l : Key) → given_with ps ss l ≡ 0)
 none_given ps ss all = (
-  λ k. count_none (λ s. is_at k s.earlier_place) ss (all_weaker (λ s. s.earlier_place ≡ None) _ (λ s e. not_at k s.earlier_place e) ss all),
-  λ l. count_none (λ s. list_any (λ p. is p.lecturer l && is_at p.key s.earlier_place) ps) ss (all_weaker (λ s. s.earlier_place ≡ None) _ (λ s e. not_with l ps s.earlier_place e) ss all),
+  λ k. count_none (λ s. is_at k s.earlier_placement) ss (all_weaker (λ s. s.earlier_placement ≡ None) _ (λ s e. not_at k s.earlier_placement e) ss all),
+  λ l. count_none (λ s. list_any (λ p. equals p.lecturer l && is_at p.key s.earlier_placement) ps) ss (all_weaker (λ s. s.earlier_placement ≡ None) _ (λ s e. not_with l ps s.earlier_placement e) ss all),
 )
 
 none_placed : (ps : List ProjectRow) (ss : List rows.Student) → AllByRecursion (λ s. s.placed ≡ None) ss → ((k : Key) → placed_to ss k ≡ 0) × ((l : Key) → placed_with ps ss l ≡ 0)
 none_placed ps ss all = (
   λ k. count_none (λ s. is_at k s.placed) ss (all_weaker (λ s. s.placed ≡ None) _ (λ s e. not_at k s.placed e) ss all),
-  λ l. count_none (λ s. list_any (λ p. is p.lecturer l && is_at p.key s.placed) ps) ss (all_weaker (λ s. s.placed ≡ None) _ (λ s e. not_with l ps s.placed e) ss all),
+  λ l. count_none (λ s. list_any (λ p. equals p.lecturer l && is_at p.key s.placed) ps) ss (all_weaker (λ s. s.placed ≡ None) _ (λ s e. not_with l ps s.placed e) ss all),
 )
 
 pub each_one : {X : Type 0} (P : X → Type 0) → ((x : X) → P x) → (xs : List X) → AllByRecursion P xs
@@ -287,7 +287,7 @@ each_one P k (x ∷ xs) = (k x, each_one P k xs)
 both_fit : (a b c : ℕ) → a ≤ c → b ≤ c - a → a + b ≤ c
 both_fit a b c h k = omega (arith, h, k)
 
--- the second round's result, for the room that is left
+-- the second round's result, for the room that equals left
 record FitsLeft (w : World) : Type 0 where
   projects : AllByRecursion (λ p. placed_to w.students p.key ≤ p.capacity - given_to w.students p.key) w.projects
   lecturers : AllByRecursion (λ l. placed_with w.projects w.students l.row.key ≤ l.row.capacity - given_with w.projects w.students l.row.key) w.lecturers
@@ -327,9 +327,9 @@ second_fits w g two m =
           (λ l h.
           let few = with_at_most (left_of w) m' known (map (lowered_project w.students) w.projects) (λ p. nat_lt 0 p.capacity && has (map lecturer_key (lecturers_left w.lecturers w.projects w.students)) p.lecturer) rise refl l.row.key in
           let unlowered : placed_with (map (lowered_project w.students) w.projects) (students_left w.students) l.row.key ≡ placed_with w.projects (students_left w.students) l.row.key
-          = λ i. count_by (λ s. any_map (λ p. is p.lecturer l.row.key && is_at p.key s.placed) (lowered_project w.students) w.projects i) (students_left w.students) in
+          = λ i. count_by (λ s. any_map (λ p. equals p.lecturer l.row.key && is_at p.key s.placed) (lowered_project w.students) w.projects i) (students_left w.students) in
           let same : placed_with w.projects (students_left w.students) l.row.key ≡ placed_with w.projects w.students l.row.key
-          = count_filter (λ s. list_any (λ p. is p.lecturer l.row.key && is_at p.key s.placed) w.projects) is_left w.students (all_weaker _ _ (λ s out e. not_with l.row.key w.projects s.placed (out e).1) w.students g.only_left) in
+          = count_filter (λ s. list_any (λ p. equals p.lecturer l.row.key && is_at p.key s.placed) w.projects) is_left w.students (all_weaker _ _ (λ s out e. not_with l.row.key w.projects s.placed (out e).1) w.students g.only_left) in
           omega (arith, few, unlowered, same, h)) w.lecturers
           (all_unmap (λ x. look lecturer_key (λ (x : rows.Lecturer). x.row.capacity) (left_of w).lecturers x.row.key ≤ x.row.capacity) (lowered_lecturer w.projects w.students) w.lecturers
           (look_filter lecturer_key (λ (x : rows.Lecturer). x.row.capacity) (λ l. nat_lt 0 l.row.capacity) (map (lowered_lecturer w.projects w.students) w.lecturers) staff));
@@ -348,7 +348,7 @@ before_fits w b =
       projects = all_weaker (λ p. placed_to (map first_placed w.students) p.key ≤ p.capacity) _
           (λ p h. subst (λ n. n ≤ p.capacity) (count_by-map (λ s. is_at p.key s.placed) first_placed w.students) h) w.projects f.projects;
       lecturers = all_weaker (λ l. placed_with w.projects (map first_placed w.students) l.row.key ≤ l.row.capacity) _
-          (λ l h. subst (λ n. n ≤ l.row.capacity) (count_by-map (λ s. list_any (λ p. is p.lecturer l.row.key && is_at p.key s.placed) w.projects) first_placed w.students) h) w.lecturers
+          (λ l h. subst (λ n. n ≤ l.row.capacity) (count_by-map (λ s. list_any (λ p. equals p.lecturer l.row.key && is_at p.key s.placed) w.projects) first_placed w.students) h) w.lecturers
           (all_unmap (λ l. placed_with w.projects (map first_placed w.students) l.row.key ≤ l.row.capacity) first_published w.lecturers f.lecturers);
     }
 
@@ -380,7 +380,7 @@ keeps w g = by_round w.round refl (is_published w.phase) refl
   where
     by_round : (r : Round) → w.round ≡ r → (out : Bool) → is_published w.phase ≡ out → KeepsCapacities w
     by_round First one out e =
-        none_before w (none_given w.projects w.students (all_weaker (λ s. (s.earlier_choice ≡ []) × (s.earlier_place ≡ None)) _ (λ s h. h.1) w.students (g.sound.no_earlier_lists (ap is_second one)))) (fits out e)
+        none_before w (none_given w.projects w.students (all_weaker (λ s. (s.earlier_choice ≡ []) × (s.earlier_placement ≡ None)) _ (λ s h. h.1) w.students (g.sound.no_earlier_lists (ap is_second one)))) (fits out e)
       where
         fits : (out : Bool) → is_published w.phase ≡ out → Fits w
         fits true e = first_fits w g.sound one (g.stable e).matching

@@ -13,68 +13,68 @@ use Rattle.portal_core.specs.declared.rows.StudentRow.{StudentRow}
 use Rattle.portal_core.specs.declared.decision.Sheet.{Sheet}
 use Rattle.portal_core.specs.Change.{Change, Choices, Ranks, Lecturers, Projects, Students, To, Fill, SecondRound}
 use Rattle.portal_core.specs.Sight.{StudentSees, LecturerSees, OfficeSees}
-use Rattle.portal_core.specs.Ask.{Ask}
+use Rattle.portal_core.specs.AbstractCall.{AbstractCall}
 use Rattle.portal_core.specs.Bodies.{projects_body, students_body, phase_body, roll_body, filled_body}
 use Rattle.portal_core.specs.Faults.{ListFault, choice_fault, ranking_fault}
 use Rattle.portal_core.specs.Rolls.{Taken, Faulty, Took, take_rows, lecturer_roll, project_roll, student_roll}
-use Rattle.portal_core.specs.Answer.{Answer, Said, Decision, Nothing, Apply, Publish, answered, refuses, applies, renders, only, unless, already_placed, added, is_open_to_rolls, moves_on, opens, moves_in, to_student, to_lecturer, to_office}
+use Rattle.portal_core.specs.Answer.{Answer, Said, Decision, Nothing, Apply, Publish, answered, refuses, applies, renders, open_where, unless_faulty, already_placed, added, is_open_to_rolls, moves_on, opens, moves_in, to_student, to_lecturer, to_office}
 use Rattle.portal_core.specs.Run.{Calls}
 use Rattle.portal_core.specs.Heard.{is_move_or_add}
 
 -- a list that is taken
-abbrev pub Chooses : (Ask → Decision → Type 0) → StudentSees → Type 0
+abbrev pub Chooses : (AbstractCall → Decision → Type 0) → StudentSees → Type 0
 Chooses P v = (list : List Key) → is_choosing v.phase ≡ true → is_none v.result ≡ true → choice_fault v.catalogue 1 [] list ≡ None
-    → P (Ask.SetChoices list) (applies (projects_body list) (Choices v.me.key list))
+    → P (AbstractCall.SetChoices list) (applies (projects_body list) (Choices v.me.key list))
 
-abbrev pub RanksAll : (Ask → Decision → Type 0) → LecturerSees → Type 0
+abbrev pub RanksAll : (AbstractCall → Decision → Type 0) → LecturerSees → Type 0
 RanksAll P v = (list : List Key) → is_ranking v.phase ≡ true → ranking_fault v.applicants 1 [] list ≡ None
-    → P (Ask.SetRanking list) (applies (students_body (Some list)) (Ranks v.me.key list))
+    → P (AbstractCall.SetRanking list) (applies (students_body (Some list)) (Ranks v.me.key list))
 
 -- what the office may bring about
-pub record Runs (P : Ask → Decision → Type 0) (v : OfficeSees) : Type 0 where
+pub record Runs (P : AbstractCall → Decision → Type 0) (v : OfficeSees) : Type 0 where
   pub lecturers : (rs new : List LecturerRow) (n : ℕ) → is_open_to_rolls v.round v.phase ≡ true → take_rows (lecturer_roll v) 1 v.lecturers rs ≡ Took new n
-      → P (Ask.AddLecturers rs) (applies (roll_body (length new) n) (Lecturers new))
+      → P (AbstractCall.AddLecturers rs) (applies (roll_body (length new) n) (Lecturers new))
   pub projects : (rs new : List ProjectRow) (n : ℕ) → is_open_to_rolls v.round v.phase ≡ true → take_rows (project_roll v) 1 v.projects rs ≡ Took new n
-      → P (Ask.AddProjects rs) (applies (roll_body (length new) n) (Projects new))
+      → P (AbstractCall.AddProjects rs) (applies (roll_body (length new) n) (Projects new))
   pub students : (rs new : List StudentRow) (n : ℕ) → is_open_to_rolls v.round v.phase ≡ true → take_rows (student_roll v) 1 v.students rs ≡ Took new n
-      → P (Ask.AddStudents rs) (applies (roll_body (length new) n) (Students new))
-  pub choosing : (named : Option Round) → v.phase ≡ Setup → P (Ask.Move Choosing named) (applies (phase_body v.round Choosing) (To Choosing))
-  pub ranking : (named : Option Round) → v.phase ≡ Choosing → P (Ask.Move Ranking named) (applies (phase_body v.round Ranking) (To Ranking))
+      → P (AbstractCall.AddStudents rs) (applies (roll_body (length new) n) (Students new))
+  pub choosing : (named : Option Round) → v.phase ≡ Setup → P (AbstractCall.Move Choosing named) (applies (phase_body v.round Choosing) (To Choosing))
+  pub ranking : (named : Option Round) → v.phase ≡ Choosing → P (AbstractCall.Move Ranking named) (applies (phase_body v.round Ranking) (To Ranking))
   pub published : (named : Option Round) → v.phase ≡ Ranking → is_empty v.still_to_rank ≡ true
-      → P (Ask.Move Published named) (record { reply = answered 200 (phase_body v.round Published); act = Publish })
-  pub opened : v.round ≡ First → v.phase ≡ Published → P (Ask.Move Choosing (Some Second)) (applies (phase_body Second Choosing) SecondRound)
-  pub filled : is_ranking v.phase ≡ true → is_empty v.still_to_rank ≡ false → P Ask.FillRankings (applies (filled_body v.still_to_rank) Fill)
-  pub sheets : (ask : Ask) (text : Said) (sheet : Sheet) → is_move_or_add (Calls ask) ≡ false → P ask (renders text sheet)
+      → P (AbstractCall.Move Published named) (record { reply = answered 200 (phase_body v.round Published); act = Publish })
+  pub opened : v.round ≡ First → v.phase ≡ Published → P (AbstractCall.Move Choosing (Some Second)) (applies (phase_body Second Choosing) SecondRound)
+  pub filled : is_ranking v.phase ≡ true → is_empty v.still_to_rank ≡ false → P AbstractCall.FillRankings (applies (filled_body v.still_to_rank) Fill)
+  pub sheets : (ask : AbstractCall) (text : Said) (sheet : Sheet) → is_move_or_add (Calls ask) ≡ false → P ask (renders text sheet)
 
-module _ (P : Ask → Decision → Type 0) (idle : (ask : Ask) (reply : Answer) → P ask (refuses reply)) where
-  gate : (ask : Ask) (d : Decision) (now b : Bool) → now ≡ b → (now ≡ true → P ask d) → P ask (only b d)
+module _ (P : AbstractCall → Decision → Type 0) (idle : (ask : AbstractCall) (reply : Answer) → P ask (refuses reply)) where
+  gate : (ask : AbstractCall) (d : Decision) (now b : Bool) → now ≡ b → (now ≡ true → P ask d) → P ask (open_where b d)
   gate ask d now true e k = k e
   gate ask d now false e k = idle ask _
 
-  free : (ask : Ask) (d : Decision) (open' b : Bool) → open' ≡ b → (open' ≡ true → P ask d) → P ask (cond b d already_placed)
+  free : (ask : AbstractCall) (d : Decision) (open' b : Bool) → open' ≡ b → (open' ≡ true → P ask d) → P ask (cond b d already_placed)
   free ask d open' true e k = k e
   free ask d open' false e k = idle ask _
 
-  faultless : (ask : Ask) (d : Decision) (fault o : Option ListFault) → fault ≡ o → (fault ≡ None → P ask d) → P ask (unless o d)
+  faultless : (ask : AbstractCall) (d : Decision) (fault o : Option ListFault) → fault ≡ o → (fault ≡ None → P ask d) → P ask (unless_faulty o d)
   faultless ask d fault None e k = k e
   faultless ask d fault (Some f) e k = idle ask _
 
-  pub by_student : (v : StudentSees) → Chooses P v → (ask : Ask) → P ask (to_student v ask)
-  by_student v chosen (Ask.SetChoices list) =
+  pub by_student : (v : StudentSees) → Chooses P v → (ask : AbstractCall) → P ask (to_student v ask)
+  by_student v chosen (AbstractCall.SetChoices list) =
       gate _ _ (is_choosing v.phase) _ refl (λ now. free _ _ (is_none v.result) _ refl (λ left. faultless _ _ (choice_fault v.catalogue 1 [] list) _ refl (λ none. chosen list now left none)))
-  by_student v chosen Ask.Result = gate _ _ (has_result v.round v.phase) _ refl (λ now. idle _ _)
+  by_student v chosen AbstractCall.Result = gate _ _ (has_result v.round v.phase) _ refl (λ now. idle _ _)
   by_student v chosen ask = idle ask _
 
-  pub by_lecturer : (v : LecturerSees) → RanksAll P v → (ask : Ask) → P ask (to_lecturer v ask)
-  by_lecturer v ranked (Ask.SetRanking list) = gate _ _ (is_ranking v.phase) _ refl (λ now. faultless _ _ (ranking_fault v.applicants 1 [] list) _ refl (λ none. ranked list now none))
-  by_lecturer v ranked Ask.Applicants = gate _ _ (is_from_ranking v.phase) _ refl (λ now. idle _ _)
-  by_lecturer v ranked Ask.ShowRanking = gate _ _ (is_from_ranking v.phase) _ refl (λ now. idle _ _)
-  by_lecturer v ranked Ask.Result = gate _ _ (has_result v.round v.phase) _ refl (λ now. idle _ _)
+  pub by_lecturer : (v : LecturerSees) → RanksAll P v → (ask : AbstractCall) → P ask (to_lecturer v ask)
+  by_lecturer v ranked (AbstractCall.SetRanking list) = gate _ _ (is_ranking v.phase) _ refl (λ now. faultless _ _ (ranking_fault v.applicants 1 [] list) _ refl (λ none. ranked list now none))
+  by_lecturer v ranked AbstractCall.Applicants = gate _ _ (is_from_ranking v.phase) _ refl (λ now. idle _ _)
+  by_lecturer v ranked AbstractCall.ShowRanking = gate _ _ (is_from_ranking v.phase) _ refl (λ now. idle _ _)
+  by_lecturer v ranked AbstractCall.Result = gate _ _ (has_result v.round v.phase) _ refl (λ now. idle _ _)
   by_lecturer v ranked ask = idle ask _
 
   module _ (v : OfficeSees) (does : Runs P v) where
     -- a roll, by what one that is taken brings
-    taken : {X : Type 0} (ask : Ask) (change : List X → Change) (t o : Taken X) → t ≡ o
+    taken : {X : Type 0} (ask : AbstractCall) (change : List X → Change) (t o : Taken X) → t ≡ o
         → ((new : List X) (n : ℕ) → t ≡ Took new n → P ask (applies (roll_body (length new) n) (change new))) → P ask (added change o)
     taken ask change t (Faulty f) e k = idle ask _
     taken ask change t (Took new n) e k = some (is_empty new)
@@ -84,16 +84,16 @@ module _ (P : Ask → Decision → Type 0) (idle : (ask : Ask) (reply : Answer) 
         some false = k new n e
 
     publishing : (named : Option Round) → v.phase ≡ Ranking → (b : Bool) → is_empty v.still_to_rank ≡ b → (refusal : Answer)
-        → P (Ask.Move Published named) (if b then record { reply = answered 200 (phase_body v.round Published); act = Publish } else refuses refusal)
+        → P (AbstractCall.Move Published named) (if b then record { reply = answered 200 (phase_body v.round Published); act = Publish } else refuses refusal)
     publishing named at true none refusal = does.published named at none
     publishing named at false none refusal = idle _ _
 
     filling : is_ranking v.phase ≡ true → (b : Bool) → is_empty v.still_to_rank ≡ b
-        → P Ask.FillRankings (record { reply = answered 200 (filled_body v.still_to_rank); act = if b then Nothing else Apply Fill })
+        → P AbstractCall.FillRankings (record { reply = answered 200 (filled_body v.still_to_rank); act = if b then Nothing else Apply Fill })
     filling now true none = idle _ _
     filling now false some = does.filled now some
 
-    moved : (named : Option Round) (p q : Phase) → v.phase ≡ p → P (Ask.Move q named) (moves_on v p q)
+    moved : (named : Option Round) (p q : Phase) → v.phase ≡ p → P (AbstractCall.Move q named) (moves_on v p q)
     moved named Setup Choosing at = does.choosing named at
     moved named Choosing Ranking at = does.ranking named at
     moved named Ranking Published at = publishing named at (is_empty v.still_to_rank) refl _
@@ -103,24 +103,24 @@ module _ (P : Ask → Decision → Type 0) (idle : (ask : Ask) (reply : Answer) 
     moved named Published Published at = idle _ _
     moved named p q at = idle _ _
 
-    opening : v.round ≡ First → (p q : Phase) → v.phase ≡ p → P (Ask.Move q (Some Second)) (opens p q)
+    opening : v.round ≡ First → (p q : Phase) → v.phase ≡ p → P (AbstractCall.Move q (Some Second)) (opens p q)
     opening one Published Choosing at = does.opened one at
     opening one p q at = idle _ _
 
-    moved_in : (r s : Round) (q : Phase) → v.round ≡ r → P (Ask.Move q (Some s)) (moves_in v r s q)
+    moved_in : (r s : Round) (q : Phase) → v.round ≡ r → P (AbstractCall.Move q (Some s)) (moves_in v r s q)
     moved_in First First q one = moved (Some First) v.phase q refl
     moved_in Second Second q one = moved (Some Second) v.phase q refl
     moved_in First Second q one = opening one v.phase q refl
     moved_in Second First q one = idle _ _
 
-    pub by_office : (ask : Ask) → P ask (to_office v ask)
-    by_office (Ask.Move phase None) = moved None v.phase phase refl
-    by_office (Ask.Move phase (Some round)) = moved_in v.round round phase refl
-    by_office (Ask.AddLecturers rs) = gate _ _ (is_open_to_rolls v.round v.phase) _ refl (λ now. taken _ Lecturers _ _ refl (λ new n e. does.lecturers rs new n now e))
-    by_office (Ask.AddProjects rs) = gate _ _ (is_open_to_rolls v.round v.phase) _ refl (λ now. taken _ Projects _ _ refl (λ new n e. does.projects rs new n now e))
-    by_office (Ask.AddStudents rs) = gate _ _ (is_open_to_rolls v.round v.phase) _ refl (λ now. taken _ Students _ _ refl (λ new n e. does.students rs new n now e))
-    by_office Ask.FillRankings = gate _ _ (is_ranking v.phase) _ refl (λ now. filling now (is_empty v.still_to_rank) refl)
-    by_office Ask.Allocation = gate _ _ (has_result v.round v.phase) _ refl (λ now. idle _ _)
-    by_office Ask.AllocationCsv = gate _ _ (has_result v.round v.phase) _ refl (λ now. does.sheets _ _ _ refl)
-    by_office Ask.Report = gate _ _ (has_result v.round v.phase) _ refl (λ now. does.sheets _ _ _ refl)
+    pub by_office : (ask : AbstractCall) → P ask (to_office v ask)
+    by_office (AbstractCall.Move phase None) = moved None v.phase phase refl
+    by_office (AbstractCall.Move phase (Some round)) = moved_in v.round round phase refl
+    by_office (AbstractCall.AddLecturers rs) = gate _ _ (is_open_to_rolls v.round v.phase) _ refl (λ now. taken _ Lecturers _ _ refl (λ new n e. does.lecturers rs new n now e))
+    by_office (AbstractCall.AddProjects rs) = gate _ _ (is_open_to_rolls v.round v.phase) _ refl (λ now. taken _ Projects _ _ refl (λ new n e. does.projects rs new n now e))
+    by_office (AbstractCall.AddStudents rs) = gate _ _ (is_open_to_rolls v.round v.phase) _ refl (λ now. taken _ Students _ _ refl (λ new n e. does.students rs new n now e))
+    by_office AbstractCall.FillRankings = gate _ _ (is_ranking v.phase) _ refl (λ now. filling now (is_empty v.still_to_rank) refl)
+    by_office AbstractCall.Allocation = gate _ _ (has_result v.round v.phase) _ refl (λ now. idle _ _)
+    by_office AbstractCall.AllocationCsv = gate _ _ (has_result v.round v.phase) _ refl (λ now. does.sheets _ _ _ refl)
+    by_office AbstractCall.Report = gate _ _ (has_result v.round v.phase) _ refl (λ now. does.sheets _ _ _ refl)
     by_office ask = idle ask _

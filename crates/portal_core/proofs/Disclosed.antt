@@ -11,11 +11,11 @@ use Rattle.portal_core.specs.Sight.{StudentSees}
 use Rattle.portal_core.specs.declared.view.View.{View as Sight}
 use Rattle.portal_core.specs.declared.view.View.TheVariants.{Nobody, Office, Lecturer, Student}
 use Rattle.portal_core.specs.View.{view}
-use Rattle.portal_core.specs.Ask.{Ask}
+use Rattle.portal_core.specs.AbstractCall.{AbstractCall}
 use Rattle.portal_core.specs.Bodies.{projects_body}
 use Rattle.portal_core.specs.Faults.{ListFault, choice_fault}
-use Rattle.portal_core.specs.Answer.{Answer, Act, Decision, Nothing, Apply, Publish, Render, only, unless, applies, already_placed, decision, answer, to_student}
-use Rattle.portal_core.specs.Run.{Leaves, Step, Wish, Calls, Refused, Request, Answers, Run, AllAnswered}
+use Rattle.portal_core.specs.Answer.{Answer, Act, Decision, Nothing, Apply, Publish, Render, open_where, unless_faulty, applies, already_placed, decision, answer, to_student}
+use Rattle.portal_core.specs.Run.{StepLeaves, Step, Wish, Calls, Refused, Request, Answers, Run, AllAnswered}
 use Rattle.portal_core.specs.Places.{Reordered, SameButPlaces, SameWish, equal, sets, SameRequest, has_places, opens_result, Unless, AlikeUntilPublished}
 use Rattle.portal_core.proofs.Cases.{by_student, by_lecturer, by_office}
 use Rattle.portal_core.proofs.Hearing.{really}
@@ -37,25 +37,25 @@ data SameAct : Act → Act → Type 0 where
 
 -- one call of callers who see the same
 
-abbrev Decides : Sight → Sight → Ask → Type 0
+abbrev Decides : Sight → Sight → AbstractCall → Type 0
 Decides x y ask = Unless (has_places (Calls ask)) (answer x ask ≡ answer y ask) × SameAct (decision x ask).act (decision y ask).act
 
-by_path : (x y : Sight) → x ≡ y → (ask : Ask) → Decides x y ask
+by_path : (x y : Sight) → x ≡ y → (ask : AbstractCall) → Decides x y ask
 by_path x y e ask = subst (λ u. Decides x u ask) e (unless_any _ _ refl, same_act _)
 
-of_student : (v : StudentSees) (list : List Key) (ask : Ask) → Decides (Student v) (Student (record v { choices = list })) ask
-of_student v list Ask.ShowChoices = (tt, same_act Nothing)
-of_student v list (Ask.SetChoices ks) = (tt, same_act _)
+of_student : (v : StudentSees) (list : List Key) (ask : AbstractCall) → Decides (Student v) (Student (record v { choices = list })) ask
+of_student v list AbstractCall.ShowChoices = (tt, same_act Nothing)
+of_student v list (AbstractCall.SetChoices ks) = (tt, same_act _)
 of_student v list _ = (refl, same_act _)
 
-same_ask : (x y : Sight) → SameSight x y → (ask : Ask) → Decides x y ask
+same_ask : (x y : Sight) → SameSight x y → (ask : AbstractCall) → Decides x y ask
 same_ask (Student v) (Student u) s ask = subst (λ z. Decides (Student v) (Student z) ask) s (of_student v u.choices ask)
 same_ask x y s ask = by_path x y s ask
 
 -- lists in another order are both taken or both refused
 
 set_acts : (catalogue : List Listing) (me : Key) (ks ls : List Key) → Reordered ks ls → (b free : Bool) (e f : Option ListFault) → choice_fault catalogue 1 [] ks ≡ e → choice_fault catalogue 1 [] ls ≡ f → (c d : Data)
-    → SameAct (only b (cond free (unless e (applies c (Choices me ks))) already_placed)).act (only b (cond free (unless f (applies d (Choices me ls))) already_placed)).act
+    → SameAct (open_where b (cond free (unless_faulty e (applies c (Choices me ks))) already_placed)).act (open_where b (cond free (unless_faulty f (applies d (Choices me ls))) already_placed)).act
 set_acts catalogue me ks ls r false free e f ee ef c d = same_act Nothing
 set_acts catalogue me ks ls r true false e f ee ef c d = same_act Nothing
 set_acts catalogue me ks ls r true true None None ee ef c d = reorders me r
@@ -63,13 +63,13 @@ set_acts catalogue me ks ls r true true (Some x) (Some y) ee ef c d = same_act N
 set_acts catalogue me ks ls r true true None (Some y) ee ef c d = let e : None ≡ Some y = sym (accepted_reordered catalogue ks ls r ee) ∙ ef in cc
 set_acts catalogue me ks ls r true true (Some x) None ee ef c d = let e : None ≡ Some x = sym (accepted_reordered catalogue ls ks (reordered_back ks ls r) ef) ∙ ee in cc
 
-same_sets : (x y : Sight) → SameSight x y → (ks ls : List Key) → Reordered ks ls → SameAct (decision x (Ask.SetChoices ks)).act (decision y (Ask.SetChoices ls)).act
+same_sets : (x y : Sight) → SameSight x y → (ks ls : List Key) → Reordered ks ls → SameAct (decision x (AbstractCall.SetChoices ks)).act (decision y (AbstractCall.SetChoices ls)).act
 same_sets (Student v) (Student u) s ks ls r =
-    subst (λ z. SameAct (to_student v (Ask.SetChoices ks)).act (to_student z (Ask.SetChoices ls)).act) s
+    subst (λ z. SameAct (to_student v (AbstractCall.SetChoices ks)).act (to_student z (AbstractCall.SetChoices ls)).act) s
     (set_acts v.catalogue v.me.key ks ls r (is_choosing v.phase) (is_none v.result) (choice_fault v.catalogue 1 [] ks) (choice_fault v.catalogue 1 [] ls) refl refl (projects_body ks) (projects_body ls))
-same_sets Nobody y s ks ls r = subst (λ z. SameAct Nothing (decision z (Ask.SetChoices ls)).act) s (same_act Nothing)
-same_sets (Office v) y s ks ls r = subst (λ z. SameAct Nothing (decision z (Ask.SetChoices ls)).act) s (same_act Nothing)
-same_sets (Lecturer v) y s ks ls r = subst (λ z. SameAct Nothing (decision z (Ask.SetChoices ls)).act) s (same_act Nothing)
+same_sets Nobody y s ks ls r = subst (λ z. SameAct Nothing (decision z (AbstractCall.SetChoices ls)).act) s (same_act Nothing)
+same_sets (Office v) y s ks ls r = subst (λ z. SameAct Nothing (decision z (AbstractCall.SetChoices ls)).act) s (same_act Nothing)
+same_sets (Lecturer v) y s ks ls r = subst (λ z. SameAct Nothing (decision z (AbstractCall.SetChoices ls)).act) s (same_act Nothing)
 same_sets (Student v) Nobody s ks ls r = cc
 same_sets (Student v) (Office u) s ks ls r = cc
 same_sets (Student v) (Lecturer u) s ks ls r = cc
@@ -80,10 +80,10 @@ abbrev is_publish : Act → Bool
 is_publish Publish = true
 is_publish _ = false
 
-abbrev Opens : Ask → Decision → Type 0
+abbrev Opens : AbstractCall → Decision → Type 0
 Opens ask d = is_publish d.act ≡ true → opens_result (Calls ask) d.reply ≡ true
 
-publishes_opens : (x : Sight) (ask : Ask) → Opens ask (decision x ask)
+publishes_opens : (x : Sight) (ask : AbstractCall) → Opens ask (decision x ask)
 publishes_opens Nobody ask = λ e. cc
 publishes_opens (Student v) ask = by_student Opens (λ ask reply e. cc) v (λ list now left none e. cc) ask
 publishes_opens (Lecturer v) ask = by_lecturer Opens (λ ask reply e. cc) v (λ list now none e. cc) ask
@@ -103,7 +103,7 @@ publishes_opens (Office v) ask =
 
 -- one request
 
-after : (v w v' w' : World) (a b : Act) → SameButPlaces v w → SameAct a b → is_publish a ≡ false → Leaves v a v' → Leaves w b w' → SameButPlaces v' w'
+after : (v w v' w' : World) (a b : Act) → SameButPlaces v w → SameAct a b → is_publish a ≡ false → StepLeaves v a v' → StepLeaves w b w' → SameButPlaces v' w'
 after v w v' w' _ _ s (same_act Nothing) e l m = subst (λ x. SameButPlaces x w') (sym l) (subst (λ x. SameButPlaces v x) (sym m) s)
 after v w v' w' _ _ s (same_act (Apply change)) e l m = subst (λ x. SameButPlaces x w') (sym l) (subst (λ x. SameButPlaces (changed v change) x) (sym m) (both_changed v w change s))
 after v w v' w' _ _ s (same_act (Render sheet)) e l m = subst (λ x. SameButPlaces x w') (sym l) (subst (λ x. SameButPlaces v x) (sym m) s)
@@ -113,7 +113,7 @@ after v w v' w' _ _ s (reorders k {ks} {ls} r) e l m = subst (λ x. SameButPlace
 abbrev Goes : Wish → Answer → Answer → World → World → Type 0
 Goes p a b v' w' = Unless (has_places p) (a ≡ b) × (SameButPlaces v' w' ⊎ (opens_result p a ≡ true))
 
-goes_on : (v w v' w' : World) (c : Key) (ask ask' : Ask) (a b : Answer) → SameButPlaces v w → Step v c ask a v' → Step w c ask' b w' → SameAct (decision (view v c) ask).act (decision (view w c) ask').act
+goes_on : (v w v' w' : World) (c : Key) (ask ask' : AbstractCall) (a b : Answer) → SameButPlaces v w → Step v c ask a v' → Step w c ask' b w' → SameAct (decision (view v c) ask).act (decision (view w c) ask').act
     → SameButPlaces v' w' ⊎ (opens_result (Calls ask) a ≡ true)
 goes_on v w v' w' c ask ask' a b s l m same = go (is_publish (decision (view v c) ask).act) refl
   where
@@ -129,8 +129,8 @@ one_goes v w v' w' q r s code _ _ (equal (Calls ask)) a b l m =
 one_goes v w v' w' q r s code _ _ (equal (Refused refusal)) a b l m =
     (l.0 ∙ sym m.0, inl (subst (λ x. SameButPlaces x w') (sym l.1) (subst (λ x. SameButPlaces v x) (sym m.1) s)))
 one_goes v w v' w' q r s code _ _ (sets {ks} {ls} o) a b l m =
-    let n : Step w q.code (Ask.SetChoices ls) b w' = subst (λ c. Step w c (Ask.SetChoices ls) b w') (sym code) m in
-    (tt, goes_on v w v' w' q.code (Ask.SetChoices ks) (Ask.SetChoices ls) a b s l n (same_sets _ _ (same_view v w s q.code) ks ls o))
+    let n : Step w q.code (AbstractCall.SetChoices ls) b w' = subst (λ c. Step w c (AbstractCall.SetChoices ls) b w') (sym code) m in
+    (tt, goes_on v w v' w' q.code (AbstractCall.SetChoices ks) (AbstractCall.SetChoices ls) a b s l n (same_sets _ _ (same_view v w s q.code) ks ls o))
 
 -- whole runs
 pub places_unseen : (v w : World) (asked others : List Request) (told said : List Answer) (after later : List World)

@@ -6,7 +6,7 @@ use Rattle.std.proofs.Math.Bool.{or-true, or_comm}
 use Rattle.std.proofs.lemmas.Bool.{or_parts, not-false}
 use Rattle.std.proofs.lemmas.List.{map-id}
 use Rattle.std.proofs.lemmas.Simd.{map-map}
-use Rattle.portal_core.specs.Words.{Key, is, has, AreDistinct, put}
+use Rattle.portal_core.specs.Words.{Key, equals, has, AreDistinct, put}
 use Rattle.portal_core.specs.World as rows
 use Rattle.portal_core.specs.World.{World, lecturer_key, project_key, student_key, applicants_of, is_from_ranking, is_published, is_left, in_play, projects_in}
 use Rattle.portal_core.specs.declared.phase.Round.TheVariants.{First}
@@ -25,7 +25,7 @@ use Rattle.portal_core.proofs.AllLaws.{any_append, all_weaker, is_sym}
 use Rattle.portal_core.proofs.Puts.{all_put, length_put, rise_put, distinct_put, has_put}
 use Rattle.portal_core.proofs.Adds.{Alike, has_alike, taken}
 
--- before rankings nothing is published
+-- before rankings nothing equals published
 pub open_phase : (phase : Phase) → is_from_ranking phase ≡ false → is_published phase ≡ false
 open_phase Setup e = refl
 open_phase Choosing e = refl
@@ -34,14 +34,14 @@ open_phase Published e = cc
 
 -- a key stands in either order or in none
 has_swap : (xs ys : List Key) (k : Key) → has (xs ++ ys) k ≡ has (ys ++ xs) k
-has_swap xs ys k = any_append (is k) xs ys ∙ or_comm (has xs k) (has ys k) ∙ sym (any_append (is k) ys xs)
+has_swap xs ys k = any_append (equals k) xs ys ∙ or_comm (has xs k) (has ys k) ∙ sym (any_append (equals k) ys xs)
 
 distinct_between : (ys zs : List Key) (x : Key) → AreDistinct (ys ++ zs) → has (ys ++ zs) x ≡ false → AreDistinct (ys ++ x ∷ zs)
 distinct_between [] zs x d new = (new, d)
 distinct_between (y ∷ ys) zs x d new =
-    let parts : (is x y ≡ false) × (has (ys ++ zs) x ≡ false) = or_parts (is x y) (has (ys ++ zs) x) new in
-    let old : (has ys y ≡ false) × (has zs y ≡ false) = or_parts (has ys y) (has zs y) (sym (any_append (is y) ys zs) ∙ d.0) in (
-      any_append (is y) ys (x ∷ zs) ∙ ap (λ b. b || (is y x || has zs y)) old.0 ∙ ap (λ b. b || has zs y) (is_sym y x ∙ parts.0) ∙ old.1,
+    let parts : (equals x y ≡ false) × (has (ys ++ zs) x ≡ false) = or_parts (equals x y) (has (ys ++ zs) x) new in
+    let old : (has ys y ≡ false) × (has zs y ≡ false) = or_parts (has ys y) (has zs y) (sym (any_append (equals y) ys zs) ∙ d.0) in (
+      any_append (equals y) ys (x ∷ zs) ∙ ap (λ b. b || (equals y x || has zs y)) old.0 ∙ ap (λ b. b || has zs y) (is_sym y x ∙ parts.0) ∙ old.1,
       distinct_between ys zs x d.1 parts.1,
     )
 
@@ -52,7 +52,7 @@ distinct_swap (x ∷ xs) ys d = distinct_between ys xs x (distinct_swap xs ys d.
 
 -- what a list of keys has, it has with one more
 still_has : {X : Type 0} (key : X → Key) (x : X) (ys : List X) (k : Key) → has (map key ys) k ≡ true → has (map key (put key x ys)) k ≡ true
-still_has key x ys k h = has_put key x key ys k ∙ ap (λ b. is k (key x) || b) h ∙ or-true (is k (key x))
+still_has key x ys k h = has_put key x key ys k ∙ ap (λ b. equals k (key x) || b) h ∙ or-true (equals k (key x))
 
 module _ (w : World) (early : is_from_ranking w.phase ≡ false) (one : w.round ≡ First) where
   -- in the first round each project takes part
@@ -87,7 +87,7 @@ module _ (w : World) (early : is_from_ranking w.phase ≡ false) (one : w.round 
         rankings = none_ranked (λ l. IsRanking (map student_key (applicants_of (record w { students = put student_key (new_student r) ss }) l.row.key))) w.lecturers (g.no_rankings_yet early);
         no_result_yet = λ h. all_put student_key (new_student r) (λ s. s.placed ≡ None) ss refl (g.no_result_yet h);
         all_ranked = λ h. let not' : is_published w.phase ≡ false = open_phase w.phase early in cc;
-        no_earlier_lists = λ h. all_put student_key (new_student r) (λ s. (s.earlier_choice ≡ []) × (s.earlier_place ≡ None)) ss (refl, refl) (g.no_earlier_lists h);
+        no_earlier_lists = λ h. all_put student_key (new_student r) (λ s. (s.earlier_choice ≡ []) × (s.earlier_placement ≡ None)) ss (refl, refl) (g.no_earlier_lists h);
         no_earlier_rankings = g.no_earlier_rankings;
         no_second_setup = g.no_second_setup;
         only_left = all_put student_key (new_student r) (λ s. is_left s ≡ false → (s.choice ≡ []) × (s.placed ≡ None)) ss (λ h. (refl, refl)) g.only_left;

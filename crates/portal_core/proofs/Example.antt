@@ -13,7 +13,7 @@ use Rattle.portal_core.specs.World.{student_key, applicants_of, is_setup, is_pub
 use Rattle.portal_core.specs.Instance.{project_keys}
 use Rattle.portal_core.specs.Good.{Good, Sound, IsChoice, IsRanking}
 use Rattle.portal_core.specs.Change.{Choices, Fill, changed}
-use Rattle.portal_core.specs.Ask.{Ask}
+use Rattle.portal_core.specs.AbstractCall.{AbstractCall}
 use Rattle.portal_core.specs.Worked.{worked, again, again_ranking, again_published, cyr, office}
 use Rattle.portal_core.proofs.Steps.{step_good}
 use Rattle.portal_core.proofs.Texts.{ascii_text}
@@ -222,15 +222,15 @@ small_best =
     as_good (suc s) (Some q) on = let listed = on q refl in absurd (omega arith)
 
 pub again_good : Good again
-again_good = step_good (worked Published) again office (Ask.Move Choosing (Some Second)) _ (worked_good Published) (record { form = tt; told = refl; left = refl })
+again_good = step_good (worked Published) again office (AbstractCall.Move Choosing (Some Second)) _ (worked_good Published) (record { form = tt; told = refl; left = refl })
 
 pub again_ranking_good : Good again_ranking
 again_ranking_good =
     let listed : Good (changed again (Choices (codes "S3") (codes "P3" ∷ [])))
-    = step_good again _ cyr (Ask.SetChoices (codes "P3" ∷ [])) _ again_good (record { form = tt; told = refl; left = refl }) in
-    step_good _ again_ranking office (Ask.Move Ranking None) _ listed (record { form = tt; told = refl; left = refl })
+    = step_good again _ cyr (AbstractCall.SetChoices (codes "P3" ∷ [])) _ again_good (record { form = tt; told = refl; left = refl }) in
+    step_good _ again_ranking office (AbstractCall.Move Ranking None) _ listed (record { form = tt; told = refl; left = refl })
 
 pub again_published_good : Good again_published
 again_published_good =
-    let ranked : Good (changed again_ranking Fill) = step_good again_ranking _ office Ask.FillRankings _ again_ranking_good (record { form = tt; told = refl; left = refl }) in
-    step_good _ again_published office (Ask.Move Published None) _ ranked (record { form = tt; told = refl; left = ((codes "S3", codes "P3") ∷ [], refl, small_best) })
+    let ranked : Good (changed again_ranking Fill) = step_good again_ranking _ office AbstractCall.FillRankings _ again_ranking_good (record { form = tt; told = refl; left = refl }) in
+    step_good _ again_published office (AbstractCall.Move Published None) _ ranked (record { form = tt; told = refl; left = ((codes "S3", codes "P3") ∷ [], refl, small_best) })

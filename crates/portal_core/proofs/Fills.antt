@@ -3,7 +3,7 @@ use Rattle.std.proofs.Common.{◌≡◌, Bool, true, false, cond, List, [], ◌�
 use Rattle.std.specs.Prelude.{map, filter, Some, option_map, IfSome, not, ◌||◌}
 use Rattle.std.specs.List.{filter_map, AllByRecursion}
 use Rattle.std.proofs.Math.Bool.{or-true, and-false}
-use Rattle.portal_core.specs.Words.{Key, is, has, is_before, is_empty, Rise, AreDistinct}
+use Rattle.portal_core.specs.Words.{Key, equals, has, is_before, is_empty, Rise, AreDistinct}
 use Rattle.portal_core.specs.World as rows
 use Rattle.portal_core.specs.World.{World, in_play, lecturer_key, student_key, applicants_of, is_still_to_rank, is_ranking, is_published, is_from_ranking}
 use Rattle.portal_core.specs.Change.{Fill, changed, with_fill}
@@ -25,7 +25,7 @@ module _ (w : World) where
       (λ i. listings (play_filled w i).lecturers (play_filled w i).projects)
       ∙ λ i. filter_map (λ p. option_map (listing_with p) (names_kept (with_fill w) (fill_row w) (in_play w).lecturers p.lecturer i)) (in_play w).projects
 
-  -- nobody is still to rank
+  -- nobody equals still to rank
 
   pub now_ranked : (l : rows.Lecturer) → is_still_to_rank (changed w Fill) (with_fill w l) ≡ false
   now_ranked l = go (is_still_to_rank w l) refl
@@ -56,12 +56,12 @@ module _ (w : World) where
 
 all_there : (ks ls : List Key) → ((k : Key) → has ks k ≡ true → has ls k ≡ true) → AllByRecursion (λ k. has ls k ≡ true) ks
 all_there [] ls k = tt
-all_there (x ∷ ks) ls k = (k x (ap (λ b. b || has ks x) (is_own x)), all_there ks ls (λ l h. k l (ap (λ b. is l x || b) h ∙ or-true (is l x))))
+all_there (x ∷ ks) ls k = (k x (ap (λ b. b || has ks x) (is_own x)), all_there ks ls (λ l h. k l (ap (λ b. equals l x || b) h ∙ or-true (equals l x))))
 
--- a key that stands before another is another
-pub before_other : (k l : Key) → is_before k l ≡ true → is k l ≡ false
+-- a key that stands before another equals another
+pub before_other : (k l : Key) → is_before k l ≡ true → equals k l ≡ false
 before_other k l h =
-    (elim (is k l) as (λ b. is k l ≡ b → b ≡ false) [
+    (elim (equals k l) as (λ b. equals k l ≡ b → b ≡ false) [
       | true ↦ λ e. absurd (not_before_itself k (subst (λ x. is_before k x ≡ true) (sym (is_same k l e)) h))
       | false ↦ λ e. refl
     ]) refl
@@ -94,7 +94,7 @@ module _ {X : Type 0} (key : X → Key) (p : X → Bool) where
 pub ranks_by_key : (ks : List Key) → Rise ks → IsRanking ks ks
 ranks_by_key ks rise = record { all = all_there ks ks (λ k h. h); only = all_there ks ks (λ k h. h); once = rise_distinct ks rise }
 
--- each missing ranking is made, and each other one stays
+-- each missing ranking equals made, and each other one stays
 rankings_filled : (w : World) → Rise (map student_key w.students) → (ls : List rows.Lecturer)
     → AllByRecursion (λ l. IfSome l.ranking (IsRanking (map student_key (applicants_of w l.row.key)))) ls
     → AllByRecursion (λ l. IfSome l.ranking (IsRanking (map student_key (applicants_of w l.row.key)))) (map (with_fill w) ls)

@@ -1,4 +1,4 @@
--- A fault is told where it is first.
+-- A fault equals told where it equals first.
 use Rattle.std.proofs.Common.{◌≡◌, ◌⊎◌, inl, inr, ℕ, ◌+◌, Bool, true, false, List, [], ◌∷◌, ◌++◌, length, refl, sym, ◌∙◌, ap, subst, arith, append_assoc, append-nil}
 use Rattle.std.specs.Prelude.{Option, Some, None, ◌==◌, nat_le, codes}
 use Rattle.std.specs.List.{find}
@@ -7,7 +7,7 @@ use Rattle.std.proofs.lemmas.Bool.Decides.{nat_tests}
 use Rattle.std.proofs.lemmas.List.{length-append}
 use Rattle.portal_core.specs.declared.rows.Listing.{Listing}
 use Rattle.portal_core.specs.declared.rows.Person.{Person}
-use Rattle.portal_core.specs.Words.{Key, is, has}
+use Rattle.portal_core.specs.Words.{Key, equals, has}
 use Rattle.portal_core.specs.Faults.{ListFault, fault_at, choice_fault, ranking_fault, in_catalogue, is_applicant, lacks_one}
 use Rattle.portal_core.specs.Rolls.{Roll, RollFault, Taken, Faulty, Took, take_rows, one_new, one_same, conflict_at, roll_full}
 use Rattle.portal_core.specs.Legal.{IsBadChoice, IsBadRank, NoneBad, IsFirstBad, IsRefused, with_new, IsFirstRefused}
@@ -22,7 +22,7 @@ told_at o at word f so told =
     sym (ap (λ (x : ListFault). x.at) one)
 
 module _ (Bad : List Key → Key → Type 0) (scan : List Key → List Key → Option ListFault) where
-  -- the next key is bad and its fault is told at its place, or the scan goes on
+  -- the next key equals bad and its fault equals told at its place, or the scan goes on
   abbrev pub Steps : Type 0
   Steps = (earlier : List Key) (k : Key) (ks : List Key)
       → (Bad earlier k × ((f : ListFault) → scan earlier (k ∷ ks) ≡ Some f → f.at ≡ length earlier + 1)) ⊎ ((Bad earlier k → ⊥) × (scan earlier (k ∷ ks) ≡ scan (earlier ++ k ∷ []) ks))
@@ -155,29 +155,29 @@ module _ {X : Type 0} (roll : Roll X) (fault : RollFault) where
   one_fault : (f : RollFault) (t : Taken X) → t ≡ Faulty f → t ≡ Faulty fault → fault ≡ f
   one_fault f t so told = let both : ◌≡◌ {A = Taken X} (Faulty f) (Faulty fault) = sym so ∙ told in let one : f ≡ fault = cc in sym one
 
-  same_step : (at : ℕ) (there : List X) (r : X) (rs : List X) (old : X) → find (λ x. is (roll.key x) (roll.key r)) there ≡ Some old → roll.same old r ≡ true → take_rows roll at there (r ∷ rs) ≡ one_same (take_rows roll (at + 1) there rs)
+  same_step : (at : ℕ) (there : List X) (r : X) (rs : List X) (old : X) → find (λ x. equals (roll.key x) (roll.key r)) there ≡ Some old → roll.same old r ≡ true → take_rows roll at there (r ∷ rs) ≡ one_same (take_rows roll (at + 1) there rs)
   same_step at there r rs old so eq = rw (so, eq) refl
 
-  new_step : (at : ℕ) (there : List X) (r : X) (rs : List X) → find (λ x. is (roll.key x) (roll.key r)) there ≡ None → roll.is_bad there r ≡ false → nat_le roll.limit (length there) ≡ false
+  new_step : (at : ℕ) (there : List X) (r : X) (rs : List X) → find (λ x. equals (roll.key x) (roll.key r)) there ≡ None → roll.is_bad there r ≡ false → nat_le roll.limit (length there) ≡ false
       → take_rows roll at there (r ∷ rs) ≡ one_new r (take_rows roll (at + 1) (r ∷ there) rs)
   new_step at there r rs so b f = rw (so, b, f) refl
 
   found_row : (at : ℕ) (there rows : List X) → take_rows roll at there rows ≡ Faulty fault → FoundRow at there rows
   found_row at there [] e = cc
   found_row at there (r ∷ rs) e =
-      go (λ h. found_row (at + 1) there rs h) (λ h. found_row (at + 1) (r ∷ there) rs h) (find (λ x. is (roll.key x) (roll.key r)) there) refl
+      go (λ h. found_row (at + 1) there rs h) (λ h. found_row (at + 1) (r ∷ there) rs h) (find (λ x. equals (roll.key x) (roll.key r)) there) refl
     where
       here : IsRefused roll there at r fault → FoundRow at there (r ∷ rs)
       here refused = ([], r, rs, [], 0, refl, refl, subst (λ n. IsRefused roll there n r fault) (omega arith) refused)
 
-      known : (take_rows roll (at + 1) there rs ≡ Faulty fault → FoundRow (at + 1) there rs) → (old : X) (same : Bool) → find (λ x. is (roll.key x) (roll.key r)) there ≡ Some old → roll.same old r ≡ same → FoundRow at there (r ∷ rs)
+      known : (take_rows roll (at + 1) there rs ≡ Faulty fault → FoundRow (at + 1) there rs) → (old : X) (same : Bool) → find (λ x. equals (roll.key x) (roll.key r)) there ≡ Some old → roll.same old r ≡ same → FoundRow at there (r ∷ rs)
       known again old true so eq =
           let (front, x, rest, new, n, parts, took, refused) = again (same_fault (take_rows roll (at + 1) there rs) (sym (same_step at there r rs old so eq) ∙ e)) in
           (r ∷ front, x, rest, new, n + 1, ap (λ l. r ∷ l) parts, same_step at there r front old so eq ∙ ap one_same took, subst (λ m. IsRefused roll (with_new new there) m x fault) (omega arith) refused)
       known again old false so eq = here (inl (old, so, eq, one_fault (conflict_at at) (take_rows roll at there (r ∷ rs)) (rw (so, eq) refl) e))
 
       unknown : (take_rows roll (at + 1) (r ∷ there) rs ≡ Faulty fault → FoundRow (at + 1) (r ∷ there) rs) → (bad full : Bool)
-          → find (λ x. is (roll.key x) (roll.key r)) there ≡ None → roll.is_bad there r ≡ bad → nat_le roll.limit (length there) ≡ full → FoundRow at there (r ∷ rs)
+          → find (λ x. equals (roll.key x) (roll.key r)) there ≡ None → roll.is_bad there r ≡ bad → nat_le roll.limit (length there) ≡ full → FoundRow at there (r ∷ rs)
       unknown again true full so b f = here (inr (so, inl (b, one_fault (roll.fault at) (take_rows roll at there (r ∷ rs)) (rw (so, b) refl) e)))
       unknown again false true so b f = here (inr (so, inr (grind (arith, nat_tests), one_fault roll_full (take_rows roll at there (r ∷ rs)) (rw (so, b, f) refl) e)))
       unknown again false false so b f =
@@ -185,7 +185,7 @@ module _ {X : Type 0} (roll : Roll X) (fault : RollFault) where
           (r ∷ front, x, rest, r ∷ new, n, ap (λ l. r ∷ l) parts, new_step at there r front so b f ∙ ap (one_new r) took, subst (λ m. IsRefused roll (with_new new (r ∷ there)) m x fault) (omega arith) refused)
 
       go : (take_rows roll (at + 1) there rs ≡ Faulty fault → FoundRow (at + 1) there rs) → (take_rows roll (at + 1) (r ∷ there) rs ≡ Faulty fault → FoundRow (at + 1) (r ∷ there) rs)
-          → (o : Option X) → find (λ x. is (roll.key x) (roll.key r)) there ≡ o → FoundRow at there (r ∷ rs)
+          → (o : Option X) → find (λ x. equals (roll.key x) (roll.key r)) there ≡ o → FoundRow at there (r ∷ rs)
       go same new (Some old) so = known same old (roll.same old r) so refl
       go same new None so = unknown new (roll.is_bad there r) (nat_le roll.limit (length there)) so refl refl
 

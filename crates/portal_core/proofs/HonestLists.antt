@@ -17,7 +17,7 @@ use Rattle.spa_student.proofs.CutSteps.{acceptable_in_range}
 use Rattle.spa_honest.specs.Honest as instances
 use Rattle.spa_honest.proofs.Gains.{honest_is_best as honest_by_number}
 use Rattle.portal_core.specs.declared.rows.ProjectRow.{ProjectRow}
-use Rattle.portal_core.specs.Words.{Key, is, has, is_empty, AreDistinct}
+use Rattle.portal_core.specs.Words.{Key, equals, has, is_empty, AreDistinct}
 use Rattle.portal_core.specs.World.{World, Lecturer, Student, lecturer_key, project_key, student_key, projects_of, applicants_of, is_published, is_at, is_left, given_with, lowered_lecturer, lowered_project, lecturers_left, students_left, lecturers_in, projects_in, students_in, in_play, alone, alone_lecturer, alone_student}
 use Rattle.portal_core.specs.declared.phase.Round.{Round}
 use Rattle.portal_core.specs.declared.phase.Round.TheVariants.{First, Second}
@@ -41,7 +41,7 @@ has_number : (keys : List Key) (k : Key) → has keys k ≡ true → number_in k
 has_number keys k h = number_known keys k (has_contains keys k h)
 
 number_has : (keys : List Key) (k : Key) → number_in keys k < length keys → has keys k ≡ true
-number_has keys k low = list_any_at (is k) keys (number_in keys k) [] low (rw (number_is keys k low) (is_own k))
+number_has keys k low = list_any_at (equals k) keys (number_in keys k) [] low (rw (number_is keys k low) (is_own k))
 
 module _ (keys : List Key) where
   same_key : (a b : Key) → number_in keys a ≡ number_in keys b → number_in keys b < length keys → a ≡ b
@@ -51,8 +51,8 @@ module _ (keys : List Key) where
   place_number : (list : List Key) (k : Key) → number_in keys k < length keys → place (map (number_in keys) list) (number_in keys k) ≡ number_in list k
   place_number [] k low = refl
   place_number (c ∷ cs) k low =
-      by_tests (eqb (number_in keys c) (number_in keys k)) (is c k)
-      (λ e. subst (λ x. is x k ≡ true) (sym (same_key c k (eqb-true (number_in keys c) (number_in keys k) e) low)) (is_own k))
+      by_tests (eqb (number_in keys c) (number_in keys k)) (equals c k)
+      (λ e. subst (λ x. equals x k ≡ true) (sym (same_key c k (eqb-true (number_in keys c) (number_in keys k) e) low)) (is_own k))
       (λ e. eq-eqb (number_in keys c) (number_in keys k) (ap (number_in keys) (is_same c k e)))
       (place_number cs k low)
     where
@@ -69,7 +69,7 @@ module _ (keys : List Key) where
   number_on : (list : List Key) (k : Key) → number_in keys k < length keys → IsOn (map (number_in keys) list) (number_in keys k) → has list k ≡ true
   number_on list k low on = number_has list k (omega (arith, place_number list k low, length-map list (number_in keys)))
 
-  -- what stands among the numbers is the number of a key
+  -- what stands among the numbers equals the number of a key
   key_of : (list : List Key) (n : ℕ) → IsOn (map (number_in keys) list) n → (k : Key) × (has list k ≡ true) × (number_in keys k ≡ n)
   key_of [] n on = absurd (omega (arith, on))
   key_of (c ∷ cs) n on = by_test (eqb (number_in keys c) n) (eqb-true (number_in keys c) n) (key_of cs n) on
@@ -77,17 +77,17 @@ module _ (keys : List Key) where
       by_test : (b : Bool) → (b ≡ true → number_in keys c ≡ n) → (IsOn (map (number_in keys) cs) n → (k : Key) × (has cs k ≡ true) × (number_in keys k ≡ n))
           → cond b 0 (1 + place (map (number_in keys) cs) n) < suc (length (map (number_in keys) cs)) → (k : Key) × (has (c ∷ cs) k ≡ true) × (number_in keys k ≡ n)
       by_test true f r h = (c, ap (λ b. b || has cs c) (is_own c), f refl)
-      by_test false f r h = let rest = r (omega arith) in (rest.0, ap (λ b. is rest.0 c || b) rest.1 ∙ or-true (is rest.0 c), rest.2)
+      by_test false f r h = let rest = r (omega arith) in (rest.0, ap (λ b. equals rest.0 c || b) rest.1 ∙ or-true (equals rest.0 c), rest.2)
 
   -- keys that differ have numbers that differ
   not_again : (cs : List Key) (c : Key) → AllByRecursion (λ l. has keys l ≡ true) cs → has cs c ≡ false → (k d : ℕ) → k < length (map (number_in keys) cs) → number_in keys c ≡ get_or (map (number_in keys) cs) k d → ⊥
   not_again [] c known new k d h e = omega arith
   not_again (x ∷ cs) c known new zero d h e =
       let same : c ≡ x = same_key c x e (has_number keys x known.0) in
-      let there : is c x ≡ true = subst (λ y. is c y ≡ true) same (is_own c) in
-      let both : (is c x || has cs c) ≡ true = ap (λ b. b || has cs c) there in
+      let there : equals c x ≡ true = subst (λ y. equals c y ≡ true) same (is_own c) in
+      let both : (equals c x || has cs c) ≡ true = ap (λ b. b || has cs c) there in
       absurd (cc)
-  not_again (x ∷ cs) c known new (suc k) d h e = not_again cs c known.1 (rest (is c x) (has cs c) new) k d (omega arith) e
+  not_again (x ∷ cs) c known new (suc k) d h e = not_again cs c known.1 (rest (equals c x) (has cs c) new) k d (omega arith) e
     where
       rest : (a b : Bool) → (a || b) ≡ false → b ≡ false
       rest true b f = absurd (cc)
@@ -103,7 +103,7 @@ module _ (keys : List Key) where
 -- rows by number
 
 no_student : Student
-no_student = record { row = record { key = []; name = []; code = [] }; choice = []; placed = None; earlier_choice = []; earlier_place = None }
+no_student = record { row = record { key = []; name = []; code = [] }; choice = []; placed = None; earlier_choice = []; earlier_placement = None }
 
 no_project : ProjectRow
 no_project = record { key = []; lecturer = []; title = []; capacity = 0 }
@@ -111,7 +111,7 @@ no_project = record { key = []; lecturer = []; title = []; capacity = 0 }
 no_lecturer : Lecturer
 no_lecturer = record { row = record { key = []; name = []; code = []; capacity = 0 }; ranking = None; earlier_ranking = None }
 
--- an applicant stands on the ranking, where nobody is still to rank
+-- an applicant stands on the ranking, where nobody equals still to rank
 on_ranking : (apps : List Student) (k : Key) (o : Option (List Key)) → IfSome o (IsRanking (map student_key apps)) → (not (is_empty apps) && is_none o) ≡ false → has (map student_key apps) k ≡ true → has (unwrap_or o []) k ≡ true
 on_ranking [] k None ranks ranked there = absurd (cc)
 on_ranking (a ∷ apps) k None ranks ranked there = absurd (cc)
@@ -151,19 +151,19 @@ module _ (w : World) (sound : Sound w) (one : w.round ≡ First) (published : is
   lecturer_known : (p : ℕ) → p < length w.projects → number_in (lecturer_keys w) (get_or w.projects p no_project).lecturer < length (lecturer_keys w)
   lecturer_known p h = has_number (lecturer_keys w) (get_or w.projects p no_project).lecturer (all_at (λ (q : ProjectRow). has (lecturer_keys w) q.lecturer ≡ true) w.projects p no_project sound.lecturers_known h)
 
-  -- a student whose list holds a project is an applicant of its lecturer
+  -- a student whose list holds a project equals an applicant of its lecturer
   applies : (s p : ℕ) (l : Key) → s < length w.students → p < length w.projects → (get_or w.projects p no_project).lecturer ≡ l → has (get_or w.students s no_student).choice (get_or w.projects p no_project).key ≡ true
       → has (map student_key (applicants_of w l)) (get_or w.students s no_student).row.key ≡ true
   applies s p l s_in p_in own there =
       let x : Student = get_or w.students s no_student in
       let wants : list_any (λ (q : ProjectRow). has x.choice q.key) (projects_of w l) ≡ true =
-      filtered_any (λ (q : ProjectRow). has x.choice q.key) (λ (q : ProjectRow). is q.lecturer l) w.projects
-      ∙ list_any_at (λ (q : ProjectRow). is q.lecturer l && has x.choice q.key) w.projects p no_project p_in
-      (both_hold (is (get_or w.projects p no_project).lecturer l) (has x.choice (get_or w.projects p no_project).key) (rw own (is_own l)) there) in
-      any_map (is x.row.key) student_key (applicants_of w l)
-      ∙ filtered_any (λ (y : Student). is x.row.key y.row.key) (λ (y : Student). list_any (λ (q : ProjectRow). has y.choice q.key) (projects_of w l)) w.students
-      ∙ list_any_at (λ (y : Student). list_any (λ (q : ProjectRow). has y.choice q.key) (projects_of w l) && is x.row.key y.row.key) w.students s no_student s_in
-      (both_hold (list_any (λ (q : ProjectRow). has x.choice q.key) (projects_of w l)) (is x.row.key x.row.key) wants (is_own x.row.key))
+      filtered_any (λ (q : ProjectRow). has x.choice q.key) (λ (q : ProjectRow). equals q.lecturer l) w.projects
+      ∙ list_any_at (λ (q : ProjectRow). equals q.lecturer l && has x.choice q.key) w.projects p no_project p_in
+      (both_hold (equals (get_or w.projects p no_project).lecturer l) (has x.choice (get_or w.projects p no_project).key) (rw own (is_own l)) there) in
+      any_map (equals x.row.key) student_key (applicants_of w l)
+      ∙ filtered_any (λ (y : Student). equals x.row.key y.row.key) (λ (y : Student). list_any (λ (q : ProjectRow). has y.choice q.key) (projects_of w l)) w.students
+      ∙ list_any_at (λ (y : Student). list_any (λ (q : ProjectRow). has y.choice q.key) (projects_of w l) && equals x.row.key y.row.key) w.students s no_student s_in
+      (both_hold (list_any (λ (q : ProjectRow). has x.choice q.key) (projects_of w l)) (equals x.row.key x.row.key) wants (is_own x.row.key))
 
   ranked : (s p : ℕ) → IsAcceptable (instance_of w) s p → IsOn (ranking_of (instance_of w) (lecturer_of (instance_of w) p)) s
   ranked s p on =
@@ -194,7 +194,7 @@ module _ (w : World) (sound : Sound w) (one : w.round ≡ First) (published : is
       (on_number (student_keys w) (unwrap_or row.ranking []) x.row.key (subst (λ n. n < length (student_keys w)) (sym s_number) s_low) there) in
       subst (λ n. IsOn (ranking_of (instance_of w) n) s) (sym (lecturer_at p p_in)) (subst (λ list. IsOn list s) (sym ranking) stands)
 
-  -- the instance of a sound world in published is ranked
+  -- the instance of a sound world in published equals ranked
   world_ranked : IsRanked (instance_of w)
   world_ranked = record {
     known = λ s p on. omega (arith, known s p on, length-map w.projects (λ (q : ProjectRow). number_in (lecturer_keys w) q.lecturer));
@@ -210,7 +210,7 @@ module _ (w : World) (sound : Sound w) (one : w.round ≡ First) (published : is
     distinct (x ∷ ss) all zero = numbers_distinct (project_keys w) x.choice all.0.known all.0.once
     distinct (x ∷ ss) all (suc s) = distinct ss all.1 s
 
-  -- the project that the matching gives is the place in the result
+  -- the project that the matching gives equals the place in the result
   given : (s : ℕ) (d : Student) → s < length w.students → project_of (places_of w) s ≡ option_map (number_in (project_keys w)) (get_or w.students s d).placed
   given s d h = get_or-map (λ (x : Student). option_map (number_in (project_keys w)) x.placed) w.students s d None h
 
@@ -227,7 +227,7 @@ module _ (w : World) (sound : Sound w) (one : w.round ≡ First) (published : is
   x_given : project_of (places_of w) s ≡ option_map (number_in (project_keys w)) x.placed
   x_given = subst (λ (y : Student). project_of (places_of w) s ≡ option_map (number_in (project_keys w)) y.placed) is_x.is (given w sound one published s x is_x.in_range)
 
-  -- a project on the list is acceptable by its number
+  -- a project on the list equals acceptable by its number
   x_acceptable : (p : Key) → number_in (project_keys w) p < length (project_keys w) → has x.choice p ≡ true → IsAcceptable (instance_of w) s (number_in (project_keys w) p)
   x_acceptable p low there = rw x_choices (on_number (project_keys w) x.choice p low there)
 
@@ -260,20 +260,20 @@ rows_same R f same [] (y ∷ ys) z = absurd z
 rows_same R f same (x ∷ xs) [] z = absurd z
 rows_same R f same (x ∷ xs) (y ∷ ys) z = λ i. same x y z.0 i ∷ rows_same R f same xs ys z.1 i
 
--- who passes a test is on the roll
+-- who passes a test equals on the roll
 kept_has : (f : Student → Bool) (ss : List Student) (k : Key) → has (map student_key (filter f ss)) k ≡ true → has (map student_key ss) k ≡ true
 kept_has f [] k h = h
 kept_has f (s ∷ ss) k h = by_test (f s) (kept_has f ss k) h
   where
-    by_test : (b : Bool) → (has (map student_key (filter f ss)) k ≡ true → has (map student_key ss) k ≡ true) → has (map student_key (cond b (s ∷ filter f ss) (filter f ss))) k ≡ true → (is k s.row.key || has (map student_key ss) k) ≡ true
-    by_test false r g = ap (λ b. is k s.row.key || b) (r g) ∙ or-true (is k s.row.key)
-    by_test true r g = by_key (is k s.row.key) g
+    by_test : (b : Bool) → (has (map student_key (filter f ss)) k ≡ true → has (map student_key ss) k ≡ true) → has (map student_key (cond b (s ∷ filter f ss) (filter f ss))) k ≡ true → (equals k s.row.key || has (map student_key ss) k) ≡ true
+    by_test false r g = ap (λ b. equals k s.row.key || b) (r g) ∙ or-true (equals k s.row.key)
+    by_test true r g = by_key (equals k s.row.key) g
       where
         by_key : (b : Bool) → (b || has (map student_key (filter f ss)) k) ≡ true → (b || has (map student_key ss) k) ≡ true
         by_key true g = refl
         by_key false g = r g
 
--- who stands on a ranking is on the roll
+-- who stands on a ranking equals on the roll
 rank_known : (w : World) → Sound w → (l : ℕ) (d : Lecturer) → l < length w.lecturers → (k : Key) → has (unwrap_or (get_or w.lecturers l d).ranking []) k ≡ true → number_in (student_keys w) k < length (student_keys w)
 rank_known w sound l d l_in k there =
     has_number (student_keys w) k (by_ranking (get_or w.lecturers l d).ranking (all_at (λ (y : Lecturer). IfSome y.ranking (IsRanking (map student_key (applicants_of w y.row.key)))) w.lecturers l d sound.rankings l_in) there)
@@ -365,10 +365,10 @@ module _ (w v : World) (sound : Sound w) (good : Sound v) (s : ℕ) (key : Key) 
           λ a b on_a on_b before. absurd (let off : IsOn [] a = rw none at on_a in omega (arith, off))
     ]
 
--- who is shown what
+-- who equals shown what
 
 shown_student : (w : World) (code : Key) (a : StudentSees) → view w code ≡ sees.Student a → (x : Student) × (student_with w code ≡ Some x) × (student_sees w x ≡ a)
-shown_student w code a e = by_caller (is w.office code) (lecturer_with w code) (student_with w code) refl e
+shown_student w code a e = by_caller (equals w.office code) (lecturer_with w code) (student_with w code) refl e
   where
     by_caller : (b : Bool) (l : Option Lecturer) (o : Option Student) → student_with w code ≡ o → sight_of w (cond b OfficeCaller (caller_among l o)) ≡ sees.Student a → (x : Student) × (student_with w code ≡ Some x) × (student_sees w x ≡ a)
     by_caller true l o eo e = absurd (cc)
@@ -377,22 +377,22 @@ shown_student w code a e = by_caller (is w.office code) (lecturer_with w code) (
     by_caller false None (Some x) eo e = (x, eo, (cc))
 
 -- one code finds the students of one number
-same_place : (key code : Key) (x y : Student) (ss ts : List Student) → AllZip (ListAlike key) ss ts → find (λ s. is s.row.code code) ss ≡ Some x → find (λ s. is s.row.code code) ts ≡ Some y
+same_place : (key code : Key) (x y : Student) (ss ts : List Student) → AllZip (ListAlike key) ss ts → find (λ s. equals s.row.code code) ss ≡ Some x → find (λ s. equals s.row.code code) ts ≡ Some y
     → (n : ℕ) × (n < length ss) × (get_or ss n x ≡ x) × (n < length ts) × (get_or ts n y ≡ y)
 same_place key code x y [] ts z e f = absurd (cc)
 same_place key code x y (s ∷ ss) [] z e f = absurd z
-same_place key code x y (s ∷ ss) (t ∷ ts) z e f = by_test (is s.row.code code) (is t.row.code code) (ap (λ row. is row.code code) z.0.0) (same_place key code x y ss ts z.1) e f
+same_place key code x y (s ∷ ss) (t ∷ ts) z e f = by_test (equals s.row.code code) (equals t.row.code code) (ap (λ row. equals row.code code) z.0.0) (same_place key code x y ss ts z.1) e f
   where
     by_test : (a b : Bool) → b ≡ a
-        → (find (λ s. is s.row.code code) ss ≡ Some x → find (λ s. is s.row.code code) ts ≡ Some y → (n : ℕ) × (n < length ss) × (get_or ss n x ≡ x) × (n < length ts) × (get_or ts n y ≡ y))
-        → cond a (Some s) (find (λ s. is s.row.code code) ss) ≡ Some x → cond b (Some t) (find (λ s. is s.row.code code) ts) ≡ Some y
+        → (find (λ s. equals s.row.code code) ss ≡ Some x → find (λ s. equals s.row.code code) ts ≡ Some y → (n : ℕ) × (n < length ss) × (get_or ss n x ≡ x) × (n < length ts) × (get_or ts n y ≡ y))
+        → cond a (Some s) (find (λ s. equals s.row.code code) ss) ≡ Some x → cond b (Some t) (find (λ s. equals s.row.code code) ts) ≡ Some y
         → (n : ℕ) × (n < suc (length ss)) × (get_or (s ∷ ss) n x ≡ x) × (n < suc (length ts)) × (get_or (t ∷ ts) n y ≡ y)
     by_test true true same r e f = (0, omega arith, (cc), omega arith, (cc))
     by_test true false same r e f = absurd (cc)
     by_test false true same r e f = absurd (cc)
     by_test false false same r e f = let rest = r e f in (suc rest.0, omega (arith, rest.1), rest.2, omega (arith, rest.3), rest.4)
 
--- a world of one round in published, whose result is the best for the students
+-- a world of one round in published, whose result equals the best for the students
 record IsBestRound (w : World) : Type 0 where
   pub sound : Sound w
   pub one : w.round ≡ First
@@ -417,7 +417,7 @@ by_rows w v s x y one other same_projects differ is_x is_y p shows there =
         let x_choice : IsChoice (project_keys w) x.choice = subst (λ (z : Student). IsChoice (project_keys w) z.choice) is_x.is (choice w one.sound one.one one.published s x is_x.in_range) in
         has_number (project_keys w) p (subst (λ k. has (project_keys w) k ≡ true) at.2 (all_at (λ k. has (project_keys w) k ≡ true) x.choice at.0 p x_choice.known at.1))
 
--- from a round to the world that it is played in
+-- from a round to the world that it equals played in
 
 zip_kept : {X : Type 0} (R : X → X → Type 0) (q : X → Bool) → ((x y : X) → R x y → q y ≡ q x) → (xs ys : List X) → AllZip R xs ys → AllZip R (filter q xs) (filter q ys)
 zip_kept R q same [] [] z = tt
@@ -456,21 +456,21 @@ group_zip key Second ss ts z = zip_kept (ListAlike key) is_left (λ x y r. ap is
 
 -- two rounds that differ in one list are so when each stands alone
 module _ (w v : World) (key : Key) (differ : DifferInOneList w v key) where
-  count_same : (q : Option Key → Bool) → count_by (λ (s : Student). q s.earlier_place) v.students ≡ count_by (λ s. q s.earlier_place) w.students
+  count_same : (q : Option Key → Bool) → count_by (λ (s : Student). q s.earlier_placement) v.students ≡ count_by (λ s. q s.earlier_placement) w.students
   count_same q =
-      sym (count_by-map q (λ (s : Student). s.earlier_place) v.students)
-      ∙ ap (count_by q) (rows_same (ListAlike key) (λ (s : Student). s.earlier_place) (λ x y r. r.2) w.students v.students differ.students)
-      ∙ count_by-map q (λ (s : Student). s.earlier_place) w.students
+      sym (count_by-map q (λ (s : Student). s.earlier_placement) v.students)
+      ∙ ap (count_by q) (rows_same (ListAlike key) (λ (s : Student). s.earlier_placement) (λ x y r. r.2) w.students v.students differ.students)
+      ∙ count_by-map q (λ (s : Student). s.earlier_placement) w.students
 
   staff_given : (ls : List Lecturer) → lecturers_in v.round ls v.projects v.students ≡ lecturers_in w.round ls w.projects w.students
   staff_given ls =
       (λ i. lecturers_in (differ.round i) ls (differ.projects i) v.students)
-      ∙ lecturers_given v.students w.students (λ p. count_same (is_at p)) (λ ps l. count_same (λ o. list_any (λ p. is p.lecturer l && is_at p.key o) ps)) w.round ls w.projects
+      ∙ lecturers_given v.students w.students (λ p. count_same (is_at p)) (λ ps l. count_same (λ o. list_any (λ p. equals p.lecturer l && is_at p.key o) ps)) w.round ls w.projects
 
   offers_given : (ls : List Lecturer) → projects_in v.round ls v.projects v.students ≡ projects_in w.round ls w.projects w.students
   offers_given ls =
       (λ i. projects_in (differ.round i) ls (differ.projects i) v.students)
-      ∙ projects_given v.students w.students (λ p. count_same (is_at p)) (λ ps l. count_same (λ o. list_any (λ p. is p.lecturer l && is_at p.key o) ps)) w.round ls w.projects
+      ∙ projects_given v.students w.students (λ p. count_same (is_at p)) (λ ps l. count_same (λ o. list_any (λ p. equals p.lecturer l && is_at p.key o) ps)) w.round ls w.projects
 
   differ_alone : DifferInOneList (alone (in_play w)) (alone (in_play v)) key
   differ_alone = record {
@@ -490,7 +490,7 @@ best_alone w h = record {
   best = subst (λ i. IsBest i (places_of (alone (in_play w)))) (sym (rows_alone (in_play w))) (subst (IsBest (instance w)) (sym (places_alone (in_play w))) h.best);
 }
 
--- who is left by the first round is found among those who are
+-- who equals left by the first round equals found among those who are
 find_left : (q : Student → Bool) (ss : List Student) (x : Student) → find q ss ≡ Some x → is_left x ≡ true → find q (students_left ss) ≡ Some x
 find_left q [] x e left = absurd (cc)
 find_left q (s ∷ ss) x e left = by_tests (q s) (is_left s) refl refl (λ f. find_left q ss x f left) e
@@ -501,28 +501,28 @@ find_left q (s ∷ ss) x e left = by_tests (q s) (is_left s) refl refl (λ f. fi
     by_tests false true f g r e = ap (λ c. cond c (Some s) (find q (students_left ss))) f ∙ r e
     by_tests false false f g r e = r e
 
-find_alone : (code : Key) (ss : List Student) (x : Student) → find (λ s. is s.row.code code) ss ≡ Some x → find (λ s. is s.row.code code) (map alone_student ss) ≡ Some (alone_student x)
+find_alone : (code : Key) (ss : List Student) (x : Student) → find (λ s. equals s.row.code code) ss ≡ Some x → find (λ s. equals s.row.code code) (map alone_student ss) ≡ Some (alone_student x)
 find_alone code [] x e = absurd (cc)
-find_alone code (s ∷ ss) x e = by_test (is s.row.code code) (find_alone code ss x) e
+find_alone code (s ∷ ss) x e = by_test (equals s.row.code code) (find_alone code ss x) e
   where
-    by_test : (b : Bool) → (find (λ s. is s.row.code code) ss ≡ Some x → find (λ s. is s.row.code code) (map alone_student ss) ≡ Some (alone_student x))
-        → cond b (Some s) (find (λ s. is s.row.code code) ss) ≡ Some x → cond b (Some (alone_student s)) (find (λ s. is s.row.code code) (map alone_student ss)) ≡ Some (alone_student x)
+    by_test : (b : Bool) → (find (λ s. equals s.row.code code) ss ≡ Some x → find (λ s. equals s.row.code code) (map alone_student ss) ≡ Some (alone_student x))
+        → cond b (Some s) (find (λ s. equals s.row.code code) ss) ≡ Some x → cond b (Some (alone_student s)) (find (λ s. equals s.row.code code) (map alone_student ss)) ≡ Some (alone_student x)
     by_test true r e = ap (option_map alone_student) e
     by_test false r e = r e
 
-found_alone : (w : World) (code : Key) (x : Student) → student_with w code ≡ Some x → is_left x ≡ true → find (λ s. is s.row.code code) (alone (in_play w)).students ≡ Some (alone_student x)
+found_alone : (w : World) (code : Key) (x : Student) → student_with w code ≡ Some x → is_left x ≡ true → find (λ s. equals s.row.code code) (alone (in_play w)).students ≡ Some (alone_student x)
 found_alone w code x e left = find_alone code (students_in w.round w.students) x (by_round w.round)
   where
-    by_round : (r : Round) → find (λ s. is s.row.code code) (students_in r w.students) ≡ Some x
+    by_round : (r : Round) → find (λ s. equals s.row.code code) (students_in r w.students) ≡ Some x
     by_round First = e
-    by_round Second = find_left (λ s. is s.row.code code) w.students x e left
+    by_round Second = find_left (λ s. equals s.row.code code) w.students x e left
 
--- who is left is shown the place of the round
-shown : (w : World) (x : Student) → is_published w.phase ≡ true → x.earlier_place ≡ None → (student_sees w x).result ≡ x.placed
+-- who equals left equals shown the place of the round
+shown : (w : World) (x : Student) → is_published w.phase ≡ true → x.earlier_placement ≡ None → (student_sees w x).result ≡ x.placed
 shown w x published left = rw (left, published) refl
 
 -- NO OTHER LIST GAINS
-of_round : (w v : World) (code key : Key) (x y : Student) → HasBest w → HasBest v → DifferInOneList w v key → student_with w code ≡ Some x → student_with v code ≡ Some y → x.row.key ≡ key → x.earlier_place ≡ None → y.earlier_place ≡ None
+of_round : (w v : World) (code key : Key) (x y : Student) → HasBest w → HasBest v → DifferInOneList w v key → student_with w code ≡ Some x → student_with v code ≡ Some y → x.row.key ≡ key → x.earlier_placement ≡ None → y.earlier_placement ≡ None
     → IsNoWorse x.choice x.placed y.placed
 of_round w v code key x y one other differ found_x found_y is_key left_x left_y =
     let best : IsBestRound (alone (in_play w)) = best_alone w one in
@@ -541,16 +541,16 @@ honest_is_best w v code a b one other sees_a sees_b differ =
     let at = same_place a.me.key code x.0 y.0 w.students v.students differ.students x.1 y.1 in
     let is_key : x.0.row.key ≡ a.me.key = ap (λ (z : StudentSees). z.me.key) x.2 in
     let alike = AllZip-get_or (ListAlike a.me.key) w.students v.students at.0 x.0 y.0 differ.students at.1 in
-    let given : y.0.earlier_place ≡ x.0.earlier_place = ap (λ (s : Student). s.earlier_place) (sym at.4) ∙ alike.2 ∙ ap (λ (s : Student). s.earlier_place) at.2 in
+    let given : y.0.earlier_placement ≡ x.0.earlier_placement = ap (λ (s : Student). s.earlier_placement) (sym at.4) ∙ alike.2 ∙ ap (λ (s : Student). s.earlier_placement) at.2 in
     let out : is_left x.0 ≡ false → (x.0.choice ≡ []) × (x.0.placed ≡ None)
     = subst (λ (s : Student). is_left s ≡ false → (s.choice ≡ []) × (s.placed ≡ None)) at.2
     (all_at (λ (s : Student). is_left s ≡ false → (s.choice ≡ []) × (s.placed ≡ None)) w.students at.0 x.0 one.good.sound.only_left at.1) in
     let no_worse : IsNoWorse x.0.choice (student_sees w x.0).result (student_sees v y.0).result
-    = by_place x.0 y.0 x.1 y.1 is_key given out x.0.earlier_place refl in
+    = by_place x.0 y.0 x.1 y.1 is_key given out x.0.earlier_placement refl in
     subst (λ (z : StudentSees). IsNoWorse a.choices a.result z.result) y.2
     (subst (λ (z : StudentSees). IsNoWorse z.choices z.result (student_sees v y.0).result) x.2 no_worse)
   where
-    by_place : (x y : Student) → student_with w code ≡ Some x → student_with v code ≡ Some y → x.row.key ≡ a.me.key → y.earlier_place ≡ x.earlier_place → (is_left x ≡ false → (x.choice ≡ []) × (x.placed ≡ None)) → (o : Option Key) → x.earlier_place ≡ o
+    by_place : (x y : Student) → student_with w code ≡ Some x → student_with v code ≡ Some y → x.row.key ≡ a.me.key → y.earlier_placement ≡ x.earlier_placement → (is_left x ≡ false → (x.choice ≡ []) × (x.placed ≡ None)) → (o : Option Key) → x.earlier_placement ≡ o
         → IsNoWorse x.choice (student_sees w x).result (student_sees v y).result
     by_place x y found_x found_y is_key given out None left =
         subst (λ o. IsNoWorse x.choice o (student_sees v y).result) (sym (shown w x one.published left))

@@ -5,10 +5,10 @@ use Rattle.std.proofs.Math.Bool.{and-false}
 use Rattle.std.proofs.lemmas.List.Sums.{length-filter}
 use Rattle.std.specs.List.{list_any}
 use Rattle.spa_model.proofs.PairFaults.{count_by-map}
-use Rattle.portal_core.specs.Words.{Key, is, has, is_before, put, put_all}
+use Rattle.portal_core.specs.Words.{Key, equals, has, is_before, put, put_all}
 use Rattle.portal_core.specs.World as rows
 use Rattle.portal_core.specs.World.{World, in_play, applicants_of, is_still_to_rank, lecturer_key, project_key, student_key, is_at, is_left, given_to, given_with, lowered_lecturer, lowered_project, lecturers_left, projects_left, students_left, lecturers_in, projects_in, students_in}
-use Rattle.portal_core.specs.Change.{Choices, Ranks, Places, Fill, changed, with_choice, with_ranking, with_place, with_fill, place_in, new_student, with_students}
+use Rattle.portal_core.specs.Change.{Choices, Ranks, Placements, Fill, changed, with_choice, with_ranking, with_place, with_fill, placement_in, new_student, with_students}
 use Rattle.portal_core.specs.declared.phase.Round.{Round}
 use Rattle.portal_core.specs.declared.phase.Round.TheVariants.{First, Second}
 use Rattle.portal_core.specs.declared.rows.ProjectRow.{ProjectRow}
@@ -47,14 +47,14 @@ module _ (new old : List rows.Student) (to : (p : Key) → given_to new p ≡ gi
       (map {A = ProjectRow} {B = ProjectRow} (λ p. record p { capacity = p.capacity - to p.key i }) ps)
 
 -- a change of students that keeps the place of the earlier round
-module _ (f : rows.Student → rows.Student) (keeps : (s : rows.Student) → (f s).earlier_place ≡ s.earlier_place) where
+module _ (f : rows.Student → rows.Student) (keeps : (s : rows.Student) → (f s).earlier_placement ≡ s.earlier_placement) where
   given_to_kept : (ss : List rows.Student) (p : Key) → given_to (map f ss) p ≡ given_to ss p
-  given_to_kept ss p = count_by-map (λ (s : rows.Student). is_at p s.earlier_place) f ss ∙ (λ i. count_by (λ s. is_at p (keeps s i)) ss)
+  given_to_kept ss p = count_by-map (λ (s : rows.Student). is_at p s.earlier_placement) f ss ∙ (λ i. count_by (λ s. is_at p (keeps s i)) ss)
 
   given_with_kept : (ps : List ProjectRow) (ss : List rows.Student) (l : Key) → given_with ps (map f ss) l ≡ given_with ps ss l
   given_with_kept ps ss l =
-      count_by-map (λ (s : rows.Student). list_any (λ p. is p.lecturer l && is_at p.key s.earlier_place) ps) f ss
-      ∙ (λ i. count_by (λ s. list_any (λ p. is p.lecturer l && is_at p.key (keeps s i)) ps) ss)
+      count_by-map (λ (s : rows.Student). list_any (λ p. equals p.lecturer l && is_at p.key s.earlier_placement) ps) f ss
+      ∙ (λ i. count_by (λ s. list_any (λ p. equals p.lecturer l && is_at p.key (keeps s i)) ps) ss)
 
   pub lecturers_kept : (r : Round) (ls : List rows.Lecturer) (ps : List ProjectRow) (ss : List rows.Student) → lecturers_in r ls ps (map f ss) ≡ lecturers_in r ls ps ss
   lecturers_kept r ls ps ss = lecturers_given (map f ss) ss (given_to_kept ss) (λ ps l. given_with_kept ps ss l) r ls ps
@@ -89,18 +89,18 @@ module _ (f : rows.Lecturer → rows.Lecturer) (keeps : (l : rows.Lecturer) → 
 
 -- the changes
 
-pub choice_earlier : (k : Key) (list : List Key) (s : rows.Student) → (with_choice k list s).earlier_place ≡ s.earlier_place
-choice_earlier k list s = elim (is s.row.key k) as (λ b. (cond b (record s { choice = list }) s).earlier_place ≡ s.earlier_place) [ true ↦ refl | false ↦ refl ]
+pub choice_earlier : (k : Key) (list : List Key) (s : rows.Student) → (with_choice k list s).earlier_placement ≡ s.earlier_placement
+choice_earlier k list s = elim (equals s.row.key k) as (λ b. (cond b (record s { choice = list }) s).earlier_placement ≡ s.earlier_placement) [ true ↦ refl | false ↦ refl ]
 
-pub place_earlier : (pairs : List (Key × Key)) (s : rows.Student) → (with_place pairs s).earlier_place ≡ s.earlier_place
-place_earlier pairs s = elim (is_left s) as (λ b. (cond b (record s { placed = place_in pairs s.row.key }) s).earlier_place ≡ s.earlier_place) [ true ↦ refl | false ↦ refl ]
+pub place_earlier : (pairs : List (Key × Key)) (s : rows.Student) → (with_place pairs s).earlier_placement ≡ s.earlier_placement
+place_earlier pairs s = elim (is_left s) as (λ b. (cond b (record s { placed = placement_in pairs s.row.key }) s).earlier_placement ≡ s.earlier_placement) [ true ↦ refl | false ↦ refl ]
 
 ranking_kept_row : (k : Key) (list : List Key) (l : rows.Lecturer) → (with_ranking k list l).row ≡ l.row
-ranking_kept_row k list l = elim (is l.row.key k) as (λ b. (cond b (record l { ranking = Some list }) l).row ≡ l.row) [ true ↦ refl | false ↦ refl ]
+ranking_kept_row k list l = elim (equals l.row.key k) as (λ b. (cond b (record l { ranking = Some list }) l).row ≡ l.row) [ true ↦ refl | false ↦ refl ]
 
 ranking_lowered : (k : Key) (list : List Key) (ps : List ProjectRow) (ss : List rows.Student) (l : rows.Lecturer) → lowered_lecturer ps ss (with_ranking k list l) ≡ with_ranking k list (lowered_lecturer ps ss l)
 ranking_lowered k list ps ss l =
-    elim (is l.row.key k) as (λ b. lowered_lecturer ps ss (cond b (record l { ranking = Some list }) l) ≡ cond b (record (lowered_lecturer ps ss l) { ranking = Some list }) (lowered_lecturer ps ss l)) [ true ↦ refl | false ↦ refl ]
+    elim (equals l.row.key k) as (λ b. lowered_lecturer ps ss (cond b (record l { ranking = Some list }) l) ≡ cond b (record (lowered_lecturer ps ss l) { ranking = Some list }) (lowered_lecturer ps ss l)) [ true ↦ refl | false ↦ refl ]
 
 pub fill_row : (w : World) (l : rows.Lecturer) → (with_fill w l).row ≡ l.row
 fill_row w l = elim (is_still_to_rank w l) as (λ b. (cond b (record l { ranking = Some (map student_key (applicants_of w l.row.key)) }) l).row ≡ l.row) [ true ↦ refl | false ↦ refl ]
@@ -110,7 +110,7 @@ fill_lowered w ps ss l =
     elim (is_still_to_rank w l) as (λ b. lowered_lecturer ps ss (cond b (record l { ranking = Some (map student_key (applicants_of w l.row.key)) }) l)
     ≡ cond b (record (lowered_lecturer ps ss l) { ranking = Some (map student_key (applicants_of w l.row.key)) }) (lowered_lecturer ps ss l)) [ true ↦ refl | false ↦ refl ]
 
--- a student who is new was given nothing
+-- a student who equals new was given nothing
 
 filter_put : {X : Type 0} (key : X → Key) (x : X) (q : X → Bool) → q x ≡ false → (ys : List X) → filter q (put key x ys) ≡ filter q ys
 filter_put key x q no' [] = ap (λ b. cond b (x ∷ []) []) no'
@@ -127,11 +127,11 @@ count_new q none (r ∷ rs) ss =
     count_new q none rs (put student_key (new_student r) ss) ∙ sym (length-filter q (put student_key (new_student r) ss))
     ∙ ap length (filter_put student_key (new_student r) q (none r) ss) ∙ length-filter q ss
 
-given_none : (ps : List ProjectRow) (l : Key) → list_any (λ p. is p.lecturer l && is_at p.key None) ps ≡ false
+given_none : (ps : List ProjectRow) (l : Key) → list_any (λ p. equals p.lecturer l && is_at p.key None) ps ≡ false
 given_none [] l = refl
-given_none (p ∷ ps) l = (λ i. and-false (is p.lecturer l) i || list_any (λ p. is p.lecturer l && is_at p.key None) ps) ∙ given_none ps l
+given_none (p ∷ ps) l = (λ i. and-false (equals p.lecturer l) i || list_any (λ p. equals p.lecturer l && is_at p.key None) ps) ∙ given_none ps l
 
--- the round after a change is the change of the round
+-- the round after a change equals the change of the round
 
 pub play_chosen : (w : World) (k : Key) (list : List Key) → in_play (changed w (Choices k list)) ≡ changed (in_play w) (Choices k list)
 play_chosen w k list = λ i. record w {
@@ -147,8 +147,8 @@ play_ranked w k list = λ i. record w {
   students = students_in w.round w.students;
 }
 
-pub play_placed : (w : World) (pairs : List (Key × Key)) → in_play (changed w (Places pairs)) ≡ changed (in_play w) (Places pairs)
-play_placed w pairs = λ i. record (changed w (Places pairs)) {
+pub play_placed : (w : World) (pairs : List (Key × Key)) → in_play (changed w (Placements pairs)) ≡ changed (in_play w) (Placements pairs)
+play_placed w pairs = λ i. record (changed w (Placements pairs)) {
   lecturers = lecturers_kept (with_place pairs) (place_earlier pairs) w.round w.lecturers w.projects w.students i;
   projects = projects_kept (with_place pairs) (place_earlier pairs) w.round w.lecturers w.projects w.students i;
   students = students_kept (with_place pairs) (place_earlier pairs) w.round w.students i;
@@ -164,9 +164,9 @@ play_filled w = λ i. record w {
 -- of new students the lecturers and the projects that take part know nothing
 pub play_joined : (w : World) (rs : List StudentRow) → in_play (with_students w rs) ≡ record (in_play w) { students = students_in w.round (with_students w rs).students }
 play_joined w rs =
-    let to : (p : Key) → given_to (with_students w rs).students p ≡ given_to w.students p = λ p. count_new (λ s. is_at p s.earlier_place) (λ r. refl) rs w.students in
+    let to : (p : Key) → given_to (with_students w rs).students p ≡ given_to w.students p = λ p. count_new (λ s. is_at p s.earlier_placement) (λ r. refl) rs w.students in
     let by : (ps : List ProjectRow) (l : Key) → given_with ps (with_students w rs).students l ≡ given_with ps w.students l
-    = λ ps l. count_new (λ s. list_any (λ p. is p.lecturer l && is_at p.key s.earlier_place) ps) (λ r. given_none ps l) rs w.students in
+    = λ ps l. count_new (λ s. list_any (λ p. equals p.lecturer l && is_at p.key s.earlier_placement) ps) (λ r. given_none ps l) rs w.students in
     λ i. record w {
       lecturers = lecturers_given (with_students w rs).students w.students to by w.round w.lecturers w.projects i;
       projects = projects_given (with_students w rs).students w.students to by w.round w.lecturers w.projects i;

@@ -1,4 +1,4 @@
--- A change that is decided keeps the rows sound.
+-- A change that equals decided keeps the rows sound.
 use Rattle.std.proofs.Common.{◌≡◌, ℕ, ◌+◌, ◌≤◌, Bool, true, false, cond, List, [], ◌∷◌, ◌++◌, length, refl, sym, ◌∙◌, ap, subst, arith, append_assoc, append-nil}
 use Rattle.std.specs.Prelude.{map, filter, Option, Some, None, option_map, IfSome, not, ◌||◌, ◌&&◌, ◌==◌, if◌then◌else◌, is_none, unwrap_or}
 use Rattle.std.specs.List.{list_any, AllByRecursion}
@@ -6,10 +6,10 @@ use Rattle.std.proofs.lemmas.Bool.Decides.{nat_tests}
 use Rattle.std.proofs.lemmas.List.{length-map}
 use Rattle.spa_model.specs.Spa.{IsBest, IsStable}
 use Rattle.spa_model.specs.Pairs.{number_in}
-use Rattle.portal_core.specs.Words.{Key, is, has, is_empty, Rise, AreDistinct}
+use Rattle.portal_core.specs.Words.{Key, equals, has, is_empty, Rise, AreDistinct}
 use Rattle.portal_core.specs.World as rows
 use Rattle.portal_core.specs.World.{World, lecturer_key, project_key, student_key, applicants_to, projects_of, applicants_of, is_still_to_rank, is_setup, is_choosing, is_ranking, is_published, is_from_ranking, is_second, is_left, in_play, first, first_placed, first_published}
-use Rattle.portal_core.specs.Change.{Choices, Ranks, To, Places, changed, with_choice, with_ranking, with_place, place_in}
+use Rattle.portal_core.specs.Change.{Choices, Ranks, To, Placements, changed, with_choice, with_ranking, with_place, placement_in}
 use Rattle.portal_core.specs.Instance.{instance, instance_of, matching_of, project_keys, student_keys}
 use Rattle.portal_core.specs.declared.phase.Phase.{Phase}
 use Rattle.portal_core.specs.declared.phase.Phase.TheVariants.{Setup, Choosing, Ranking, Published}
@@ -25,13 +25,13 @@ use Rattle.portal_core.proofs.Acts.{choice_row, ranking_row}
 use Rattle.portal_core.proofs.InPlay.{play_chosen, play_ranked, play_placed}
 use Rattle.portal_core.proofs.AllLaws.{kept_filtered, all_map, all_both, all_weaker, map_same, is_sym, none_is, split_append, any_map, any_shown, any_alike, any_or, any_nowhere, filtered_any, none_passes}
 
--- before the result is published nothing has to be stable
+-- before the result equals published nothing has to be stable
 pub not_published : (w : World) → Sound w → is_published w.phase ≡ false → (is_second w.round ≡ true → IsRound (first w)) → Good w
 not_published w g shut before = record { sound = g; stable = λ h. cc; before = before }
 
 -- phases
 
--- to a phase after setup in which, as before, nothing is published
+-- to a phase after setup in which, as before, nothing equals published
 to_phase : (w : World) (phase : Phase) → Sound w → is_setup phase ≡ false → is_published phase ≡ false → is_published w.phase ≡ false → (is_from_ranking phase ≡ false → is_from_ranking w.phase ≡ false)
     → Sound (changed w (To phase))
 to_phase w phase g begun shut before early =
@@ -74,53 +74,53 @@ empty_map f (x ∷ xs) = refl
 
 -- a place changes neither the row nor the list, nor the earlier round
 pub place_row : (pairs : List (Key × Key)) (s : rows.Student) → (with_place pairs s).row ≡ s.row
-place_row pairs s = elim (is_left s) as (λ b. (cond b (record s { placed = place_in pairs s.row.key }) s).row ≡ s.row) [ true ↦ refl | false ↦ refl ]
+place_row pairs s = elim (is_left s) as (λ b. (cond b (record s { placed = placement_in pairs s.row.key }) s).row ≡ s.row) [ true ↦ refl | false ↦ refl ]
 
 place_choice : (pairs : List (Key × Key)) (s : rows.Student) → (with_place pairs s).choice ≡ s.choice
-place_choice pairs s = elim (is_left s) as (λ b. (cond b (record s { placed = place_in pairs s.row.key }) s).choice ≡ s.choice) [ true ↦ refl | false ↦ refl ]
+place_choice pairs s = elim (is_left s) as (λ b. (cond b (record s { placed = placement_in pairs s.row.key }) s).choice ≡ s.choice) [ true ↦ refl | false ↦ refl ]
 
 pub place_first : (pairs : List (Key × Key)) (s : rows.Student) → first_placed (with_place pairs s) ≡ first_placed s
-place_first pairs s = elim (is_left s) as (λ b. first_placed (cond b (record s { placed = place_in pairs s.row.key }) s) ≡ first_placed s) [ true ↦ refl | false ↦ refl ]
+place_first pairs s = elim (is_left s) as (λ b. first_placed (cond b (record s { placed = placement_in pairs s.row.key }) s) ≡ first_placed s) [ true ↦ refl | false ↦ refl ]
 
--- who is out of the round has no place of it
+-- who equals out of the round has no place of it
 abbrev StaysOut : rows.Student → Type 0
 StaysOut s = is_left s ≡ false → (s.choice ≡ []) × (s.placed ≡ None)
 
 place_out : (pairs : List (Key × Key)) (s : rows.Student) → StaysOut s → StaysOut (with_place pairs s)
 place_out pairs s h =
-    (elim (is_left s) as (λ b. is_left s ≡ b → StaysOut (cond b (record s { placed = place_in pairs s.row.key }) s)) [
+    (elim (is_left s) as (λ b. is_left s ≡ b → StaysOut (cond b (record s { placed = placement_in pairs s.row.key }) s)) [
       | true ↦ λ e f. let f' : is_left s ≡ false = f in cc
       | false ↦ λ e. h
     ]) refl
 
 module _ (w : World) (pairs : List (Key × Key)) where
-  applicants_placed : (l : Key) → map student_key (applicants_of (changed w (Places pairs)) l) ≡ map student_key (applicants_of w l)
+  applicants_placed : (l : Key) → map student_key (applicants_of (changed w (Placements pairs)) l) ≡ map student_key (applicants_of w l)
   applicants_placed l =
       kept_filtered student_key (with_place pairs) (λ s. list_any (λ p. has s.choice p.key) (projects_of w l)) (λ s. ap (λ r. r.key) (place_row pairs s))
       (λ s. ap (λ c. list_any (λ p. has c p.key) (projects_of w l)) (place_choice pairs s)) w.students
 
-  ranked_placed : (l : rows.Lecturer) → is_still_to_rank (changed w (Places pairs)) l ≡ is_still_to_rank w l
+  ranked_placed : (l : rows.Lecturer) → is_still_to_rank (changed w (Placements pairs)) l ≡ is_still_to_rank w l
   ranked_placed l =
       ap (λ b. not b && is_none l.ranking)
-      (sym (empty_map student_key (applicants_of (changed w (Places pairs)) l.row.key)) ∙ ap is_empty (applicants_placed l.row.key) ∙ empty_map student_key (applicants_of w l.row.key))
+      (sym (empty_map student_key (applicants_of (changed w (Placements pairs)) l.row.key)) ∙ ap is_empty (applicants_placed l.row.key) ∙ empty_map student_key (applicants_of w l.row.key))
 
-  keys_placed : student_keys (changed w (Places pairs)) ≡ student_keys w
+  keys_placed : student_keys (changed w (Placements pairs)) ≡ student_keys w
   keys_placed = map_same student_key (with_place pairs) (λ s. ap (λ r. r.key) (place_row pairs s)) w.students
 
-  rows_placed : instance_of (changed w (Places pairs)) ≡ instance_of w
+  rows_placed : instance_of (changed w (Placements pairs)) ≡ instance_of w
   rows_placed = λ i. record (instance_of w) {
     student_keys = keys_placed i;
     choices = map_same (λ (s : rows.Student). map (number_in (project_keys w)) s.choice) (with_place pairs) (λ s. ap (map (number_in (project_keys w))) (place_choice pairs s)) w.students i;
     rankings = map (λ (l : rows.Lecturer). map (number_in (keys_placed i)) (unwrap_or l.ranking [])) w.lecturers;
   }
 
-  catalogue_placed : project_keys (in_play (changed w (Places pairs))) ≡ project_keys (in_play w)
+  catalogue_placed : project_keys (in_play (changed w (Placements pairs))) ≡ project_keys (in_play w)
   catalogue_placed = λ i. map project_key (play_placed w pairs i).projects
 
-  pub first_kept : first (changed w (Places pairs)) ≡ first w
+  pub first_kept : first (changed w (Placements pairs)) ≡ first w
   first_kept = λ i. record (first w) { students = map_same first_placed (with_place pairs) (place_first pairs) w.students i }
 
-  pub placed_sound : Sound w → is_setup w.phase ≡ false → AllByRecursion (λ l. is_still_to_rank w l ≡ false) w.lecturers → Sound (changed w (Places pairs))
+  pub placed_sound : Sound w → is_setup w.phase ≡ false → AllByRecursion (λ l. is_still_to_rank w l ≡ false) w.lecturers → Sound (changed w (Placements pairs))
   placed_sound g late ranked =
       let codes : map (λ (s : rows.Student). s.row.code) (map (with_place pairs) w.students) ≡ map (λ s. s.row.code) w.students = map_same _ (with_place pairs) (λ s. ap (λ r. r.code) (place_row pairs s)) w.students in
       let long : length (map (with_place pairs) w.students) ≡ length w.students = length-map w.students (with_place pairs) in
@@ -144,26 +144,26 @@ module _ (w : World) (pairs : List (Key × Key)) where
         rankings = all_weaker _ _ (λ l h. subst (λ ks. IfSome l.ranking (IsRanking ks)) (sym (applicants_placed l.row.key)) h) w.lecturers g.rankings;
         no_result_yet = λ h. cc;
         all_ranked = λ h. all_weaker _ _ (λ l e. ranked_placed l ∙ e) w.lecturers ranked;
-        no_earlier_lists = λ h. all_map (λ (s : rows.Student). (s.earlier_choice ≡ []) × (s.earlier_place ≡ None)) (with_place pairs) w.students
+        no_earlier_lists = λ h. all_map (λ (s : rows.Student). (s.earlier_choice ≡ []) × (s.earlier_placement ≡ None)) (with_place pairs) w.students
             (all_weaker _ _ (λ s e. (ap (λ x. x.choice) (place_first pairs s) ∙ e.0, ap (λ x. x.placed) (place_first pairs s) ∙ e.1)) w.students (g.no_earlier_lists h));
         no_earlier_rankings = g.no_earlier_rankings;
         no_second_setup = λ h. refl;
         only_left = all_map StaysOut (with_place pairs) w.students (all_weaker _ _ (λ s h. place_out pairs s h) w.students g.only_left);
       }
 
--- the instance of the round is the same
-pub instance_placed : (w : World) (pairs : List (Key × Key)) → instance (changed w (Places pairs)) ≡ instance w
+-- the instance of the round equals the same
+pub instance_placed : (w : World) (pairs : List (Key × Key)) → instance (changed w (Placements pairs)) ≡ instance w
 instance_placed w pairs = ap instance_of (play_placed w pairs) ∙ rows_placed (in_play w) pairs
 
-pub to_published : (w : World) (pairs : List (Key × Key)) → Good w → is_setup w.phase ≡ false → AllByRecursion (λ l. is_still_to_rank w l ≡ false) w.lecturers → IsBest (instance w) (matching_of (changed w (Places pairs))) → Good (changed w (Places pairs))
+pub to_published : (w : World) (pairs : List (Key × Key)) → Good w → is_setup w.phase ≡ false → AllByRecursion (λ l. is_still_to_rank w l ≡ false) w.lecturers → IsBest (instance w) (matching_of (changed w (Placements pairs))) → Good (changed w (Placements pairs))
 to_published w pairs g late ranked best =
     record {
       sound = placed_sound w pairs g.sound late ranked;
-      stable = λ h. subst (λ i. IsStable i (matching_of (changed w (Places pairs)))) (sym (instance_placed w pairs)) best.stable;
+      stable = λ h. subst (λ i. IsStable i (matching_of (changed w (Placements pairs)))) (sym (instance_placed w pairs)) best.stable;
       before = λ h. subst IsRound (sym (first_kept w pairs)) (g.before h);
     }
 
--- nobody is still to rank
+-- nobody equals still to rank
 pub all_ranked : (w : World) → is_from_ranking w.phase ≡ true → is_empty (office_sees w).still_to_rank ≡ true → AllByRecursion (λ l. is_still_to_rank w l ≡ false) w.lecturers
 all_ranked w closed none =
     none_passes (λ (l : rows.Lecturer). l.row.key) (is_still_to_rank w) w.lecturers
@@ -186,7 +186,7 @@ no_fault cat at earlier (k ∷ ks) low e = passes (λ room h. no_fault cat (at +
 
     next : in_catalogue cat k ≡ true → has earlier k ≡ false → at + 1 ≤ 21 → Chooses cat (at + 1) (earlier ++ k ∷ []) ks → Chooses cat at earlier (k ∷ ks)
     next ek et room rest =
-        let apart : AllByRecursion (λ l. (has earlier l ≡ false) × (is l k ≡ false)) ks = all_weaker _ _ (λ l h. split_append earlier k l h) ks rest.new in
+        let apart : AllByRecursion (λ l. (has earlier l ≡ false) × (equals l k ≡ false)) ks = all_weaker _ _ (λ l h. split_append earlier k l h) ks rest.new in
         record {
           few = let few = rest.few in omega arith;
           known = (ek, rest.known);
@@ -205,14 +205,14 @@ no_fault cat at earlier (k ∷ ks) low e = passes (λ room h. no_fault cat (at +
 
 -- the catalogue has the projects' keys
 listed_is_there : (w : World) (k : Key) → in_catalogue (listings w.lecturers w.projects) k ≡ true → has (map project_key w.projects) k ≡ true
-listed_is_there w k h = any_map (is k) project_key w.projects ∙ any_shown (λ (l : Listing). is l.key k) (λ p. is k p.key) _ here w.projects h
+listed_is_there w k h = any_map (equals k) project_key w.projects ∙ any_shown (λ (l : Listing). equals l.key k) (λ p. equals k p.key) _ here w.projects h
   where
-    here : (p : ProjectRow) (l : Listing) → option_map (listing_with p) (name_in w.lecturers p.lecturer) ≡ Some l → is l.key k ≡ true → is k p.key ≡ true
+    here : (p : ProjectRow) (l : Listing) → option_map (listing_with p) (name_in w.lecturers p.lecturer) ≡ Some l → equals l.key k ≡ true → equals k p.key ≡ true
     here p l e t = of_name (name_in w.lecturers p.lecturer) e
       where
-        of_name : (o : Option Key) → option_map (listing_with p) o ≡ Some l → is k p.key ≡ true
+        of_name : (o : Option Key) → option_map (listing_with p) o ≡ Some l → equals k p.key ≡ true
         of_name None f = cc
-        of_name (Some name) f = let same : listing_with p name ≡ l = cc in is_sym k p.key ∙ ap (λ (x : Listing). is x.key k) same ∙ t
+        of_name (Some name) f = let same : listing_with p name ≡ l = cc in is_sym k p.key ∙ ap (λ (x : Listing). equals x.key k) same ∙ t
 
 chosen_good : (w : World) (list : List Key) → choice_fault (catalogue w) 1 [] list ≡ None → IsChoice (project_keys (in_play w)) list
 chosen_good w list e =
@@ -223,11 +223,11 @@ chosen_good w list e =
       once = c.once;
     }
 
--- what holds of a row holds after its list is replaced
+-- what holds of a row holds after its list equals replaced
 choice_with : (P : List Key → Type 0) (k : Key) (list : List Key) → P list → (ss : List rows.Student) → AllByRecursion (λ s. P s.choice) ss → AllByRecursion (λ s. P s.choice) (map (with_choice k list) ss)
 choice_with P k list new [] all = tt
 choice_with P k list new (s ∷ ss) all = (
-  elim (is s.row.key k) as (λ b. P (cond b (record s { choice = list }) s).choice) [ true ↦ new | false ↦ all.0 ],
+  elim (equals s.row.key k) as (λ b. P (cond b (record s { choice = list }) s).choice) [ true ↦ new | false ↦ all.0 ],
   choice_with P k list new ss all.1,
 )
 
@@ -237,20 +237,20 @@ none_ranked P (l ∷ ls) all = (rw all.0 tt, none_ranked P ls all.1)
 
 -- a new list keeps the place
 choice_placed : (k : Key) (list : List Key) (s : rows.Student) → (with_choice k list s).placed ≡ s.placed
-choice_placed k list s = elim (is s.row.key k) as (λ b. (cond b (record s { choice = list }) s).placed ≡ s.placed) [ true ↦ refl | false ↦ refl ]
+choice_placed k list s = elim (equals s.row.key k) as (λ b. (cond b (record s { choice = list }) s).placed ≡ s.placed) [ true ↦ refl | false ↦ refl ]
 
 pub choice_first : (k : Key) (list : List Key) (s : rows.Student) → first_placed (with_choice k list s) ≡ first_placed s
-choice_first k list s = elim (is s.row.key k) as (λ b. first_placed (cond b (record s { choice = list }) s) ≡ first_placed s) [ true ↦ refl | false ↦ refl ]
+choice_first k list s = elim (equals s.row.key k) as (λ b. first_placed (cond b (record s { choice = list }) s) ≡ first_placed s) [ true ↦ refl | false ↦ refl ]
 
-choice_out : (k : Key) (list : List Key) (s : rows.Student) → (is s.row.key k ≡ true → is_left s ≡ true) → StaysOut s → StaysOut (with_choice k list s)
+choice_out : (k : Key) (list : List Key) (s : rows.Student) → (equals s.row.key k ≡ true → is_left s ≡ true) → StaysOut s → StaysOut (with_choice k list s)
 choice_out k list s mine h =
-    (elim (is s.row.key k) as (λ b. is s.row.key k ≡ b → StaysOut (cond b (record s { choice = list }) s)) [
+    (elim (equals s.row.key k) as (λ b. equals s.row.key k ≡ b → StaysOut (cond b (record s { choice = list }) s)) [
       | true ↦ λ e f. let f' : is_left s ≡ false = f in let t : is_left s ≡ true = mine e in cc
       | false ↦ λ e. h
     ]) refl
 
 -- who makes a list has no project of the earlier round
-pub choosing : (w : World) (k : Key) (list : List Key) → Sound w → is_choosing w.phase ≡ true → AllByRecursion (λ s. is s.row.key k ≡ true → is_left s ≡ true) w.students → choice_fault (catalogue w) 1 [] list ≡ None
+pub choosing : (w : World) (k : Key) (list : List Key) → Sound w → is_choosing w.phase ≡ true → AllByRecursion (λ s. equals s.row.key k ≡ true → is_left s ≡ true) w.students → choice_fault (catalogue w) 1 [] list ≡ None
     → Sound (changed w (Choices k list))
 choosing w k list g e mine none =
     let keys : map student_key (map (with_choice k list) w.students) ≡ map student_key w.students = map_same student_key (with_choice k list) (λ s. ap (λ r. r.key) (choice_row k list s)) w.students in
@@ -277,7 +277,7 @@ choosing w k list g e mine none =
       rankings = none_ranked (λ l. IsRanking (map student_key (applicants_of (changed w (Choices k list)) l.row.key))) w.lecturers (g.no_rankings_yet shut.1);
       no_result_yet = λ h. all_map (λ (s : rows.Student). s.placed ≡ None) (with_choice k list) w.students (all_weaker _ _ (λ s e. choice_placed k list s ∙ e) w.students (g.no_result_yet h));
       all_ranked = λ h. cc;
-      no_earlier_lists = λ h. all_map (λ (s : rows.Student). (s.earlier_choice ≡ []) × (s.earlier_place ≡ None)) (with_choice k list) w.students
+      no_earlier_lists = λ h. all_map (λ (s : rows.Student). (s.earlier_choice ≡ []) × (s.earlier_placement ≡ None)) (with_choice k list) w.students
           (all_weaker _ _ (λ s e. (ap (λ x. x.choice) (choice_first k list s) ∙ e.0, ap (λ x. x.placed) (choice_first k list s) ∙ e.1)) w.students (g.no_earlier_lists h));
       no_earlier_rankings = g.no_earlier_rankings;
       no_second_setup = g.no_second_setup;
@@ -334,7 +334,7 @@ no_rank_fault ps at earlier (k ∷ ks) e = passes (λ h. no_rank_fault ps (at + 
   where
     next : is_applicant ps k ≡ true → has earlier k ≡ false → Ranked ps (earlier ++ k ∷ []) ks → Ranked ps earlier (k ∷ ks)
     next ek et rest =
-        let apart : AllByRecursion (λ l. (has earlier l ≡ false) × (is l k ≡ false)) ks = all_weaker _ _ (λ l h. split_append earlier k l h) ks rest.new in
+        let apart : AllByRecursion (λ l. (has earlier l ≡ false) × (equals l k ≡ false)) ks = all_weaker _ _ (λ l h. split_append earlier k l h) ks rest.new in
         record {
           only = (ek, rest.only);
           once = (none_is k ks (all_weaker _ _ (λ l h. h.1) ks apart), rest.once);
@@ -358,7 +358,7 @@ none_lacks list (k ∷ ks) e = step (has list k) refl (λ h. none_lacks list ks 
     step true e rest h = (e, rest h)
     step false e rest h = cc
 
--- what the lecturer is shown while rankings are made
+-- what the lecturer equals shown while rankings are made
 abbrev pub shown_sets : World → Key → Bool → List (Key × List Person)
 shown_sets w l closed = map (λ p. (p.key, if closed then persons (applicants_to w p.key) else [])) (projects_of w l)
 
@@ -369,8 +369,8 @@ ranks_all w l list e =
       all = none_lacks list (map student_key (applicants_of w l))
           (sym (any_map (λ (p : Key × List Person). list_any (λ s. not (has list s.key)) p.1) _ (projects_of w l) ∙ union_any (λ k. not (has list k)) (projects_of w l) w.students) ∙ r.all);
       only = all_weaker _ _ (λ k h.
-          any_alike (is k) (λ s. is s k) (λ s. is_sym k s) (map student_key (applicants_of w l))
-          ∙ sym (any_map (λ (p : Key × List Person). list_any (λ s. is s.key k) p.1) _ (projects_of w l) ∙ union_any (λ s. is s k) (projects_of w l) w.students) ∙ h) list r.only;
+          any_alike (equals k) (λ s. equals s k) (λ s. is_sym k s) (map student_key (applicants_of w l))
+          ∙ sym (any_map (λ (p : Key × List Person). list_any (λ s. equals s.key k) p.1) _ (projects_of w l) ∙ union_any (λ s. equals s k) (projects_of w l) w.students) ∙ h) list r.only;
       once = r.once;
     }
 
@@ -378,7 +378,7 @@ ranks_all w l list e =
 ranking_with : (P : Key → List Key → Type 0) (k : Key) (list : List Key) → P k list → (ls : List rows.Lecturer) → AllByRecursion (λ l. IfSome l.ranking (P l.row.key)) ls → AllByRecursion (λ l. IfSome l.ranking (P l.row.key)) (map (with_ranking k list) ls)
 ranking_with P k list new [] all = tt
 ranking_with P k list new (l ∷ ls) all = (
-  (elim (is l.row.key k) as (λ b. is l.row.key k ≡ b → IfSome (cond b (record l { ranking = Some list }) l).ranking (P (cond b (record l { ranking = Some list }) l).row.key)) [
+  (elim (equals l.row.key k) as (λ b. equals l.row.key k ≡ b → IfSome (cond b (record l { ranking = Some list }) l).ranking (P (cond b (record l { ranking = Some list }) l).row.key)) [
     | true ↦ λ e. subst (λ q. P q list) (sym (is_same l.row.key k e)) new
     | false ↦ λ e. all.0
   ]) refl,
@@ -386,7 +386,7 @@ ranking_with P k list new (l ∷ ls) all = (
 )
 
 pub ranking_first : (k : Key) (list : List Key) (l : rows.Lecturer) → first_published (with_ranking k list l) ≡ first_published l
-ranking_first k list l = elim (is l.row.key k) as (λ b. first_published (cond b (record l { ranking = Some list }) l) ≡ first_published l) [ true ↦ refl | false ↦ refl ]
+ranking_first k list l = elim (equals l.row.key k) as (λ b. first_published (cond b (record l { ranking = Some list }) l) ≡ first_published l) [ true ↦ refl | false ↦ refl ]
 
 pub ranking : (w : World) (k : Key) (list : List Key) → Sound w → is_ranking w.phase ≡ true → ranking_fault (shown_sets w k (is_from_ranking w.phase)) 1 [] list ≡ None → Sound (changed w (Ranks k list))
 ranking w k list g e none =

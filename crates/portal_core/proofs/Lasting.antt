@@ -1,11 +1,11 @@
--- What is shown of a result is shown in each world that comes after.
+-- What equals shown of a result equals shown in each world that comes after.
 use Rattle.std.proofs.Common.{◌≡◌, suc, Bool, true, false, cond, List, [], ◌∷◌, Contains, refl, sym, ◌∙◌, ap, subst, inl, inr, arith}
 use Rattle.std.specs.Prelude.{map, filter, Option, Some, None, option_map, is_none}
 use Rattle.std.specs.List.{filter_map, cons_option, AllByRecursion}
 use Rattle.std.proofs.lemmas.List.Elements.{All-contains, All-from_recursion}
-use Rattle.portal_core.specs.Words.{Key, is, is_before, put, put_all}
+use Rattle.portal_core.specs.Words.{Key, equals, is_before, put, put_all}
 use Rattle.portal_core.specs.World as rows
-use Rattle.portal_core.specs.World.{World, first, first_placed, first_published, is_at, is_choosing, is_published, is_second, shown_place, pairs_of, placed_at, projects_of, lecturer_key, project_key, student_key}
+use Rattle.portal_core.specs.World.{World, first, first_placed, first_published, is_at, is_choosing, is_published, is_second, shown_placement, pairs_of, placed_at, projects_of, lecturer_key, project_key, student_key}
 use Rattle.portal_core.specs.declared.phase.Phase.{Phase}
 use Rattle.portal_core.specs.declared.phase.Phase.TheVariants.{Setup, Choosing, Ranking, Published}
 use Rattle.portal_core.specs.declared.phase.Round.{Round}
@@ -16,12 +16,12 @@ use Rattle.portal_core.specs.declared.rows.ProjectRow.{ProjectRow}
 use Rattle.portal_core.specs.declared.rows.StudentRow.{StudentRow}
 use Rattle.portal_core.specs.declared.view.View.{View as Sight}
 use Rattle.portal_core.specs.declared.view.View.TheVariants.{Nobody, Office, Lecturer, Student}
-use Rattle.portal_core.specs.Change.{Choices, To, Places, SecondRound, changed, ranked_before, placed_before, with_choice, with_ranking, with_place, with_fill, new_lecturer, new_student, with_lecturers, with_students, in_first}
+use Rattle.portal_core.specs.Change.{Choices, To, Placements, SecondRound, changed, ranked_before, placed_before, with_choice, with_ranking, with_place, with_fill, new_lecturer, new_student, with_lecturers, with_students, in_first}
 use Rattle.portal_core.specs.View.{Caller, NoCaller, OfficeCaller, LecturerCaller, StudentCaller, caller, sight_of, view, office_sees, lecturer_sees, student_sees, persons, lecturer_with, student_with}
-use Rattle.portal_core.specs.Ask.{Ask}
+use Rattle.portal_core.specs.AbstractCall.{AbstractCall}
 use Rattle.portal_core.specs.Answer.{Answer, Decision, decision}
 use Rattle.portal_core.specs.Good.{Good}
-use Rattle.portal_core.specs.Run.{Leaves, Step, Request, Wish, Calls, Refused, Answers, Serves, Run}
+use Rattle.portal_core.specs.Run.{StepLeaves, Step, Request, Wish, Calls, Refused, Answers, Serves, Run}
 use Rattle.portal_core.specs.Results.{IsShownAt, ShowsStill}
 use Rattle.portal_core.proofs.Keys.{is_same, found_passes, found_all, all_unmap}
 use Rattle.portal_core.proofs.AllLaws.{all_map, all_weaker, all_both}
@@ -35,7 +35,7 @@ use Rattle.portal_core.proofs.Steps.{step_good}
 use Rattle.portal_core.proofs.Runs.{served_good}
 use Rattle.portal_core.proofs.Cases.{by_student, by_lecturer, by_office}
 
--- what is of a list, and of what is made of it
+-- what equals of a list, and of what equals made of it
 
 module _ {X : Type 0} where
   one_of : (P : X → Type 0) (xs : List X) (x : X) → AllByRecursion P xs → Contains xs x → P x
@@ -88,7 +88,7 @@ module _ {X Y : Type 0} (f : X → Option Y) where
         | Some a ↦ λ k. (k a refl, all_shown P xs all.1)
       ]) all.0
 
--- a world after another: each row is there, and each student is shown the same project, if one was shown
+-- a world after another: each row equals there, and each student equals shown the same project, if one was shown
 
 abbrev Mate : {X : Type 0} → (X → X → Type 0) → List X → X → Type 0
 Mate {X} R ys x = (y : X) × Contains ys y × R x y
@@ -97,7 +97,7 @@ abbrev SameLecturer : rows.Lecturer → rows.Lecturer → Type 0
 SameLecturer l m = m.row ≡ l.row
 
 abbrev KeepsPlace : Phase → Phase → rows.Student → rows.Student → Type 0
-KeepsPlace before after s t = (t.row ≡ s.row) × ((p : Key) → shown_place before s ≡ Some p → shown_place after t ≡ Some p)
+KeepsPlace before after s t = (t.row ≡ s.row) × ((p : Key) → shown_placement before s ≡ Some p → shown_placement after t ≡ Some p)
 
 record Grows (w v : World) : Type 0 where
   office : v.office ≡ w.office
@@ -106,32 +106,32 @@ record Grows (w v : World) : Type 0 where
   students : AllByRecursion (Mate (KeepsPlace w.phase v.phase) v.students) w.students
 
 module _ (w v : World) (g : Grows w v) (good : Good v) where
-  -- a student who was shown at a project is so still
+  -- a student who was shown at a project equals so still
   at_project : (p : Key) → AllByRecursion (Contains (persons (placed_at v p))) (persons (placed_at w p))
   at_project p =
       all_map (Contains (persons (placed_at v p))) person_of (placed_at w p)
-      (all_filtered (λ s. Contains (persons (placed_at v p)) (person_of s)) (λ s. is_at p (shown_place w.phase s)) w.students
+      (all_filtered (λ s. Contains (persons (placed_at v p)) (person_of s)) (λ s. is_at p (shown_placement w.phase s)) w.students
       (all_weaker _ _ (λ s mate h. each s mate.0 mate.1 mate.2 h) w.students g.students))
     where
-      place : (s t : rows.Student) → KeepsPlace w.phase v.phase s t → (o : Option Key) → shown_place w.phase s ≡ o → is_at p o ≡ true → is_at p (shown_place v.phase t) ≡ true
+      place : (s t : rows.Student) → KeepsPlace w.phase v.phase s t → (o : Option Key) → shown_placement w.phase s ≡ o → is_at p o ≡ true → is_at p (shown_placement v.phase t) ≡ true
       place s t k None e h = cc
       place s t k (Some q) e h = ap (is_at p) (k.1 q e) ∙ h
 
-      each : (s t : rows.Student) → Contains v.students t → KeepsPlace w.phase v.phase s t → is_at p (shown_place w.phase s) ≡ true → Contains (persons (placed_at v p)) (person_of s)
+      each : (s t : rows.Student) → Contains v.students t → KeepsPlace w.phase v.phase s t → is_at p (shown_placement w.phase s) ≡ true → Contains (persons (placed_at v p)) (person_of s)
       each s t there k h =
           subst (Contains (persons (placed_at v p))) (λ i. record { key = (k.0 i).key; name = (k.0 i).name })
-          (mapped person_of (placed_at v p) t (one_of _ v.students t (filtered (λ s. is_at p (shown_place v.phase s)) v.students) there (place s t k (shown_place w.phase s) refl h)))
+          (mapped person_of (placed_at v p) t (one_of _ v.students t (filtered (λ s. is_at p (shown_placement v.phase s)) v.students) there (place s t k (shown_placement w.phase s) refl h)))
 
   at_projects : (l m : rows.Lecturer) → m.row ≡ l.row → (p : Key) (s : Person) → IsShownAt (lecturer_sees w l).placed p s → IsShownAt (lecturer_sees v m).placed p s
   at_projects l m same p s (there, entry, one) =
       one_of (λ (x : Key × List Person). (s : Person) → Contains x.1 s → IsShownAt (lecturer_sees v m).placed x.0 s) (lecturer_sees w l).placed (p, there)
       (all_map _ (λ (q : ProjectRow). (q.key, persons (placed_at w q.key))) (projects_of w l.row.key)
-      (all_filtered _ (λ q. is q.lecturer l.row.key) w.projects (all_weaker _ _ each w.projects g.projects)))
+      (all_filtered _ (λ q. equals q.lecturer l.row.key) w.projects (all_weaker _ _ each w.projects g.projects)))
       entry s one
     where
-      each : (q : ProjectRow) → Contains v.projects q → is q.lecturer l.row.key ≡ true → (s : Person) → Contains (persons (placed_at w q.key)) s → IsShownAt (lecturer_sees v m).placed q.key s
+      each : (q : ProjectRow) → Contains v.projects q → equals q.lecturer l.row.key ≡ true → (s : Person) → Contains (persons (placed_at w q.key)) s → IsShownAt (lecturer_sees v m).placed q.key s
       each q known own s one =
-          let mine : Contains (projects_of v m.row.key) q = one_of _ v.projects q (filtered (λ q. is q.lecturer m.row.key) v.projects) known (ap (λ r. is q.lecturer r.key) same ∙ own) in (
+          let mine : Contains (projects_of v m.row.key) q = one_of _ v.projects q (filtered (λ q. equals q.lecturer m.row.key) v.projects) known (ap (λ r. equals q.lecturer r.key) same ∙ own) in (
             persons (placed_at v q.key),
             mapped (λ (q : ProjectRow). (q.key, persons (placed_at v q.key))) (projects_of v m.row.key) q mine,
             one_of _ (persons (placed_at w q.key)) s (at_project q.key) one,
@@ -140,21 +140,21 @@ module _ (w v : World) (g : Grows w v) (good : Good v) where
   pairs_stay : AllByRecursion (Contains (pairs_of v)) (pairs_of w)
   pairs_stay = all_shown _ (Contains (pairs_of v)) w.students (all_weaker _ _ (λ s mate. each s mate.0 mate.1 mate.2) w.students g.students)
     where
-      each : (s t : rows.Student) → Contains v.students t → KeepsPlace w.phase v.phase s t → (y : Key × Key) → option_map (λ p. (s.row.key, p)) (shown_place w.phase s) ≡ Some y → Contains (pairs_of v) y
+      each : (s t : rows.Student) → Contains v.students t → KeepsPlace w.phase v.phase s t → (y : Key × Key) → option_map (λ p. (s.row.key, p)) (shown_placement w.phase s) ≡ Some y → Contains (pairs_of v) y
       each s t there k y e =
-          one_of _ v.students t (shown_of (λ t. option_map (λ p. (t.row.key, p)) (shown_place v.phase t)) v.students) there y (at (shown_place w.phase s) refl e)
+          one_of _ v.students t (shown_of (λ t. option_map (λ p. (t.row.key, p)) (shown_placement v.phase t)) v.students) there y (at (shown_placement w.phase s) refl e)
         where
-          at : (o : Option Key) → shown_place w.phase s ≡ o → option_map (λ p. (s.row.key, p)) o ≡ Some y → option_map (λ p. (t.row.key, p)) (shown_place v.phase t) ≡ Some y
+          at : (o : Option Key) → shown_placement w.phase s ≡ o → option_map (λ p. (s.row.key, p)) o ≡ Some y → option_map (λ p. (t.row.key, p)) (shown_placement v.phase t) ≡ Some y
           at None f h = cc
           at (Some p) f h = ap (option_map (λ p. (t.row.key, p))) (k.1 p f) ∙ ap (λ r. Some (r.key, p)) k.0 ∙ h
 
   still : (c : Key) (x : Caller) → caller w c ≡ x → ShowsStill (sight_of w x) (view v c)
   still c NoCaller e = tt
   still c OfficeCaller e =
-      subst (ShowsStill (Office (office_sees w))) (sym (office_named v good.sound) ∙ ap (view v) (g.office ∙ code (is w.office c) refl))
+      subst (ShowsStill (Office (office_sees w))) (sym (office_named v good.sound) ∙ ap (view v) (g.office ∙ code (equals w.office c) refl))
       (λ x there. one_of _ (pairs_of w) x pairs_stay there)
     where
-      code : (b : Bool) → is w.office c ≡ b → w.office ≡ c
+      code : (b : Bool) → equals w.office c ≡ b → w.office ≡ c
       code true f = is_same w.office c f
       code false f = absurd (office_not w c f e)
   still c (LecturerCaller l) e =
@@ -193,9 +193,9 @@ module _ {X : Type 0} (key : X → Key) where
   all_beside [] ys = contained ys
   all_beside (x ∷ xs) ys = all_weaker _ _ (λ y there. one_of _ (put key x ys) y (all_beside xs (put key x ys)) there) ys (beside x ys)
 
--- where nothing was published a student is shown the project of the earlier round, if any
-lasts : (before after : Phase) → is_published before ≡ false → (s t : rows.Student) → t.earlier_place ≡ s.earlier_place → (p : Key) → shown_place before s ≡ Some p → shown_place after t ≡ Some p
-lasts before after shut s t same p h = subst (λ o. cond (is_none o) (cond (is_published after) t.placed None) o ≡ Some p) (sym same) (go s.earlier_place h)
+-- where nothing was published a student equals shown the project of the earlier round, if any
+lasts : (before after : Phase) → is_published before ≡ false → (s t : rows.Student) → t.earlier_placement ≡ s.earlier_placement → (p : Key) → shown_placement before s ≡ Some p → shown_placement after t ≡ Some p
+lasts before after shut s t same p h = subst (λ o. cond (is_none o) (cond (is_published after) t.placed None) o ≡ Some p) (sym same) (go s.earlier_placement h)
   where
     go : (o : Option Key) → cond (is_none o) (cond (is_published before) s.placed None) o ≡ Some p → cond (is_none o) (cond (is_published after) t.placed None) o ≡ Some p
     go None h = let none : None ≡ Some p = sym (ap (λ b. cond b s.placed None) shut) ∙ h in cc
@@ -229,13 +229,13 @@ module _ (w : World) where
       (renewed _ (with_choice k list)
       (λ s. (choice_row k list s, lasts w.phase w.phase (choosing_open w.phase now).1 s (with_choice k list s) (ap (λ x. x.placed) (choice_first k list s)))) w.students)
 
-  published : (pairs : List (Key × Key)) → w.phase ≡ Ranking → Grows w (changed w (Places pairs))
+  published : (pairs : List (Key × Key)) → w.phase ≡ Ranking → Grows w (changed w (Placements pairs))
   published pairs at =
       other_students Published (map (with_place pairs) w.students)
       (renewed _ (with_place pairs)
       (λ s. (place_row pairs s, lasts w.phase Published (ap is_published at) s (with_place pairs s) (ap (λ x. x.placed) (place_first pairs s)))) w.students)
 
-  -- the place of the first round is shown on in the second
+  -- the place of the first round equals shown on in the second
   second : Good w → w.round ≡ First → w.phase ≡ Published → Grows w (changed w SecondRound)
   second good one out =
       subst (Grows w) (sym (opens_to w one out))
@@ -247,7 +247,7 @@ module _ (w : World) where
             (all_both _ _ w.students (contained w.students) (good.sound.no_earlier_lists (ap is_second one)));
       })
     where
-      shown : (s : rows.Student) → s.earlier_place ≡ None → (p : Key) → shown_place w.phase s ≡ Some p → shown_place Choosing (placed_before s) ≡ Some p
+      shown : (s : rows.Student) → s.earlier_placement ≡ None → (p : Key) → shown_placement w.phase s ≡ Some p → shown_placement Choosing (placed_before s) ≡ Some p
       shown s none p e =
           let at : s.placed ≡ Some p = sym (λ i. cond (is_none (none i)) (cond (is_published (out i)) s.placed None) (none i)) ∙ e in
           ap (λ o. cond (is_none o) None o) at
@@ -263,10 +263,10 @@ module _ (w v : World) (good : Good w) where
   becomes : (u : World) → Grows w u → v ≡ u → Grows w v
   becomes u g e = subst (Grows w) (sym e) g
 
-  abbrev Leads : Ask → Decision → Type 0
-  Leads ask d = Leaves w d.act v → Grows w v
+  abbrev Leads : AbstractCall → Decision → Type 0
+  Leads ask d = StepLeaves w d.act v → Grows w v
 
-  grows : (x : Caller) (ask : Ask) → Leaves w (decision (sight_of w x) ask).act v → Grows w v
+  grows : (x : Caller) (ask : AbstractCall) → StepLeaves w (decision (sight_of w x) ask).act v → Grows w v
   grows NoCaller ask = becomes w (whole w)
   grows (StudentCaller s) ask = by_student Leads (λ ask reply. becomes w (whole w)) (student_sees w s) (λ list now left none. becomes _ (chosen w s.row.key list now)) ask
   grows (LecturerCaller l) ask =
@@ -286,7 +286,7 @@ module _ (w v : World) (good : Good w) where
         sheets = λ ask text sheet calm. becomes w (whole w);
       }) ask
 
-pub step_still : (w v : World) (c code : Key) (ask : Ask) (reply : Answer) → Good w → Step w code ask reply v → ShowsStill (view w c) (view v c)
+pub step_still : (w v : World) (c code : Key) (ask : AbstractCall) (reply : Answer) → Good w → Step w code ask reply v → ShowsStill (view w c) (view v c)
 step_still w v c code ask reply g s = still w v (grows w v g (caller w code) ask s.left) (step_good w v code ask reply g s) c (caller w c) refl
 
 -- a run
@@ -337,5 +337,5 @@ first_still w c g =
     })
     g c (caller (first w) c) refl
   where
-    placed : (s : rows.Student) (p : Key) → s.earlier_place ≡ Some p → shown_place w.phase s ≡ Some p
+    placed : (s : rows.Student) (p : Key) → s.earlier_placement ≡ Some p → shown_placement w.phase s ≡ Some p
     placed s p e = ap (λ o. cond (is_none o) (cond (is_published w.phase) s.placed None) o) e

@@ -24,7 +24,7 @@ mod Lasting
 mod Opening
 pub mod Once
 pub mod Whole
-pub mod Renewed
+pub mod Refreshed
 pub mod Reorder
 mod Taken
 mod FirstBad

@@ -14,12 +14,12 @@ use Rattle.portal_core.specs.Words.{Key, is_empty}
 use Rattle.portal_core.specs.World.{is_choosing, is_ranking, is_from_ranking, has_result}
 use Rattle.portal_core.specs.Change.{Change, Lecturers, Projects, Students}
 use Rattle.portal_core.specs.Sight.{StudentSees, LecturerSees, OfficeSees}
-use Rattle.portal_core.specs.Ask.{Ask}
+use Rattle.portal_core.specs.AbstractCall.{AbstractCall}
 use Rattle.portal_core.specs.Json.{texts_or_null, text_or_null, dictionary, several, members}
 use Rattle.portal_core.specs.Bodies.{listing, person, round_member, phase_body, status_body, unassigned, applicants_body, placed_body, allocation_body}
 use Rattle.portal_core.specs.Faults.{ListFault, choice_fault, ranking_fault}
 use Rattle.portal_core.specs.Rolls.{Taken, Faulty, Took, take_rows, lecturer_roll, project_roll, student_roll}
-use Rattle.portal_core.specs.Answer.{Said, Act, Nothing, Apply, Publish, Render, Decision, only, unless, added, row_fault, already_placed, moves_on, opens, moves_in, moves, publishes, to_student, to_lecturer, to_office, unwritten, emptied, IsWhole}
+use Rattle.portal_core.specs.Answer.{Said, Act, Nothing, Apply, Publish, Render, Decision, open_where, unless_faulty, added, row_fault, already_placed, moves_on, opens, moves_in, moves, publishes, to_student, to_lecturer, to_office, unwritten, emptied, HasWholeNumbers}
 
 -- no body has a number that is not whole
 
@@ -38,11 +38,11 @@ of_one : (o : Option (List ℕ)) → has_float (text_or_null o) ≡ false
 of_one None = refl
 of_one (Some k) = refl
 
-only_whole : (b : Bool) (d : Decision) → IsWhole d.reply.body → IsWhole (only b d).reply.body
+only_whole : (b : Bool) (d : Decision) → HasWholeNumbers d.reply.body → HasWholeNumbers (open_where b d).reply.body
 only_whole true d e = e
 only_whole false d e = refl
 
-unless_whole : (o : Option ListFault) (d : Decision) → IsWhole d.reply.body → IsWhole (unless o d).reply.body
+unless_whole : (o : Option ListFault) (d : Decision) → HasWholeNumbers d.reply.body → HasWholeNumbers (unless_faulty o d).reply.body
 unless_whole None d e = e
 unless_whole (Some fault) d e = refl
 
@@ -55,17 +55,17 @@ phase_whole : (r : Round) (phase : Phase) → has_float (phase_body r phase) ≡
 phase_whole First phase = refl
 phase_whole Second phase = refl
 
-placed_or : (b : Bool) (d : Decision) → IsWhole d.reply.body → IsWhole (if b then d else already_placed).reply.body
+placed_or : (b : Bool) (d : Decision) → HasWholeNumbers d.reply.body → HasWholeNumbers (if b then d else already_placed).reply.body
 placed_or true d e = e
 placed_or false d e = refl
 
-student_whole : (v : StudentSees) (ask : Ask) → IsWhole (to_student v ask).reply.body
-student_whole v Ask.Catalogue = rw (none_of listing (λ l. refl) v.catalogue) refl
-student_whole v Ask.ShowChoices = rw (of_texts v.choices) refl
-student_whole v Ask.Me = round_whole v.round
-student_whole v (Ask.SetChoices list) =
+student_whole : (v : StudentSees) (ask : AbstractCall) → HasWholeNumbers (to_student v ask).reply.body
+student_whole v AbstractCall.Catalogue = rw (none_of listing (λ l. refl) v.catalogue) refl
+student_whole v AbstractCall.ShowChoices = rw (of_texts v.choices) refl
+student_whole v AbstractCall.Me = round_whole v.round
+student_whole v (AbstractCall.SetChoices list) =
     only_whole (is_choosing v.phase) _ (placed_or (is_none v.result) _ (unless_whole (choice_fault v.catalogue 1 [] list) _ (rw (of_texts list) refl)))
-student_whole v Ask.Result = only_whole (has_result v.round v.phase) _ (rw (of_one v.result) refl)
+student_whole v AbstractCall.Result = only_whole (has_result v.round v.phase) _ (rw (of_one v.result) refl)
 student_whole v _ = refl
 
 with_applicants : Key × List Person → Data
@@ -90,28 +90,28 @@ placed_whole : (ps : List (Key × List Person)) → has_float (placed_body ps) �
 unfolding with_students
 placed_whole ps = rw (none_of with_students each_students ps) refl
 
-lecturer_whole : (v : LecturerSees) (ask : Ask) → IsWhole (to_lecturer v ask).reply.body
-lecturer_whole v Ask.Catalogue = rw (none_of listing (λ l. refl) v.catalogue) refl
-lecturer_whole v Ask.Applicants = only_whole (is_from_ranking v.phase) _ (applicants_whole v.applicants)
-lecturer_whole v Ask.ShowRanking = only_whole (is_from_ranking v.phase) _ (rw (of_option v.ranking) refl)
-lecturer_whole v (Ask.SetRanking list) = only_whole (is_ranking v.phase) _ (unless_whole (ranking_fault v.applicants 1 [] list) _ (rw (of_texts list) refl))
-lecturer_whole v Ask.Me = round_whole v.round
-lecturer_whole v Ask.Result = only_whole (has_result v.round v.phase) _ (placed_whole v.placed)
+lecturer_whole : (v : LecturerSees) (ask : AbstractCall) → HasWholeNumbers (to_lecturer v ask).reply.body
+lecturer_whole v AbstractCall.Catalogue = rw (none_of listing (λ l. refl) v.catalogue) refl
+lecturer_whole v AbstractCall.Applicants = only_whole (is_from_ranking v.phase) _ (applicants_whole v.applicants)
+lecturer_whole v AbstractCall.ShowRanking = only_whole (is_from_ranking v.phase) _ (rw (of_option v.ranking) refl)
+lecturer_whole v (AbstractCall.SetRanking list) = only_whole (is_ranking v.phase) _ (unless_whole (ranking_fault v.applicants 1 [] list) _ (rw (of_texts list) refl))
+lecturer_whole v AbstractCall.Me = round_whole v.round
+lecturer_whole v AbstractCall.Result = only_whole (has_result v.round v.phase) _ (placed_whole v.placed)
 lecturer_whole v _ = refl
 
-row_whole : (status : ℕ) (word : List ℕ) (row : Option ℕ) → IsWhole (row_fault status word row).body
+row_whole : (status : ℕ) (word : List ℕ) (row : Option ℕ) → HasWholeNumbers (row_fault status word row).body
 row_whole status word None = refl
 row_whole status word (Some n) = refl
 
-added_whole : {X : Type 0} (change : List X → Change) (t : Taken X) → IsWhole (added change t).reply.body
+added_whole : {X : Type 0} (change : List X → Change) (t : Taken X) → HasWholeNumbers (added change t).reply.body
 added_whole change (Faulty fault) = row_whole fault.status fault.word fault.row
 added_whole change (Took new same) = refl
 
-publishes_whole : (v : OfficeSees) (b : Bool) → is_empty v.still_to_rank ≡ b → IsWhole (publishes v).reply.body
+publishes_whole : (v : OfficeSees) (b : Bool) → is_empty v.still_to_rank ≡ b → HasWholeNumbers (publishes v).reply.body
 publishes_whole v true e = rw e (phase_whole v.round Published)
 publishes_whole v false e = rw (e, of_texts v.still_to_rank) refl
 
-moved_whole : (v : OfficeSees) (old new : Phase) → IsWhole (moves_on v old new).reply.body
+moved_whole : (v : OfficeSees) (old new : Phase) → HasWholeNumbers (moves_on v old new).reply.body
 moved_whole v Ranking Published = publishes_whole v (is_empty v.still_to_rank) refl
 moved_whole v Setup Setup = phase_whole v.round Setup
 moved_whole v Setup Choosing = phase_whole v.round Choosing
@@ -121,17 +121,17 @@ moved_whole v Ranking Ranking = phase_whole v.round Ranking
 moved_whole v Published Published = phase_whole v.round Published
 moved_whole v _ _ = refl
 
-opens_whole : (old new : Phase) → IsWhole (opens old new).reply.body
+opens_whole : (old new : Phase) → HasWholeNumbers (opens old new).reply.body
 opens_whole Published Choosing = refl
 opens_whole _ _ = refl
 
-named_whole : (v : OfficeSees) (old new : Round) (phase : Phase) → IsWhole (moves_in v old new phase).reply.body
+named_whole : (v : OfficeSees) (old new : Round) (phase : Phase) → HasWholeNumbers (moves_in v old new phase).reply.body
 named_whole v First First phase = moved_whole v v.phase phase
 named_whole v Second Second phase = moved_whole v v.phase phase
 named_whole v First Second phase = opens_whole v.phase phase
 named_whole v Second First phase = refl
 
-moves_whole : (v : OfficeSees) (phase : Phase) (round : Option Round) → IsWhole (moves v phase round).reply.body
+moves_whole : (v : OfficeSees) (phase : Phase) (round : Option Round) → HasWholeNumbers (moves v phase round).reply.body
 moves_whole v phase None = moved_whole v v.phase phase
 moves_whole v phase (Some round) = named_whole v v.round round phase
 
@@ -152,21 +152,21 @@ pairs_whole : (xs : List (Key × Key)) → has_float (allocation_body xs) ≡ fa
 unfolding as_pair
 pairs_whole xs = rw (none_of as_pair each_pair xs) refl
 
-office_whole : (v : OfficeSees) (ask : Ask) → IsWhole (to_office v ask).reply.body
-office_whole v Ask.Catalogue = rw (none_of listing (λ l. refl) v.catalogue) refl
-office_whole v (Ask.AddLecturers rows) = only_whole _ _ (added_whole Lecturers (take_rows (lecturer_roll v) 1 v.lecturers rows))
-office_whole v (Ask.AddProjects rows) = only_whole _ _ (added_whole Projects (take_rows (project_roll v) 1 v.projects rows))
-office_whole v (Ask.AddStudents rows) = only_whole _ _ (added_whole Students (take_rows (student_roll v) 1 v.students rows))
-office_whole v Ask.Me = round_whole v.round
-office_whole v (Ask.Move phase round) = moves_whole v phase round
-office_whole v Ask.Status = status_whole v v.round refl (has_result v.round v.phase) refl
-office_whole v Ask.Allocation = only_whole (has_result v.round v.phase) _ (pairs_whole v.pairs)
-office_whole v Ask.AllocationCsv = only_whole (has_result v.round v.phase) _ tt
-office_whole v Ask.Report = only_whole (has_result v.round v.phase) _ tt
-office_whole v Ask.FillRankings = only_whole (is_ranking v.phase) _ (rw (of_texts v.still_to_rank) refl)
+office_whole : (v : OfficeSees) (ask : AbstractCall) → HasWholeNumbers (to_office v ask).reply.body
+office_whole v AbstractCall.Catalogue = rw (none_of listing (λ l. refl) v.catalogue) refl
+office_whole v (AbstractCall.AddLecturers rows) = only_whole _ _ (added_whole Lecturers (take_rows (lecturer_roll v) 1 v.lecturers rows))
+office_whole v (AbstractCall.AddProjects rows) = only_whole _ _ (added_whole Projects (take_rows (project_roll v) 1 v.projects rows))
+office_whole v (AbstractCall.AddStudents rows) = only_whole _ _ (added_whole Students (take_rows (student_roll v) 1 v.students rows))
+office_whole v AbstractCall.Me = round_whole v.round
+office_whole v (AbstractCall.Move phase round) = moves_whole v phase round
+office_whole v AbstractCall.Status = status_whole v v.round refl (has_result v.round v.phase) refl
+office_whole v AbstractCall.Allocation = only_whole (has_result v.round v.phase) _ (pairs_whole v.pairs)
+office_whole v AbstractCall.AllocationCsv = only_whole (has_result v.round v.phase) _ tt
+office_whole v AbstractCall.Report = only_whole (has_result v.round v.phase) _ tt
+office_whole v AbstractCall.FillRankings = only_whole (is_ranking v.phase) _ (rw (of_texts v.still_to_rank) refl)
 office_whole v _ = refl
 
-unwritten_whole : (a : Act) (s : Said) → IsWhole s → IsWhole (unwritten a s)
+unwritten_whole : (a : Act) (s : Said) → HasWholeNumbers s → HasWholeNumbers (unwritten a s)
 unwritten_whole Nothing s e = e
 unwritten_whole (Apply change) s e = e
 unwritten_whole Publish s e = e
@@ -175,11 +175,11 @@ unwritten_whole (Render sheet.Report) s e = tt
 
 -- what is decided for each role
 
-pub whole_office : (v : OfficeSees) (ask : Ask) (d : Decision) → d ≡ emptied (to_office v ask) → IsWhole d.reply.body
-whole_office v ask d e = subst (λ (x : Decision). IsWhole x.reply.body) (sym e) (unwritten_whole (to_office v ask).act (to_office v ask).reply.body (office_whole v ask))
+pub whole_office : (v : OfficeSees) (ask : AbstractCall) (d : Decision) → d ≡ emptied (to_office v ask) → HasWholeNumbers d.reply.body
+whole_office v ask d e = subst (λ (x : Decision). HasWholeNumbers x.reply.body) (sym e) (unwritten_whole (to_office v ask).act (to_office v ask).reply.body (office_whole v ask))
 
-pub whole_lecturer : (v : LecturerSees) (ask : Ask) (d : Decision) → d ≡ to_lecturer v ask → IsWhole d.reply.body
-whole_lecturer v ask d e = subst (λ (x : Decision). IsWhole x.reply.body) (sym e) (lecturer_whole v ask)
+pub whole_lecturer : (v : LecturerSees) (ask : AbstractCall) (d : Decision) → d ≡ to_lecturer v ask → HasWholeNumbers d.reply.body
+whole_lecturer v ask d e = subst (λ (x : Decision). HasWholeNumbers x.reply.body) (sym e) (lecturer_whole v ask)
 
-pub whole_student : (v : StudentSees) (ask : Ask) (d : Decision) → d ≡ to_student v ask → IsWhole d.reply.body
-whole_student v ask d e = subst (λ (x : Decision). IsWhole x.reply.body) (sym e) (student_whole v ask)
+pub whole_student : (v : StudentSees) (ask : AbstractCall) (d : Decision) → d ≡ to_student v ask → HasWholeNumbers d.reply.body
+whole_student v ask d e = subst (λ (x : Decision). HasWholeNumbers x.reply.body) (sym e) (student_whole v ask)

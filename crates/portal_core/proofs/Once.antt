@@ -19,7 +19,7 @@ use Rattle.portal_core.specs.declared.view.View.{View as Sight}
 use Rattle.portal_core.specs.declared.view.View.TheVariants.{Nobody, Office, Lecturer, Student}
 use Rattle.portal_core.specs.View.{view}
 use Rattle.portal_core.specs.Run.{Request}
-use Rattle.portal_core.specs.Heard.{Item, Sees, own_item, ChangeSeen, may_show, SeenIf, Heard}
+use Rattle.portal_core.specs.Heard.{HeardItem, Sees, own_item, ChangeSeen, may_show, SeenIf, Heard}
 
 -- whether two are the same can be told
 
@@ -157,35 +157,35 @@ sight_decided (Student v) _ = inr (λ e. cc)
 
 -- there is such a list
 
-seen_there : (b : Bool) (old new : Sight) → (seen : List Item) × SeenIf b old new seen
+seen_there : (b : Bool) (old new : Sight) → (seen : List HeardItem) × SeenIf b old new seen
 seen_there false old new = ([], refl)
 seen_there true old new = go (sight_decided new old)
   where
-    go : (new ≡ old) ⊎ (new ≢ old) → (seen : List Item) × ChangeSeen old new seen
+    go : (new ≡ old) ⊎ (new ≢ old) → (seen : List HeardItem) × ChangeSeen old new seen
     go (inl e) = ([], inl (e, refl))
     go (inr n) = (Sees new ∷ [], inr (n, refl))
 
-pub heard_there : (c : Key) (w : World) (asked : List Request) (worlds : List World) → (items : List Item) × Heard c w asked worlds items
+pub heard_there : (c : Key) (w : World) (asked : List Request) (worlds : List World) → (items : List HeardItem) × Heard c w asked worlds items
 heard_there c w [] worlds = ([], refl)
 heard_there c w (r ∷ rs) [] = ([], refl)
 heard_there c w (r ∷ rs) (v ∷ worlds) =
-    let seen : (seen : List Item) × SeenIf (may_show c r) (view w c) (view v c) seen = seen_there (may_show c r) (view w c) (view v c) in
-    let rest : (items : List Item) × Heard c v rs worlds items = heard_there c v rs worlds in
+    let seen : (seen : List HeardItem) × SeenIf (may_show c r) (view w c) (view v c) seen = seen_there (may_show c r) (view w c) (view v c) in
+    let rest : (items : List HeardItem) × Heard c v rs worlds items = heard_there c v rs worlds in
     ((own_item c r ++ seen.0) ++ rest.0, (own_item c r ++ seen.0, rest.0, (seen.0, seen.1, refl), rest.1, refl))
 
 -- and no other
 
-change_once : (old new : Sight) (a b : List Item) → ChangeSeen old new a → ChangeSeen old new b → a ≡ b
+change_once : (old new : Sight) (a b : List HeardItem) → ChangeSeen old new a → ChangeSeen old new b → a ≡ b
 change_once old new a b (inl x) (inl y) = x.1 ∙ sym y.1
 change_once old new a b (inr x) (inr y) = x.1 ∙ sym y.1
 change_once old new a b (inl x) (inr y) = absurd (y.0 x.0)
 change_once old new a b (inr x) (inl y) = absurd (x.0 y.0)
 
-seen_once : (s : Bool) (old new : Sight) (a b : List Item) → SeenIf s old new a → SeenIf s old new b → a ≡ b
+seen_once : (s : Bool) (old new : Sight) (a b : List HeardItem) → SeenIf s old new a → SeenIf s old new b → a ≡ b
 seen_once true old new a b x y = change_once old new a b x y
 seen_once false old new a b x y = x ∙ sym y
 
-pub heard_once : (c : Key) (w : World) (asked : List Request) (worlds : List World) (a b : List Item) → Heard c w asked worlds a → Heard c w asked worlds b → a ≡ b
+pub heard_once : (c : Key) (w : World) (asked : List Request) (worlds : List World) (a b : List HeardItem) → Heard c w asked worlds a → Heard c w asked worlds b → a ≡ b
 heard_once c w [] worlds a b x y = x ∙ sym y
 heard_once c w (r ∷ rs) [] a b x y = x ∙ sym y
 heard_once c w (r ∷ rs) (v ∷ worlds) a b x y =

@@ -1,4 +1,4 @@
--- A step has one reply and one end, since there is one best matching; and so has a run.
+-- A step has one reply and one end, since there equals one best matching; and so has a run.
 use Rattle.std.proofs.Common.{◌≡◌, ℕ, zero, suc, ◌+◌, ◌<◌, ◌≤◌, true, false, cond, List, [], ◌∷◌, map, length, get_or, refl, sym, ◌∙◌, ap, subst, arith, Contains}
 use Rattle.std.specs.Prelude.{◌==◌, ◌||◌, Option, Some, None, option_map}
 use Rattle.std.specs.List.{AllByRecursion}
@@ -10,19 +10,19 @@ use Rattle.spa_model.proofs.Counts.{one_if, count_by-cons}
 use Rattle.spa_model.specs.Pairs.{number_in}
 use Rattle.spa_model.proofs.Numbers.{number_is, number_known}
 use Rattle.spa_model.proofs.OneOnly.{best_is_one}
-use Rattle.portal_core.specs.Words.{Key, is, has}
+use Rattle.portal_core.specs.Words.{Key, equals, has}
 use Rattle.portal_core.specs.World as rows
 use Rattle.portal_core.specs.World.{World, in_play, project_key, is_left, students_left, students_in}
 use Rattle.portal_core.specs.declared.phase.Round.{Round}
 use Rattle.portal_core.specs.declared.phase.Round.TheVariants.{First, Second}
-use Rattle.portal_core.specs.Change.{Places, place_in, with_place, changed}
+use Rattle.portal_core.specs.Change.{Placements, placement_in, with_place, changed}
 use Rattle.portal_core.specs.Instance.{instance, matching_of, places_of, project_keys}
 use Rattle.portal_core.specs.View.{view}
-use Rattle.portal_core.specs.Ask.{Ask}
+use Rattle.portal_core.specs.AbstractCall.{AbstractCall}
 use Rattle.portal_core.specs.Answer.{Answer, Act, Nothing, Apply, Publish, Render, decision}
 use Rattle.portal_core.specs.declared.rows.ProjectRow.{ProjectRow}
 use Rattle.portal_core.specs.Good.{IsChoice}
-use Rattle.portal_core.specs.Run.{Leaves, Step, Wish, Calls, Refused, Request, Answers, Run, AllAnswered}
+use Rattle.portal_core.specs.Run.{StepLeaves, Step, Wish, Calls, Refused, Request, Answers, Run, AllAnswered}
 use Rattle.portal_core.proofs.Keys.{is_same}
 use Rattle.portal_core.proofs.InPlay.{play_placed}
 use Rattle.portal_core.proofs.Hearing.{really}
@@ -30,13 +30,13 @@ use Rattle.portal_core.proofs.Hearing.{really}
 pub has_contains : (ks : List Key) (c : Key) → has ks c ≡ true → Contains ks c
 has_contains [] c h = cc
 has_contains (k ∷ ks) c h =
-    (elim (is c k) as (λ b. is c k ≡ b → (b || has ks c) ≡ true → Contains (k ∷ ks) c) [
+    (elim (equals c k) as (λ b. equals c k ≡ b → (b || has ks c) ≡ true → Contains (k ∷ ks) c) [
       | true ↦ λ e f. (0, omega arith, sym (is_same c k e))
       | false ↦ λ e f. let later : Contains ks c = has_contains ks c f in (suc later.0, (let low = later.1 in omega arith), later.2)
     ]) refl h
 
 module _ (keys : List Key) where
-  -- what a list of known keys holds is a number of the roll
+  -- what a list of known keys holds equals a number of the roll
   on_list : (choice : List Key) → AllByRecursion (λ p. has keys p ≡ true) choice → (n : ℕ) → IsOn (map (number_in keys) choice) n → n < length keys
   on_list [] known n on = absurd (omega (arith, on))
   on_list (c ∷ cs) known n on =
@@ -69,10 +69,10 @@ module _ (keys : List Key) where
       let here : number_of (with_place p x) ≡ number_of (with_place q x) = cc in
       let rest : map number_of (map (with_place p) ss) ≡ map number_of (map (with_place q) ss) = cc in
       let one : with_place p x ≡ with_place q x
-      = (elim (is_left x) as (λ b. number_of (cond b (record x { placed = place_in p x.row.key }) x) ≡ number_of (cond b (record x { placed = place_in q x.row.key }) x)
-      → ((n : ℕ) → number_of (cond b (record x { placed = place_in p x.row.key }) x) ≡ Some n → n < length keys)
-      → cond b (record x { placed = place_in p x.row.key }) x ≡ cond b (record x { placed = place_in q x.row.key }) x) [
-        | true ↦ λ e below. ap (λ o. record x { placed = o }) (same_key (place_in p x.row.key) (place_in q x.row.key) e below)
+      = (elim (is_left x) as (λ b. number_of (cond b (record x { placed = placement_in p x.row.key }) x) ≡ number_of (cond b (record x { placed = placement_in q x.row.key }) x)
+      → ((n : ℕ) → number_of (cond b (record x { placed = placement_in p x.row.key }) x) ≡ Some n → n < length keys)
+      → cond b (record x { placed = placement_in p x.row.key }) x ≡ cond b (record x { placed = placement_in q x.row.key }) x) [
+        | true ↦ λ e below. ap (λ o. record x { placed = o }) (same_key (placement_in p x.row.key) (placement_in q x.row.key) e below)
         | false ↦ λ e below. refl
       ]) here (λ n f. low 0 n f) in
       λ i. one i ∷ same_places p q ss rest (λ s n f. low (suc s) n f) i
@@ -88,11 +88,11 @@ in_whole Second p q (x ∷ ss) e =
           let rest : map (with_place p) (students_left ss) ≡ map (with_place q) (students_left ss) = cc in
           λ i. one i ∷ in_whole Second p q ss rest i
       | false ↦ λ f t.
-          let stays : (pairs : List (Key × Key)) → with_place pairs x ≡ x = λ pairs. ap (λ b. cond b (record x { placed = place_in pairs x.row.key }) x) t in
+          let stays : (pairs : List (Key × Key)) → with_place pairs x ≡ x = λ pairs. ap (λ b. cond b (record x { placed = placement_in pairs x.row.key }) x) t in
           λ i. (stays p ∙ sym (stays q)) i ∷ in_whole Second p q ss f i
     ]) e refl
 
--- who has a project is counted there, so that it has room, and is one of the roll
+-- who has a project equals counted there, so that it has room, and equals one of the roll
 
 counted : (m : List (Option ℕ)) (s n : ℕ) → project_of m s ≡ Some n → 1 ≤ at_project m n
 counted [] s n e = cc
@@ -111,15 +111,15 @@ placed_known w m matching s n e =
     let low : n < length (map (λ (p : ProjectRow). p.capacity) (in_play w).projects) = with_room _ n (omega (arith, counted m s n e, matching.projects n)) in
     omega (arith, low, length-map (in_play w).projects (λ (p : ProjectRow). p.capacity), length-map (in_play w).projects project_key)
 
-published_once : (w : World) (p q : List (Key × Key)) → IsBest (instance w) (matching_of (changed w (Places p))) → IsBest (instance w) (matching_of (changed w (Places q))) → changed w (Places p) ≡ changed w (Places q)
+published_once : (w : World) (p q : List (Key × Key)) → IsBest (instance w) (matching_of (changed w (Placements p))) → IsBest (instance w) (matching_of (changed w (Placements q))) → changed w (Placements p) ≡ changed w (Placements q)
 published_once w p q a b =
-    let one : IsBest (instance w) (places_of (changed (in_play w) (Places p))) = subst (λ u. IsBest (instance w) (places_of u)) (play_placed w p) a in
-    let other : IsBest (instance w) (places_of (changed (in_play w) (Places q))) = subst (λ u. IsBest (instance w) (places_of u)) (play_placed w q) b in
-    ap (λ ss. record (changed w (Places p)) { students = ss })
+    let one : IsBest (instance w) (places_of (changed (in_play w) (Placements p))) = subst (λ u. IsBest (instance w) (places_of u)) (play_placed w p) a in
+    let other : IsBest (instance w) (places_of (changed (in_play w) (Placements q))) = subst (λ u. IsBest (instance w) (places_of u)) (play_placed w q) b in
+    ap (λ ss. record (changed w (Placements p)) { students = ss })
     (in_whole w.round p q w.students
     (same_places (project_keys (in_play w)) p q (in_play w).students (best_is_one (instance w) _ _ one other) (placed_known w _ one.stable.matching)))
 
-one_end : (w v u : World) (a : Act) → Leaves w a v → Leaves w a u → v ≡ u
+one_end : (w v u : World) (a : Act) → StepLeaves w a v → StepLeaves w a u → v ≡ u
 one_end w v u Nothing l m = l ∙ sym m
 one_end w v u (Apply change) l m = l ∙ sym m
 one_end w v u (Render sheet) l m = l ∙ sym m
@@ -128,7 +128,7 @@ one_end w v u Publish l m =
     ∙ published_once w l.0 m.0 (subst (λ x. IsBest (instance w) (matching_of x)) l.1 l.2) (subst (λ x. IsBest (instance w) (matching_of x)) m.1 m.2)
     ∙ sym m.1
 
-pub step_once : (w v u : World) (code : Key) (ask : Ask) (a b : Answer) → Step w code ask a v → Step w code ask b u → (a ≡ b) × (v ≡ u)
+pub step_once : (w v u : World) (code : Key) (ask : AbstractCall) (a b : Answer) → Step w code ask a v → Step w code ask b u → (a ≡ b) × (v ≡ u)
 step_once w v u code ask a b s t = (s.told ∙ sym t.told, one_end w v u (decision (view w code) ask).act s.left t.left)
 
 -- one request, and a run

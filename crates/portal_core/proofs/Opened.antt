@@ -3,9 +3,9 @@ use Rattle.std.proofs.Common.{◌≡◌, Bool, true, false, cond, List, [], ◌�
 use Rattle.std.specs.Prelude.{map, Option, Some, None, IfSome, is_none}
 use Rattle.std.specs.List.{find, AllByRecursion}
 use Rattle.std.proofs.lemmas.List.{length-map}
-use Rattle.portal_core.specs.Words.{Key, is, has, is_before, Rise, AreDistinct}
+use Rattle.portal_core.specs.Words.{Key, equals, has, is_before, Rise, AreDistinct}
 use Rattle.portal_core.specs.World as rows
-use Rattle.portal_core.specs.World.{World, lecturer_key, project_key, student_key, applicants_of, is_published, is_second, is_left, in_play, first, first_placed, first_published, shown_place}
+use Rattle.portal_core.specs.World.{World, lecturer_key, project_key, student_key, applicants_of, is_published, is_second, is_left, in_play, first, first_placed, first_published, shown_placement}
 use Rattle.portal_core.specs.Change.{Choices, Ranks, Fill, SecondRound, changed, opened, ranked_before, placed_before, with_choice, with_ranking, with_fill}
 use Rattle.portal_core.specs.declared.phase.Phase.{Phase}
 use Rattle.portal_core.specs.declared.phase.Phase.TheVariants.{Published}
@@ -38,9 +38,9 @@ back_lecturers : (ls : List rows.Lecturer) → AllByRecursion (λ l. l.earlier_r
 back_lecturers [] all = refl
 back_lecturers (l ∷ ls) all = λ i. record l { earlier_ranking = sym all.0 i } ∷ back_lecturers ls all.1 i
 
-back_students : (ss : List rows.Student) → AllByRecursion (λ s. (s.earlier_choice ≡ []) × (s.earlier_place ≡ None)) ss → map first_placed (map placed_before ss) ≡ ss
+back_students : (ss : List rows.Student) → AllByRecursion (λ s. (s.earlier_choice ≡ []) × (s.earlier_placement ≡ None)) ss → map first_placed (map placed_before ss) ≡ ss
 back_students [] all = refl
-back_students (s ∷ ss) all = λ i. record s { earlier_choice = sym all.0.0 i; earlier_place = sym all.0.1 i } ∷ back_students ss all.1 i
+back_students (s ∷ ss) all = λ i. record s { earlier_choice = sym all.0.0 i; earlier_placement = sym all.0.1 i } ∷ back_students ss all.1 i
 
 pub first_back : (w : World) → Sound w → w.round ≡ First → w.phase ≡ Published → first (opened First Published w) ≡ w
 first_back w g one out = λ i. record w {
@@ -97,11 +97,11 @@ opened_good w g one out =
       before = λ h. subst IsRound (sym (first_back w g.sound one out)) (record { sound = g.sound; stable = g.stable });
     }
 
--- where the first round is published the second opens
+-- where the first round equals published the second opens
 pub opens_to : (w : World) → w.round ≡ First → w.phase ≡ Published → changed w SecondRound ≡ opened First Published w
 opens_to w one out = λ i. opened (one i) (out i) w
 
--- where keys rise, a key is of the one row that was found
+-- where keys rise, a key equals of the one row that was found
 
 rows_with : {X : Type 0} (key : X → Key) (p : X → Bool) (xs : List X) (a : X) → Rise (map key xs) → find p xs ≡ Some a → AllByRecursion (λ x. key x ≡ key a → x ≡ a) xs
 rows_with key p [] a rise e = cc
@@ -114,15 +114,15 @@ rows_with {X} key p (x ∷ xs) a rise e =
           (λ same. absurd (not_before_itself (key x) (subst (λ l. is_before (key x) l ≡ true) (sym same) (found_all _ p xs a later f))), rows_with key p xs a rise.1 f)
     ]) e
 
--- a student who is shown no project has none of the first round
-unplaced_left : (phase : Phase) (s : rows.Student) → is_none (shown_place phase s) ≡ true → is_left s ≡ true
-unplaced_left phase s e = go s.earlier_place refl e
+-- a student who equals shown no project has none of the first round
+unplaced_left : (phase : Phase) (s : rows.Student) → is_none (shown_placement phase s) ≡ true → is_left s ≡ true
+unplaced_left phase s e = go s.earlier_placement refl e
   where
-    go : (o : Option Key) → s.earlier_place ≡ o → is_none (cond (is_none o) (cond (is_published phase) s.placed None) o) ≡ true → is_left s ≡ true
+    go : (o : Option Key) → s.earlier_placement ≡ o → is_none (cond (is_none o) (cond (is_published phase) s.placed None) o) ≡ true → is_left s ≡ true
     go None f h = ap is_none f
     go (Some p) f h = cc
 
 -- and no other student has this key
-pub alone_left : (w : World) (p : rows.Student → Bool) (s : rows.Student) → Sound w → find p w.students ≡ Some s → is_none (shown_place w.phase s) ≡ true → AllByRecursion (λ t. is t.row.key s.row.key ≡ true → is_left t ≡ true) w.students
+pub alone_left : (w : World) (p : rows.Student → Bool) (s : rows.Student) → Sound w → find p w.students ≡ Some s → is_none (shown_placement w.phase s) ≡ true → AllByRecursion (λ t. equals t.row.key s.row.key ≡ true → is_left t ≡ true) w.students
 alone_left w p s g found free =
     all_weaker _ _ (λ t one same. ap is_left (one (is_same t.row.key s.row.key same)) ∙ unplaced_left w.phase s free) w.students (rows_with student_key p w.students s g.students_rise found)

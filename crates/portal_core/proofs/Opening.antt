@@ -2,18 +2,18 @@
 use Rattle.std.proofs.Common.{◌≡◌, Bool, true, false, cond, List, [], ◌∷◌, refl, sym, ◌∙◌, ap, subst, inl, inr}
 use Rattle.std.specs.Prelude.{◌⊎◌, Some}
 use Rattle.std.specs.List.{AllByRecursion}
-use Rattle.portal_core.specs.Words.{Key, is}
+use Rattle.portal_core.specs.Words.{Key, equals}
 use Rattle.portal_core.specs.World.{World, first}
 use Rattle.portal_core.specs.Change.{SecondRound, changed, in_first, with_lecturers, with_projects, with_students}
 use Rattle.portal_core.specs.declared.phase.Phase.TheVariants.{Choosing, Published}
 use Rattle.portal_core.specs.declared.phase.Round.{Round}
 use Rattle.portal_core.specs.declared.phase.Round.TheVariants.{First, Second}
 use Rattle.portal_core.specs.View.{Caller, NoCaller, OfficeCaller, LecturerCaller, StudentCaller, caller, caller_among, lecturer_with, student_with, sight_of, view, office_sees, lecturer_sees, student_sees}
-use Rattle.portal_core.specs.Ask.{Ask}
+use Rattle.portal_core.specs.AbstractCall.{AbstractCall}
 use Rattle.portal_core.specs.Bodies.{phase_body}
 use Rattle.portal_core.specs.Answer.{Answer, Decision, decision, applies, opens, moves_in}
 use Rattle.portal_core.specs.Good.{Good}
-use Rattle.portal_core.specs.Run.{Leaves, Step, Request, Wish, Calls, Refused, Answers, Serves, Run}
+use Rattle.portal_core.specs.Run.{StepLeaves, Step, Request, Wish, Calls, Refused, Answers, Serves, Run}
 use Rattle.portal_core.specs.Opening.{OpensSecond, OpensOnce}
 use Rattle.portal_core.proofs.Keys.{is_same, is_own}
 use Rattle.portal_core.proofs.Unseen.{office_not}
@@ -27,21 +27,21 @@ rolls_round w u same Second = refl
 
 module _ (w v : World) (code : Key) (reply : Answer) where
   -- of a decision: the round stays, or the second opens
-  abbrev Turns : Ask → Decision → Type 0
-  Turns ask d = reply ≡ d.reply → Leaves w d.act v → (v.round ≡ w.round) ⊎ OpensSecond w code (Calls ask) reply v
+  abbrev Turns : AbstractCall → Decision → Type 0
+  Turns ask d = reply ≡ d.reply → StepLeaves w d.act v → (v.round ≡ w.round) ⊎ OpensSecond w code (Calls ask) reply v
 
-  stays : (ask : Ask) (u : World) → u.round ≡ w.round → v ≡ u → (v.round ≡ w.round) ⊎ OpensSecond w code (Calls ask) reply v
+  stays : (ask : AbstractCall) (u : World) → u.round ≡ w.round → v ≡ u → (v.round ≡ w.round) ⊎ OpensSecond w code (Calls ask) reply v
   stays ask u same e = inl (ap (λ x. x.round) e ∙ same)
 
-  office_code : (b : Bool) → is w.office code ≡ b → caller w code ≡ OfficeCaller → code ≡ w.office
+  office_code : (b : Bool) → equals w.office code ≡ b → caller w code ≡ OfficeCaller → code ≡ w.office
   office_code true f e = sym (is_same w.office code f)
   office_code false f e = absurd (office_not w code f e)
 
-  turns : (x : Caller) → caller w code ≡ x → (ask : Ask) → Turns ask (decision (sight_of w x) ask)
-  turns NoCaller is ask = λ told. stays ask w refl
-  turns (StudentCaller s) is ask = by_student Turns (λ ask reply told. stays ask w refl) (student_sees w s) (λ list now left none told. stays _ _ refl) ask
-  turns (LecturerCaller l) is ask = by_lecturer Turns (λ ask reply told. stays ask w refl) (lecturer_sees w l) (λ list now none told. stays _ _ refl) ask
-  turns OfficeCaller is ask =
+  turns : (x : Caller) → caller w code ≡ x → (ask : AbstractCall) → Turns ask (decision (sight_of w x) ask)
+  turns NoCaller equals ask = λ told. stays ask w refl
+  turns (StudentCaller s) equals ask = by_student Turns (λ ask reply told. stays ask w refl) (student_sees w s) (λ list now left none told. stays _ _ refl) ask
+  turns (LecturerCaller l) equals ask = by_lecturer Turns (λ ask reply told. stays ask w refl) (lecturer_sees w l) (λ list now none told. stays _ _ refl) ask
+  turns OfficeCaller equals ask =
       by_office Turns (λ ask reply told. stays ask w refl) (office_sees w)
       (record {
         lecturers = λ rs new n now took told. stays _ _ (rolls_round w (with_lecturers w new) refl w.round);
@@ -50,12 +50,12 @@ module _ (w v : World) (code : Key) (reply : Answer) where
         choosing = λ named at told. stays _ _ refl;
         ranking = λ named at told. stays _ _ refl;
         published = λ named at none told left. stays _ _ refl left.1;
-        opened = λ one at told left. inr (record { first = one; published = at; asked = (office_code _ refl is, refl); told = told; after = left });
+        opened = λ one at told left. inr (record { first = one; published = at; asked = (office_code _ refl equals, refl); told = told; after = left });
         filled = λ now some told. stays _ _ refl;
         sheets = λ ask text sheet calm told. stays ask w refl;
       }) ask
 
-pub step_turns : (w v : World) (code : Key) (ask : Ask) (reply : Answer) → Step w code ask reply v → (v.round ≡ w.round) ⊎ OpensSecond w code (Calls ask) reply v
+pub step_turns : (w v : World) (code : Key) (ask : AbstractCall) (reply : Answer) → Step w code ask reply v → (v.round ≡ w.round) ⊎ OpensSecond w code (Calls ask) reply v
 step_turns w v code ask reply s = turns w v code reply (caller w code) refl ask s.told s.left
 
 -- a run
@@ -92,22 +92,22 @@ run_turns w (r ∷ rs) (a ∷ told) (v ∷ after) run = go (served_turns w v r a
         let two : v.round ≡ Second = ap (λ x. x.round) (o.after ∙ opens_to w o.first o.published) in
         inr (o, (two, lasts v rs told after two run.1))
 
--- the request that opens it is answered so
+-- the request that opens it equals answered so
 
-opening : (w : World) → w.round ≡ First → w.phase ≡ Published → decision (view w w.office) (Ask.Move Choosing (Some Second)) ≡ applies (phase_body Second Choosing) SecondRound
+opening : (w : World) → w.round ≡ First → w.phase ≡ Published → decision (view w w.office) (AbstractCall.Move Choosing (Some Second)) ≡ applies (phase_body Second Choosing) SecondRound
 opening w one out =
-    ap (λ b. decision (sight_of w (cond b OfficeCaller (caller_among (lecturer_with w w.office) (student_with w w.office)))) (Ask.Move Choosing (Some Second))) (is_own w.office)
+    ap (λ b. decision (sight_of w (cond b OfficeCaller (caller_among (lecturer_with w w.office) (student_with w w.office)))) (AbstractCall.Move Choosing (Some Second))) (is_own w.office)
     ∙ (λ i. moves_in (office_sees w) (one i) Second Choosing)
     ∙ λ i. opens (out i) Choosing
 
-pub opens_so : (w v : World) (reply : Answer) → w.round ≡ First → w.phase ≡ Published → Step w w.office (Ask.Move Choosing (Some Second)) reply v → OpensSecond w w.office (Calls (Ask.Move Choosing (Some Second))) reply v
+pub opens_so : (w v : World) (reply : Answer) → w.round ≡ First → w.phase ≡ Published → Step w w.office (AbstractCall.Move Choosing (Some Second)) reply v → OpensSecond w w.office (Calls (AbstractCall.Move Choosing (Some Second))) reply v
 opens_so w v reply one out s =
     record {
       first = one;
       published = out;
       asked = (refl, refl);
       told = s.told ∙ ap (λ (d : Decision). d.reply) (opening w one out);
-      after = subst (λ (d : Decision). Leaves w d.act v) (opening w one out) s.left;
+      after = subst (λ (d : Decision). StepLeaves w d.act v) (opening w one out) s.left;
     }
 
 pub first_kept : (w : World) → Good w → w.round ≡ First → w.phase ≡ Published → first (changed w SecondRound) ≡ w

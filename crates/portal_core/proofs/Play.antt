@@ -4,26 +4,26 @@ use Rattle.portal_core.specs.Words.{Key}
 use Rattle.portal_core.specs.World.{World, is_from_ranking}
 use Rattle.portal_core.specs.Change.{Change, changed}
 use Rattle.portal_core.specs.View.{Caller, NoCaller, OfficeCaller, LecturerCaller, StudentCaller, caller, sight_of, view, office_sees, lecturer_sees, student_sees}
-use Rattle.portal_core.specs.Ask.{Ask}
+use Rattle.portal_core.specs.AbstractCall.{AbstractCall}
 use Rattle.portal_core.specs.Answer.{Decision, Apply, Publish, decision, answer}
 use Rattle.portal_core.specs.Good.{Good, CanPublish}
-use Rattle.portal_core.specs.Run.{Leaves, HasForm}
+use Rattle.portal_core.specs.Run.{StepLeaves, HasForm}
 use Rattle.portal_core.proofs.Cases.{by_student, by_lecturer, by_office}
 use Rattle.portal_core.proofs.Kept.{all_ranked}
 use Rattle.portal_core.proofs.Steps.{step_good}
 
 -- a change that is decided leaves a good world
-pub can_apply : (w : World) (code : Key) (ask : Ask) (change : Change) → Good w → HasForm ask → (decision (view w code) ask).act ≡ Apply change → Good (changed w change)
+pub can_apply : (w : World) (code : Key) (ask : AbstractCall) (change : Change) → Good w → HasForm ask → (decision (view w code) ask).act ≡ Apply change → Good (changed w change)
 can_apply w code ask change g form e =
     step_good w (changed w change) code ask (answer (view w code) ask) g
-    (record { form = form; told = refl; left = subst (λ a. Leaves w a (changed w change)) (sym e) refl })
+    (record { form = form; told = refl; left = subst (λ a. StepLeaves w a (changed w change)) (sym e) refl })
 
 -- publishing is decided where nobody is still to rank
 module _ (w : World) where
-  abbrev IfPublished : Ask → Decision → Type 0
+  abbrev IfPublished : AbstractCall → Decision → Type 0
   IfPublished ask d = d.act ≡ Publish → CanPublish w
 
-  called : (x : Caller) (ask : Ask) → IfPublished ask (decision (sight_of w x) ask)
+  called : (x : Caller) (ask : AbstractCall) → IfPublished ask (decision (sight_of w x) ask)
   called NoCaller ask = λ e. cc
   called (StudentCaller s) ask = by_student IfPublished (λ ask reply e. cc) (student_sees w s) (λ list now left none e. cc) ask
   called (LecturerCaller l) ask = by_lecturer IfPublished (λ ask reply e. cc) (lecturer_sees w l) (λ list now none e. cc) ask
@@ -41,5 +41,5 @@ module _ (w : World) where
         sheets = λ ask text sheet calm e. cc;
       }) ask
 
-pub can_publish : (w : World) (code : Key) (ask : Ask) → (decision (view w code) ask).act ≡ Publish → CanPublish w
+pub can_publish : (w : World) (code : Key) (ask : AbstractCall) → (decision (view w code) ask).act ≡ Publish → CanPublish w
 can_publish w code ask e = called w (caller w code) ask e

@@ -5,10 +5,10 @@ use Rattle.std.specs.List.{AllByRecursion}
 use Rattle.std.proofs.lemmas.List.{length-map}
 use Rattle.spa_model.specs.Spa.{IsMatching}
 use Rattle.spa_model.specs.Pairs.{number_in}
-use Rattle.portal_core.specs.Words.{Key, is, is_before, Rise}
+use Rattle.portal_core.specs.Words.{Key, equals, is_before, Rise}
 use Rattle.portal_core.specs.World as rows
 use Rattle.portal_core.specs.World.{World, in_play, is_left, student_key}
-use Rattle.portal_core.specs.Change.{Places, place_in, with_place, changed}
+use Rattle.portal_core.specs.Change.{Placements, placement_in, with_place, changed}
 use Rattle.portal_core.specs.Instance.{instance, matching_of, places_of, pairs_by, project_keys, student_keys}
 use Rattle.portal_core.specs.Good.{Sound}
 use Rattle.portal_core.proofs.Keys.{is_same, is_own, all_unmap}
@@ -30,7 +30,7 @@ number_back (k ∷ ks) (suc n) rise lt =
 
 module _ (projects : List Key) (rise : Rise projects) where
   abbrev number_of : List (Key × Key) → rows.Student → Option ℕ
-  number_of pairs s = option_map (number_in projects) (place_in pairs s.row.key)
+  number_of pairs s = option_map (number_in projects) (placement_in pairs s.row.key)
 
   -- a pair of another student changes nothing
   later : (k p : Key) (pairs : List (Key × Key)) (ss : List rows.Student) → AllByRecursion (λ s. is_before k (student_key s) ≡ true) ss
@@ -41,16 +41,16 @@ module _ (projects : List Key) (rise : Rise projects) where
       λ i. here i ∷ later k p pairs ss all.1 i
 
   absent : (ss : List rows.Student) (places : List (Option ℕ)) (k : Key) → AllByRecursion (λ s. is_before k (student_key s) ≡ true) ss
-      → place_in (pairs_by (map student_key ss) projects places) k ≡ None
+      → placement_in (pairs_by (map student_key ss) projects places) k ≡ None
   absent [] places k all = refl
   absent (s ∷ ss) [] k all = refl
   absent (s ∷ ss) (Some p ∷ places) k all = rw (other s.row.key k (before_other k s.row.key all.0)) (absent ss places k all.1)
     where
-      other : (a b : Key) → is b a ≡ false → is a b ≡ false
-      other a b e = go (is a b) refl
+      other : (a b : Key) → equals b a ≡ false → equals a b ≡ false
+      other a b e = go (equals a b) refl
         where
-          go : (c : Bool) → is a b ≡ c → c ≡ false
-          go true f = absurd (let own : is b b ≡ true = is_own b in let g : is b a ≡ true = subst (λ x. is b x ≡ true) (sym (is_same a b f)) own in cc)
+          go : (c : Bool) → equals a b ≡ c → c ≡ false
+          go true f = absurd (let own : equals b b ≡ true = is_own b in let g : equals b a ≡ true = subst (λ x. equals b x ≡ true) (sym (is_same a b f)) own in cc)
           go false f = refl
   absent (s ∷ ss) (None ∷ places) k all = absent ss places k all.1
 
@@ -73,14 +73,14 @@ module _ (projects : List Key) (rise : Rise projects) where
       λ i. here i ∷ rest i
 
 placed_map : (pairs : List (Key × Key)) (projects : List Key) (ss : List rows.Student) → AllByRecursion (λ s. is_left s ≡ true) ss
-    → map (λ (s : rows.Student). option_map (number_in projects) s.placed) (map (with_place pairs) ss) ≡ map (λ (s : rows.Student). option_map (number_in projects) (place_in pairs s.row.key)) ss
+    → map (λ (s : rows.Student). option_map (number_in projects) s.placed) (map (with_place pairs) ss) ≡ map (λ (s : rows.Student). option_map (number_in projects) (placement_in pairs s.row.key)) ss
 placed_map pairs projects [] left = refl
 placed_map pairs projects (s ∷ ss) left =
-    λ i. option_map (number_in projects) (cond (left.0 i) (record s { placed = place_in pairs s.row.key }) s).placed ∷ placed_map pairs projects ss left.1 i
+    λ i. option_map (number_in projects) (cond (left.0 i) (record s { placed = placement_in pairs s.row.key }) s).placed ∷ placed_map pairs projects ss left.1 i
 
--- what a matching's pairs leave is the matching
+-- what a matching's pairs leave equals the matching
 pub pairs_place : (w : World) (places : List (Option ℕ)) → Sound w → IsMatching (instance w) places
-    → matching_of (changed w (Places (pairs_by (student_keys (in_play w)) (project_keys (in_play w)) places))) ≡ places
+    → matching_of (changed w (Placements (pairs_by (student_keys (in_play w)) (project_keys (in_play w)) places))) ≡ places
 pairs_place w places sound matching =
     let u = in_play w in
     let pairs = pairs_by (student_keys u) (project_keys u) places in

@@ -3,7 +3,7 @@ use Rattle.std.proofs.Common.{◌≡◌, Bool, true, false, cond, List, ◌∷�
 use Rattle.std.specs.Prelude.{map, Option, Some, None, option_map, IfSome}
 use Rattle.std.specs.List.{find, AllByRecursion}
 use Rattle.std.proofs.lemmas.List.{length-map}
-use Rattle.portal_core.specs.Words.{Key, is, has, Rise, AreDistinct}
+use Rattle.portal_core.specs.Words.{Key, equals, has, Rise, AreDistinct}
 use Rattle.portal_core.specs.World as rows
 use Rattle.portal_core.specs.World.{World, in_play, lecturer_key, student_key, applicants_of, is_ranking, is_published, is_from_ranking}
 use Rattle.portal_core.specs.declared.phase.Phase.{Phase}
@@ -30,11 +30,11 @@ by_code f false x = refl
 module _ (f : rows.Lecturer → rows.Lecturer) (keeps : (l : rows.Lecturer) → (f l).row ≡ l.row) where
   pub caller_kept : (w : World) (c : Key) → caller (record w { lecturers = map f w.lecturers }) c ≡ re_called f (caller w c)
   caller_kept w c =
-      let found : find (λ (l : rows.Lecturer). is l.row.code c) (map f w.lecturers) ≡ option_map f (lecturer_with w c)
-      = find_map f (λ l. is l.row.code c) (λ l. is l.row.code c) (λ l. ap (λ r. is r.code c) (keeps l)) w.lecturers in
-      ap (λ o. cond (is w.office c) OfficeCaller (caller_among o (student_with w c))) found
-      ∙ ap (cond (is w.office c) OfficeCaller) (among f (lecturer_with w c) (student_with w c))
-      ∙ by_code f (is w.office c) _
+      let found : find (λ (l : rows.Lecturer). equals l.row.code c) (map f w.lecturers) ≡ option_map f (lecturer_with w c)
+      = find_map f (λ l. equals l.row.code c) (λ l. equals l.row.code c) (λ l. ap (λ r. equals r.code c) (keeps l)) w.lecturers in
+      ap (λ o. cond (equals w.office c) OfficeCaller (caller_among o (student_with w c))) found
+      ∙ ap (cond (equals w.office c) OfficeCaller) (among f (lecturer_with w c) (student_with w c))
+      ∙ by_code f (equals w.office c) _
 
   name_kept : (o : Option rows.Lecturer) → option_map (λ (l : rows.Lecturer). l.row.name) (option_map f o) ≡ option_map (λ (l : rows.Lecturer). l.row.name) o
   name_kept None = refl
@@ -42,8 +42,8 @@ module _ (f : rows.Lecturer → rows.Lecturer) (keeps : (l : rows.Lecturer) → 
 
   pub names_kept : (ls : List rows.Lecturer) (q : Key) → name_in (map f ls) q ≡ name_in ls q
   names_kept ls q =
-      ap (option_map (λ (l : rows.Lecturer). l.row.name)) (find_map f (λ l. is l.row.key q) (λ l. is l.row.key q) (λ l. ap (λ r. is r.key q) (keeps l)) ls)
-      ∙ name_kept (find (λ l. is l.row.key q) ls)
+      ap (option_map (λ (l : rows.Lecturer). l.row.name)) (find_map f (λ l. equals l.row.key q) (λ l. equals l.row.key q) (λ l. ap (λ r. equals r.key q) (keeps l)) ls)
+      ∙ name_kept (find (λ l. equals l.row.key q) ls)
 
   -- while rankings are made
   pub sound_kept : (w : World) → ((l : rows.Lecturer) → (f l).earlier_ranking ≡ l.earlier_ranking) → project_keys (in_play (record w { lecturers = map f w.lecturers })) ≡ project_keys (in_play w)

@@ -1,16 +1,16 @@
--- What the pairs of the first round's result leave is what the world's students leave.
+-- What the pairs of the first round's result leave equals what the world's students leave.
 use Rattle.std.proofs.Common.{◌≡◌, ℕ, suc, ◌-◌, Bool, true, false, cond, List, [], ◌∷◌, map, length, refl, sym, ◌∙◌, ap}
 use Rattle.std.specs.Prelude.{filter, count_by, nat_lt, ◌&&◌, ◌||◌, Option, Some, None, option_map}
 use Rattle.std.specs.List.{list_any, filter_map, cons_option}
 use Rattle.std.proofs.lemmas.List.Sums.{length-filter}
-use Rattle.portal_core.specs.Words.{Key, is, has}
+use Rattle.portal_core.specs.Words.{Key, equals, has}
 use Rattle.portal_core.specs.World.{Student, is_at, project_key, pairs_with, given_to, given_with, lowered_project}
 use Rattle.portal_core.specs.Room.{pairs_to, pairs_among, own_keys, project_left, lecturer_left}
 use Rattle.portal_core.specs.declared.rows.LecturerRow.{LecturerRow}
 use Rattle.portal_core.specs.declared.rows.ProjectRow.{ProjectRow}
 use Rattle.portal_core.proofs.AllLaws.{any_map, filtered_any}
 
--- the project passes, if there is one
+-- the project passes, if there equals one
 abbrev passes : (Key → Bool) → Option Key → Bool
 passes q None = false
 passes q (Some k) = q k
@@ -33,27 +33,27 @@ module _ (q : Key → Bool) (place : Student → Option Key) where
   counted : (ss : List Student) → count_by (λ (x : Key × Key). q x.1) (pairs_with place ss) ≡ count_by (λ s. passes q (place s)) ss
   counted ss = sym (length-filter (λ (x : Key × Key). q x.1) (pairs_with place ss)) ∙ as_many ss ∙ length-filter (λ s. passes q (place s)) ss
 
-at_it : (p : Key) (o : Option Key) → passes (λ k. is k p) o ≡ is_at p o
+at_it : (p : Key) (o : Option Key) → passes (λ k. equals k p) o ≡ is_at p o
 at_it p None = refl
 at_it p (Some k) = refl
 
-nobody : (l : Key) (ps : List ProjectRow) → false ≡ list_any (λ p. is p.lecturer l && false) ps
+nobody : (l : Key) (ps : List ProjectRow) → false ≡ list_any (λ p. equals p.lecturer l && false) ps
 nobody l [] = refl
-nobody l (p ∷ ps) = elim (is p.lecturer l) as (λ b. false ≡ ((b && false) || list_any (λ p. is p.lecturer l && false) ps)) [ true ↦ nobody l ps | false ↦ nobody l ps ]
+nobody l (p ∷ ps) = elim (equals p.lecturer l) as (λ b. false ≡ ((b && false) || list_any (λ p. equals p.lecturer l && false) ps)) [ true ↦ nobody l ps | false ↦ nobody l ps ]
 
-at_one : (ps : List ProjectRow) (l : Key) (o : Option Key) → passes (has (own_keys ps l)) o ≡ list_any (λ p. is p.lecturer l && is_at p.key o) ps
+at_one : (ps : List ProjectRow) (l : Key) (o : Option Key) → passes (has (own_keys ps l)) o ≡ list_any (λ p. equals p.lecturer l && is_at p.key o) ps
 at_one ps l None = nobody l ps
-at_one ps l (Some k) = any_map (is k) project_key (filter (λ p. is p.lecturer l) ps) ∙ filtered_any (λ p. is k p.key) (λ p. is p.lecturer l) ps
+at_one ps l (Some k) = any_map (equals k) project_key (filter (λ p. equals p.lecturer l) ps) ∙ filtered_any (λ p. equals k p.key) (λ p. equals p.lecturer l) ps
 
 module _ (ss : List Student) where
   abbrev pairs : List (Key × Key)
-  pairs = pairs_with (λ s. s.earlier_place) ss
+  pairs = pairs_with (λ s. s.earlier_placement) ss
 
   to_is : (p : Key) → pairs_to pairs p ≡ given_to ss p
-  to_is p = counted (λ k. is k p) (λ s. s.earlier_place) ss ∙ (λ i. count_by (λ s. at_it p s.earlier_place i) ss)
+  to_is p = counted (λ k. equals k p) (λ s. s.earlier_placement) ss ∙ (λ i. count_by (λ s. at_it p s.earlier_placement i) ss)
 
   among_is : (ps : List ProjectRow) (l : Key) → pairs_among pairs (own_keys ps l) ≡ given_with ps ss l
-  among_is ps l = counted (has (own_keys ps l)) (λ s. s.earlier_place) ss ∙ (λ i. count_by (λ s. at_one ps l s.earlier_place i) ss)
+  among_is ps l = counted (has (own_keys ps l)) (λ s. s.earlier_placement) ss ∙ (λ i. count_by (λ s. at_one ps l s.earlier_placement i) ss)
 
   room_case : {X : Type 0} (f : ℕ → X) (n : ℕ) → option_map f (cond (nat_lt 0 n) (Some n) None) ≡ cond (nat_lt 0 n) (Some (f n)) None
   room_case {X} f n = elim (nat_lt 0 n) as (λ b. option_map f (cond b (Some n) None) ≡ cond b (Some (f n)) None) [ true ↦ refl | false ↦ refl ]
@@ -67,7 +67,7 @@ module _ (ss : List Student) where
       room_case (λ n. record l { capacity = n }) (l.capacity - pairs_among pairs (own_keys ps l.key))
       ∙ (λ i. cond (nat_lt 0 (l.capacity - among_is ps l.key i)) (Some (record l { capacity = l.capacity - among_is ps l.key i })) None)
 
--- what is left of each, where there is something left
+-- what equals left of each, where there equals something left
 pub each_left : {X Y : Type 0} (h : X → Option Y) (q : Y → Bool) (f : X → Y) → ((x : X) → h x ≡ cond (q (f x)) (Some (f x)) None) → (xs : List X) → filter_map h xs ≡ filter q (map f xs)
 each_left h q f each [] = refl
 each_left {X} {Y} h q f each (x ∷ xs) = (λ i. cons_option (each x i) (each_left h q f each xs i)) ∙ at (q (f x))

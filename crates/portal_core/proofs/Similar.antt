@@ -2,16 +2,16 @@
 use Rattle.std.proofs.Common.{◌≡◌, Bool, true, false, cond, List, [], ◌∷◌, refl, sym, ◌∙◌, ap, subst}
 use Rattle.std.specs.Prelude.{count_by, map, filter, Option, Some, None, option_map, not, ◌&&◌, is_none}
 use Rattle.std.specs.List.{list_any, find, filter_map, cons_option, AllZip}
-use Rattle.portal_core.specs.Words.{Key, is, has, is_empty, is_before, put, put_all}
+use Rattle.portal_core.specs.Words.{Key, equals, has, is_empty, is_before, put, put_all}
 use Rattle.portal_core.specs.World as rows
-use Rattle.portal_core.specs.World.{World, lecturer_key, project_key, student_key, applicants_to, projects_of, applicants_of, placed_at, is_at, is_left, shown_place, in_play, given_to, given_with, lowered_lecturer, lowered_project, lecturers_left, projects_left, students_left, lecturers_in, projects_in, students_in, pairs_of, is_still_to_rank, is_from_ranking}
+use Rattle.portal_core.specs.World.{World, lecturer_key, project_key, student_key, applicants_to, projects_of, applicants_of, placed_at, is_at, is_left, shown_placement, in_play, given_to, given_with, lowered_lecturer, lowered_project, lecturers_left, projects_left, students_left, lecturers_in, projects_in, students_in, pairs_of, is_still_to_rank, is_from_ranking}
 use Rattle.portal_core.specs.declared.phase.Round.{Round}
 use Rattle.portal_core.specs.declared.phase.Round.TheVariants.{First, Second}
 use Rattle.portal_core.specs.declared.phase.Phase.{Phase}
 use Rattle.portal_core.specs.declared.phase.Phase.TheVariants.{Published}
 use Rattle.portal_core.specs.declared.rows.ProjectRow.{ProjectRow}
 use Rattle.spa_model.proofs.PairFaults.{count_by-map}
-use Rattle.portal_core.specs.Change.{Change, Choices, Ranks, Lecturers, Projects, Students, To, Places, Fill, SecondRound, changed, opened, ranked_before, placed_before, in_first, with_lecturers, with_projects, with_students, with_choice, with_ranking, with_place, with_fill, place_in, new_lecturer, new_student}
+use Rattle.portal_core.specs.Change.{Change, Choices, Ranks, Lecturers, Projects, Students, To, Placements, Fill, SecondRound, changed, opened, ranked_before, placed_before, in_first, with_lecturers, with_projects, with_students, with_choice, with_ranking, with_place, with_fill, placement_in, new_lecturer, new_student}
 use Rattle.portal_core.specs.declared.rows.Person.{Person}
 use Rattle.portal_core.specs.declared.view.View.{View as Sight}
 use Rattle.portal_core.specs.declared.view.View.TheVariants.{Office, Lecturer, Student}
@@ -54,13 +54,13 @@ zip_with f g same (s ∷ ss) [] z = absurd z
 zip_with f g same (s ∷ ss) (t ∷ ts) z = (same s t z.0, zip_with f g same ss ts z.1)
 
 zip_put : (x : rows.Student) (ss ts : List rows.Student) → AllZip SameStudent ss ts → AllZip SameStudent (put student_key x ss) (put student_key x ts)
-zip_put x [] [] z = (record { row = refl; choice = reordered_itself x.choice; placed = refl; earlier_choice = reordered_itself x.earlier_choice; earlier_place = refl }, tt)
+zip_put x [] [] z = (record { row = refl; choice = reordered_itself x.choice; placed = refl; earlier_choice = reordered_itself x.earlier_choice; earlier_placement = refl }, tt)
 zip_put x [] (t ∷ ts) z = absurd z
 zip_put x (s ∷ ss) [] z = absurd z
 zip_put x (s ∷ ss) (t ∷ ts) z =
     subst (λ r. AllZip SameStudent (cond (is_before x.row.key s.row.key) (x ∷ s ∷ ss) (s ∷ put student_key x ss)) (cond (is_before x.row.key r.key) (x ∷ t ∷ ts) (t ∷ put student_key x ts))) z.0.row
     (elim (is_before x.row.key s.row.key) as (λ b. AllZip SameStudent (cond b (x ∷ s ∷ ss) (s ∷ put student_key x ss)) (cond b (x ∷ t ∷ ts) (t ∷ put student_key x ts))) [
-      | true ↦ (record { row = refl; choice = reordered_itself x.choice; placed = refl; earlier_choice = reordered_itself x.earlier_choice; earlier_place = refl }, z)
+      | true ↦ (record { row = refl; choice = reordered_itself x.choice; placed = refl; earlier_choice = reordered_itself x.earlier_choice; earlier_placement = refl }, z)
       | false ↦ (z.0, zip_put x ss ts z.1)
     ])
 
@@ -73,7 +73,7 @@ zip_left [] [] z = tt
 zip_left [] (t ∷ ts) z = absurd z
 zip_left (s ∷ ss) [] z = absurd z
 zip_left (s ∷ ss) (t ∷ ts) z =
-    subst (λ o. AllZip SameStudent (cond (is_left s) (s ∷ students_left ss) (students_left ss)) (cond (is_none o) (t ∷ students_left ts) (students_left ts))) z.0.earlier_place
+    subst (λ o. AllZip SameStudent (cond (is_left s) (s ∷ students_left ss) (students_left ss)) (cond (is_none o) (t ∷ students_left ts) (students_left ts))) z.0.earlier_placement
     (elim (is_left s) as (λ b. AllZip SameStudent (cond b (s ∷ students_left ss) (students_left ss)) (cond b (t ∷ students_left ts) (students_left ts))) [
       | true ↦ (z.0, zip_left ss ts z.1)
       | false ↦ zip_left ss ts z.1
@@ -83,19 +83,19 @@ zip_in : (r : Round) (ss ts : List rows.Student) → AllZip SameStudent ss ts �
 zip_in First ss ts z = z
 zip_in Second ss ts z = zip_left ss ts z
 
-same_shown : (phase : Phase) (s t : rows.Student) → SameStudent s t → shown_place phase s ≡ shown_place phase t
-same_shown phase s t same = λ i. shown_place phase (record s { placed = same.placed i; earlier_place = same.earlier_place i })
+same_shown : (phase : Phase) (s t : rows.Student) → SameStudent s t → shown_placement phase s ≡ shown_placement phase t
+same_shown phase s t same = λ i. shown_placement phase (record s { placed = same.placed i; earlier_placement = same.earlier_placement i })
 
--- what is left depends on the earlier places alone
+-- what equals left depends on the earlier places alone
 module _ (ss ts : List rows.Student) (z : AllZip SameStudent ss ts) where
-  count_same : (q : Option Key → Bool) → count_by (λ (s : rows.Student). q s.earlier_place) ss ≡ count_by (λ s. q s.earlier_place) ts
-  count_same q = sym (count_by-map q (λ (s : rows.Student). s.earlier_place) ss) ∙ ap (count_by q) (zip_map (λ s. s.earlier_place) (λ s t same. same.earlier_place) ss ts z) ∙ count_by-map q (λ (s : rows.Student). s.earlier_place) ts
+  count_same : (q : Option Key → Bool) → count_by (λ (s : rows.Student). q s.earlier_placement) ss ≡ count_by (λ s. q s.earlier_placement) ts
+  count_same q = sym (count_by-map q (λ (s : rows.Student). s.earlier_placement) ss) ∙ ap (count_by q) (zip_map (λ s. s.earlier_placement) (λ s t same. same.earlier_placement) ss ts z) ∙ count_by-map q (λ (s : rows.Student). s.earlier_placement) ts
 
   lecturers_same : (r : Round) (ls : List rows.Lecturer) (ps : List ProjectRow) → lecturers_in r ls ps ss ≡ lecturers_in r ls ps ts
-  lecturers_same = lecturers_given ss ts (λ p. count_same (is_at p)) (λ ps l. count_same (λ o. list_any (λ p. is p.lecturer l && is_at p.key o) ps))
+  lecturers_same = lecturers_given ss ts (λ p. count_same (is_at p)) (λ ps l. count_same (λ o. list_any (λ p. equals p.lecturer l && is_at p.key o) ps))
 
   projects_same : (r : Round) (ls : List rows.Lecturer) (ps : List ProjectRow) → projects_in r ls ps ss ≡ projects_in r ls ps ts
-  projects_same = projects_given ss ts (λ p. count_same (is_at p)) (λ ps l. count_same (λ o. list_any (λ p. is p.lecturer l && is_at p.key o) ps))
+  projects_same = projects_given ss ts (λ p. count_same (is_at p)) (λ ps l. count_same (λ o. list_any (λ p. equals p.lecturer l && is_at p.key o) ps))
 
 -- whom a code names
 
@@ -104,18 +104,18 @@ SameFound None None = Unit {0}
 SameFound (Some s) (Some t) = SameStudent s t
 SameFound _ _ = ⊥
 
-same_found : (c : Key) (ss ts : List rows.Student) → AllZip SameStudent ss ts → SameFound (find (λ s. is s.row.code c) ss) (find (λ s. is s.row.code c) ts)
+same_found : (c : Key) (ss ts : List rows.Student) → AllZip SameStudent ss ts → SameFound (find (λ s. equals s.row.code c) ss) (find (λ s. equals s.row.code c) ts)
 same_found c [] [] z = tt
 same_found c [] (t ∷ ts) z = absurd z
 same_found c (s ∷ ss) [] z = absurd z
 same_found c (s ∷ ss) (t ∷ ts) z =
-    subst (λ r. SameFound (cond (is s.row.code c) (Some s) (find (λ s. is s.row.code c) ss)) (cond (is r.code c) (Some t) (find (λ s. is s.row.code c) ts))) z.0.row
-    (elim (is s.row.code c) as (λ b. SameFound (cond b (Some s) (find (λ s. is s.row.code c) ss)) (cond b (Some t) (find (λ s. is s.row.code c) ts))) [
+    subst (λ r. SameFound (cond (equals s.row.code c) (Some s) (find (λ s. equals s.row.code c) ss)) (cond (equals r.code c) (Some t) (find (λ s. equals s.row.code c) ts))) z.0.row
+    (elim (equals s.row.code c) as (λ b. SameFound (cond b (Some s) (find (λ s. equals s.row.code c) ss)) (cond b (Some t) (find (λ s. equals s.row.code c) ts))) [
       | true ↦ z.0
       | false ↦ same_found c ss ts z.1
     ])
 
--- what is seen, but for the own list
+-- what equals seen, but for the own list
 
 abbrev pub SameSight : Sight → Sight → Type 0
 SameSight (Student x) (Student y) = record x { choices = y.choices } ≡ y
@@ -138,13 +138,13 @@ module _ (w : World) (ss ts : List rows.Student) (z : AllZip SameStudent ss ts) 
   catalogue_same = λ i. listings (lecturers_same ss ts z w.round w.lecturers w.projects i) (projects_same ss ts z w.round w.lecturers w.projects i)
 
   applicants_same : (p : Key) → persons (applicants_to one p) ≡ persons (applicants_to other p)
-  applicants_same p = zip_filter person_of (λ s. has s.choice p) same_person (λ s t same. any_reordered (is p) s.choice t.choice same.choice) ss ts z
+  applicants_same p = zip_filter person_of (λ s. has s.choice p) same_person (λ s t same. any_reordered (equals p) s.choice t.choice same.choice) ss ts z
 
   placed_same : (p : Key) → persons (placed_at one p) ≡ persons (placed_at other p)
-  placed_same p = zip_filter person_of (λ s. is_at p (shown_place w.phase s)) same_person (λ s t same. ap (is_at p) (same_shown w.phase s t same)) ss ts z
+  placed_same p = zip_filter person_of (λ s. is_at p (shown_placement w.phase s)) same_person (λ s t same. ap (is_at p) (same_shown w.phase s t same)) ss ts z
 
   same_any : (s t : rows.Student) → SameStudent s t → (l : Key) → list_any (λ p. has s.choice p.key) (projects_of w l) ≡ list_any (λ p. has t.choice p.key) (projects_of w l)
-  same_any s t same l = λ i. list_any (λ p. any_reordered (is p.key) s.choice t.choice same.choice i) (projects_of w l)
+  same_any s t same l = λ i. list_any (λ p. any_reordered (equals p.key) s.choice t.choice same.choice i) (projects_of w l)
 
   keys_same : (l : Key) → map student_key (applicants_of one l) ≡ map student_key (applicants_of other l)
   keys_same l = zip_filter student_key (λ s. list_any (λ p. has s.choice p.key) (projects_of w l)) (λ s t same. ap (λ r. r.key) same.row) (λ s t same. same_any s t same l) ss ts z
@@ -163,7 +163,7 @@ module _ (w : World) (ss ts : List rows.Student) (z : AllZip SameStudent ss ts) 
     catalogue = catalogue_same i;
     without_list = zip_filter student_key (λ s. is_empty s.choice) (λ s t same. ap (λ r. r.key) same.row) (λ s t same. empty_reordered s.choice t.choice same.choice) (students_in w.round ss) (students_in w.round ts) (zip_in w.round ss ts z) i;
     still_to_rank = cond (is_from_ranking w.phase) (map lecturer_key (filter (λ l. ranked_same l i) w.lecturers)) [];
-    pairs = zip_some (λ s. option_map (λ p. (s.row.key, p)) (shown_place w.phase s)) (λ s t same. λ j. option_map (λ p. ((same.row j).key, p)) (same_shown w.phase s t same j)) ss ts z i;
+    pairs = zip_some (λ s. option_map (λ p. (s.row.key, p)) (shown_placement w.phase s)) (λ s t same. λ j. option_map (λ p. ((same.row j).key, p)) (same_shown w.phase s t same j)) ss ts z i;
   }
 
   lecturer_same : (l : rows.Lecturer) → lecturer_sees one l ≡ lecturer_sees other l
@@ -189,7 +189,7 @@ module _ (w : World) (ss ts : List rows.Student) (z : AllZip SameStudent ss ts) 
   seen_same false None None (Some t) f = absurd f
 
   pub view_same : (c : Key) → SameSight (view one c) (view other c)
-  view_same c = seen_same (is w.office c) (lecturer_with w c) (student_with one c) (student_with other c) (same_found c ss ts z)
+  view_same c = seen_same (equals w.office c) (lecturer_with w c) (student_with one c) (student_with other c) (same_found c ss ts z)
 
 -- the first world with the rest of the second
 pub but_students : (v w : World) (s : SameButPlaces v w) → v ≡ record w { students = v.students }
@@ -205,9 +205,9 @@ both_choose v w k ks ls r s = record { round = s.round; phase = s.phase; office 
   where
     each : (s t : rows.Student) → SameStudent s t → SameStudent (with_choice k ks s) (with_choice k ls t)
     each s t same =
-        subst (λ r. SameStudent (with_choice k ks s) (cond (is r.key k) (record t { choice = ls }) t)) same.row
-        (elim (is s.row.key k) as (λ b. SameStudent (cond b (record s { choice = ks }) s) (cond b (record t { choice = ls }) t)) [
-          | true ↦ record { row = same.row; choice = r; placed = same.placed; earlier_choice = same.earlier_choice; earlier_place = same.earlier_place }
+        subst (λ r. SameStudent (with_choice k ks s) (cond (equals r.key k) (record t { choice = ls }) t)) same.row
+        (elim (equals s.row.key k) as (λ b. SameStudent (cond b (record s { choice = ks }) s) (cond b (record t { choice = ls }) t)) [
+          | true ↦ record { row = same.row; choice = r; placed = same.placed; earlier_choice = same.earlier_choice; earlier_placement = same.earlier_placement }
           | false ↦ same
         ])
 
@@ -228,7 +228,7 @@ both_opened v w s =
           choice = reordered_itself [];
           placed = refl;
           earlier_choice = same.choice;
-          earlier_place = ap (λ o. (placed_before (record s { placed = o })).earlier_place) same.placed;
+          earlier_placement = ap (λ o. (placed_before (record s { placed = o })).earlier_placement) same.placed;
         }
 
     go : (r : Round) (p : Phase) → SameButPlaces (opened r p v) (opened r p w)
@@ -253,12 +253,12 @@ both_changed v w Fill s =
       students = s.students;
     }
 both_changed v w SecondRound s = both_opened v w s
-both_changed v w (Places pairs) s = record { round = s.round; phase = refl; office = s.office; lecturers = s.lecturers; projects = s.projects; students = zip_with (with_place pairs) (with_place pairs) each v.students w.students s.students }
+both_changed v w (Placements pairs) s = record { round = s.round; phase = refl; office = s.office; lecturers = s.lecturers; projects = s.projects; students = zip_with (with_place pairs) (with_place pairs) each v.students w.students s.students }
   where
     each : (s t : rows.Student) → SameStudent s t → SameStudent (with_place pairs s) (with_place pairs t)
     each s t same =
-        subst (λ o. SameStudent (with_place pairs s) (cond (is_none o) (record t { placed = place_in pairs t.row.key }) t)) same.earlier_place
-        (elim (is_left s) as (λ b. SameStudent (cond b (record s { placed = place_in pairs s.row.key }) s) (cond b (record t { placed = place_in pairs t.row.key }) t)) [
-          | true ↦ record { row = same.row; choice = same.choice; placed = ap (λ r. place_in pairs r.key) same.row; earlier_choice = same.earlier_choice; earlier_place = same.earlier_place }
+        subst (λ o. SameStudent (with_place pairs s) (cond (is_none o) (record t { placed = placement_in pairs t.row.key }) t)) same.earlier_placement
+        (elim (is_left s) as (λ b. SameStudent (cond b (record s { placed = placement_in pairs s.row.key }) s) (cond b (record t { placed = placement_in pairs t.row.key }) t)) [
+          | true ↦ record { row = same.row; choice = same.choice; placed = ap (λ r. placement_in pairs r.key) same.row; earlier_choice = same.earlier_choice; earlier_placement = same.earlier_placement }
           | false ↦ same
         ])

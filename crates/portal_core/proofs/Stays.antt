@@ -6,17 +6,17 @@ use Rattle.portal_core.specs.Change.{Fill, changed}
 use Rattle.portal_core.specs.declared.phase.Round.{Round}
 use Rattle.portal_core.specs.declared.phase.Round.TheVariants.{First, Second}
 use Rattle.portal_core.specs.View.{Caller, NoCaller, OfficeCaller, LecturerCaller, StudentCaller, caller, sight_of, office_sees, lecturer_sees, student_sees}
-use Rattle.portal_core.specs.Ask.{Ask}
+use Rattle.portal_core.specs.AbstractCall.{AbstractCall}
 use Rattle.portal_core.specs.Answer.{Answer, Decision, decision, is_open_to_rolls}
-use Rattle.portal_core.specs.Run.{Leaves, Step}
+use Rattle.portal_core.specs.Run.{StepLeaves, Step}
 use Rattle.portal_core.proofs.Cases.{by_student, by_lecturer, by_office}
 use Rattle.portal_core.proofs.Kept.{first_kept}
 use Rattle.portal_core.proofs.Opened.{first_chosen, first_ranked, first_filled}
 
 module _ (w v : World) (second : w.round ≡ Second) where
   -- an act that leaves the round and the first
-  abbrev Keeps : Ask → Decision → Type 0
-  Keeps ask d = Leaves w d.act v → (v.round ≡ w.round) × (first v ≡ first w)
+  abbrev Keeps : AbstractCall → Decision → Type 0
+  Keeps ask d = StepLeaves w d.act v → (v.round ≡ w.round) × (first v ≡ first w)
 
   keeps : (u : World) → u.round ≡ w.round → first u ≡ first w → v ≡ u → (v.round ≡ w.round) × (first v ≡ first w)
   keeps u round before e = (ap (λ x. x.round) e ∙ round, ap first e ∙ before)
@@ -24,7 +24,7 @@ module _ (w v : World) (second : w.round ≡ Second) where
   closed : {X : Type 0} → is_open_to_rolls w.round w.phase ≡ true → X
   closed now = let none : false ≡ true = subst (λ r. is_open_to_rolls r w.phase ≡ true) second now in cc
 
-  stays : (x : Caller) (ask : Ask) → Keeps ask (decision (sight_of w x) ask)
+  stays : (x : Caller) (ask : AbstractCall) → Keeps ask (decision (sight_of w x) ask)
   stays NoCaller ask = keeps w refl refl
   stays (StudentCaller s) ask = by_student Keeps (λ ask reply. keeps w refl refl) (student_sees w s) (λ list now left none. keeps _ refl (first_chosen w s.row.key list)) ask
   stays (LecturerCaller l) ask = by_lecturer Keeps (λ ask reply. keeps w refl refl) (lecturer_sees w l) (λ list now none. keeps _ refl (first_ranked w l.row.key list)) ask
@@ -46,5 +46,5 @@ the_second : (r : Round) → is_second r ≡ true → r ≡ Second
 the_second First e = cc
 the_second Second e = refl
 
-pub first_stays : (w v : World) (code : Key) (ask : Ask) (reply : Answer) → is_second w.round ≡ true → Step w code ask reply v → (v.round ≡ w.round) × (first v ≡ first w)
+pub first_stays : (w v : World) (code : Key) (ask : AbstractCall) (reply : Answer) → is_second w.round ≡ true → Step w code ask reply v → (v.round ≡ w.round) × (first v ≡ first w)
 first_stays w v code ask reply e s = stays w v (the_second w.round e) (caller w code) ask s.left

@@ -4,16 +4,16 @@ use Rattle.portal_core.specs.Words.{Key}
 use Rattle.portal_core.specs.World.{World, is_setup, is_ranking, is_published, is_from_ranking, is_second}
 use Rattle.portal_core.specs.declared.phase.Round.{Round}
 use Rattle.portal_core.specs.declared.phase.Round.TheVariants.{First, Second}
-use Rattle.portal_core.specs.Change.{Choices, Ranks, To, Places, Fill, changed, opened, in_first, with_lecturers, with_projects, with_students}
+use Rattle.portal_core.specs.Change.{Choices, Ranks, To, Placements, Fill, changed, opened, in_first, with_lecturers, with_projects, with_students}
 use Rattle.portal_core.specs.declared.phase.Phase.{Phase}
 use Rattle.portal_core.specs.declared.phase.Phase.TheVariants.{Setup, Choosing, Ranking, Published}
 use Rattle.portal_core.specs.View.{Caller, NoCaller, OfficeCaller, LecturerCaller, StudentCaller, caller, sight_of, office_sees, lecturer_sees, student_sees}
-use Rattle.portal_core.specs.Ask.{Ask}
+use Rattle.portal_core.specs.AbstractCall.{AbstractCall}
 use Rattle.portal_core.specs.Answer.{Answer, Decision, is_open_to_rolls, refuses, decision}
 use Rattle.portal_core.specs.Good.{Good, IsRound, Sound}
 use Rattle.spa_model.specs.Spa.{IsBest}
 use Rattle.portal_core.specs.Instance.{instance, matching_of}
-use Rattle.portal_core.specs.Run.{Leaves, Step, HasForm}
+use Rattle.portal_core.specs.Run.{StepLeaves, Step, HasForm}
 use Rattle.portal_core.proofs.Cases.{by_student, by_lecturer, by_office}
 use Rattle.portal_core.proofs.Unseen.{choosing_open, student_found}
 use Rattle.portal_core.proofs.Kept.{not_published, to_choosing, to_ranking, to_published, all_ranked, choosing, ranking}
@@ -49,10 +49,10 @@ module _ (w v : World) (code : Key) (g : Good w) where
   becomes u h e = subst Good (sym e) h
 
   -- what a decision leaves is good
-  abbrev Leads : Ask → Decision → Type 0
-  Leads ask d = HasForm ask → Leaves w d.act v → Good v
+  abbrev Leads : AbstractCall → Decision → Type 0
+  Leads ask d = HasForm ask → StepLeaves w d.act v → Good v
 
-  idle : (ask : Ask) (reply : Answer) → Leads ask (refuses reply)
+  idle : (ask : AbstractCall) (reply : Answer) → Leads ask (refuses reply)
   idle ask reply form left = same left
 
   -- new rows, which the first round alone takes
@@ -63,7 +63,7 @@ module _ (w v : World) (code : Key) (g : Good w) where
       becomes u (not_published u (sound early one) (ap is_published phase ∙ open_phase w.phase early) (λ h. none_before one (ap is_second (sym round) ∙ h)))
       (e ∙ ap (λ r. in_first r u w) one)
 
-  pub step_case : (x : Caller) → caller w code ≡ x → (ask : Ask) → Leads ask (decision (sight_of w x) ask)
+  pub step_case : (x : Caller) → caller w code ≡ x → (ask : AbstractCall) → Leads ask (decision (sight_of w x) ask)
   step_case NoCaller is ask = λ form left. same left
   step_case (StudentCaller s) is ask =
       by_student Leads idle (student_sees w s)
@@ -86,7 +86,7 @@ module _ (w v : World) (code : Key) (g : Good w) where
         choosing = λ named at form. becomes _ (not_published (changed w (To Choosing)) (to_choosing w g.sound at) refl g.before);
         ranking = λ named at form. becomes _ (not_published (changed w (To Ranking)) (to_ranking w g.sound at) refl g.before);
         published = λ named at none form left.
-            becomes (changed w (Places left.0))
+            becomes (changed w (Placements left.0))
             (to_published w left.0 g (ap is_setup at) (all_ranked w (ap is_from_ranking at) none) (subst (λ u. IsBest (instance w) (matching_of u)) left.1 left.2))
             left.1;
         opened = λ one at form left. becomes (opened First Published w) (opened_good w g one at) (left ∙ opens_to w one at);
@@ -94,5 +94,5 @@ module _ (w v : World) (code : Key) (g : Good w) where
         sheets = λ ask text sheet calm form left. same left;
       }) ask
 
-pub step_good : (w v : World) (code : Key) (ask : Ask) (reply : Answer) → Good w → Step w code ask reply v → Good v
+pub step_good : (w v : World) (code : Key) (ask : AbstractCall) (reply : Answer) → Good w → Step w code ask reply v → Good v
 step_good w v code ask reply g s = step_case w v code g (caller w code) refl ask s.form s.left

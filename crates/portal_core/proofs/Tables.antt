@@ -11,10 +11,10 @@ use Rattle.std.specs.HashMap.{HashMap}
 use Rattle.std.specs.HashSet as set
 use Rattle.std.specs.HashSet.{HashSet}
 use Rattle.spa_rows.specs.Index.{text_eq}
-use Rattle.portal_core.specs.Words.{Key, is, has}
+use Rattle.portal_core.specs.Words.{Key, equals, has}
 use Rattle.portal_core.specs.declared.rows.Person.{Person}
 use Rattle.portal_core.specs.Bodies.{is_assigned}
-use Rattle.portal_core.specs.Change.{place_in}
+use Rattle.portal_core.specs.Change.{placement_in}
 use Rattle.portal_core.specs.Tables.{HasTexts, HasRows, HasKeys}
 use Rattle.portal_core.proofs.Keys.{is_same}
 use Rattle.portal_core.proofs.AllLaws.{any_alike, is_sym, or_swap}
@@ -29,10 +29,10 @@ either false c = refl
 
 pub text_put : {S : Type 0} (front rest : List Key) (s t : HashSet (Bor Key) S) (k : Bor Key) (x : Key) → set.Updates text_eq s t k true → k.now ≡ x → HasTexts (front ++ rest) s → HasTexts (front ++ x ∷ rest) t
 text_put front rest s t k x updates is_x was = λ q.
-    updates.0 q ∙ either (is k.now q.now) (set.contains text_eq s q)
-    ∙ ap (λ b. b || set.contains text_eq s q) (is_sym k.now q.now ∙ ap (is q.now) is_x)
-    ∙ ap (λ b. is q.now x || b) (was q)
-    ∙ sym (any_between (is q.now) front x rest)
+    updates.0 q ∙ either (equals k.now q.now) (set.contains text_eq s q)
+    ∙ ap (λ b. b || set.contains text_eq s q) (is_sym k.now q.now ∙ ap (equals q.now) is_x)
+    ∙ ap (λ b. equals q.now x || b) (was q)
+    ∙ sym (any_between (equals q.now) front x rest)
 
 pub text_push : {S : Type 0} (texts : List Key) (s t : HashSet (Bor Key) S) (k : Bor Key) (x : Key) → set.Updates text_eq s t k true → k.now ≡ x → HasTexts texts s → HasTexts (texts ++ x ∷ []) t
 text_push texts s t k x updates is_x was = text_put texts [] s t k x updates is_x (subst (λ ts. HasTexts ts s) (sym (append-nil texts)) was)
@@ -43,9 +43,9 @@ found false v o = refl
 
 pub row_put : {X S : Type 0} (key : X → Key) (rows : List X) (s t : HashMap (Bor Key) (Bor X) S) (k : Bor Key) (v : Bor X) → hash.Updates text_eq s t k (Some v) → k.now ≡ key v.now → HasRows key rows s → HasRows key (v.now ∷ rows) t
 row_put key rows s t k v updates is_key was = λ q.
-    ap (option_map (λ row. row.now)) (updates.0 q) ∙ found (is k.now q.now) v (hash.get text_eq s q)
-    ∙ ap (λ x. cond (is x q.now) (Some v.now) (option_map (λ row. row.now) (hash.get text_eq s q))) is_key
-    ∙ ap (λ o. cond (is (key v.now) q.now) (Some v.now) o) (was q)
+    ap (option_map (λ row. row.now)) (updates.0 q) ∙ found (equals k.now q.now) v (hash.get text_eq s q)
+    ∙ ap (λ x. cond (equals x q.now) (Some v.now) (option_map (λ row. row.now) (hash.get text_eq s q))) is_key
+    ∙ ap (λ o. cond (equals (key v.now) q.now) (Some v.now) o) (was q)
 
 -- the text of the next row was put in
 module _ {X : Type 0} (xs : List X) (text : X → Key) where
@@ -70,7 +70,7 @@ before_seen seen row = sym (ap reverse (map-append (λ r. r.now) seen (row ∷ [
 
 -- the project of the pair that was found
 pub looked_up : {S : Type 0} (pairs : List (Key × Key)) (table : HashMap (Bor Key) (Bor (Key × Key)) S) → HasRows (λ pair. pair.0) pairs table
-    → (q : Bor Key) (found : Option (Bor (Key × Key))) → found ≡ hash.get text_eq table q → option_map (λ (x : Key × Key). x.1) (option_map (λ row. row.now) found) ≡ place_in pairs q.now
+    → (q : Bor Key) (found : Option (Bor (Key × Key))) → found ≡ hash.get text_eq table q → option_map (λ (x : Key × Key). x.1) (option_map (λ row. row.now) found) ≡ placement_in pairs q.now
 looked_up pairs table has_all q found got = ap (option_map (λ (x : Key × Key). x.1)) (ap (option_map (λ row. row.now)) got ∙ has_all q)
 
 -- whether a row has the key
@@ -86,22 +86,22 @@ some_mapped f None = refl
 some_mapped f (Some x) = refl
 
 -- whether the pairs give the student a project
-pub is_placed : (pairs : List (Key × Key)) (k : Key) (project : Option (Bor Key)) → option_map (λ p. p.now) project ≡ place_in pairs k → is_some project ≡ is_assigned pairs k
+pub is_placed : (pairs : List (Key × Key)) (k : Key) (project : Option (Bor Key)) → option_map (λ p. p.now) project ≡ placement_in pairs k → is_some project ≡ is_assigned pairs k
 is_placed pairs k project given =
-    some_mapped (λ p. p.now) project ∙ ap is_some given ∙ sym (some_mapped (λ (x : Key × Key). x.1) (find (λ x. is x.0 k) pairs)) ∙ some_found (λ x. is x.0 k) pairs
+    some_mapped (λ p. p.now) project ∙ ap is_some given ∙ sym (some_mapped (λ (x : Key × Key). x.1) (find (λ x. equals x.0 k) pairs)) ∙ some_found (λ x. equals x.0 k) pairs
 
 -- the key of one more text was put in
-known_put : {S : Type 0} (known : Key → Bool) (s t : HashMap (Bor Key) (Bor Key) S) (k v : Bor Key) (x : Key) → hash.Updates text_eq s t k (Some v) → k.now ≡ x → v.now ≡ x → HasKeys known s → HasKeys (λ q. known q || is x q) t
-known_put known s t k v x updates is_x is_v was = λ q. go q (is k.now q.now) refl
+known_put : {S : Type 0} (known : Key → Bool) (s t : HashMap (Bor Key) (Bor Key) S) (k v : Bor Key) (x : Key) → hash.Updates text_eq s t k (Some v) → k.now ≡ x → v.now ≡ x → HasKeys known s → HasKeys (λ q. known q || equals x q) t
+known_put known s t k v x updates is_x is_v was = λ q. go q (equals k.now q.now) refl
   where
-    go : (q : Bor Key) (b : Bool) → is k.now q.now ≡ b → (is_some (hash.get text_eq t q) ≡ (known q.now || is x q.now)) × IfSome (hash.get text_eq t q) (λ key. key.now ≡ q.now)
+    go : (q : Bor Key) (b : Bool) → equals k.now q.now ≡ b → (is_some (hash.get text_eq t q) ≡ (known q.now || equals x q.now)) × IfSome (hash.get text_eq t q) (λ key. key.now ≡ q.now)
     go q true e =
         let now : hash.get text_eq t q ≡ Some v = updates.0 q ∙ ap (λ b. cond b (Some v) (hash.get text_eq s q)) e in
-        let here : is x q.now ≡ true = ap (λ y. is y q.now) (sym is_x) ∙ e in
+        let here : equals x q.now ≡ true = ap (λ y. equals y q.now) (sym is_x) ∙ e in
         (ap is_some now ∙ sym (ap (λ b. known q.now || b) here ∙ or-true (known q.now)), subst (λ o. IfSome o (λ key. key.now ≡ q.now)) (sym now) (is_v ∙ is_same x q.now here))
     go q false e =
         let now : hash.get text_eq t q ≡ hash.get text_eq s q = updates.0 q ∙ ap (λ b. cond b (Some v) (hash.get text_eq s q)) e in
-        let other : is x q.now ≡ false = ap (λ y. is y q.now) (sym is_x) ∙ e in
+        let other : equals x q.now ≡ false = ap (λ y. equals y q.now) (sym is_x) ∙ e in
         (ap is_some now ∙ (was q).0 ∙ sym (ap (λ b. known q.now || b) other ∙ or-false (known q.now)), subst (λ o. IfSome o (λ key. key.now ≡ q.now)) (sym now) (was q).1)
 
 -- the same texts are known
@@ -109,20 +109,20 @@ pub known_alike : {S : Type 0} (f g : Key → Bool) (t : HashMap (Bor Key) (Bor 
 known_alike f g t alike was = λ q. ((was q).0 ∙ alike q.now, (was q).1)
 
 -- whom a table of texts leaves out
-pub left_out : {S : Type 0} (ks : List Key) (table : HashSet (Bor Key) S) → HasTexts ks table → (persons : List Person) → list_any (λ s. not (set.contains_by (λ k. is s.key k.now) table)) persons ≡ list_any (λ s. not (has ks s.key)) persons
+pub left_out : {S : Type 0} (ks : List Key) (table : HashSet (Bor Key) S) → HasTexts ks table → (persons : List Person) → list_any (λ s. not (set.contains_by (λ k. equals s.key k.now) table)) persons ≡ list_any (λ s. not (has ks s.key)) persons
 left_out ks table texts persons = any_alike _ _ (λ s. ap not (texts (record { ref_ptr = (0, 0); now = s.key }))) persons
 
 -- the key of the next person was put in
 module _ {S : Type 0} (known : Key → Bool) (persons : List Person) where
   abbrev KnownTo : ℕ → HashMap (Bor Key) (Bor Key) S → Type 0
-  KnownTo n table = HasKeys (λ k. known k || list_any (λ s. is s.key k) (take n persons)) table
+  KnownTo n table = HasKeys (λ k. known k || list_any (λ s. equals s.key k) (take n persons)) table
 
   pub person_more : (s t : HashMap (Bor Key) (Bor Key) S) (k v : Bor Key) (i : ℕ) (x : Person) → hash.Updates text_eq s t k (Some v) → k.now ≡ x.key → v.now ≡ x.key → i < length persons → x ≡ get_or persons i x → KnownTo i s → KnownTo (i + 1) t
   person_more s t k v i x updates is_x is_v low e was =
       known_alike _ _ t
-      (λ q. or_assoc (known q) (list_any (λ p. is p.key q) (take i persons)) (is x.key q)
-      ∙ ap (λ b. known q || b) (ap (λ (y : Person). list_any (λ p. is p.key q) (take i persons) || is y.key q) e ∙ sym (list_any_more (λ p. is p.key q) persons i x low)))
-      (known_put (λ q. known q || list_any (λ p. is p.key q) (take i persons)) s t k v x.key updates is_x is_v was)
+      (λ q. or_assoc (known q) (list_any (λ p. equals p.key q) (take i persons)) (equals x.key q)
+      ∙ ap (λ b. known q || b) (ap (λ (y : Person). list_any (λ p. equals p.key q) (take i persons) || equals y.key q) e ∙ sym (list_any_more (λ p. equals p.key q) persons i x low)))
+      (known_put (λ q. known q || list_any (λ p. equals p.key q) (take i persons)) s t k v x.key updates is_x is_v was)
 
-  pub person_all : (s : HashMap (Bor Key) (Bor Key) S) (i : ℕ) → i ≡ length persons → KnownTo i s → HasKeys (λ k. known k || list_any (λ p. is p.key k) persons) s
-  person_all s i end was = known_alike _ _ s (λ q. ap (λ (ps : List Person). known q || list_any (λ p. is p.key q) ps) (ap (λ n. take n persons) end ∙ take-length persons)) was
+  pub person_all : (s : HashMap (Bor Key) (Bor Key) S) (i : ℕ) → i ≡ length persons → KnownTo i s → HasKeys (λ k. known k || list_any (λ p. equals p.key k) persons) s
+  person_all s i end was = known_alike _ _ s (λ q. ap (λ (ps : List Person). known q || list_any (λ p. equals p.key q) ps) (ap (λ n. take n persons) end ∙ take-length persons)) was

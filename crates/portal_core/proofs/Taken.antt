@@ -1,9 +1,9 @@
--- What is legal is taken.
+-- What equals legal equals taken.
 use Rattle.std.proofs.Common.{◌≡◌, ℕ, ◌+◌, ◌<◌, Bool, true, false, cond, List, [], ◌∷◌, ◌++◌, length, refl, sym, ◌∙◌, ap, subst, arith, append_assoc, append-nil}
 use Rattle.std.specs.Prelude.{map, Some, None, not, ◌||◌, nat_le, codes, if◌then◌else◌}
 use Rattle.std.specs.List.{list_any, find, AllByRecursion}
 use Rattle.std.proofs.lemmas.Bool.Decides.{nat_tests}
-use Rattle.portal_core.specs.Words.{Key, is, has}
+use Rattle.portal_core.specs.Words.{Key, equals, has}
 use Rattle.portal_core.specs.World.{World, student_key, applicants_of, projects_of, is_from_ranking}
 use Rattle.portal_core.specs.World as rows
 use Rattle.portal_core.specs.declared.rows.Listing.{Listing}
@@ -24,7 +24,7 @@ choice_taken catalogue list c =
     taken catalogue 1 [] list
     (record {
       few = let few = c.few in omega arith;
-      known = all_weaker _ _ (λ k h. sym (any_map (is k) (λ (l : Listing). l.key) catalogue ∙ any_alike _ _ (λ l. is_sym k l.key) catalogue) ∙ h) list c.known;
+      known = all_weaker _ _ (λ k h. sym (any_map (equals k) (λ (l : Listing). l.key) catalogue ∙ any_alike _ _ (λ l. is_sym k l.key) catalogue) ∙ h) list c.known;
       once = c.once;
       new = none_yet list;
     })
@@ -57,8 +57,8 @@ ranking_taken w l list closed r =
     subst (λ b. ranking_fault (shown_sets w l.row.key b) 1 [] list ≡ None) (sym closed)
     (ranking_fits (shown_sets w l.row.key true) 1 [] list (record {
       only = all_weaker _ _ (λ k h.
-          (any_map (λ (p : Key × List Person). list_any (λ s. is s.key k) p.1) _ (projects_of w l.row.key) ∙ union_any (λ s. is s k) (projects_of w l.row.key) w.students)
-          ∙ sym (any_alike (is k) (λ s. is s k) (λ s. is_sym k s) (map student_key (applicants_of w l.row.key))) ∙ h) list r.only;
+          (any_map (λ (p : Key × List Person). list_any (λ s. equals s.key k) p.1) _ (projects_of w l.row.key) ∙ union_any (λ s. equals s k) (projects_of w l.row.key) w.students)
+          ∙ sym (any_alike (equals k) (λ s. equals s k) (λ s. is_sym k s) (map student_key (applicants_of w l.row.key))) ∙ h) list r.only;
       once = r.once;
       new = none_yet list;
       all = any_map (λ (p : Key × List Person). list_any (λ s. not (has list s.key)) p.1) _ (projects_of w l.row.key)
@@ -82,4 +82,4 @@ has_room limit n h = grind (arith, nat_tests)
 pub rows_taken : {X : Type 0} (roll : Roll X) (at : ℕ) (there rows : List X) → AreFresh roll there rows → take_rows roll at there rows ≡ Took rows 0
 rows_taken roll at there [] f = refl
 rows_taken roll at there (r ∷ rs) f =
-    rw (none_found (λ x. is (roll.key x) (roll.key r)) there f.0, f.1, has_room roll.limit (length there) f.2, rows_taken roll (at + 1) (r ∷ there) rs f.3) refl
+    rw (none_found (λ x. equals (roll.key x) (roll.key r)) there f.0, f.1, has_room roll.limit (length there) f.2, rows_taken roll (at + 1) (r ∷ there) rs f.3) refl

@@ -1,21 +1,21 @@
--- What others do is not seen.
+-- What others do equals not seen.
 use Rattle.std.proofs.Common.{◌≡◌, Bool, true, false, cond, List, [], ◌∷◌, ◌++◌, refl, sym, ◌∙◌, ap, subst, inl, inr}
 use Rattle.std.specs.Prelude.{map, Option, Some, None}
 use Rattle.std.specs.List.{find}
-use Rattle.portal_core.specs.Words.{Key, is, Rise}
+use Rattle.portal_core.specs.Words.{Key, equals, Rise}
 use Rattle.portal_core.specs.World as rows
 use Rattle.portal_core.specs.Change.{Choices, Ranks, changed, with_choice, with_ranking}
-use Rattle.portal_core.specs.World.{World, is_choosing, is_ranking, is_published, is_from_ranking, has_result, shown_place, is_at, lecturer_key, student_key, applicants_to, placed_at, projects_of}
+use Rattle.portal_core.specs.World.{World, is_choosing, is_ranking, is_published, is_from_ranking, has_result, shown_placement, is_at, lecturer_key, student_key, applicants_to, placed_at, projects_of}
 use Rattle.portal_core.specs.declared.phase.Phase.{Phase}
 use Rattle.portal_core.specs.declared.phase.Phase.TheVariants.{Setup, Choosing, Ranking, Published}
 use Rattle.portal_core.specs.declared.rows.Person.{Person}
 use Rattle.portal_core.specs.Sight.{LecturerSees}
 use Rattle.portal_core.specs.declared.view.View.TheVariants.{Lecturer, Student}
 use Rattle.portal_core.specs.View.{Caller, NoCaller, OfficeCaller, LecturerCaller, StudentCaller, caller_among, lecturer_with, student_with, caller, sight_of, view, student_sees, lecturer_sees, persons}
-use Rattle.portal_core.specs.Ask.{Ask}
+use Rattle.portal_core.specs.AbstractCall.{AbstractCall}
 use Rattle.portal_core.specs.Answer.{Answer, Act, Decision, Nothing, Apply, Publish, Render, refuses, decision}
 use Rattle.portal_core.specs.Good.{Good}
-use Rattle.portal_core.specs.Run.{Leaves, Step, Serves, Answers, Run, Request, Wish, Calls, Refused, end_of}
+use Rattle.portal_core.specs.Run.{StepLeaves, Step, Serves, Answers, Run, Request, Wish, Calls, Refused, end_of}
 use Rattle.portal_core.specs.Heard.{IsMember, IsIdle, IsIdleAct, IsIdleWish, replies_to}
 use Rattle.portal_core.proofs.Keys.{is_same, is_own, found_passes, one_row}
 use Rattle.portal_core.proofs.Cases.{by_student, by_lecturer}
@@ -38,29 +38,29 @@ among_student w c t false None (Some s) e = let same : s ≡ t = cc in ap Some s
 among_student w c t false None None e = cc
 
 pub lecturer_found : (w : World) (c : Key) (l : rows.Lecturer) → caller w c ≡ LecturerCaller l → lecturer_with w c ≡ Some l
-lecturer_found w c l e = among_lecturer w c l (is w.office c) (lecturer_with w c) (student_with w c) e
+lecturer_found w c l e = among_lecturer w c l (equals w.office c) (lecturer_with w c) (student_with w c) e
 
 pub student_found : (w : World) (c : Key) (s : rows.Student) → caller w c ≡ StudentCaller s → student_with w c ≡ Some s
-student_found w c s e = among_student w c s (is w.office c) (lecturer_with w c) (student_with w c) e
+student_found w c s e = among_student w c s (equals w.office c) (lecturer_with w c) (student_with w c) e
 
 -- two codes name two rows
 apart : {X : Type 0} (key code : X → Key) (xs : List X) (c d : Key) (x y : X) → Rise (map key xs)
-    → find (λ z. is (code z) d) xs ≡ Some x → find (λ z. is (code z) c) xs ≡ Some y → is d c ≡ false → is (key y) (key x) ≡ false
+    → find (λ z. equals (code z) d) xs ≡ Some x → find (λ z. equals (code z) c) xs ≡ Some y → equals d c ≡ false → equals (key y) (key x) ≡ false
 apart key code xs c d x y rise ex ey other =
-    (elim (is (key y) (key x)) as (λ b. is (key y) (key x) ≡ b → b ≡ false) [
+    (elim (equals (key y) (key x)) as (λ b. equals (key y) (key x) ≡ b → b ≡ false) [
       | true ↦ λ e.
           let one : y ≡ x = one_row key _ _ xs y x rise ey ex (is_same _ _ e) in
           let of_c : code y ≡ c = is_same _ _ (found_passes _ xs y ey) in
           let of_d : code x ≡ d = is_same _ _ (found_passes _ xs x ex) in
           let same : d ≡ c = sym of_d ∙ sym (ap code one) ∙ of_c in
-          let yes' : is d c ≡ true = subst (λ k. is d k ≡ true) same (is_own d) in cc
+          let yes' : equals d c ≡ true = subst (λ k. equals d k ≡ true) same (is_own d) in cc
       | false ↦ λ e. refl
     ]) refl
 
-apart_lecturers : (w : World) (c d : Key) (l m : rows.Lecturer) → Good w → caller w d ≡ LecturerCaller l → caller w c ≡ LecturerCaller m → is d c ≡ false → is m.row.key l.row.key ≡ false
+apart_lecturers : (w : World) (c d : Key) (l m : rows.Lecturer) → Good w → caller w d ≡ LecturerCaller l → caller w c ≡ LecturerCaller m → equals d c ≡ false → equals m.row.key l.row.key ≡ false
 apart_lecturers w c d l m good el em other = apart lecturer_key (λ l. l.row.code) w.lecturers c d l m good.sound.lecturers_rise (lecturer_found w d l el) (lecturer_found w c m em) other
 
-apart_students : (w : World) (c d : Key) (s t : rows.Student) → Good w → caller w d ≡ StudentCaller s → caller w c ≡ StudentCaller t → is d c ≡ false → is t.row.key s.row.key ≡ false
+apart_students : (w : World) (c d : Key) (s t : rows.Student) → Good w → caller w d ≡ StudentCaller s → caller w c ≡ StudentCaller t → equals d c ≡ false → equals t.row.key s.row.key ≡ false
 apart_students w c d s t good es et other = apart student_key (λ s. s.row.code) w.students c d s t good.sound.students_rise (student_found w d s es) (student_found w c t et) other
 
 -- while the lists are open a lecturer sees nothing of them
@@ -74,15 +74,15 @@ choosing_open Published e = cc
 abbrev pub person_of : rows.Student → Person
 person_of s = record { key = s.row.key; name = s.row.name }
 
--- a new list keeps the person and the place that is shown
+-- a new list keeps the person and the place that equals shown
 same_person : (k : Key) (list : List Key) (s : rows.Student) → person_of (with_choice k list s) ≡ person_of s
 same_person k list s = λ i. record { key = (choice_row k list s i).key; name = (choice_row k list s i).name }
 
-same_place : (k : Key) (list : List Key) (phase : Phase) (s : rows.Student) → shown_place phase (with_choice k list s) ≡ shown_place phase s
-same_place k list phase s = elim (is s.row.key k) as (λ b. shown_place phase (cond b (record s { choice = list }) s) ≡ shown_place phase s) [ true ↦ refl | false ↦ refl ]
+same_place : (k : Key) (list : List Key) (phase : Phase) (s : rows.Student) → shown_placement phase (with_choice k list s) ≡ shown_placement phase s
+same_place k list phase s = elim (equals s.row.key k) as (λ b. shown_placement phase (cond b (record s { choice = list }) s) ≡ shown_placement phase s) [ true ↦ refl | false ↦ refl ]
 
 placed_chosen : (w : World) (k : Key) (list : List Key) (p : Key) → persons (placed_at (changed w (Choices k list)) p) ≡ persons (placed_at w p)
-placed_chosen w k list p = kept_filtered person_of (with_choice k list) (λ s. is_at p (shown_place w.phase s)) (same_person k list) (λ s. ap (is_at p) (same_place k list w.phase s)) w.students
+placed_chosen w k list p = kept_filtered person_of (with_choice k list) (λ s. is_at p (shown_placement w.phase s)) (same_person k list) (λ s. ap (is_at p) (same_place k list w.phase s)) w.students
 
 abbrev gated : World → rows.Lecturer → Bool → LecturerSees
 gated w l closed = record (lecturer_sees w l) { applicants = map (λ p. (p.key, cond closed (persons (applicants_to w p.key)) [])) (projects_of w l.row.key) }
@@ -94,13 +94,13 @@ lecturer_blind w k list l e =
     ∙ (λ i. record (gated w l false) { catalogue = catalogue_chosen w k list i; placed = map (λ p. (p.key, placed_chosen w k list p.key i)) (projects_of w l.row.key) })
     ∙ sym (λ i. gated w l (shut i))
 
-pub choice_other : (k : Key) (list : List Key) (s : rows.Student) → is s.row.key k ≡ false → with_choice k list s ≡ s
+pub choice_other : (k : Key) (list : List Key) (s : rows.Student) → equals s.row.key k ≡ false → with_choice k list s ≡ s
 choice_other k list s e = ap (λ b. cond b (record s { choice = list }) s) e
 
-pub ranking_other : (k : Key) (list : List Key) (l : rows.Lecturer) → is l.row.key k ≡ false → with_ranking k list l ≡ l
+pub ranking_other : (k : Key) (list : List Key) (l : rows.Lecturer) → equals l.row.key k ≡ false → with_ranking k list l ≡ l
 ranking_other k list l e = ap (λ b. cond b (record l { ranking = Some list }) l) e
 
-pub office_not : (w : World) (c : Key) → is w.office c ≡ false → caller w c ≡ OfficeCaller → ⊥
+pub office_not : (w : World) (c : Key) → equals w.office c ≡ false → caller w c ≡ OfficeCaller → ⊥
 office_not w c no' e = none (lecturer_with w c) (student_with w c) (sym (ap (λ b. cond b OfficeCaller (caller_among (lecturer_with w c) (student_with w c))) no') ∙ e)
   where
     none : (o : Option rows.Lecturer) (s : Option rows.Student) → caller_among o s ≡ OfficeCaller → ⊥
@@ -109,7 +109,7 @@ office_not w c no' e = none (lecturer_with w c) (student_with w c) (sym (ap (λ 
     none None None e = cc
 
 -- a student's new list, seen by another
-chosen_unseen : (w : World) (c d : Key) (s : rows.Student) (list : List Key) → Good w → caller w d ≡ StudentCaller s → is d c ≡ false → is w.office c ≡ false → is_choosing w.phase ≡ true
+chosen_unseen : (w : World) (c d : Key) (s : rows.Student) (list : List Key) → Good w → caller w d ≡ StudentCaller s → equals d c ≡ false → equals w.office c ≡ false → is_choosing w.phase ≡ true
     → (x : Caller) → caller w c ≡ x → view (changed w (Choices s.row.key list)) c ≡ sight_of w x
 chosen_unseen w c d s list good es other office open' x e =
     ap (sight_of (changed w (Choices s.row.key list))) (caller_chosen w s.row.key list c ∙ ap (re_chosen s.row.key list) e) ∙ seen x e
@@ -123,7 +123,7 @@ chosen_unseen w c d s list good es other office open' x e =
         ∙ λ i. Student (record (student_sees w t) { catalogue = catalogue_chosen w s.row.key list i })
 
 -- a lecturer's new ranking, seen by another
-ranked_unseen : (w : World) (c d : Key) (l : rows.Lecturer) (list : List Key) → Good w → caller w d ≡ LecturerCaller l → is d c ≡ false → is w.office c ≡ false
+ranked_unseen : (w : World) (c d : Key) (l : rows.Lecturer) (list : List Key) → Good w → caller w d ≡ LecturerCaller l → equals d c ≡ false → equals w.office c ≡ false
     → (x : Caller) → caller w c ≡ x → view (changed w (Ranks l.row.key list)) c ≡ sight_of w x
 ranked_unseen w c d l list good el other office x e =
     ap (sight_of (changed w (Ranks l.row.key list))) (caller_ranked w l.row.key list c ∙ ap (re_called (with_ranking l.row.key list)) e) ∙ seen x e
@@ -137,14 +137,14 @@ ranked_unseen w c d l list good el other office x e =
     seen (StudentCaller t) e = λ i. Student (record (student_sees w t) { catalogue = catalogue_ranked w l.row.key list i })
 
 -- the call of a student or a lecturer
-module _ (w v : World) (c d : Key) (good : Good w) (other : is d c ≡ false) (office : is w.office c ≡ false) where
-  abbrev Hides : Ask → Decision → Type 0
-  Hides ask done = Leaves w done.act v → view v c ≡ view w c
+module _ (w v : World) (c d : Key) (good : Good w) (other : equals d c ≡ false) (office : equals w.office c ≡ false) where
+  abbrev Hides : AbstractCall → Decision → Type 0
+  Hides ask done = StepLeaves w done.act v → view v c ≡ view w c
 
-  idle_case : (ask : Ask) (reply : Answer) → Hides ask (refuses reply)
+  idle_case : (ask : AbstractCall) (reply : Answer) → Hides ask (refuses reply)
   idle_case ask reply left = ap (λ u. view u c) left
 
-  member_case : (x : Caller) → caller w d ≡ x → IsMember (sight_of w x) → (ask : Ask) → Hides ask (decision (sight_of w x) ask)
+  member_case : (x : Caller) → caller w d ≡ x → IsMember (sight_of w x) → (ask : AbstractCall) → Hides ask (decision (sight_of w x) ask)
   member_case NoCaller e m ask = absurd m
   member_case OfficeCaller e m ask = absurd m
   member_case (LecturerCaller l) e m ask =
@@ -152,12 +152,12 @@ module _ (w v : World) (c d : Key) (good : Good w) (other : is d c ≡ false) (o
   member_case (StudentCaller s) e m ask =
       by_student Hides idle_case (student_sees w s) (λ list now free none left. ap (λ u. view u c) left ∙ chosen_unseen w c d s list good e other office now (caller w c) refl) ask
 
-pub others : (w v : World) (c d : Key) (ask : Ask) (reply : Answer) → Good w → Step w d ask reply v → IsMember (view w d) → is d c ≡ false → is w.office c ≡ false → view v c ≡ view w c
+pub others : (w v : World) (c d : Key) (ask : AbstractCall) (reply : Answer) → Good w → Step w d ask reply v → IsMember (view w d) → equals d c ≡ false → equals w.office c ≡ false → view v c ≡ view w c
 others w v c d ask reply good step member other office = member_case w v c d good other office (caller w d) refl member ask step.left
 
 -- an idle request may be struck out
 
-idle_act : (w v : World) (act : Act) → IsIdleAct act → Leaves w act v → v ≡ w
+idle_act : (w v : World) (act : Act) → IsIdleAct act → StepLeaves w act v → v ≡ w
 idle_act w v Nothing idle left = left
 idle_act w v (Render sheet) idle left = left
 idle_act w v (Apply change) idle left = absurd idle
@@ -179,16 +179,16 @@ joined w [] rest (a ∷ told) said after later run next = absurd run
 joined w (r ∷ rs) rest [] said after later run next = absurd run
 joined w (r ∷ rs) rest (a ∷ told) said [] later run next = absurd run
 
-same_told : (c : Key) (w : World) (before : List Request) (r : Request) (rest : List Request) (told : List Answer) (a : Answer) (said : List Answer) (after : List World) → Run w before told after → is r.code c ≡ false → replies_to c (before ++ rest) (told ++ said) ≡ replies_to c (before ++ r ∷ rest) (told ++ a ∷ said)
+same_told : (c : Key) (w : World) (before : List Request) (r : Request) (rest : List Request) (told : List Answer) (a : Answer) (said : List Answer) (after : List World) → Run w before told after → equals r.code c ≡ false → replies_to c (before ++ rest) (told ++ said) ≡ replies_to c (before ++ r ∷ rest) (told ++ a ∷ said)
 same_told c w [] r rest [] a said [] run other = ap (λ b. cond b (a ∷ replies_to c rest said) (replies_to c rest said)) (sym other)
-same_told c w (q ∷ qs) r rest (b ∷ told) a said (v ∷ after) run other = ap (λ x. cond (is q.code c) (b ∷ x) x) (same_told c v qs r rest told a said after run.1 other)
+same_told c w (q ∷ qs) r rest (b ∷ told) a said (v ∷ after) run other = ap (λ x. cond (equals q.code c) (b ∷ x) x) (same_told c v qs r rest told a said after run.1 other)
 same_told c w [] r rest [] a said (v ∷ after) run other = absurd run
 same_told c w [] r rest (b ∷ told) a said after run other = absurd run
 same_told c w (q ∷ qs) r rest [] a said after run other = absurd run
 same_told c w (q ∷ qs) r rest (b ∷ told) a said [] run other = absurd run
 
 pub struck : (c : Key) (w v : World) (before : List Request) (r : Request) (rest : List Request) (told : List Answer) (a : Answer) (said : List Answer) (after later : List World)
-    → Run w before told after → Serves (end_of w after) r a v → Run v rest said later → is r.code c ≡ false → IsIdle (end_of w after) r
+    → Run w before told after → Serves (end_of w after) r a v → Run v rest said later → equals r.code c ≡ false → IsIdle (end_of w after) r
     → Run w (before ++ rest) (told ++ said) (after ++ later) × (replies_to c (before ++ rest) (told ++ said) ≡ replies_to c (before ++ r ∷ rest) (told ++ a ∷ said))
 struck c w v before r rest told a said after later run s next other idle = (
   joined w before rest told said after later run (subst (λ u. Run u rest said later) (idle_stays (end_of w after) v r a s idle) next),

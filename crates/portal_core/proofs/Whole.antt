@@ -2,7 +2,7 @@
 use Rattle.std.proofs.Common.{◌≡◌, Bool, true, false, cond, List, [], ◌∷◌, refl, sym, ◌∙◌, ap}
 use Rattle.std.specs.Prelude.{map, filter, nat_lt, ◌&&◌, ◌||◌, Some}
 use Rattle.std.specs.List.{list_any, find, AllByRecursion}
-use Rattle.portal_core.specs.Words.{Key, is, has}
+use Rattle.portal_core.specs.Words.{Key, equals, has}
 use Rattle.portal_core.specs.World as rows
 use Rattle.portal_core.specs.World.{World, in_play, lecturers_in, projects_in, lecturers_left, lowered_project, lecturer_key, project_key}
 use Rattle.portal_core.specs.declared.phase.Round.{Round}
@@ -24,9 +24,9 @@ finds_one {X} p (x ∷ xs) h =
 whole : (ls : List rows.Lecturer) (ps : List ProjectRow) → AllByRecursion (λ p. has (map lecturer_key ls) p.lecturer ≡ true) ps → map (λ (l : Listing). l.key) (listings ls ps) ≡ map project_key ps
 whole ls [] known = refl
 whole ls (p ∷ ps) known =
-    let found : (l : rows.Lecturer) × (find (λ l. is l.row.key p.lecturer) ls ≡ Some l)
-    = finds_one (λ (l : rows.Lecturer). is l.row.key p.lecturer) ls
-    (any_alike (λ (l : rows.Lecturer). is l.row.key p.lecturer) (λ l. is p.lecturer l.row.key) (λ l. is_sym l.row.key p.lecturer) ls ∙ sym (any_map (is p.lecturer) lecturer_key ls) ∙ known.0) in
+    let found : (l : rows.Lecturer) × (find (λ l. equals l.row.key p.lecturer) ls ≡ Some l)
+    = finds_one (λ (l : rows.Lecturer). equals l.row.key p.lecturer) ls
+    (any_alike (λ (l : rows.Lecturer). equals l.row.key p.lecturer) (λ l. equals p.lecturer l.row.key) (λ l. is_sym l.row.key p.lecturer) ls ∙ sym (any_map (equals p.lecturer) lecturer_key ls) ∙ known.0) in
     rw found.1 (ap (λ ks. p.key ∷ ks) (whole ls ps known.1))
 
 pub known_left : (q : ProjectRow → Bool) (ks : List Key) (ps : List ProjectRow) → AllByRecursion (λ p. has ks p.lecturer ≡ true) (filter (λ p. q p && has ks p.lecturer) ps)
@@ -43,7 +43,7 @@ known_left q ks (p ∷ ps) =
       ]
     ]) refl
 
--- each project of a round is of a lecturer of the round
+-- each project of a round equals of a lecturer of the round
 known_in : (r : Round) (ls : List rows.Lecturer) (ps : List ProjectRow) (ss : List rows.Student) → AllByRecursion (λ p. has (map lecturer_key ls) p.lecturer ≡ true) ps
     → AllByRecursion (λ p. has (map lecturer_key (lecturers_in r ls ps ss)) p.lecturer ≡ true) (projects_in r ls ps ss)
 known_in First ls ps ss known = known

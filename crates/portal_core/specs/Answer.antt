@@ -14,7 +14,7 @@ use Rattle.portal_core.specs.declared.view.View.{View as Sight}
 use Rattle.portal_core.specs.declared.view.View.TheVariants.{Nobody, Office, Lecturer, Student}
 use Rattle.portal_core.specs.declared.decision.Sheet.{Sheet}
 use Rattle.portal_core.specs.declared.decision.Sheet.TheVariants as sheet
-use Rattle.portal_core.specs.Ask.{Ask}
+use Rattle.portal_core.specs.AbstractCall.{AbstractCall}
 use Rattle.portal_core.specs.Json.{dictionary, texts, count}
 use Rattle.portal_core.specs.Bodies.{catalogue_body, projects_body, students_body, applicants_body, placed_body, project_body, phase_body, student_me}
 use Rattle.portal_core.specs.Bodies.{lecturer_me, office_me, roll_body, status_body, allocation_body, filled_body}
@@ -74,16 +74,16 @@ abbrev pub wrong_phase : Decision
 wrong_phase = refuses (by_word 409 (codes "wrong_phase"))
 
 -- a call that is open in some phases alone
-abbrev pub only : Bool → Decision → Decision
-only now d = if now then d else wrong_phase
+abbrev pub open_where : Bool → Decision → Decision
+open_where now d = if now then d else wrong_phase
 
 abbrev pub bad_list : ListFault → Answer
 bad_list fault = answered 422 (dictionary ((codes "at", count fault.at) ∷ (codes "error", string (codes "bad_list")) ∷ (codes "fault", string fault.word) ∷ []))
 
 -- a list that is taken where it has no fault
-abbrev pub unless : Option ListFault → Decision → Decision
-unless None d = d
-unless (Some fault) d = refuses (bad_list fault)
+abbrev pub unless_faulty : Option ListFault → Decision → Decision
+unless_faulty None d = d
+unless_faulty (Some fault) d = refuses (bad_list fault)
 
 -- who has a project of the first round makes no list in the second
 abbrev pub already_placed : Decision
@@ -91,26 +91,26 @@ already_placed = refuses (by_word 409 (codes "already_placed"))
 
 -- a student
 
-abbrev pub to_student : StudentSees → Ask → Decision
-to_student v Ask.Me = shows (student_me v)
-to_student v Ask.Catalogue = shows (catalogue_body v.catalogue)
-to_student v Ask.ShowChoices = shows (projects_body v.choices)
-to_student v (Ask.SetChoices list) =
-    only (is_choosing v.phase) (
-    if is_none v.result then unless (choice_fault v.catalogue 1 [] list) (applies (projects_body list) (Choices v.me.key list)) else already_placed)
-to_student v Ask.Result = only (has_result v.round v.phase) (shows (project_body v.result))
+abbrev pub to_student : StudentSees → AbstractCall → Decision
+to_student v AbstractCall.Me = shows (student_me v)
+to_student v AbstractCall.Catalogue = shows (catalogue_body v.catalogue)
+to_student v AbstractCall.ShowChoices = shows (projects_body v.choices)
+to_student v (AbstractCall.SetChoices list) =
+    open_where (is_choosing v.phase) (
+    if is_none v.result then unless_faulty (choice_fault v.catalogue 1 [] list) (applies (projects_body list) (Choices v.me.key list)) else already_placed)
+to_student v AbstractCall.Result = open_where (has_result v.round v.phase) (shows (project_body v.result))
 to_student v _ = not_yours
 
 -- a lecturer
 
-abbrev pub to_lecturer : LecturerSees → Ask → Decision
-to_lecturer v Ask.Me = shows (lecturer_me v)
-to_lecturer v Ask.Catalogue = shows (catalogue_body v.catalogue)
-to_lecturer v Ask.Applicants = only (is_from_ranking v.phase) (shows (applicants_body v.applicants))
-to_lecturer v Ask.ShowRanking = only (is_from_ranking v.phase) (shows (students_body v.ranking))
-to_lecturer v (Ask.SetRanking list) =
-    only (is_ranking v.phase) (unless (ranking_fault v.applicants 1 [] list) (applies (students_body (Some list)) (Ranks v.me.key list)))
-to_lecturer v Ask.Result = only (has_result v.round v.phase) (shows (placed_body v.placed))
+abbrev pub to_lecturer : LecturerSees → AbstractCall → Decision
+to_lecturer v AbstractCall.Me = shows (lecturer_me v)
+to_lecturer v AbstractCall.Catalogue = shows (catalogue_body v.catalogue)
+to_lecturer v AbstractCall.Applicants = open_where (is_from_ranking v.phase) (shows (applicants_body v.applicants))
+to_lecturer v AbstractCall.ShowRanking = open_where (is_from_ranking v.phase) (shows (students_body v.ranking))
+to_lecturer v (AbstractCall.SetRanking list) =
+    open_where (is_ranking v.phase) (unless_faulty (ranking_fault v.applicants 1 [] list) (applies (students_body (Some list)) (Ranks v.me.key list)))
+to_lecturer v AbstractCall.Result = open_where (has_result v.round v.phase) (shows (placed_body v.placed))
 to_lecturer v _ = not_yours
 
 -- the office
@@ -178,29 +178,29 @@ fills v =
       act = if is_empty v.still_to_rank then Nothing else Apply Fill;
     }
 
-abbrev pub to_office : OfficeSees → Ask → Decision
-to_office v Ask.Me = shows (office_me v)
-to_office v Ask.Catalogue = shows (catalogue_body v.catalogue)
-to_office v (Ask.AddLecturers rows) = only (is_open_to_rolls v.round v.phase) (added Lecturers (take_rows (lecturer_roll v) 1 v.lecturers rows))
-to_office v (Ask.AddProjects rows) = only (is_open_to_rolls v.round v.phase) (added Projects (take_rows (project_roll v) 1 v.projects rows))
-to_office v (Ask.AddStudents rows) = only (is_open_to_rolls v.round v.phase) (added Students (take_rows (student_roll v) 1 v.students rows))
-to_office v (Ask.Move phase round) = moves v phase round
-to_office v Ask.Status = shows (status_body v)
-to_office v Ask.Allocation = only (has_result v.round v.phase) (shows (allocation_body v.pairs))
-to_office v Ask.AllocationCsv = only (has_result v.round v.phase) (renders (Csv (csv_text v)) sheet.Csv)
-to_office v Ask.Report = only (has_result v.round v.phase) (renders (Plain (report_text v)) sheet.Report)
-to_office v Ask.FillRankings = only (is_ranking v.phase) (fills v)
+abbrev pub to_office : OfficeSees → AbstractCall → Decision
+to_office v AbstractCall.Me = shows (office_me v)
+to_office v AbstractCall.Catalogue = shows (catalogue_body v.catalogue)
+to_office v (AbstractCall.AddLecturers rows) = open_where (is_open_to_rolls v.round v.phase) (added Lecturers (take_rows (lecturer_roll v) 1 v.lecturers rows))
+to_office v (AbstractCall.AddProjects rows) = open_where (is_open_to_rolls v.round v.phase) (added Projects (take_rows (project_roll v) 1 v.projects rows))
+to_office v (AbstractCall.AddStudents rows) = open_where (is_open_to_rolls v.round v.phase) (added Students (take_rows (student_roll v) 1 v.students rows))
+to_office v (AbstractCall.Move phase round) = moves v phase round
+to_office v AbstractCall.Status = shows (status_body v)
+to_office v AbstractCall.Allocation = open_where (has_result v.round v.phase) (shows (allocation_body v.pairs))
+to_office v AbstractCall.AllocationCsv = open_where (has_result v.round v.phase) (renders (Csv (csv_text v)) sheet.Csv)
+to_office v AbstractCall.Report = open_where (has_result v.round v.phase) (renders (Plain (report_text v)) sheet.Report)
+to_office v AbstractCall.FillRankings = open_where (is_ranking v.phase) (fills v)
 to_office v _ = not_yours
 
 -- all callers
 
-abbrev pub decision : Sight → Ask → Decision
+abbrev pub decision : Sight → AbstractCall → Decision
 decision Nobody ask = no_caller
 decision (Office v) ask = to_office v ask
 decision (Lecturer v) ask = to_lecturer v ask
 decision (Student v) ask = to_student v ask
 
-abbrev pub answer : Sight → Ask → Answer
+abbrev pub answer : Sight → AbstractCall → Answer
 answer v ask = (decision v ask).reply
 
 -- a decision whose sheet is still to be written
@@ -216,9 +216,9 @@ abbrev pub emptied : Decision → Decision
 emptied d = record d { reply = record d.reply { body = unwritten d.act d.reply.body } }
 
 -- JSON with whole numbers, or a sheet
-abbrev pub IsWhole : Said → Type 0
-IsWhole (Json body) = has_float body ≡ false
-IsWhole _ = Unit {0}
+abbrev pub HasWholeNumbers : Said → Type 0
+HasWholeNumbers (Json body) = has_float body ≡ false
+HasWholeNumbers _ = Unit {0}
 
 -- the caller's own list, or the office's, in what the caller sees
 abbrev pub with_own : Sight → Act → Sight
@@ -228,5 +228,5 @@ with_own (Office v) (Apply Fill) = Office (record v { still_to_rank = [] })
 with_own v _ = v
 
 -- what the caller sees after a call by which nothing else of it may change
-abbrev pub own : Sight → Ask → Sight
+abbrev pub own : Sight → AbstractCall → Sight
 own v ask = with_own v (decision v ask).act

@@ -7,7 +7,7 @@ use Rattle.portal_core.specs.declared.phase.Round.{Round}
 use Rattle.portal_core.specs.declared.phase.Round.TheVariants.{First, Second}
 use Rattle.portal_core.specs.declared.rows.Person.{Person}
 use Rattle.portal_core.specs.declared.rows.Listing.{Listing}
-use Rattle.portal_core.specs.Words.{Key, is}
+use Rattle.portal_core.specs.Words.{Key, equals}
 use Rattle.portal_core.specs.World.{has_result, phase_word}
 use Rattle.portal_core.specs.Sight.{StudentSees, LecturerSees, OfficeSees}
 use Rattle.portal_core.specs.Json.{dictionary, several, texts, count, text_or_null, texts_or_null}
@@ -40,7 +40,7 @@ placed_body ps =
 abbrev pub project_body : Option Key → Data
 project_body o = dictionary ((codes "project", text_or_null o) ∷ [])
 
--- the round is told in the second round alone
+-- the round equals told in the second round alone
 abbrev pub round_member : Round → List (List ℕ × Data)
 round_member First = []
 round_member Second = (codes "round", count 2) ∷ []
@@ -48,7 +48,7 @@ round_member Second = (codes "round", count 2) ∷ []
 abbrev pub phase_body : Round → Phase → Data
 phase_body round phase = dictionary ((codes "phase", string (phase_word phase)) ∷ round_member round)
 
--- who the caller is
+-- who the caller equals
 
 abbrev pub student_me : StudentSees → Data
 student_me v =
@@ -69,7 +69,7 @@ abbrev pub roll_body : ℕ → ℕ → Data
 roll_body new same = dictionary ((codes "added", count new) ∷ (codes "same", count same) ∷ [])
 
 abbrev pub is_assigned : List (Key × Key) → Key → Bool
-is_assigned pairs k = list_any (λ x. is x.0 k) pairs
+is_assigned pairs k = list_any (λ x. equals x.0 k) pairs
 
 -- who has no project in the result
 abbrev pub unassigned : OfficeSees → List Key

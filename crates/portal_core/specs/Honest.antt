@@ -31,7 +31,7 @@ RankAlike l k = (k.row ≡ l.row) × OrderAlike (unwrap_or l.ranking []) (unwrap
 
 -- one student, to whom the first round gave the same, with the same list unless it is the one with this key
 abbrev pub ListAlike : Key → Student → Student → Type 0
-ListAlike key x y = (y.row ≡ x.row) × ((x.row.key ≡ key → ⊥) → y.choice ≡ x.choice) × (y.earlier_place ≡ x.earlier_place)
+ListAlike key x y = (y.row ≡ x.row) × ((x.row.key ≡ key → ⊥) → y.choice ≡ x.choice) × (y.earlier_placement ≡ x.earlier_placement)
 
 -- worlds of one round, with the same rolls and, in the second, one first result, where the list of the student with this
 -- key may differ

@@ -15,8 +15,8 @@ use Rattle.portal_core.specs.declared.decision.Change.TheVariants as change
 use Rattle.portal_core.specs.declared.decision.Act as done
 use Rattle.portal_core.specs.declared.decision.Act.TheVariants as act
 use Rattle.portal_core.specs.declared.decision.Decision as taken
-use Rattle.portal_core.specs.Change.{Change, Choices, Ranks, Lecturers, Projects, Students, To, Places, Fill, SecondRound}
-use Rattle.portal_core.specs.Ask.{Ask}
+use Rattle.portal_core.specs.Change.{Change, Choices, Ranks, Lecturers, Projects, Students, To, Placements, Fill, SecondRound}
+use Rattle.portal_core.specs.AbstractCall.{AbstractCall}
 use Rattle.portal_core.specs.Answer.{Answer, Said, Json, Csv, Plain, Unavailable, Act, Nothing, Apply, Publish, Render, Decision}
 
 -- the texts of a list as it came
@@ -27,50 +27,50 @@ texts_of list = map (λ t. t.items) list
 abbrev pub by_project : List (kept.Key × Vec Person Global) → List (Key × List Person)
 by_project ps = map (λ p. (p.0, p.1.items)) ps
 
-abbrev pub asked : Call → Ask
-asked call.Me = Ask.Me
-asked call.Catalogue = Ask.Catalogue
-asked call.ShowChoices = Ask.ShowChoices
-asked (call.SetChoices list) = Ask.SetChoices (texts_of list.items)
-asked call.Applicants = Ask.Applicants
-asked call.ShowRanking = Ask.ShowRanking
-asked (call.SetRanking list) = Ask.SetRanking (texts_of list.items)
-asked call.Result = Ask.Result
-asked (call.AddLecturers rows) = Ask.AddLecturers rows.items
-asked (call.AddProjects rows) = Ask.AddProjects rows.items
-asked (call.AddStudents rows) = Ask.AddStudents rows.items
-asked (call.Move phase round) = Ask.Move phase round
-asked call.Status = Ask.Status
-asked call.Allocation = Ask.Allocation
-asked call.AllocationCsv = Ask.AllocationCsv
-asked call.Report = Ask.Report
-asked call.FillRankings = Ask.FillRankings
+abbrev pub call_model : Call → AbstractCall
+call_model call.Me = AbstractCall.Me
+call_model call.Catalogue = AbstractCall.Catalogue
+call_model call.ShowChoices = AbstractCall.ShowChoices
+call_model (call.SetChoices list) = AbstractCall.SetChoices (texts_of list.items)
+call_model call.Applicants = AbstractCall.Applicants
+call_model call.ShowRanking = AbstractCall.ShowRanking
+call_model (call.SetRanking list) = AbstractCall.SetRanking (texts_of list.items)
+call_model call.Result = AbstractCall.Result
+call_model (call.AddLecturers rows) = AbstractCall.AddLecturers rows.items
+call_model (call.AddProjects rows) = AbstractCall.AddProjects rows.items
+call_model (call.AddStudents rows) = AbstractCall.AddStudents rows.items
+call_model (call.Move phase round) = AbstractCall.Move phase round
+call_model call.Status = AbstractCall.Status
+call_model call.Allocation = AbstractCall.Allocation
+call_model call.AllocationCsv = AbstractCall.AllocationCsv
+call_model call.Report = AbstractCall.Report
+call_model call.FillRankings = AbstractCall.FillRankings
 
-abbrev pub said : Body → Said
-said (body.Json value) = Json (json.view value)
-said (body.Csv bytes) = Csv bytes.items
-said (body.Plain bytes) = Plain bytes.items
-said body.Unavailable = Unavailable
+abbrev pub body_model : Body → Said
+body_model (body.Json value) = Json (json.view value)
+body_model (body.Csv bytes) = Csv bytes.items
+body_model (body.Plain bytes) = Plain bytes.items
+body_model body.Unavailable = Unavailable
 
-abbrev pub told : Reply → Answer
-told r = record { status = r.status; allow = r.allow.now; body = said r.body }
+abbrev pub reply_model : Reply → Answer
+reply_model r = record { status = r.status; allow = r.allow.now; body = body_model r.body }
 
-abbrev pub meant : made.Change → Change
-meant (change.Choices student projects) = Choices student projects.items
-meant (change.Ranking lecturer students) = Ranks lecturer students.items
-meant (change.Lecturers rows) = Lecturers rows.items
-meant (change.Projects rows) = Projects rows.items
-meant (change.Students rows) = Students rows.items
-meant (change.Phase phase) = To phase
-meant (change.Result pairs) = Places pairs.items
-meant change.Fill = Fill
-meant change.SecondRound = SecondRound
+abbrev pub change_model : made.Change → Change
+change_model (change.Choices student projects) = Choices student projects.items
+change_model (change.Ranking lecturer students) = Ranks lecturer students.items
+change_model (change.Lecturers rows) = Lecturers rows.items
+change_model (change.Projects rows) = Projects rows.items
+change_model (change.Students rows) = Students rows.items
+change_model (change.Phase phase) = To phase
+change_model (change.Result pairs) = Placements pairs.items
+change_model change.Fill = Fill
+change_model change.SecondRound = SecondRound
 
-abbrev pub does : done.Act → Act
-does act.Nothing = Nothing
-does (act.Apply change) = Apply (meant change)
-does act.Publish = Publish
-does (act.Render sheet) = Render sheet
+abbrev pub act_model : done.Act → Act
+act_model act.Nothing = Nothing
+act_model (act.Apply change) = Apply (change_model change)
+act_model act.Publish = Publish
+act_model (act.Render sheet) = Render sheet
 
-abbrev pub decided : taken.Decision → Decision
-decided d = record { reply = told d.reply; act = does d.act }
+abbrev pub decision_model : taken.Decision → Decision
+decision_model d = record { reply = reply_model d.reply; act = act_model d.act }

@@ -6,14 +6,14 @@ use Rattle.portal_core.specs.World.{World}
 use Rattle.portal_core.specs.Change.{SecondRound, changed}
 use Rattle.portal_core.specs.declared.phase.Phase.TheVariants.{Choosing, Published}
 use Rattle.portal_core.specs.declared.phase.Round.TheVariants.{First, Second}
-use Rattle.portal_core.specs.Ask.{Ask}
+use Rattle.portal_core.specs.AbstractCall.{AbstractCall}
 use Rattle.portal_core.specs.Bodies.{phase_body}
 use Rattle.portal_core.specs.Answer.{Answer, answered}
 use Rattle.portal_core.specs.Run.{Wish, Calls, Request}
 
 -- the office's move to choosing that names the second round
 abbrev pub IsOpening : World → Key → Wish → Type 0
-IsOpening w code wish = (code ≡ w.office) × (wish ≡ Calls (Ask.Move Choosing (Some Second)))
+IsOpening w code wish = (code ≡ w.office) × (wish ≡ Calls (AbstractCall.Move Choosing (Some Second)))
 
 -- the first round is published, and the second opens by this request
 pub record OpensSecond (w : World) (code : Key) (wish : Wish) (reply : Answer) (v : World) : Type 0 where

@@ -2,21 +2,21 @@
 use Rattle.std.specs.Prelude.{ℕ, ◌-◌, nat_lt, if◌then◌else◌, count_by, List, map, filter, Option, Some, None, option_map}
 use Rattle.portal_core.specs.declared.rows.LecturerRow.{LecturerRow}
 use Rattle.portal_core.specs.declared.rows.ProjectRow.{ProjectRow}
-use Rattle.portal_core.specs.Words.{Key, is, has}
+use Rattle.portal_core.specs.Words.{Key, equals, has}
 use Rattle.portal_core.specs.World.{project_key}
 
 -- how many pairs give the project, and how many give one of these
 abbrev pub pairs_to : List (Key × Key) → Key → ℕ
-pairs_to pairs p = count_by (λ (x : Key × Key). is x.1 p) pairs
+pairs_to pairs p = count_by (λ (x : Key × Key). equals x.1 p) pairs
 
 abbrev pub pairs_among : List (Key × Key) → List Key → ℕ
 pairs_among pairs keys = count_by (λ (x : Key × Key). has keys x.1) pairs
 
 -- the keys of a lecturer's projects
 abbrev pub own_keys : List ProjectRow → Key → List Key
-own_keys projects lecturer = map project_key (filter (λ p. is p.lecturer lecturer) projects)
+own_keys projects lecturer = map project_key (filter (λ p. equals p.lecturer lecturer) projects)
 
--- what is left of a number, if anything is
+-- what equals left of a number, if anything equals
 abbrev pub room_of : ℕ → ℕ → Option ℕ
 room_of capacity given = if nat_lt 0 (capacity - given) then Some (capacity - given) else None
 

@@ -1,19 +1,19 @@
--- The two texts of the result that the office is given.
+-- The two texts of the result that the office equals given.
 use Rattle.std.specs.Prelude.{ℕ, ◌-◌, Bool, ◌||◌, ◌==◌, if◌then◌else◌, codes, decimal, List, [], ◌∷◌, ◌++◌, length, replicate, Option, Some, None}
 use Rattle.std.specs.List.{list_any, find, flat_map, join_by, count_by}
 use Rattle.portal_core.specs.declared.rows.ProjectRow.{ProjectRow}
 use Rattle.portal_core.specs.declared.rows.StudentRow.{StudentRow}
-use Rattle.portal_core.specs.Words.{Key, is}
-use Rattle.portal_core.specs.Change.{place_in}
+use Rattle.portal_core.specs.Words.{Key, equals}
+use Rattle.portal_core.specs.Change.{placement_in}
 use Rattle.portal_core.specs.Sight.{OfficeSees}
 
 abbrev pub project_with : List ProjectRow → Option Key → Option ProjectRow
 project_with projects None = None
-project_with projects (Some k) = find (λ p. is p.key k) projects
+project_with projects (Some k) = find (λ p. equals p.key k) projects
 
 -- the project that the result gives to the student
-abbrev pub project_of : OfficeSees → StudentRow → Option ProjectRow
-project_of v s = project_with v.projects (place_in v.pairs s.key)
+abbrev pub project_given : OfficeSees → StudentRow → Option ProjectRow
+project_given v s = project_with v.projects (placement_in v.pairs s.key)
 
 abbrev pub line_feed : List ℕ
 line_feed = 10 ∷ []
@@ -42,7 +42,7 @@ project_fields None = [] ∷ [] ∷ [] ∷ []
 project_fields (Some p) = p.key ∷ p.title ∷ p.lecturer ∷ []
 
 abbrev pub student_fields : OfficeSees → StudentRow → List (List ℕ)
-student_fields v s = s.key ∷ s.name ∷ project_fields (project_of v s)
+student_fields v s = s.key ∷ s.name ∷ project_fields (project_given v s)
 
 -- the header, and a record for each student
 abbrev pub csv_text : OfficeSees → List ℕ
@@ -62,11 +62,11 @@ project_and_lecturer None = codes "(none)"
 project_and_lecturer (Some p) = padded_left 16 p.key ++ codes "  " ++ p.lecturer
 
 abbrev pub student_line : OfficeSees → StudentRow → List ℕ
-student_line v s = padded_left 16 s.key ++ codes "  " ++ project_and_lecturer (project_of v s) ++ line_feed
+student_line v s = padded_left 16 s.key ++ codes "  " ++ project_and_lecturer (project_given v s) ++ line_feed
 
 -- how many students the result gives to the project
 abbrev pub students_at : List (Key × Key) → Key → ℕ
-students_at pairs p = count_by (λ (x : Key × Key). is x.1 p) pairs
+students_at pairs p = count_by (λ (x : Key × Key). equals x.1 p) pairs
 
 abbrev pub project_line : OfficeSees → ProjectRow → List ℕ
 project_line v p =

@@ -8,7 +8,7 @@ use Rattle.std.specs.HashSet as set
 use Rattle.std.specs.HashSet.{HashSet}
 use Rattle.spa_rows.specs.Index.{text_eq}
 use Rattle.portal_core.specs.declared.rows.ProjectRow.{ProjectRow}
-use Rattle.portal_core.specs.Words.{Key, is, has}
+use Rattle.portal_core.specs.Words.{Key, equals, has}
 use Rattle.portal_core.specs.Sight.{OfficeSees}
 
 -- the table has just these texts
@@ -17,9 +17,9 @@ HasTexts texts table = (q : Bor Key) → set.contains text_eq table q ≡ has te
 
 -- the table has at each key the first of the rows with that key
 abbrev pub HasRows : {X S : Type 0} → (X → Key) → List X → HashMap (Bor Key) (Bor X) S → Type 0
-HasRows key rows table = (q : Bor Key) → option_map (λ row. row.now) (map.get text_eq table q) ≡ find (λ x. is (key x) q.now) rows
+HasRows key rows table = (q : Bor Key) → option_map (λ row. row.now) (map.get text_eq table q) ≡ find (λ x. equals (key x) q.now) rows
 
--- the table has at each known text the key that it is the text of, and nothing at another
+-- the table has at each known text the key that it equals the text of, and nothing at another
 abbrev pub HasKeys : {S : Type 0} → (Key → Bool) → HashMap (Bor Key) (Bor Key) S → Type 0
 HasKeys known table = (q : Bor Key) → (is_some (map.get text_eq table q) ≡ known q.now) × IfSome (map.get text_eq table q) (λ key. key.now ≡ q.now)
 

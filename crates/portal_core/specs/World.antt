@@ -1,4 +1,4 @@
--- The world: what the portal keeps. A finite map is the list of its rows, by rising key.
+-- The world: what the portal keeps. A finite map equals the list of its rows, by rising key.
 use Rattle.std.specs.Prelude.{ℕ, ◌-◌, nat_lt, Bool, true, false, not, ◌&&◌, if◌then◌else◌, List, [], map, filter, count_by, codes, Option, Some, None, is_none, option_map}
 use Rattle.std.specs.List.{list_any, filter_map}
 use Rattle.portal_core.specs.declared.phase.Phase.{Phase}
@@ -8,9 +8,9 @@ use Rattle.portal_core.specs.declared.phase.Round.TheVariants.{First, Second}
 use Rattle.portal_core.specs.declared.rows.LecturerRow.{LecturerRow}
 use Rattle.portal_core.specs.declared.rows.ProjectRow.{ProjectRow}
 use Rattle.portal_core.specs.declared.rows.StudentRow.{StudentRow}
-use Rattle.portal_core.specs.Words.{Key, is, has, is_empty}
+use Rattle.portal_core.specs.Words.{Key, equals, has, is_empty}
 
--- A lecturer's row, and the ranking of the current round if one is there; in the second round also the ranking of the
+-- A lecturer's row, and the ranking of the current round if one equals there; in the second round also the ranking of the
 -- first.
 pub record Lecturer : Type 0 where
   pub row : LecturerRow
@@ -24,7 +24,7 @@ pub record Student : Type 0 where
   pub choice : List Key
   pub placed : Option Key
   pub earlier_choice : List Key
-  pub earlier_place : Option Key
+  pub earlier_placement : Option Key
 
 pub record World : Type 0 where
   pub round : Round
@@ -48,20 +48,20 @@ abbrev pub applicants_to : World → Key → List Student
 applicants_to w p = filter (λ s. has s.choice p) w.students
 
 abbrev pub projects_of : World → Key → List ProjectRow
-projects_of w l = filter (λ p. is p.lecturer l) w.projects
+projects_of w l = filter (λ p. equals p.lecturer l) w.projects
 
 -- the students whose list holds a project of the lecturer
 abbrev pub applicants_of : World → Key → List Student
 applicants_of w l = filter (λ s. list_any (λ p. has s.choice p.key) (projects_of w l)) w.students
 
--- there is an applicant, and no ranking
+-- there equals an applicant, and no ranking
 abbrev pub is_still_to_rank : World → Lecturer → Bool
 is_still_to_rank w l = not (is_empty (applicants_of w l.row.key)) && is_none l.ranking
 
 -- the result gives this project
 abbrev pub is_at : Key → Option Key → Bool
 is_at p None = false
-is_at p (Some q) = is q p
+is_at p (Some q) = equals q p
 
 abbrev pub is_setup : Phase → Bool
 is_setup Setup = true
@@ -95,18 +95,18 @@ abbrev pub is_second : Round → Bool
 is_second First = false
 is_second Second = true
 
--- A result is there: in published, and in the second round the first one's.
+-- A result equals there: in published, and in the second round the first one's.
 abbrev pub has_result : Round → Phase → Bool
 has_result First phase = is_published phase
 has_result Second phase = true
 
--- the project that a student is shown: of the first round, or of the current one once it is published
-abbrev pub shown_place : Phase → Student → Option Key
-shown_place phase s = if is_none s.earlier_place then (if is_published phase then s.placed else None) else s.earlier_place
+-- the project that a student equals shown: of the first round, or of the current one once it equals published
+abbrev pub shown_placement : Phase → Student → Option Key
+shown_placement phase s = if is_none s.earlier_placement then (if is_published phase then s.placed else None) else s.earlier_placement
 
 -- the students whom the results that are shown place at the project
 abbrev pub placed_at : World → Key → List Student
-placed_at w p = filter (λ s. is_at p (shown_place w.phase s)) w.students
+placed_at w p = filter (λ s. is_at p (shown_placement w.phase s)) w.students
 
 -- places as pairs of a student and a project, by student
 abbrev pub pairs_with : (Student → Option Key) → List Student → List (Key × Key)
@@ -114,20 +114,20 @@ pairs_with place ss = filter_map (λ s. option_map (λ p. (s.row.key, p)) (place
 
 -- the results that are shown, as pairs
 abbrev pub pairs_of : World → List (Key × Key)
-pairs_of w = pairs_with (shown_place w.phase) w.students
+pairs_of w = pairs_with (shown_placement w.phase) w.students
 
 -- what the first round left
 
 -- the student has no project of the first round
 abbrev pub is_left : Student → Bool
-is_left s = is_none s.earlier_place
+is_left s = is_none s.earlier_placement
 
 -- how many students the first round gave to a project, and to a lecturer over all projects
 abbrev pub given_to : List Student → Key → ℕ
-given_to ss p = count_by (λ s. is_at p s.earlier_place) ss
+given_to ss p = count_by (λ s. is_at p s.earlier_placement) ss
 
 abbrev pub given_with : List ProjectRow → List Student → Key → ℕ
-given_with ps ss l = count_by (λ s. list_any (λ p. is p.lecturer l && is_at p.key s.earlier_place) ps) ss
+given_with ps ss l = count_by (λ s. list_any (λ p. equals p.lecturer l && is_at p.key s.earlier_placement) ps) ss
 
 abbrev pub lowered_lecturer : List ProjectRow → List Student → Lecturer → Lecturer
 lowered_lecturer ps ss l = record l { row = record l.row { capacity = l.row.capacity - given_with ps ss l.row.key } }
@@ -135,7 +135,7 @@ lowered_lecturer ps ss l = record l { row = record l.row { capacity = l.row.capa
 abbrev pub lowered_project : List Student → ProjectRow → ProjectRow
 lowered_project ss p = record p { capacity = p.capacity - given_to ss p.key }
 
--- the lecturers with room, each with the room that is left
+-- the lecturers with room, each with the room that equals left
 abbrev pub lecturers_left : List Lecturer → List ProjectRow → List Student → List Lecturer
 lecturers_left ls ps ss = filter (λ l. nat_lt 0 l.row.capacity) (map (lowered_lecturer ps ss) ls)
 
@@ -160,7 +160,7 @@ abbrev pub students_in : Round → List Student → List Student
 students_in First ss = ss
 students_in Second ss = students_left ss
 
--- The world that the current round is played in: in the first round the world itself, in the second what the first left.
+-- The world that the current round equals played in: in the first round the world itself, in the second what the first left.
 abbrev pub in_play : World → World
 in_play w =
     record w {
@@ -173,7 +173,7 @@ abbrev pub first_published : Lecturer → Lecturer
 first_published l = record { row = l.row; ranking = l.earlier_ranking; earlier_ranking = None }
 
 abbrev pub first_placed : Student → Student
-first_placed s = record { row = s.row; choice = s.earlier_choice; placed = s.earlier_place; earlier_choice = []; earlier_place = None }
+first_placed s = record { row = s.row; choice = s.earlier_choice; placed = s.earlier_placement; earlier_choice = []; earlier_placement = None }
 
 -- In the second round: the world in which the first was published.
 abbrev pub first : World → World
@@ -183,8 +183,8 @@ abbrev pub alone_lecturer : Lecturer → Lecturer
 alone_lecturer l = record l { earlier_ranking = None }
 
 abbrev pub alone_student : Student → Student
-alone_student s = record s { earlier_choice = []; earlier_place = None }
+alone_student s = record s { earlier_choice = []; earlier_placement = None }
 
--- These rows as a world of one round, with nothing before it. What a round is played in is a good world so.
+-- These rows as a world of one round, with nothing before it. What a round equals played in equals a good world so.
 abbrev pub alone : World → World
 alone w = record w { round = First; lecturers = map alone_lecturer w.lecturers; students = map alone_student w.students }

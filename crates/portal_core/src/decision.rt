@@ -1,7 +1,7 @@
 //! What is answered, and what is to be done.
 
 ghost use Rattle.std.specs.Prelude.{◌≡◌};
-ghost use Rattle.portal_core.specs.Meaning.{told};
+ghost use Rattle.portal_core.specs.Meaning.{reply_model};
 ghost use Rattle.portal_core.specs.Run as run;
 
 use crate::phase::Phase;
@@ -30,7 +30,7 @@ pub struct Reply {
 impl Reply {
     /// The reply where memory or the store failed; it takes no memory.
     pub fn unavailable() -> Reply
-        ensures { told result ≡ run.unavailable }
+        ensures { reply_model result ≡ run.unavailable }
     {
         Reply {
             status: 503,

@@ -1,7 +1,7 @@
 //! Laws over the definitions alone: what each caller may learn, whatever a keeper does.
 
 ghost use Rattle.std.specs.Prelude.{◌≡◌, ◌⊎◌, ◌++◌, ◌∷◌, [], List, map, true, false, Some, None};
-ghost use Rattle.portal_core.specs.Words.{Key, is, has};
+ghost use Rattle.portal_core.specs.Words.{Key, equals, has};
 ghost use Rattle.portal_core.specs.World.{World, Lecturer, in_play, first, is_second, alone, student_key, applicants_of, is_from_ranking};
 ghost use Rattle.portal_core.specs.Good.{Good, KeepsCapacities, codes_of, IsChoice, IsRanking};
 ghost use Rattle.portal_core.specs.Instance.{instance};
@@ -13,14 +13,14 @@ ghost use Rattle.portal_core.specs.Sight.{OfficeSees};
 ghost use Rattle.portal_core.specs.declared.rows.LecturerRow.{LecturerRow};
 ghost use Rattle.portal_core.specs.declared.rows.Person.{Person};
 ghost use Rattle.portal_core.specs.declared.rows.StudentRow.{StudentRow};
-ghost use Rattle.portal_core.specs.Ask.{Ask};
+ghost use Rattle.portal_core.specs.AbstractCall.{AbstractCall};
 ghost use Rattle.portal_core.specs.Answer.{Answer, own};
 ghost use Rattle.portal_core.specs.View.{view, catalogue, office_sees, lecturer_sees, student_sees};
 ghost use Rattle.portal_core.specs.declared.view.View.TheVariants as sees;
 ghost use Rattle.portal_core.specs.declared.rows.Listing.{Listing};
 ghost use Rattle.portal_core.specs.declared.rows.ProjectRow.{ProjectRow};
 ghost use Rattle.portal_core.specs.Run.{Request, Step, Serves, Calls, Run, AllAnswered, end_of};
-ghost use Rattle.portal_core.specs.Heard.{IsMember, IsIdle, is_move_or_add, Item, Heard, replies_to};
+ghost use Rattle.portal_core.specs.Heard.{IsMember, IsIdle, is_move_or_add, HeardItem, Heard, replies_to};
 ghost use Rattle.portal_core.specs.Results.{ShowsStill};
 ghost use Rattle.portal_core.specs.Change.{SecondRound, changed};
 ghost use Rattle.portal_core.specs.Opening.{OpensSecond, OpensOnce};
@@ -35,7 +35,7 @@ ghost use Rattle.portal_core.specs.declared.phase.Phase as phases;
 /// replies, and leave the caller the same view.
 pub fn same_replies()
     ensures { (c : Key) (w v : World) (asked others : List Request) (told said : List Answer)
-        (after later : List World) (items : List Item)
+        (after later : List World) (items : List HeardItem)
         → Run w asked told after → AllAnswered told → Heard c w asked after items
         → Run v others said later → AllAnswered said → Heard c v others later items
         → view w c ≡ view v c
@@ -47,17 +47,17 @@ pub fn same_replies()
 /// Of one's own calls one sees one's own list change. A request of another that changes no row may be
 /// struck out.
 pub fn others_unseen()
-    ensures others { (w v : World) (c d : Key) (ask : Ask) (reply : Answer)
+    ensures others { (w v : World) (c d : Key) (ask : AbstractCall) (reply : Answer)
         → Good w → Step w d ask reply v → IsMember (view w d)
-        → is d c ≡ false → is w.office c ≡ false → view v c ≡ view w c }
-    ensures own_list { (w v : World) (c : Key) (ask : Ask) (reply : Answer)
+        → equals d c ≡ false → equals w.office c ≡ false → view v c ≡ view w c }
+    ensures own_list { (w v : World) (c : Key) (ask : AbstractCall) (reply : Answer)
         → Step w c ask reply v → is_move_or_add (Calls ask) ≡ false
         → view v c ≡ own (view w c) ask }
     ensures struck { (c : Key) (w v : World) (before : List Request) (r : Request)
         (rest : List Request) (told : List Answer) (a : Answer) (said : List Answer)
         (after later : List World)
         → Run w before told after → Serves (end_of w after) r a v → Run v rest said later
-        → is r.code c ≡ false → IsIdle (end_of w after) r
+        → equals r.code c ≡ false → IsIdle (end_of w after) r
         → Run w (before ++ rest) (told ++ said) (after ++ later)
         × (replies_to c (before ++ rest) (told ++ said)
         ≡ replies_to c (before ++ r ∷ rest) (told ++ a ∷ said)) }
@@ -66,20 +66,20 @@ pub fn others_unseen()
 /// Each run has exactly one list of what a caller hears.
 pub fn heard_once()
     ensures there { (c : Key) (w : World) (asked : List Request) (after : List World)
-        → (items : List Item) × Heard c w asked after items }
+        → (items : List HeardItem) × Heard c w asked after items }
     ensures once { (c : Key) (w : World) (asked : List Request) (after : List World)
-        (items others : List Item)
+        (items others : List HeardItem)
         → Heard c w asked after items → Heard c w asked after others → items ≡ others }
 {}
 
 /// A step from a good world leads to a good world, in which the results of both rounds together keep
 /// the capacities of the rolls. Of the second round a step leaves the first as it was published.
 pub fn step_good()
-    ensures good { (w v : World) (code : Key) (ask : Ask) (reply : Answer) → Good w
+    ensures good { (w v : World) (code : Key) (ask : AbstractCall) (reply : Answer) → Good w
         → Step w code ask reply v → Good v }
-    ensures capacities { (w v : World) (code : Key) (ask : Ask) (reply : Answer) → Good w
+    ensures capacities { (w v : World) (code : Key) (ask : AbstractCall) (reply : Answer) → Good w
         → Step w code ask reply v → KeepsCapacities v }
-    ensures first { (w v : World) (code : Key) (ask : Ask) (reply : Answer)
+    ensures first { (w v : World) (code : Key) (ask : AbstractCall) (reply : Answer)
         → is_second w.round ≡ true → Step w code ask reply v
         → (v.round ≡ w.round) × (first v ≡ first w) }
 {}
@@ -95,7 +95,7 @@ pub fn run_good()
 /// reaches from a good one; and each phase of the second round shows the first one's result whole.
 /// It is not said that nothing is added: who is shown no project may be shown one later.
 pub fn results_stay()
-    ensures step { (w v : World) (c code : Key) (ask : Ask) (reply : Answer) → Good w
+    ensures step { (w v : World) (c code : Key) (ask : AbstractCall) (reply : Answer) → Good w
         → Step w code ask reply v → ShowsStill (view w c) (view v c) }
     ensures run { (w : World) (c : Key) (asked : List Request) (told : List Answer)
         (after : List World) → Good w → Run w asked told after
@@ -108,21 +108,21 @@ pub fn results_stay()
 /// round, in which the first is kept as it was published. Any other request leaves the round as it was,
 /// and of a run the second round lasts to the end.
 pub fn round_opens()
-    ensures step { (w v : World) (code : Key) (ask : Ask) (reply : Answer)
+    ensures step { (w v : World) (code : Key) (ask : AbstractCall) (reply : Answer)
         → Step w code ask reply v
         → (v.round ≡ w.round) ⊎ OpensSecond w code (Calls ask) reply v }
     ensures run { (w : World) (asked : List Request) (told : List Answer) (after : List World)
         → Run w asked told after → OpensOnce w asked told after }
     ensures opens { (w v : World) (reply : Answer) → w.round ≡ First → w.phase ≡ Published
-        → Step w w.office (Ask.Move Choosing (Some Second)) reply v
-        → OpensSecond w w.office (Calls (Ask.Move Choosing (Some Second))) reply v }
+        → Step w w.office (AbstractCall.Move Choosing (Some Second)) reply v
+        → OpensSecond w w.office (Calls (AbstractCall.Move Choosing (Some Second))) reply v }
     ensures kept { (w : World) → Good w → w.round ≡ First → w.phase ≡ Published
         → first (changed w SecondRound) ≡ w }
 {}
 
 /// A step has one reply and leaves one world.
 pub fn step_once()
-    ensures { (w v u : World) (code : Key) (ask : Ask) (a b : Answer)
+    ensures { (w v u : World) (code : Key) (ask : AbstractCall) (a b : Answer)
         → Step w code ask a v → Step w code ask b u → (a ≡ b) × (v ≡ u) }
 {}
 

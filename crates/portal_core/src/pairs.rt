@@ -1,7 +1,7 @@
 //! The pairs of a result, as they are looked up by their students.
 
 ghost use Rattle.std.specs.Prelude.{◌≡◌, IfOk, option_map};
-ghost use Rattle.portal_core.specs.Change.{place_in};
+ghost use Rattle.portal_core.specs.Change.{placement_in};
 
 use crate::keyed::{row_at, rows_by_key};
 use spa_rows::Key;
@@ -40,7 +40,7 @@ impl<'a> Pairs<'a> {
 
     /// The project that the pairs give to the student with this key.
     pub fn project_of(&self, student: &[u8]) -> Option<&'a Key>
-        ensures { option_map (λ key. key.now) result ≡ place_in self.now student.now }
+        ensures { option_map (λ key. key.now) result ≡ placement_in self.now student.now }
     {
         let (_, project) = row_at(&self.by_student, student)?;
         Some(project)

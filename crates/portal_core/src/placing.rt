@@ -55,7 +55,7 @@ impl<'a> Placings<'a> {
 
     /// The project that the result gives to the student.
     pub fn project_of(&self, student: &StudentRow) -> Option<&'a ProjectRow>
-        ensures { option_map (λ row. row.now) result ≡ sheet.project_of self.now student.now }
+        ensures { option_map (λ row. row.now) result ≡ sheet.project_given self.now student.now }
     {
         let project = self.pairs.project_of(student.key.as_bytes())?;
         row_at(&self.projects, project.as_bytes())

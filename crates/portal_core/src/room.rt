@@ -2,7 +2,7 @@
 
 ghost use Rattle.std.specs.Prelude.{◌≡◌, IfOk, map};
 ghost use Rattle.std.specs.List.{list_any};
-ghost use Rattle.portal_core.specs.Words.{is};
+ghost use Rattle.portal_core.specs.Words.{equals};
 ghost use Rattle.portal_core.specs.Room as meant;
 ghost use Rattle.portal_core.specs.Room.{own_keys, pairs_to, pairs_among, room_of};
 
@@ -42,7 +42,7 @@ pub fn own_keys<'a>(
 
 /// Whether the key is one of these.
 fn is_among(keys: &[&Key], key: &Key) -> bool
-    ensures { result ≡ list_any (λ k. is key.now k.now) keys.now }
+    ensures { result ≡ list_any (λ k. equals key.now k.now) keys.now }
 {
     keys.iter().any(|k| *key == **k)
 }

@@ -9,8 +9,8 @@ use Rattle.portal_desk.specs.declared.reading.FrameFault.{FrameFault}
 use Rattle.portal_desk.specs.declared.reading.FrameFault.TheVariants as fault
 use Rattle.portal_frame.specs.declared.types.Frame.{Frame}
 use Rattle.portal_frame.specs.declared.types.Frame.TheVariants as frame
-use Rattle.portal_frame.specs.Stream.{Framed, IsWithinLimits, Opens, whole, fault, over, seen, refused, Asked, item_of, after_lines, asked_of, is_head, lines_of, body_length, bad_length}
-use Rattle.portal_desk.specs.Reading.{Reads, Stays, Heads, Follows, IsWithin, NoneWhole, HoldsNone}
+use Rattle.portal_frame.specs.Stream.{Framed, IsWithinLimits, Opens, whole, fault, over, seen, refused, Asked, item_of, after_lines, asked_of, is_head, fields_of, body_length, bad_length}
+use Rattle.portal_desk.specs.Reading.{ReadsMore, KeepsStream, Heads, Follows, IsWithin, NoneWhole, HoldsNone}
 
 heads : (stream after rest : List ℕ) (ended : Bool) (f : Frame) → after ++ rest ≡ stream → (IsTrue ended → rest ≡ [])
     → Framed after ended f → f ≢ frame.Need → Heads stream after rest f
@@ -23,7 +23,7 @@ heads stream after rest ended (frame.Request request used) e last framed not_nee
 heads stream after rest ended (frame.Bad refusal head_only) e last framed not_need =
     subst (λ s. Opens s (fault (refused refusal) head_only)) e (framed rest last)
 
-pub follows : (old new : Option (List ℕ)) (before after : List ℕ) (ended : Bool) (f : Frame) → Reads old new before after ended
+pub follows : (old new : Option (List ℕ)) (before after : List ℕ) (ended : Bool) (f : Frame) → ReadsMore old new before after ended
     → Framed after ended f → f ≢ frame.Need → Follows old new before after f
 follows None new before after ended f reads framed not_need = tt
 follows (Some more) new before after ended f (rest, known, same, last) framed not_need =
@@ -51,7 +51,7 @@ none_whole bytes ended (on, inl waits) a after (inl (h, rest, takes, e)) = waits
 none_whole bytes ended (on, inl waits) a after (inr (nothing, e)) = not_headless a after _ e
 none_whole bytes ended (on, inr (h, rest, n, takes, size, short)) a after (inl (k, other, took, e)) =
     let same = request_unique bytes h k rest other takes.reads took.reads in
-    sized h n rest (body_length h.minor (lines_of h)) short size a after
+    sized h n rest (body_length h.minor (fields_of h)) short size a after
     (subst (λ r. whole a after ≡ item_of h r) (sym same.1) (subst (λ (x : RequestHead). whole a after ≡ item_of x other) (sym same.0) e))
 none_whole bytes ended (on, inr (h, rest, n, takes, size, short)) a after (inr (nothing, e)) = nothing h rest takes
 
@@ -60,10 +60,10 @@ holds_none fault.Read bytes none = none
 holds_none fault.Memory bytes none = tt
 
 -- what was read so far, and a failed read
-pub stays : (old mid new : Option (List ℕ)) (before during after : List ℕ) (ended : Bool) → Reads old mid before during ended → Stays mid new during after → Stays old new before after
+pub stays : (old mid new : Option (List ℕ)) (before during after : List ℕ) (ended : Bool) → ReadsMore old mid before during ended → KeepsStream mid new during after → KeepsStream old new before after
 stays None mid new before during after ended reads stay = tt
 stays (Some more) mid new before during after ended (rest, known, same, last) stay =
-    let s = subst (λ o. Stays o new during after) known stay in
+    let s = subst (λ o. KeepsStream o new during after) known stay in
     (s.0, s.1, s.2 ∙ same)
 
 pub holds_err : {A : Type 0} (r : Result A FrameFault) (bytes : List ℕ) → NoneWhole bytes → IfErr r (λ l. HoldsNone l bytes)

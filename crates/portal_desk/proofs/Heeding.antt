@@ -2,22 +2,22 @@
 use Rattle.std.proofs.Common.{◌≡◌, ℕ, inl, inr, Bool, true, false, List, [], ◌∷◌, ◌++◌, refl, sym, ap, ◌∙◌, subst}
 use Rattle.std.specs.Prelude.{if◌then◌else◌}
 use Rattle.std.specs.List.{AllZip}
-use Rattle.portal_core.specs.Words.{Key, is}
+use Rattle.portal_core.specs.Words.{Key, equals}
 use Rattle.portal_core.specs.World.{World}
 use Rattle.portal_core.specs.View.{view}
 use Rattle.portal_core.specs.declared.view.View.{View as Sight}
 use Rattle.portal_core.specs.Answer.{Answer}
 use Rattle.portal_core.specs.Run.{Run, end_of}
-use Rattle.portal_core.specs.Heard.{Item, Asked, Sees, own_item, SeenIf, Heard, replies_to}
+use Rattle.portal_core.specs.Heard.{HeardItem, Asked, Sees, own_item, SeenIf, Heard, replies_to}
 use Rattle.portal_core.specs.Places.{SameButPlaces, SameRequest, AlikeUntilPublished, has_places, opens_result}
 use Rattle.portal_core.proofs.Hearing.{same_replies}
 use Rattle.portal_core.proofs.Disclosed.{places_unseen, unless_map}
 use Rattle.portal_wire.specs.Text.{reply_text}
-use Rattle.portal_wire.specs.Conversation.{Exchange, asked_in, told_in, text, text_of}
+use Rattle.portal_wire.specs.Conversation.{Exchange, asked_in, told_in, text, exchange_text}
 use Rattle.portal_desk.specs.Visits.{Visit, IsVisit, AreVisits, AreAnswered, exchanges_of, worlds_of, Hears, texts_to, replies_in, AlikeTexts, Session, AreServed, AllTellOf}
 
 -- the marks of the caller's own requests
-marks : List Item → List (Bool × Bool)
+marks : List HeardItem → List (Bool × Bool)
 marks [] = []
 marks (Asked head closes wish ∷ items) = (head, closes) ∷ marks items
 marks (Sees v ∷ items) = marks items
@@ -28,21 +28,21 @@ texts_by [] answers = []
 texts_by (m ∷ ms) [] = []
 texts_by (m ∷ ms) (a ∷ answers) = reply_text a m.0 m.1 ∷ texts_by ms answers
 
-unmarked : (b : Bool) (old new : Sight) (seen rest : List Item) → SeenIf b old new seen → marks (seen ++ rest) ≡ marks rest
+unmarked : (b : Bool) (old new : Sight) (seen rest : List HeardItem) → SeenIf b old new seen → marks (seen ++ rest) ≡ marks rest
 unfolding marks
 unmarked true old new seen rest (inl x) = ap (λ s. marks (s ++ rest)) x.1
 unmarked true old new seen rest (inr x) = ap (λ s. marks (s ++ rest)) x.1
 unmarked false old new seen rest e = ap (λ s. marks (s ++ rest)) e
 
-one : (b : Bool) (e : Exchange) (seen rest : List Item) (texts : List (List ℕ)) (answers : List Answer) → marks (seen ++ rest) ≡ marks rest
+one : (b : Bool) (e : Exchange) (seen rest : List HeardItem) (texts : List (List ℕ)) (answers : List Answer) → marks (seen ++ rest) ≡ marks rest
     → texts ≡ texts_by (marks rest) answers
-    → (if b then text_of e ∷ texts else texts)
+    → (if b then exchange_text e ∷ texts else texts)
     ≡ texts_by (marks (((if b then Asked e.request.head e.request.closes e.request.wish ∷ [] else []) ++ seen) ++ rest)) (if b then e.reply ∷ answers else answers)
 unfolding marks texts_by
-one true e seen rest texts answers none same = ap (λ ts. text_of e ∷ ts) (same ∙ ap (λ ms. texts_by ms answers) (sym none))
+one true e seen rest texts answers none same = ap (λ ts. exchange_text e ∷ ts) (same ∙ ap (λ ms. texts_by ms answers) (sym none))
 one false e seen rest texts answers none same = same ∙ ap (λ ms. texts_by ms answers) (sym none)
 
-texts_heard : (c : Key) (w : World) (es : List Exchange) (worlds : List World) (items : List Item) → Run w (asked_in es) (told_in es) worlds
+texts_heard : (c : Key) (w : World) (es : List Exchange) (worlds : List World) (items : List HeardItem) → Run w (asked_in es) (told_in es) worlds
     → Heard c w (asked_in es) worlds items → texts_to c es ≡ texts_by (marks items) (replies_to c (asked_in es) (told_in es))
 unfolding marks texts_by
 texts_heard c w [] [] items run heard = ap (λ xs. texts_by (marks xs) []) (sym heard)
@@ -52,7 +52,7 @@ texts_heard c w (e ∷ es) (v ∷ worlds) items run (first, rest, (seen, see, is
     let none = unmarked _ (view w c) (view v c) seen rest see in
     let more = texts_heard c v es worlds rest run.1 later in
     let whole : items ≡ (own_item c e.request ++ seen) ++ rest = all ∙ ap (λ f. f ++ rest) is_first in
-    one (is e.request.code c) e seen rest (texts_to c es) (replies_to c (asked_in es) (told_in es)) none more
+    one (equals e.request.code c) e seen rest (texts_to c es) (replies_to c (asked_in es) (told_in es)) none more
     ∙ ap (λ xs. texts_by (marks xs) (replies_to c (asked_in (e ∷ es)) (told_in (e ∷ es)))) (sym whole)
 
 -- one list of exchanges after another
@@ -68,7 +68,7 @@ whole_run : (w : World) (vs : List Visit) → AreVisits w vs → Run w (asked_in
 whole_run w [] visits = tt
 whole_run w (v ∷ vs) (first, rest) = Run-append w v.exchanges (exchanges_of vs) v.worlds (worlds_of vs) first.run (whole_run (end_of w v.worlds) vs rest)
 
-pub same_bytes : (c : Key) (w v : World) (visits others : List Visit) (items : List Item)
+pub same_bytes : (c : Key) (w v : World) (visits others : List Visit) (items : List HeardItem)
     → AreVisits w visits → AreAnswered visits → Hears c w visits items → AreVisits v others → AreAnswered others → Hears c v others items → view w c ≡ view v c
     → (replies_in c visits ≡ replies_in c others) × (view (end_of w (worlds_of visits)) c ≡ view (end_of v (worlds_of others)) c)
 same_bytes c w v visits others items are all heard were also listened same =
@@ -79,9 +79,9 @@ same_bytes c w v visits others items are all heard were also listened same =
     let right = texts_heard c v (exchanges_of others) (worlds_of others) items b listened in
     (left ∙ (ap (texts_by (marks items)) told.0 ∙ sym right), told.1)
 
-text_same : (e f : Exchange) → SameRequest e.request f.request → e.reply ≡ f.reply → text_of e ≡ text_of f
-text_same e f same is =
-    ap (λ a. reply_text a e.request.head e.request.closes) is
+text_same : (e f : Exchange) → SameRequest e.request f.request → e.reply ≡ f.reply → exchange_text e ≡ exchange_text f
+text_same e f same equals =
+    ap (λ a. reply_text a e.request.head e.request.closes) equals
     ∙ (ap (λ h. reply_text f.reply h e.request.closes) same.head ∙ ap (λ x. reply_text f.reply f.request.head x) same.closes)
 
 alike : (es fs : List Exchange) → AllZip SameRequest (asked_in es) (asked_in fs) → AlikeUntilPublished (asked_in es) (told_in es) (told_in fs) → AlikeTexts es fs
@@ -118,7 +118,7 @@ are_visits clean world k (s ∷ ss) (same, is_clean, tells, later) =
 pub equal : {K L : Type 0} (clean : K → Type 0) (world : K → World) (spotless : L → Type 0) (realm : L → World) (c : Key) (k : K) (l : L)
     (ss : List (Session K)) (ts : List (Session L)) → AreServed clean world k ss → AreServed spotless realm l ts → view (world k) c ≡ view (realm l) c
     → (first second : List Visit) × AllTellOf ss first × AreVisits (world k) first × AllTellOf ts second × AreVisits (realm l) second
-    × ((items : List Item) → AreAnswered first → AreAnswered second → Hears c (world k) first items → Hears c (realm l) second items
+    × ((items : List HeardItem) → AreAnswered first → AreAnswered second → Hears c (world k) first items → Hears c (realm l) second items
     → replies_in c first ≡ replies_in c second)
 equal clean world spotless realm c k l ss ts served others same =
     let a = are_visits clean world k ss served in

@@ -3,12 +3,12 @@ use Rattle.std.proofs.Common.{◌≡◌, List, sym, ◌∙◌, ap, subst}
 use Rattle.spa_model.specs.Spa.{Spa, IsBest}
 use Rattle.portal_core.specs.Words.{Key}
 use Rattle.portal_core.specs.World.{World, is_setup}
-use Rattle.portal_core.specs.Change.{Places, changed}
+use Rattle.portal_core.specs.Change.{Placements, changed}
 use Rattle.portal_core.specs.Instance.{instance, matching_of, pairs_by}
-use Rattle.portal_core.specs.Ask.{Ask}
+use Rattle.portal_core.specs.AbstractCall.{AbstractCall}
 use Rattle.portal_core.specs.Answer.{Act, Nothing, Apply, Publish, Render, Decision, decision}
 use Rattle.portal_core.specs.Good.{Good, CanPublish}
-use Rattle.portal_core.specs.Run.{HasForm, Leaves, Step}
+use Rattle.portal_core.specs.Run.{HasForm, StepLeaves, Step}
 use Rattle.portal_core.specs.View.{view}
 use Rattle.portal_core.proofs.Kept.{to_published}
 use Rattle.portal_core.proofs.Play.{can_apply, can_publish}
@@ -17,18 +17,18 @@ use Rattle.portal_core.proofs.Steps.{step_good}
 use Rattle.portal_desk.specs.Play.{CanDo, IsSolved}
 
 -- the solved pairs place the students as the best matching does
-pub solved_best : (w : World) (i : Spa) (pairs : List (Key × Key)) → Good w → i ≡ instance w → IsSolved i pairs → IsBest (instance w) (matching_of (changed w (Places pairs)))
+pub solved_best : (w : World) (i : Spa) (pairs : List (Key × Key)) → Good w → i ≡ instance w → IsSolved i pairs → IsBest (instance w) (matching_of (changed w (Placements pairs)))
 solved_best w i pairs g is solved =
     let best : IsBest (instance w) solved.0 = subst (λ j. IsBest j solved.0) is solved.1 in
     let by : pairs ≡ pairs_by (instance w).student_keys (instance w).project_keys solved.0 = solved.2 ∙ ap (λ (j : Spa). pairs_by j.student_keys j.project_keys solved.0) is in
-    subst (λ ps. IsBest (instance w) (matching_of (changed w (Places ps)))) (sym by)
+    subst (λ ps. IsBest (instance w) (matching_of (changed w (Placements ps)))) (sym by)
     (subst (IsBest (instance w)) (sym (pairs_place w solved.0 g.sound best.stable.matching)) best)
 
-pub solved_good : (w : World) (i : Spa) (pairs : List (Key × Key)) → Good w → CanPublish w → i ≡ instance w → IsSolved i pairs → Good (changed w (Places pairs))
+pub solved_good : (w : World) (i : Spa) (pairs : List (Key × Key)) → Good w → CanPublish w → i ≡ instance w → IsSolved i pairs → Good (changed w (Placements pairs))
 solved_good w i pairs g ready is solved = to_published w pairs g (ap is_setup ready.phase) ready.all_ranked (solved_best w i pairs g is solved)
 
 -- what was decided may be done
-pub can_do : (w : World) (code : Key) (ask : Ask) (d : Decision) → Good w → HasForm ask → d ≡ decision (view w code) ask → CanDo w d.act
+pub can_do : (w : World) (code : Key) (ask : AbstractCall) (d : Decision) → Good w → HasForm ask → d ≡ decision (view w code) ask → CanDo w d.act
 can_do w code ask d g form is = go d.act (sym (ap (λ (e : Decision). e.act) is))
   where
     go : (a : Act) → (decision (view w code) ask).act ≡ a → CanDo w a
@@ -37,19 +37,19 @@ can_do w code ask d g form is = go d.act (sym (ap (λ (e : Decision). e.act) is)
     go Publish e = can_publish w code ask e
     go (Render sheet) e = tt
 
-pub stepped : (w v : World) (code : Key) (ask : Ask) (d : Decision) → HasForm ask → d ≡ decision (view w code) ask → Leaves w d.act v → Step w code ask d.reply v
+pub stepped : (w v : World) (code : Key) (ask : AbstractCall) (d : Decision) → HasForm ask → d ≡ decision (view w code) ask → StepLeaves w d.act v → Step w code ask d.reply v
 stepped w v code ask d form is left =
     record {
       form = form;
       told = ap (λ (e : Decision). e.reply) is;
-      left = subst (λ (e : Decision). Leaves w e.act v) is left;
+      left = subst (λ (e : Decision). StepLeaves w e.act v) is left;
     }
 
-pub good_after : (w v : World) (code : Key) (ask : Ask) (d : Decision) → Good w → HasForm ask → d ≡ decision (view w code) ask → Leaves w d.act v → Good v
+pub good_after : (w v : World) (code : Key) (ask : AbstractCall) (d : Decision) → Good w → HasForm ask → d ≡ decision (view w code) ask → StepLeaves w d.act v → Good v
 good_after w v code ask d g form is left = step_good w v code ask d.reply g (stepped w v code ask d form is left)
 
 -- what publishing leaves
-pub published : (w u v : World) (i : Spa) (pairs : List (Key × Key)) → Good w → i ≡ instance w → IsSolved i pairs → u ≡ w → v ≡ changed u (Places pairs) → Leaves w Publish v
+pub published : (w u v : World) (i : Spa) (pairs : List (Key × Key)) → Good w → i ≡ instance w → IsSolved i pairs → u ≡ w → v ≡ changed u (Placements pairs) → StepLeaves w Publish v
 published w u v i pairs g is solved same made =
-    let end : v ≡ changed w (Places pairs) = made ∙ ap (λ x. changed x (Places pairs)) same in
+    let end : v ≡ changed w (Placements pairs) = made ∙ ap (λ x. changed x (Placements pairs)) same in
     (pairs, end, subst (λ x. IsBest (instance w) (matching_of x)) (sym end) (solved_best w i pairs g is solved))

@@ -12,10 +12,10 @@ use Rattle.portal_core.specs.Change.{Change, Lecturers, Projects, Students, Fill
 use Rattle.portal_core.specs.Sight.{StudentSees, LecturerSees, OfficeSees}
 use Rattle.portal_core.specs.declared.view.View.{View as Sight}
 use Rattle.portal_core.specs.declared.view.View.TheVariants.{Nobody, Office, Lecturer, Student}
-use Rattle.portal_core.specs.Ask.{Ask}
+use Rattle.portal_core.specs.AbstractCall.{AbstractCall}
 use Rattle.portal_core.specs.Faults.{ListFault, choice_fault, ranking_fault}
 use Rattle.portal_core.specs.Rolls.{Taken, Faulty, Took, take_rows, lecturer_roll, project_roll, student_roll}
-use Rattle.portal_core.specs.Answer.{Answer, Said, Json, Unavailable, Nothing, Apply, Decision, decision, emptied, only, unless, added, row_fault, already_placed, moves_on, opens, moves_in, moves, publishes, is_open_to_rolls, to_student, to_lecturer, to_office}
+use Rattle.portal_core.specs.Answer.{Answer, Said, Json, Unavailable, Nothing, Apply, Decision, decision, emptied, open_where, unless_faulty, added, row_fault, already_placed, moves_on, opens, moves_in, moves, publishes, is_open_to_rolls, to_student, to_lecturer, to_office}
 use Rattle.portal_desk.specs.Play.{with_sheet}
 
 -- another body than that of 503
@@ -27,7 +27,7 @@ IsSaid _ = Unit {0}
 abbrev pub IsFilled : Sight → Decision → Type 0
 IsFilled v d = (with_sheet v (emptied d).act (emptied d).reply ≡ d.reply) × IsSaid d.reply.body
 
-only_filled : (v : Sight) (b : Bool) (d : Decision) → IsFilled v d → IsFilled v (only b d)
+only_filled : (v : Sight) (b : Bool) (d : Decision) → IsFilled v d → IsFilled v (open_where b d)
 only_filled (Office o) true d e = e
 only_filled (Office o) false d e = (refl, tt)
 only_filled (Student o) true d e = e
@@ -37,7 +37,7 @@ only_filled (Lecturer o) false d e = (refl, tt)
 only_filled Nobody true d e = e
 only_filled Nobody false d e = (refl, tt)
 
-unless_filled : (v : Sight) (o : Option ListFault) (d : Decision) → IsFilled v d → IsFilled v (unless o d)
+unless_filled : (v : Sight) (o : Option ListFault) (d : Decision) → IsFilled v d → IsFilled v (unless_faulty o d)
 unless_filled v None d e = e
 unless_filled (Office o) (Some fault) d e = (refl, tt)
 unless_filled (Student o) (Some fault) d e = (refl, tt)
@@ -51,43 +51,43 @@ free_filled (Student o) false d e = (refl, tt)
 free_filled (Lecturer o) false d e = (refl, tt)
 free_filled Nobody false d e = (refl, tt)
 
-student_filled : (v : StudentSees) (ask : Ask) → IsFilled (Student v) (to_student v ask)
-student_filled v Ask.Me = (refl, tt)
-student_filled v Ask.Catalogue = (refl, tt)
-student_filled v Ask.ShowChoices = (refl, tt)
-student_filled v (Ask.SetChoices list) = only_filled (Student v) (is_choosing v.phase) _ (free_filled (Student v) (is_none v.result) _ (unless_filled (Student v) (choice_fault v.catalogue 1 [] list) _ (refl, tt)))
-student_filled v Ask.Result = only_filled (Student v) (has_result v.round v.phase) _ (refl, tt)
-student_filled v Ask.Applicants = (refl, tt)
-student_filled v Ask.ShowRanking = (refl, tt)
-student_filled v (Ask.SetRanking list) = (refl, tt)
-student_filled v (Ask.AddLecturers rows) = (refl, tt)
-student_filled v (Ask.AddProjects rows) = (refl, tt)
-student_filled v (Ask.AddStudents rows) = (refl, tt)
-student_filled v (Ask.Move phase round) = (refl, tt)
-student_filled v Ask.Status = (refl, tt)
-student_filled v Ask.Allocation = (refl, tt)
-student_filled v Ask.AllocationCsv = (refl, tt)
-student_filled v Ask.Report = (refl, tt)
-student_filled v Ask.FillRankings = (refl, tt)
+student_filled : (v : StudentSees) (ask : AbstractCall) → IsFilled (Student v) (to_student v ask)
+student_filled v AbstractCall.Me = (refl, tt)
+student_filled v AbstractCall.Catalogue = (refl, tt)
+student_filled v AbstractCall.ShowChoices = (refl, tt)
+student_filled v (AbstractCall.SetChoices list) = only_filled (Student v) (is_choosing v.phase) _ (free_filled (Student v) (is_none v.result) _ (unless_filled (Student v) (choice_fault v.catalogue 1 [] list) _ (refl, tt)))
+student_filled v AbstractCall.Result = only_filled (Student v) (has_result v.round v.phase) _ (refl, tt)
+student_filled v AbstractCall.Applicants = (refl, tt)
+student_filled v AbstractCall.ShowRanking = (refl, tt)
+student_filled v (AbstractCall.SetRanking list) = (refl, tt)
+student_filled v (AbstractCall.AddLecturers rows) = (refl, tt)
+student_filled v (AbstractCall.AddProjects rows) = (refl, tt)
+student_filled v (AbstractCall.AddStudents rows) = (refl, tt)
+student_filled v (AbstractCall.Move phase round) = (refl, tt)
+student_filled v AbstractCall.Status = (refl, tt)
+student_filled v AbstractCall.Allocation = (refl, tt)
+student_filled v AbstractCall.AllocationCsv = (refl, tt)
+student_filled v AbstractCall.Report = (refl, tt)
+student_filled v AbstractCall.FillRankings = (refl, tt)
 
-lecturer_filled : (v : LecturerSees) (ask : Ask) → IsFilled (Lecturer v) (to_lecturer v ask)
-lecturer_filled v Ask.Me = (refl, tt)
-lecturer_filled v Ask.Catalogue = (refl, tt)
-lecturer_filled v Ask.Applicants = only_filled (Lecturer v) (is_from_ranking v.phase) _ (refl, tt)
-lecturer_filled v Ask.ShowRanking = only_filled (Lecturer v) (is_from_ranking v.phase) _ (refl, tt)
-lecturer_filled v (Ask.SetRanking list) = only_filled (Lecturer v) (is_ranking v.phase) _ (unless_filled (Lecturer v) (ranking_fault v.applicants 1 [] list) _ (refl, tt))
-lecturer_filled v Ask.Result = only_filled (Lecturer v) (has_result v.round v.phase) _ (refl, tt)
-lecturer_filled v Ask.ShowChoices = (refl, tt)
-lecturer_filled v (Ask.SetChoices list) = (refl, tt)
-lecturer_filled v (Ask.AddLecturers rows) = (refl, tt)
-lecturer_filled v (Ask.AddProjects rows) = (refl, tt)
-lecturer_filled v (Ask.AddStudents rows) = (refl, tt)
-lecturer_filled v (Ask.Move phase round) = (refl, tt)
-lecturer_filled v Ask.Status = (refl, tt)
-lecturer_filled v Ask.Allocation = (refl, tt)
-lecturer_filled v Ask.AllocationCsv = (refl, tt)
-lecturer_filled v Ask.Report = (refl, tt)
-lecturer_filled v Ask.FillRankings = (refl, tt)
+lecturer_filled : (v : LecturerSees) (ask : AbstractCall) → IsFilled (Lecturer v) (to_lecturer v ask)
+lecturer_filled v AbstractCall.Me = (refl, tt)
+lecturer_filled v AbstractCall.Catalogue = (refl, tt)
+lecturer_filled v AbstractCall.Applicants = only_filled (Lecturer v) (is_from_ranking v.phase) _ (refl, tt)
+lecturer_filled v AbstractCall.ShowRanking = only_filled (Lecturer v) (is_from_ranking v.phase) _ (refl, tt)
+lecturer_filled v (AbstractCall.SetRanking list) = only_filled (Lecturer v) (is_ranking v.phase) _ (unless_filled (Lecturer v) (ranking_fault v.applicants 1 [] list) _ (refl, tt))
+lecturer_filled v AbstractCall.Result = only_filled (Lecturer v) (has_result v.round v.phase) _ (refl, tt)
+lecturer_filled v AbstractCall.ShowChoices = (refl, tt)
+lecturer_filled v (AbstractCall.SetChoices list) = (refl, tt)
+lecturer_filled v (AbstractCall.AddLecturers rows) = (refl, tt)
+lecturer_filled v (AbstractCall.AddProjects rows) = (refl, tt)
+lecturer_filled v (AbstractCall.AddStudents rows) = (refl, tt)
+lecturer_filled v (AbstractCall.Move phase round) = (refl, tt)
+lecturer_filled v AbstractCall.Status = (refl, tt)
+lecturer_filled v AbstractCall.Allocation = (refl, tt)
+lecturer_filled v AbstractCall.AllocationCsv = (refl, tt)
+lecturer_filled v AbstractCall.Report = (refl, tt)
+lecturer_filled v AbstractCall.FillRankings = (refl, tt)
 
 idle_or_applied : (v : OfficeSees) (b : Bool) (body : Data) (change : Change)
     → IsFilled (Office v) (record { reply = record { status = 200; allow = []; body = Json body }; act = if b then Nothing else Apply change })
@@ -138,33 +138,33 @@ moves_filled : (v : OfficeSees) (phase : Phase) (round : Option Round) → IsFil
 moves_filled v phase None = moved_filled v v.phase phase
 moves_filled v phase (Some round) = named_filled v v.round round phase
 
-office_filled : (v : OfficeSees) (ask : Ask) → IsFilled (Office v) (to_office v ask)
-office_filled v Ask.Me = (refl, tt)
-office_filled v Ask.Catalogue = (refl, tt)
-office_filled v (Ask.AddLecturers rows) = only_filled (Office v) (is_open_to_rolls v.round v.phase) _ (added_filled v Lecturers (take_rows (lecturer_roll v) 1 v.lecturers rows))
-office_filled v (Ask.AddProjects rows) = only_filled (Office v) (is_open_to_rolls v.round v.phase) _ (added_filled v Projects (take_rows (project_roll v) 1 v.projects rows))
-office_filled v (Ask.AddStudents rows) = only_filled (Office v) (is_open_to_rolls v.round v.phase) _ (added_filled v Students (take_rows (student_roll v) 1 v.students rows))
-office_filled v (Ask.Move phase round) = moves_filled v phase round
-office_filled v Ask.Status = (refl, tt)
-office_filled v Ask.Allocation = only_filled (Office v) (has_result v.round v.phase) _ (refl, tt)
-office_filled v Ask.AllocationCsv = only_filled (Office v) (has_result v.round v.phase) _ (refl, tt)
-office_filled v Ask.Report = only_filled (Office v) (has_result v.round v.phase) _ (refl, tt)
-office_filled v Ask.FillRankings = only_filled (Office v) (is_ranking v.phase) _ (idle_or_applied v (is_empty v.still_to_rank) _ Fill)
-office_filled v Ask.ShowChoices = (refl, tt)
-office_filled v (Ask.SetChoices list) = (refl, tt)
-office_filled v Ask.Applicants = (refl, tt)
-office_filled v Ask.ShowRanking = (refl, tt)
-office_filled v (Ask.SetRanking list) = (refl, tt)
-office_filled v Ask.Result = (refl, tt)
+office_filled : (v : OfficeSees) (ask : AbstractCall) → IsFilled (Office v) (to_office v ask)
+office_filled v AbstractCall.Me = (refl, tt)
+office_filled v AbstractCall.Catalogue = (refl, tt)
+office_filled v (AbstractCall.AddLecturers rows) = only_filled (Office v) (is_open_to_rolls v.round v.phase) _ (added_filled v Lecturers (take_rows (lecturer_roll v) 1 v.lecturers rows))
+office_filled v (AbstractCall.AddProjects rows) = only_filled (Office v) (is_open_to_rolls v.round v.phase) _ (added_filled v Projects (take_rows (project_roll v) 1 v.projects rows))
+office_filled v (AbstractCall.AddStudents rows) = only_filled (Office v) (is_open_to_rolls v.round v.phase) _ (added_filled v Students (take_rows (student_roll v) 1 v.students rows))
+office_filled v (AbstractCall.Move phase round) = moves_filled v phase round
+office_filled v AbstractCall.Status = (refl, tt)
+office_filled v AbstractCall.Allocation = only_filled (Office v) (has_result v.round v.phase) _ (refl, tt)
+office_filled v AbstractCall.AllocationCsv = only_filled (Office v) (has_result v.round v.phase) _ (refl, tt)
+office_filled v AbstractCall.Report = only_filled (Office v) (has_result v.round v.phase) _ (refl, tt)
+office_filled v AbstractCall.FillRankings = only_filled (Office v) (is_ranking v.phase) _ (idle_or_applied v (is_empty v.still_to_rank) _ Fill)
+office_filled v AbstractCall.ShowChoices = (refl, tt)
+office_filled v (AbstractCall.SetChoices list) = (refl, tt)
+office_filled v AbstractCall.Applicants = (refl, tt)
+office_filled v AbstractCall.ShowRanking = (refl, tt)
+office_filled v (AbstractCall.SetRanking list) = (refl, tt)
+office_filled v AbstractCall.Result = (refl, tt)
 
-pub decision_filled : (v : Sight) (ask : Ask) → IsFilled v (decision v ask)
+pub decision_filled : (v : Sight) (ask : AbstractCall) → IsFilled v (decision v ask)
 decision_filled Nobody ask = (refl, tt)
 decision_filled (Office v) ask = office_filled v ask
 decision_filled (Lecturer v) ask = lecturer_filled v ask
 decision_filled (Student v) ask = student_filled v ask
 
 -- what is decided once the sheet is written
-pub whole_decision : (v : Sight) (ask : Ask) (d e : Decision) (reply : Answer) → d ≡ emptied (decision v ask) → reply ≡ with_sheet v d.act d.reply → e ≡ record { reply = reply; act = d.act } → e ≡ decision v ask
+pub whole_decision : (v : Sight) (ask : AbstractCall) (d e : Decision) (reply : Answer) → d ≡ emptied (decision v ask) → reply ≡ with_sheet v d.act d.reply → e ≡ record { reply = reply; act = d.act } → e ≡ decision v ask
 whole_decision v ask d e reply is told made =
     made ∙ (ap (λ r. record { reply = r; act = d.act }) (told ∙ ap (λ (x : Decision). with_sheet v x.act x.reply) is ∙ (decision_filled v ask).0)
     ∙ ap (λ (x : Decision). record { reply = (decision v ask).reply; act = x.act }) is)

@@ -4,11 +4,11 @@ use Rattle.std.specs.Bool.{MatchBool}
 use Rattle.portal_core.specs.World.{World}
 use Rattle.portal_core.specs.Run.{Request, Run, Serves, end_of}
 use Rattle.portal_frame.specs.Stream.{Asked, Opens, whole}
-use Rattle.portal_wire.specs.Conversation.{request_of, closes_at, Rest, more, shut, Leads, Exchange, asked_in, told_in, text, text_of, Reaches}
+use Rattle.portal_wire.specs.Conversation.{request_of, closes_at, Rest, more, shut, Leads, Exchange, asked_in, told_in, text, exchange_text, Reaches}
 
-pub text-snoc : (es : List Exchange) (e : Exchange) → text (es ++ e ∷ []) ≡ text es ++ text_of e
-text-snoc [] e = append-nil (text_of e)
-text-snoc (x ∷ es) e = ap (λ t. text_of x ++ t) (text-snoc es e) ∙ sym (append_assoc (text_of x) (text es) (text_of e))
+pub text-snoc : (es : List Exchange) (e : Exchange) → text (es ++ e ∷ []) ≡ text es ++ exchange_text e
+text-snoc [] e = append-nil (exchange_text e)
+text-snoc (x ∷ es) e = ap (λ t. exchange_text x ++ t) (text-snoc es e) ∙ sym (append_assoc (exchange_text x) (text es) (exchange_text e))
 
 Run-snoc : (w u v : World) (es : List Exchange) (e : Exchange) (worlds : List World) → Run w (asked_in es) (told_in es) worlds
     → u ≡ end_of w worlds → Serves u e.request e.reply v

@@ -19,9 +19,9 @@ use Rattle.portal_wire.specs.Text.{reply_text}
 use Rattle.portal_wire.specs.Refusals.{answer_to}
 use Rattle.portal_desk.specs.Reading.{Heads, Follows}
 use Rattle.portal_wire.specs.Conversation as talk
-use Rattle.portal_wire.specs.Conversation.{request_of, closes_at, last_for, more, shut, Leads, Exchange, asked_in, text, text_of}
+use Rattle.portal_wire.specs.Conversation.{request_of, closes_at, last_for, more, shut, Leads, Exchange, asked_in, text, exchange_text}
 use Rattle.portal_wire.proofs.Exist.{shut_ends}
-use Rattle.portal_desk.specs.Serving.{Deals, Tells, Told, Stops, Partly, Replied, Broke}
+use Rattle.portal_desk.specs.Serving.{Deals, ServesWhole, ServesPart, Stops, Partly, Replied, Broke}
 use Rattle.portal_desk.specs.Kept.{Kept}
 use Rattle.portal_desk.proofs.Known.{Appends-append}
 use Rattle.portal_desk.proofs.Steps.{text-snoc, Reaches-snoc, after_one, Leads-snoc}
@@ -32,12 +32,12 @@ exchange r a = record { request = r; reply = a }
 -- what the loop knows before a turn
 abbrev pub SoFar : Option (List ℕ) → Option (List ℕ) → Type 0 → World → World → Option (List ℕ) → Option (List ℕ) → List ℕ → ℕ → Type 0
 SoFar src rem clean old mid before w front count =
-    IfSome src (λ bytes. (rest : List ℕ) × (rem ≡ Some rest) × Told clean old mid before w bytes (front ++ rest) count)
+    IfSome src (λ bytes. (rest : List ℕ) × (rem ≡ Some rest) × ServesPart clean old mid before w bytes (front ++ rest) count)
 
 -- what was told, and what the rest of the stream opens with
 abbrev pub Joined : Type 0 → World → World → Option (List ℕ) → Option (List ℕ) → Option (List ℕ) → ℕ → List ℕ → Frame → List ℕ → Type 0
 Joined clean old mid before w known count buffer found bytes =
-    (stream : List ℕ) × (rest : List ℕ) × Told clean old mid before w bytes stream count × (known ≡ Some rest)
+    (stream : List ℕ) × (rest : List ℕ) × ServesPart clean old mid before w bytes stream count × (known ≡ Some rest)
     × (buffer ++ rest ≡ stream) × Heads stream buffer rest found
 
 joined : (bytes : List ℕ) (rem known : Option (List ℕ)) (clean : Type 0) (old mid : World) (before w : Option (List ℕ)) (front buffer : List ℕ) (count : ℕ) (found : Frame)
@@ -49,7 +49,7 @@ joined bytes rem known clean old mid before w front buffer count found (rest, e,
 
 pub end_known : (src rem known : Option (List ℕ)) (clean : Type 0) (old mid : World) (before w : Option (List ℕ)) (front buffer : List ℕ) (count : ℕ)
     → SoFar src rem clean old mid before w front count → Follows rem known front buffer frame.End
-    → IfSome src (λ bytes. Tells clean old mid before w bytes count talk.End)
+    → IfSome src (λ bytes. ServesWhole clean old mid before w bytes count talk.End)
 end_known None rem known clean old mid before w front buffer count told follows = tt
 end_known (Some bytes) rem known clean old mid before w front buffer count told follows =
     let x = joined bytes rem known clean old mid before w front buffer count frame.End told follows in
@@ -59,7 +59,7 @@ pub bad_known : (src rem known : Option (List ℕ)) (clean : Type 0) (old mid : 
     (refusal : Refusal) (head_only : Bool)
     → SoFar src rem clean old mid before w front count → Follows rem known front buffer (frame.Bad refusal head_only)
     → Appends w now (reply_text (answer_to (refused refusal)) head_only true)
-    → IfSome src (λ bytes. Tells clean old mid before now bytes count (talk.Refused refusal.word.now))
+    → IfSome src (λ bytes. ServesWhole clean old mid before now bytes count (talk.Refused refusal.word.now))
 bad_known None rem known clean old mid before w now front buffer count refusal head_only told follows adds = tt
 bad_known (Some bytes) rem known clean old mid before w now front buffer count refusal head_only told follows adds =
     let x = joined bytes rem known clean old mid before w front buffer count (frame.Bad refusal head_only) told follows in
@@ -67,7 +67,7 @@ bad_known (Some bytes) rem known clean old mid before w now front buffer count r
     (x.2.0, more x.0, closing, x.2.1, (refused refusal, head_only, x.5, refl, refl), Appends-append before w now (text x.2.0) closing x.2.2 adds)
 
 cut_by : (why : Cause) (failed clean : _) (old mid : World) (left before w now : Option (List ℕ)) (bytes stream : List ℕ) (count : ℕ) (refusal : Refusal) (head_only : Bool)
-    → Told clean old mid before w bytes stream count → Opens stream (fault (refused refusal) head_only) → Partly why w now (reply_text (answer_to (refused refusal)) head_only true)
+    → ServesPart clean old mid before w bytes stream count → Opens stream (fault (refused refusal) head_only) → Partly why w now (reply_text (answer_to (refused refusal)) head_only true)
     → Stops why failed clean old mid left before now bytes count
 cut_by cause.Read failed clean old mid left before w now bytes stream count refusal head_only told opens part = absurd part
 cut_by cause.Write failed clean old mid left before w now bytes stream count refusal head_only (es, deals, written) opens (k, adds) =
@@ -110,7 +110,7 @@ Did clean mid new a closes w now =
     Replied clean mid new (request_of closes a) (λ reply. Appends w now (reply_text reply (is_head a.method) closes))
 
 Told-snoc : (clean later : Type 0) (old mid new : World) (before w now : Option (List ℕ)) (bytes left after : List ℕ) (count : ℕ) (a : Asked) (closes : Bool)
-    → Told clean old mid before w bytes left count → (later → clean) → Opens left (whole a after) → closes ≡ closes_at (256 - count) a
+    → ServesPart clean old mid before w bytes left count → (later → clean) → Opens left (whole a after) → closes ≡ closes_at (256 - count) a
     → Did later mid new a closes w now
     → (es : List Exchange) × Deals later old new bytes (count + 1) es (after_one closes a after) × Appends before now (text es)
 unfolding exchange
@@ -118,14 +118,14 @@ Told-snoc clean later old mid new before w now bytes left after count a closes (
     let e : Exchange = exchange (request_of closes a) reply in (
       es ++ e ∷ [],
       Deals-snoc clean later old mid new bytes left after count es a closes reply deals back opens at serves,
-      subst (Appends before now) (sym (text-snoc es e)) (Appends-append before w now (text es) (text_of e) written adds),
+      subst (Appends before now) (sym (text-snoc es e)) (Appends-append before w now (text es) (exchange_text e) written adds),
     )
 
 pub closes_known : (src rem known : Option (List ℕ)) (clean later : Type 0) (old mid new : World) (before w now : Option (List ℕ)) (front buffer : List ℕ) (count : ℕ)
     (request : Request) (used : ℕ) (closes : Bool)
     → SoFar src rem clean old mid before w front count → (later → clean) → Follows rem known front buffer (frame.Request request used)
     → Did later mid new (seen request) closes w now → closes ≡ true → closes ≡ closes_at (256 - count) (seen request)
-    → IfSome src (λ bytes. Tells later old new before now bytes (count + 1) (last_for request.close))
+    → IfSome src (λ bytes. ServesWhole later old new before now bytes (count + 1) (last_for request.close))
 closes_known None rem known clean later old mid new before w now front buffer count request used closes told back follows did shuts at = tt
 closes_known (Some bytes) rem known clean later old mid new before w now front buffer count request used closes told back follows did shuts at =
     let x = joined bytes rem known clean old mid before w front buffer count (frame.Request request used) told follows in
@@ -154,12 +154,12 @@ more_known (Some bytes) rem known clean later old mid new before w now front buf
     let t = Told-snoc clean later old mid new before w now bytes x.0 after count a closes x.2 back x.5 at did in (
       x.1,
       x.3,
-      subst (λ k. Told later old new before now bytes (k ++ x.1) (count + 1)) (sym e)
+      subst (λ k. ServesPart later old new before now bytes (k ++ x.1) (count + 1)) (sym e)
           (t.0, subst (λ b. Deals later old new bytes (count + 1) t.0 (after_one b a after)) stays t.1, t.2),
     )
 
 broke_by : (why : Cause) (failed : Bool) (clean later : Type 0) (old mid new : World) (left before w now : Option (List ℕ)) (bytes stream after : List ℕ) (count : ℕ) (a : Asked) (closes : Bool) (reply : Answer)
-    → Told clean old mid before w bytes stream count → (later → clean) → Opens stream (whole a after) → closes ≡ closes_at (256 - count) a
+    → ServesPart clean old mid before w bytes stream count → (later → clean) → Opens stream (whole a after) → closes ≡ closes_at (256 - count) a
     → (later → Serves mid (request_of closes a) reply new) → Broke why failed reply (is_head a.method) closes w now
     → Stops why failed later old new left before now bytes (count + 1)
 unfolding exchange

@@ -7,13 +7,13 @@ use Rattle.portal_desk.specs.declared.reading.FrameFault.{FrameFault}
 use Rattle.portal_desk.specs.declared.reading.FrameFault.TheVariants as fault
 
 -- the buffer and what the source has left are still the stream; at the end nothing is left
-abbrev pub Reads : Option (List ℕ) → Option (List ℕ) → List ℕ → List ℕ → Bool → Type 0
-Reads old new before after ended =
+abbrev pub ReadsMore : Option (List ℕ) → Option (List ℕ) → List ℕ → List ℕ → Bool → Type 0
+ReadsMore old new before after ended =
     IfSome old (λ more. (rest : List ℕ) × (new ≡ Some rest) × (after ++ rest ≡ before ++ more) × (IsTrue ended → rest ≡ []))
 
 -- the same where reading failed
-abbrev pub Stays : Option (List ℕ) → Option (List ℕ) → List ℕ → List ℕ → Type 0
-Stays old new before after = IfSome old (λ more. (rest : List ℕ) × (new ≡ Some rest) × (after ++ rest ≡ before ++ more))
+abbrev pub KeepsStream : Option (List ℕ) → Option (List ℕ) → List ℕ → List ℕ → Type 0
+KeepsStream old new before after = IfSome old (λ more. (rest : List ℕ) × (new ≡ Some rest) × (after ++ rest ≡ before ++ more))
 
 -- what the stream opens with, where the first bytes of it are in the buffer
 abbrev pub Heads : List ℕ → List ℕ → List ℕ → Frame → Type 0

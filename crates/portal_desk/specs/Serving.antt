@@ -18,14 +18,14 @@ pub record Deals (clean : Type 0) (old new : World) (bytes : List ℕ) (count : 
   pub counted : count ≡ length es
 
 -- the whole stream, and all of the replies' text
-abbrev pub Tells : Type 0 → World → World → Option (List ℕ) → Option (List ℕ) → List ℕ → ℕ → Last → Type 0
-Tells clean old new before after bytes count end =
+abbrev pub ServesWhole : Type 0 → World → World → Option (List ℕ) → Option (List ℕ) → List ℕ → ℕ → Last → Type 0
+ServesWhole clean old new before after bytes count end =
     (es : List Exchange) × (rest : Rest) × (closing : List ℕ) × Deals clean old new bytes count es rest
     × Ends rest end closing × Appends before after (text es ++ closing)
 
 -- so far, with the bytes that are left
-abbrev pub Told : Type 0 → World → World → Option (List ℕ) → Option (List ℕ) → List ℕ → List ℕ → ℕ → Type 0
-Told clean old new before after bytes left count =
+abbrev pub ServesPart : Type 0 → World → World → Option (List ℕ) → Option (List ℕ) → List ℕ → List ℕ → ℕ → Type 0
+ServesPart clean old new before after bytes left count =
     (es : List Exchange) × Deals clean old new bytes count es (more left) × Appends before after (text es)
 
 -- the replies of all but the last, and of the last a first part; after a fault of the store the last closes

@@ -1,12 +1,12 @@
 -- Streams that are served one after another, and the texts of the replies to one caller.
 use Rattle.std.specs.Prelude.{◌≡◌, if◌then◌else◌, ℕ, List, [], ◌∷◌, ◌++◌, length, Some}
-use Rattle.portal_core.specs.Words.{Key, is}
+use Rattle.portal_core.specs.Words.{Key, equals}
 use Rattle.portal_core.specs.World.{World}
 use Rattle.portal_core.specs.Run.{Run, AllAnswered, end_of}
-use Rattle.portal_core.specs.Heard.{Item, Heard}
+use Rattle.portal_core.specs.Heard.{HeardItem, Heard}
 use Rattle.portal_core.specs.Places.{Unless, has_places, opens_result}
-use Rattle.portal_wire.specs.Conversation.{Last, Requests, Exchange, asked_in, told_in, text, text_of}
-use Rattle.portal_desk.specs.Serving.{Tells}
+use Rattle.portal_wire.specs.Conversation.{Last, Requests, Exchange, asked_in, told_in, text, exchange_text}
+use Rattle.portal_desk.specs.Serving.{ServesWhole}
 
 -- a stream, what was written for it, how it ended, what was asked and answered, and the worlds after each
 pub record Visit : Type 0 where
@@ -16,7 +16,7 @@ pub record Visit : Type 0 where
   pub exchanges : List Exchange
   pub worlds : List World
 
--- it is what a desk does for the stream in this world
+-- it equals what a desk does for the stream in this world
 pub record IsVisit (w : World) (v : Visit) : Type 0 where
   pub closing : List ℕ
   pub requests : Requests v.bytes (asked_in v.exchanges) v.ending closing
@@ -36,18 +36,18 @@ abbrev pub worlds_of : List Visit → List World
 worlds_of [] = []
 worlds_of (v ∷ vs) = v.worlds ++ worlds_of vs
 
--- no reply is 503
+-- no reply equals 503
 abbrev pub AreAnswered : List Visit → Type 0
 AreAnswered vs = AllAnswered (told_in (exchanges_of vs))
 
 -- what one caller hears of them, in order
-abbrev pub Hears : Key → World → List Visit → List Item → Type 0
+abbrev pub Hears : Key → World → List Visit → List HeardItem → Type 0
 Hears c w vs items = Heard c w (asked_in (exchanges_of vs)) (worlds_of vs) items
 
 -- the texts of the replies to one caller, in order
 abbrev pub texts_to : Key → List Exchange → List (List ℕ)
 texts_to c [] = []
-texts_to c (e ∷ es) = if is e.request.code c then text_of e ∷ texts_to c es else texts_to c es
+texts_to c (e ∷ es) = if equals e.request.code c then exchange_text e ∷ texts_to c es else texts_to c es
 
 abbrev pub replies_in : Key → List Visit → List (List ℕ)
 replies_in c vs = texts_to c (exchanges_of vs)
@@ -55,7 +55,7 @@ replies_in c vs = texts_to c (exchanges_of vs)
 -- equal texts, up to and with the first accepted move to published, but for those that have a student's list
 abbrev pub AlikeTexts : List Exchange → List Exchange → Type 0
 AlikeTexts (e ∷ es) (f ∷ fs) =
-    Unless (has_places e.request.wish) (text_of e ≡ text_of f) × Unless (opens_result e.request.wish e.reply) (AlikeTexts es fs)
+    Unless (has_places e.request.wish) (exchange_text e ≡ exchange_text f) × Unless (opens_result e.request.wish e.reply) (AlikeTexts es fs)
 AlikeTexts _ _ = Unit {0}
 
 -- a call of `serve` that served a stream to its end: the keeper and what the writer held, before and after
@@ -73,10 +73,10 @@ abbrev pub AreServed : {K : Type 0} → (K → Type 0) → (K → World) → K �
 AreServed clean world k [] = Unit {0}
 AreServed clean world k (s ∷ ss) =
     (world s.old ≡ world k) × clean s.new
-    × Tells (clean s.new) (world s.old) (world s.new) (Some s.before) (Some s.after) s.bytes s.count s.ending
+    × ServesWhole (clean s.new) (world s.old) (world s.new) (Some s.before) (Some s.after) s.bytes s.count s.ending
     × AreServed clean world s.new ss
 
--- the visit is what the call of `serve` did
+-- the visit equals what the call of `serve` did
 pub record TellsOf {K : Type 0} (s : Session K) (v : Visit) : Type 0 where
   pub bytes : v.bytes ≡ s.bytes
   pub ending : v.ending ≡ s.ending

@@ -4,14 +4,14 @@ ghost use Rattle.std.specs.Prelude.{◌≡◌, ◌||◌, ℕ, ◌+◌, ◌*◌, 
 ghost use Rattle.std.specs.Io.KnownBytes.{Appends};
 ghost use Rattle.portal_frame.specs.Stream.{seen, is_head};
 ghost use Rattle.portal_core.specs.Good.{Good};
-ghost use Rattle.portal_core.specs.Meaning.{told, said};
+ghost use Rattle.portal_core.specs.Meaning.{reply_model, body_model};
 ghost use Rattle.portal_core.specs.Run.{Serves, unavailable};
 ghost use Rattle.portal_wire.specs.Conversation.{request_of, closes_at, last, last_for};
 ghost use Rattle.portal_wire.specs.Text.{reply_text};
-ghost use Rattle.portal_core.specs.Answer.{IsWhole};
+ghost use Rattle.portal_core.specs.Answer.{HasWholeNumbers};
 ghost use Rattle.portal_desk.specs.Devices.{FailsAfter, TakesAtMost};
 ghost use Rattle.portal_desk.specs.Outcome.{is_store, TurnsAway, FailsByCount};
-ghost use Rattle.portal_desk.specs.Serving.{Tells, Stops, Blames, Broke, Replied, AtFirst};
+ghost use Rattle.portal_desk.specs.Serving.{ServesWhole, Stops, Blames, Broke, Replied, AtFirst};
 ghost use Rattle.portal_desk.specs.declared.served.Cause.TheVariants.{Read as ReadFailed, Write as WriteFailed, Store as StoreFailed};
 
 use crate::devices::{Sink, Source};
@@ -78,7 +78,7 @@ impl<K: Keeper> Desk<K> {
         ensures keeper { self.new.keeper ≡ self.old.keeper }
         ensures failed { self.new.failed ≡ (self.old.failed || is_store outcome) }
         ensures reply { MatchResult outcome (λ reply. result ≡ reply)
-            (λ _. told result ≡ unavailable) }
+            (λ _. reply_model result ≡ unavailable) }
     {
         match outcome {
             Ok(told) => told,
@@ -96,15 +96,15 @@ impl<K: Keeper> Desk<K> {
         ensures clean { K.clean self.new.keeper → K.clean self.old.keeper }
         ensures serves { K.clean self.new.keeper
             → Serves (K.world self.old.keeper) (request_of request.now.close (seen request.now))
-            (told result) (K.world self.new.keeper) }
+            (reply_model result) (K.world self.new.keeper) }
         ensures good { K.clean self.new.keeper → Good (K.world self.new.keeper) }
-        ensures same { K.clean self.new.keeper → told result ≡ unavailable
+        ensures same { K.clean self.new.keeper → reply_model result ≡ unavailable
             → K.world self.new.keeper ≡ K.world self.old.keeper }
         ensures stays { self.old.failed ≡ true → self.new ≡ self.old }
-        ensures failed { self.new.failed ≡ true → told result ≡ unavailable }
+        ensures failed { self.new.failed ≡ true → reply_model result ≡ unavailable }
         ensures counts { FailsByCount self.old.failed self.new.failed (K.faults self.old.keeper)
             (K.faults self.new.keeper) }
-        ensures whole { IsWhole (said result.body) }
+        ensures whole { HasWholeNumbers (body_model result.body) }
     {
         if self.failed {
             return Reply::unavailable();
@@ -171,7 +171,7 @@ impl<K: Keeper> Desk<K> {
     ) -> Result<Served, ServeFault>
         ensures clean { K.clean self.new.keeper → K.clean self.old.keeper }
         ensures served { IfOk result (λ served. IfSome (R.remaining source.old) (λ bytes.
-            Tells (K.clean self.new.keeper) (K.world self.old.keeper) (K.world self.new.keeper) (W.contents sink.old) (W.contents sink.new) bytes served.requests (last served.ending))) }
+            ServesWhole (K.clean self.new.keeper) (K.world self.old.keeper) (K.world self.new.keeper) (W.contents sink.old) (W.contents sink.new) bytes served.requests (last served.ending))) }
         ensures stopped { IfErr result (λ fault. IfSome (R.remaining source.old) (λ bytes.
             Stops fault.cause self.new.failed (K.clean self.new.keeper) (K.world self.old.keeper) (K.world self.new.keeper) (R.remaining source.new) (W.contents sink.old) (W.contents sink.new) bytes fault.requests)) }
         ensures blames { IfErr result (λ fault. Blames fault.cause (R.failed source.old)
@@ -228,8 +228,8 @@ impl<K: Keeper> Desk<K> {
 
 /// The reply to a request that makes no call, or 503 for want of memory.
 fn turn_away(alloc: Global, refusal: &Refusal) -> Reply
-    ensures told { TurnsAway refusal.now (told result) }
-    ensures whole { IsWhole (said result.body) }
+    ensures told { TurnsAway refusal.now (reply_model result) }
+    ensures whole { HasWholeNumbers (body_model result.body) }
 {
     match reply_of(alloc, refusal) {
         Ok(reply) => reply,

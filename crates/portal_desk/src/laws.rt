@@ -6,7 +6,7 @@ ghost use Rattle.portal_core.specs.Words.{Key};
 ghost use Rattle.portal_core.specs.World.{World};
 ghost use Rattle.portal_core.specs.View.{view};
 ghost use Rattle.portal_core.specs.Run.{end_of};
-ghost use Rattle.portal_core.specs.Heard.{Item};
+ghost use Rattle.portal_core.specs.Heard.{HeardItem};
 ghost use Rattle.portal_core.specs.Places.{SameButPlaces, SameRequest};
 ghost use Rattle.portal_wire.specs.Conversation.{asked_in};
 ghost use Rattle.portal_desk.specs.Visits.{Visit, AreVisits, AreAnswered, exchanges_of, worlds_of, Hears, replies_in, AlikeTexts, Session, AreServed, AllTellOf};
@@ -19,7 +19,7 @@ use portal_core::Keeper;
 /// is asked too, the replies are the same bytes, up to and with the first accepted move to published,
 /// but for the replies to a student's own list.
 pub fn same_bytes()
-    ensures replies { (c : Key) (w v : World) (visits others : List Visit) (items : List Item)
+    ensures replies { (c : Key) (w v : World) (visits others : List Visit) (items : List HeardItem)
         → AreVisits w visits → AreAnswered visits → Hears c w visits items
         → AreVisits v others → AreAnswered others → Hears c v others items → view w c ≡ view v c
         → (replies_in c visits ≡ replies_in c others)
@@ -46,7 +46,7 @@ pub fn equal_byte_for_byte<K: Keeper, L: Keeper>()
         → view (K.world k) c ≡ view (L.world l) c
         → (first second : List Visit) × AllTellOf sessions first × AreVisits (K.world k) first
         × AllTellOf others second × AreVisits (L.world l) second
-        × ((items : List Item) → AreAnswered first → AreAnswered second
+        × ((items : List HeardItem) → AreAnswered first → AreAnswered second
         → Hears c (K.world k) first items → Hears c (L.world l) second items
         → replies_in c first ≡ replies_in c second) }
 {}

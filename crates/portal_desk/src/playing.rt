@@ -7,10 +7,10 @@ ghost use Rattle.portal_core.specs.Answer.{Publish};
 ghost use Rattle.portal_core.specs.Counting.{CountsFaults};
 ghost use Rattle.portal_core.specs.Good.{Good, CanPublish};
 ghost use Rattle.portal_core.specs.Instance.{pairs_by};
-ghost use Rattle.portal_core.specs.Meaning.{asked, decided, does, told, said};
-ghost use Rattle.portal_core.specs.Run.{HasForm, Leaves, Step};
+ghost use Rattle.portal_core.specs.Meaning.{call_model, decision_model, act_model, reply_model, body_model};
+ghost use Rattle.portal_core.specs.Run.{HasForm, StepLeaves, Step};
 ghost use Rattle.portal_core.specs.View as seen;
-ghost use Rattle.portal_core.specs.Answer.{IsWhole};
+ghost use Rattle.portal_core.specs.Answer.{HasWholeNumbers};
 ghost use Rattle.portal_desk.specs.Play.{CanDo, IsSolved, IsTold, sheet_text, with_sheet};
 
 use portal_core::{
@@ -24,7 +24,7 @@ use std::alloc::{AllocError, Global};
 
 /// The body that has the text of a sheet.
 fn sheet_body(alloc: Global, view: &OfficeView, sheet: Sheet) -> Result<Body, AllocError>
-    ensures { IfOk result (λ body. said body ≡ sheet_text view.now sheet) }
+    ensures { IfOk result (λ body. body_model body ≡ sheet_text view.now sheet) }
 {
     match sheet {
         Sheet::Csv => Ok(Body::Csv(write_allocation(alloc, view)?)),
@@ -34,10 +34,10 @@ fn sheet_body(alloc: Global, view: &OfficeView, sheet: Sheet) -> Result<Body, Al
 
 /// The reply with its sheet written, where the office is given one.
 fn written(alloc: Global, view: &View, act: &Act, reply: Reply) -> Result<Reply, AllocError>
-    requires { IsWhole (said reply.body) }
-    ensures told { IfOk result (λ whole. told whole
-        ≡ with_sheet view.now (does act.now) (told reply)) }
-    ensures whole { IfOk result (λ whole. IsWhole (said whole.body)) }
+    requires { HasWholeNumbers (body_model reply.body) }
+    ensures told { IfOk result (λ whole. reply_model whole
+        ≡ with_sheet view.now (act_model act.now) (reply_model reply)) }
+    ensures whole { IfOk result (λ whole. HasWholeNumbers (body_model whole.body)) }
 {
     let View::Office(office) = view else {
         return Ok(reply);
@@ -55,8 +55,8 @@ fn written(alloc: Global, view: &View, act: &Act, reply: Reply) -> Result<Reply,
 
 /// What is decided for a caller who sees this, its sheet written.
 fn decide_whole(alloc: Global, view: &View, call: &Call) -> Result<Decision, AllocError>
-    ensures decided { IfOk result (λ d. decided d ≡ answer.decision view.now (asked call.now)) }
-    ensures whole { IfOk result (λ d. IsTold (decided d).reply.body) }
+    ensures decided { IfOk result (λ d. decision_model d ≡ answer.decision view.now (call_model call.now)) }
+    ensures whole { IfOk result (λ d. IsTold (decision_model d).reply.body) }
 {
     let Decision { reply, act } = decide(alloc, view, call)?;
     let reply = written(alloc, view, &act, reply)?;
@@ -72,8 +72,8 @@ fn ask<K: Keeper>(
 ) -> Result<Decision, KeepFault>
     ensures clean { K.clean keeper.new → K.clean keeper.old }
     ensures decided { IfOk result (λ d. K.clean keeper.new → Good (K.world keeper.old)
-        → decided d ≡ answer.decision (seen.view (K.world keeper.old) code.now) (asked call.now)) }
-    ensures whole { IfOk result (λ d. IsTold (decided d).reply.body) }
+        → decision_model d ≡ answer.decision (seen.view (K.world keeper.old) code.now) (call_model call.now)) }
+    ensures whole { IfOk result (λ d. IsTold (decision_model d).reply.body) }
     ensures same { K.clean keeper.new → K.world keeper.new ≡ K.world keeper.old }
     ensures counts { CountsFaults result (K.faults keeper.old) (K.faults keeper.new) }
 {
@@ -119,7 +119,7 @@ fn publish<K: Keeper>(alloc: Global, keeper: &mut K) -> Result<(), KeepFault>
     requires ready { K.clean keeper.old → CanPublish (K.world keeper.old) }
     ensures clean { K.clean keeper.new → K.clean keeper.old }
     ensures made { OnOk result (K.clean keeper.new
-        → Leaves (K.world keeper.old) Publish (K.world keeper.new)) }
+        → StepLeaves (K.world keeper.old) Publish (K.world keeper.new)) }
     ensures same { OnErr result (K.clean keeper.new → K.world keeper.new ≡ K.world keeper.old) }
     ensures counts { CountsFaults result (K.faults keeper.old) (K.faults keeper.new) }
 {
@@ -133,10 +133,10 @@ fn publish<K: Keeper>(alloc: Global, keeper: &mut K) -> Result<(), KeepFault>
 /// Does what was decided.
 fn perform<K: Keeper>(alloc: Global, keeper: &mut K, act: Act) -> Result<(), KeepFault>
     requires good { K.clean keeper.old → Good (K.world keeper.old) }
-    requires can { K.clean keeper.old → CanDo (K.world keeper.old) (does act) }
+    requires can { K.clean keeper.old → CanDo (K.world keeper.old) (act_model act) }
     ensures clean { K.clean keeper.new → K.clean keeper.old }
     ensures made { OnOk result (K.clean keeper.new
-        → Leaves (K.world keeper.old) (does act) (K.world keeper.new)) }
+        → StepLeaves (K.world keeper.old) (act_model act) (K.world keeper.new)) }
     ensures same { OnErr result (K.clean keeper.new → K.world keeper.new ≡ K.world keeper.old) }
     ensures counts { CountsFaults result (K.faults keeper.old) (K.faults keeper.new) }
 {
@@ -155,14 +155,14 @@ pub fn play<K: Keeper>(
     call: &Call,
 ) -> Result<Reply, KeepFault>
     requires good { K.clean keeper.old → Good (K.world keeper.old) }
-    requires form { HasForm (asked call.now) }
+    requires form { HasForm (call_model call.now) }
     ensures clean { K.clean keeper.new → K.clean keeper.old }
     ensures step { IfOk result (λ r. K.clean keeper.new
-        → Step (K.world keeper.old) code.now (asked call.now) (told r) (K.world keeper.new)) }
+        → Step (K.world keeper.old) code.now (call_model call.now) (reply_model r) (K.world keeper.new)) }
     ensures same { OnErr result (K.clean keeper.new → K.world keeper.new ≡ K.world keeper.old) }
     ensures counts { CountsFaults result (K.faults keeper.old) (K.faults keeper.new) }
     ensures good { K.clean keeper.new → Good (K.world keeper.new) }
-    ensures whole { IfOk result (λ r. IsTold (said r.body)) }
+    ensures whole { IfOk result (λ r. IsTold (body_model r.body)) }
 {
     let Decision { reply, act } = ask(alloc, keeper, code, call)?;
     perform(alloc, keeper, act)?;

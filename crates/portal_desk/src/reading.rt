@@ -2,7 +2,7 @@
 
 ghost use Rattle.std.specs.Prelude.{◌≡◌, ◌≢◌, ℕ, ◌+◌, ◌-◌, ◌<◌, ◌≤◌, List, length, drop, IfOk, OnErr, IfErr, OnOk, if◌then◌else◌};
 ghost use Rattle.portal_desk.specs.Devices.{FailsAfter, TakesAtMost};
-ghost use Rattle.portal_desk.specs.Reading.{Reads, Follows, IsWithin, Stays, HoldsNone};
+ghost use Rattle.portal_desk.specs.Reading.{ReadsMore, Follows, IsWithin, KeepsStream, HoldsNone};
 ghost use Rattle.portal_desk.specs.declared.reading.FrameFault.TheVariants.{Memory as OutOfMemory, Read as ReadFailed};
 
 use crate::devices::{Failed, Source};
@@ -38,14 +38,14 @@ impl From<Failed> for FrameFault {
 /// Reads a piece into the buffer, and says whether the input has ended.
 fn read_piece<R: Source>(source: &mut R, buffer: &mut Vec<u8>) -> Result<bool, FrameFault>
     requires { length buffer.old.items < 1064960 }
-    ensures bytes { IfOk result (Reads (R.remaining source.old)
+    ensures bytes { IfOk result (ReadsMore (R.remaining source.old)
         (R.remaining source.new) buffer.old.items buffer.new.items) }
     ensures more { IfOk result (λ ended. length buffer.old.items + (if ended then 0 else 1)
         ≤ length buffer.new.items) }
     ensures held { length buffer.new.items ≤ 1064960 }
     ensures none_lost { OnErr result (buffer.new.items ≡ buffer.old.items) }
     ensures left { IfErr result (λ fault. fault ≡ ReadFailed
-        → Stays (R.remaining source.old)
+        → KeepsStream (R.remaining source.old)
         (R.remaining source.new) buffer.old.items buffer.new.items) }
     ensures taken { OnErr result (TakesAtMost (1064960 - length buffer.old.items)
         (R.remaining source.old) (R.remaining source.new)) }
@@ -77,7 +77,7 @@ pub(crate) fn next_frame<R: Source>(
     ensures held { length buffer.new.items ≤ 1064960 }
     ensures within { IfOk result (IsWithin buffer.new.items) }
     ensures stays { IfErr result (λ fault. fault ≡ ReadFailed
-        → Stays (R.remaining source.old)
+        → KeepsStream (R.remaining source.old)
         (R.remaining source.new) buffer.old.items buffer.new.items) }
     ensures none { IfErr result (λ fault. HoldsNone fault buffer.new.items) }
     ensures taken { OnErr result (TakesAtMost (1064960 - length buffer.old.items)

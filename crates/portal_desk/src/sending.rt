@@ -2,11 +2,11 @@
 
 ghost use Rattle.std.specs.Prelude.{◌≡◌, ◌||◌, true, OnOk, IfErr, OnErr};
 ghost use Rattle.std.specs.Io.KnownBytes.{Appends};
-ghost use Rattle.portal_core.specs.Meaning.{told, said};
+ghost use Rattle.portal_core.specs.Meaning.{reply_model, body_model};
 ghost use Rattle.portal_frame.specs.Stream.{refused};
 ghost use Rattle.portal_wire.specs.Refusals.{answer_to};
 ghost use Rattle.portal_wire.specs.Text.{reply_text};
-ghost use Rattle.portal_core.specs.Answer.{IsWhole};
+ghost use Rattle.portal_core.specs.Answer.{HasWholeNumbers};
 ghost use Rattle.portal_desk.specs.Devices.{FailsAfter};
 ghost use Rattle.portal_desk.specs.Serving.{Partly};
 ghost use Rattle.portal_desk.specs.declared.served.Cause.TheVariants.{Write as WriteFailed};
@@ -49,11 +49,11 @@ pub(crate) fn send_reply<W: Sink>(
     close: bool,
     sink: &mut W,
 ) -> Result<(), Cause>
-    requires { IsWhole (said reply.now.body) }
+    requires { HasWholeNumbers (body_model reply.now.body) }
     ensures ok { OnOk result (Appends (W.contents sink.old) (W.contents sink.new)
-        (reply_text (told reply.now) head_only close)) }
+        (reply_text (reply_model reply.now) head_only close)) }
     ensures err { IfErr result (λ cause. Partly cause (W.contents sink.old) (W.contents sink.new)
-        (reply_text (told reply.now) head_only close)) }
+        (reply_text (reply_model reply.now) head_only close)) }
     ensures calm { OnOk result (W.failed sink.new ≡ W.failed sink.old) }
     ensures counts { IfErr result (λ cause. cause ≡ WriteFailed
         → FailsAfter (W.failed sink.old) (W.failed sink.new)) }

@@ -4,7 +4,7 @@ use Rattle.std.specs.Prelude.{◌==◌}
 use Rattle.std.proofs.lemmas.Bool.{cases_Bool}
 use Rattle.portal_frame.specs.declared.counting.At.TheVariants.{Leading, LeadingCr, Fresh, FreshCr, Inside}
 use Rattle.portal_frame.specs.Counting.{lines_from}
-use Rattle.portal_frame.specs.Lines.{is_empty_line, lines_after, without_leading, before_empty, head_lines}
+use Rattle.portal_frame.specs.Lines.{is_empty_line, lines_after, without_leading, before_empty, header_lines}
 
 -- a line that is not empty stays so
 longer : (line : List ℕ) (b : ℕ) → is_empty_line line ≡ false → is_empty_line (line ++ b ∷ []) ≡ false
@@ -53,7 +53,7 @@ first line bytes full = (counted bytes).inside line full ∙ ap (λ lines. lengt
 
 -- before the first line that is not empty
 pub record LeadsIn (bytes : List ℕ) : Type 0 where
-  pub start : lines_from Leading bytes ≡ length (head_lines bytes)
+  pub start : lines_from Leading bytes ≡ length (header_lines bytes)
   pub after_cr : (b : ℕ) → (b == 13) ≡ true → lines_from LeadingCr bytes ≡ length (before_empty (without_leading (lines_after (b ∷ []) bytes)))
 
 leads : (bytes : List ℕ) → LeadsIn bytes
@@ -74,5 +74,5 @@ leads (b ∷ bytes) =
       ];
     }
 
-pub counted_is : (bytes : List ℕ) → lines_from Leading bytes ≡ length (head_lines bytes)
+pub counted_is : (bytes : List ℕ) → lines_from Leading bytes ≡ length (header_lines bytes)
 counted_is bytes = (leads bytes).start

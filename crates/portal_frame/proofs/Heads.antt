@@ -12,7 +12,7 @@ use Rattle.httparse.specs.Grammar.{RequestHead, IsRequestHead, ReadsRequest, Has
 use Rattle.httparse.specs.Spans.{RequestOverflows}
 use Rattle.httparse.proofs.GrammarLemmas.{ReadsRequest-append, print_request-append}
 use Rattle.portal_frame.specs.declared.types.Fault.{Fault}
-use Rattle.portal_frame.specs.Stream.{Refuses, body_length, bad_head, bad_length, Takes, HasNoHead, Asked, whole, fault, over, asked_of, after_lines, lines_of, is_head, Opens, headless, is_blank, IsHead}
+use Rattle.portal_frame.specs.Stream.{Refuses, body_length, bad_head, bad_length, Takes, HasNoHead, Asked, whole, fault, over, asked_of, after_lines, fields_of, is_head, Opens, headless, is_blank, IsHead}
 use Rattle.httparse.specs.Spans.{IsRequestAt, IsRequestWithin, header_bytes, name_and_value}
 use Rattle.httparse.specs.declared.spans.HeaderSpan.{HeaderSpan}
 use Rattle.httparse.specs.declared.spans.RequestSpans.{RequestSpans}
@@ -149,7 +149,7 @@ sized : (h : RequestHead) (n : ℕ) (rest : List ℕ) (enough : Bool) → nat_le
 sized h n rest enough e = ap (λ b. if b then whole (asked_of h (take n rest)) (drop n rest) else fault bad_length (is_head h.method)) e
 
 pub after_whole : (bytes more : List ℕ) (h : RequestHead) (len n : ℕ) → Takes bytes h (drop len bytes)
-    → body_length h.minor (lines_of h) ≡ Ok n → n ≤ length (drop len bytes)
+    → body_length h.minor (fields_of h) ≡ Ok n → n ≤ length (drop len bytes)
     → Opens (bytes ++ more) (whole (asked_of h (take n (drop len bytes))) (drop (len + n) bytes ++ more))
 after_whole bytes more h len n t e enough =
     let rest = drop len bytes in
@@ -171,9 +171,9 @@ after_whole bytes more h len n t e enough =
 -- the lines as the spans have them
 pub lines_same : (bytes front : List ℕ) (spans : RequestSpans) (headers : List HeaderSpan) (h : RequestHead) (r : Result ℕ Fault)
     → IsHead bytes front spans headers h → body_length spans.version (map (header_bytes front) headers) ≡ r
-    → body_length h.minor (lines_of h) ≡ r
+    → body_length h.minor (fields_of h) ≡ r
 lines_same bytes front spans headers h r x e =
-    ap (λ v. body_length v (lines_of h)) (sym x.version) ∙ (ap (body_length spans.version) (sym x.lines) ∙ e)
+    ap (λ v. body_length v (fields_of h)) (sym x.version) ∙ (ap (body_length spans.version) (sym x.lines) ∙ e)
 
 pub same_asked : (a b : Asked) → a.method ≡ b.method → a.path ≡ b.path → a.code ≡ b.code → a.close ≡ b.close → a.body ≡ b.body → a ≡ b
 same_asked a b m p c l d = λ i. record { method = m i; path = p i; code = c i; close = l i; body = d i }

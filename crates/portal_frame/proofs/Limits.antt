@@ -8,7 +8,7 @@ use Rattle.httparse.specs.Grammar.{RequestHead, print_request, print_section, pr
 use Rattle.portal_frame.specs.declared.types.Fault.{Fault}
 use Rattle.portal_frame.specs.declared.types.Fault.TheVariants as faults
 use Rattle.portal_frame.specs.Heads.{is_length, has_bad_host, has_any, values_of}
-use Rattle.portal_frame.specs.Stream.{body_length, length_of, lines_of}
+use Rattle.portal_frame.specs.Stream.{body_length, length_of, fields_of}
 
 ok_same : (d n : ℕ) → ◌≡◌ {A = Result ℕ Fault} (Ok d) (Ok n) → d ≡ n
 ok_same d n e = cc
@@ -48,8 +48,8 @@ head-some h =
 
 -- what a request takes
 pub whole-within : (h : RequestHead) (len n : ℕ) → len ≡ length (print_request h) → length (print_request h) ≤ 16384
-    → body_length h.minor (lines_of h) ≡ Ok n → (0 < len + n) × (len + n ≤ 1064960)
+    → body_length h.minor (fields_of h) ≡ Ok n → (0 < len + n) × (len + n ≤ 1064960)
 whole-within h len n same short sized =
     let some = head-some h in
-    let most = body_length-le h.minor (lines_of h) n sized in
+    let most = body_length-le h.minor (fields_of h) n sized in
     (omega (arith, same, some), omega (arith, same, short, most))

@@ -11,7 +11,7 @@ use Rattle.portal_frame.proofs.Heads.{opens_never}
 use Rattle.portal_frame.specs.declared.counting.At.{At}
 use Rattle.portal_frame.specs.declared.counting.At.TheVariants.{Leading, Fresh, Inside}
 use Rattle.portal_frame.specs.Counting.{step, stops, counts, lines_from}
-use Rattle.portal_frame.specs.Lines.{head_lines, is_overlong}
+use Rattle.portal_frame.specs.Lines.{header_lines, is_overlong}
 use Rattle.portal_frame.proofs.HeadLines.{counted_is}
 
 pub lines-append : (at : At) (xs ys : List ℕ) → lines_from at xs ≤ lines_from at (xs ++ ys)
@@ -157,11 +157,11 @@ lined h is =
     }
 
 -- where the lines are too many each head has more than 32 fields, whatever follows
-pub overlong : (bytes : List ℕ) → 34 ≤ length (head_lines bytes) → RequestOverflows 32 bytes
+pub overlong : (bytes : List ℕ) → 34 ≤ length (header_lines bytes) → RequestOverflows 32 bytes
 overlong bytes long more h rest reads =
     let most = lines_counted h rest (lined h reads.0) in
     let same : lines_from Leading (bytes ++ more) ≡ 1 + length h.fields = ap (lines_from Leading) reads.1 ∙ most in
     omega (arith, long, counted_is bytes, lines-append Leading bytes more, same)
 
 pub opens_overlong : (bytes more : List ℕ) → is_overlong bytes ≡ true → Opens (bytes ++ more) (fault bad_head false)
-opens_overlong bytes more long = opens_never bytes more (overlong bytes (leb-true 34 (length (head_lines bytes)) long))
+opens_overlong bytes more long = opens_never bytes more (overlong bytes (leb-true 34 (length (header_lines bytes)) long))

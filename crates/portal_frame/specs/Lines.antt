@@ -24,19 +24,19 @@ before_empty [] = []
 before_empty (line ∷ lines) = if is_empty_line line then [] else line ∷ before_empty lines
 
 -- the lines of the head that stands at the front, whole or not
-abbrev pub head_lines : List ℕ → List (List ℕ)
-head_lines bytes = before_empty (without_leading (lines_after [] bytes))
+abbrev pub header_lines : List ℕ → List (List ℕ)
+header_lines bytes = before_empty (without_leading (lines_after [] bytes))
 
 -- 34 lines, none of them empty: a head has at most 33, the start line and 32 fields
 abbrev pub is_overlong : List ℕ → Bool
-is_overlong bytes = nat_le 34 (length (head_lines bytes))
+is_overlong bytes = nat_le 34 (length (header_lines bytes))
 
 -- empty lines in front, two lines, and the empty one after them
-two_lines : head_lines (codes "\n\r\na\r\nb\n\nc\n") ≡ codes "a\r" ∷ codes "b" ∷ []
+two_lines : header_lines (codes "\n\r\na\r\nb\n\nc\n") ≡ codes "a\r" ∷ codes "b" ∷ []
 two_lines = refl
 
 -- what no LF ends is no line
-one_line : head_lines (codes "a\nb") ≡ codes "a" ∷ []
+one_line : header_lines (codes "a\nb") ≡ codes "a" ∷ []
 one_line = refl
 
 -- lines of one letter

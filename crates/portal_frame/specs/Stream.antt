@@ -96,8 +96,8 @@ pub data Item : Type 0 where
   fault : Refuses → Bool → Item
   over : Item
 
-abbrev pub lines_of : RequestHead → List (List ℕ × List ℕ)
-lines_of h = map name_and_value h.fields
+abbrev pub fields_of : RequestHead → List (List ℕ × List ℕ)
+fields_of h = map name_and_value h.fields
 
 abbrev pub is_head : List ℕ → Bool
 is_head method = bytes_eq method (codes "HEAD")
@@ -110,8 +110,8 @@ abbrev pub asked_of : RequestHead → List ℕ → Asked
 asked_of h body = record {
   method = h.method;
   path = path_of h.target;
-  code = only (values_of (codes "portal-code") (lines_of h));
-  close = closes_after h.minor (lines_of h);
+  code = only (values_of (codes "portal-code") (fields_of h));
+  close = closes_after h.minor (fields_of h);
   body = body;
 }
 
@@ -123,7 +123,7 @@ after_lines h (Ok n) rest =
     else fault bad_length (is_head h.method)
 
 abbrev pub item_of : RequestHead → List ℕ → Item
-item_of h rest = after_lines h (body_length h.minor (lines_of h)) rest
+item_of h rest = after_lines h (body_length h.minor (fields_of h)) rest
 
 -- empty lines alone, the last of which may lack its LF
 abbrev pub is_blank : List ℕ → Bool
@@ -152,7 +152,7 @@ pub record WaitsForHead (bytes : List ℕ) : Type 0 where
 abbrev pub WaitsForBody : List ℕ → Type 0
 WaitsForBody bytes =
     (h : RequestHead) × (rest : List ℕ) × (n : ℕ) × Takes bytes h rest
-    × (body_length h.minor (lines_of h) ≡ Ok n) × (length rest < n)
+    × (body_length h.minor (fields_of h) ≡ Ok n) × (length rest < n)
 
 -- what is answered for the bytes so far; what is found stands there however the stream goes on
 abbrev pub Framed : List ℕ → Bool → Frame → Type 0
@@ -187,7 +187,7 @@ pub record IsHead (bytes front : List ℕ) (spans : RequestSpans) (headers : Lis
   pub method : span_bytes front spans.method ≡ h.method
   pub path : span_bytes front spans.path ≡ h.target
   pub version : spans.version ≡ h.minor
-  pub lines : map (header_bytes front) headers ≡ lines_of h
+  pub lines : map (header_bytes front) headers ≡ fields_of h
   pub method_within : IsWithin (length front) spans.method
   pub path_within : IsWithin (length front) spans.path
   pub headers_within : All (IsHeaderWithin (length front)) headers

@@ -4,7 +4,7 @@ use Rattle.std.specs.Prelude.{Option, Some, None, option_map, ◌&&◌}
 use Rattle.std.specs.List.{filter_map, cons_option, AllByRecursion}
 use Rattle.portal_core.specs.declared.rows.LecturerRow.{LecturerRow}
 use Rattle.portal_core.specs.declared.rows.StudentRow.{StudentRow}
-use Rattle.portal_core.specs.Words.{Key, is, is_before, is_empty, Rise}
+use Rattle.portal_core.specs.Words.{Key, equals, is_before, is_empty, Rise}
 use Rattle.portal_core.specs.declared.phase.Round.{Round}
 use Rattle.portal_core.specs.declared.phase.Round.TheVariants.{First, Second}
 use Rattle.portal_core.specs.World.{Lecturer, Student, is_second, pairs_with}
@@ -15,13 +15,13 @@ use Rattle.portal_list.specs.Fit.{next_for, rest_for, earlier_for, earlier_rest,
 
 pub next_map : {V W : Type 0} (f : V → W) (k : Key) (ps : List (Key × V)) → option_map f (next_for k ps) ≡ next_for k (map {B = Key × W} (λ (p : Key × V). (p.0, f p.1)) ps)
 next_map f k [] = refl
-next_map {V} {W} f k (p ∷ ps) = elim (is p.0 k) as (λ b. option_map f (cond b (Some p.1) None) ≡ cond b (Some (f p.1)) None) [ true ↦ refl | false ↦ refl ]
+next_map {V} {W} f k (p ∷ ps) = elim (equals p.0 k) as (λ b. option_map f (cond b (Some p.1) None) ≡ cond b (Some (f p.1)) None) [ true ↦ refl | false ↦ refl ]
 
 pub rest_map : {V W : Type 0} (f : V → W) (k : Key) (ps : List (Key × V)) → map {B = Key × W} (λ (p : Key × V). (p.0, f p.1)) (rest_for k ps) ≡ rest_for k (map {B = Key × W} (λ (p : Key × V). (p.0, f p.1)) ps)
 rest_map f k [] = refl
-rest_map {V} {W} f k (p ∷ ps) = elim (is p.0 k) as (λ b. map {B = Key × W} (λ (q : Key × V). (q.0, f q.1)) (cond b ps (p ∷ ps)) ≡ cond b (map {B = Key × W} (λ (q : Key × V). (q.0, f q.1)) ps) ((p.0, f p.1) ∷ map {B = Key × W} (λ (q : Key × V). (q.0, f q.1)) ps)) [ true ↦ refl | false ↦ refl ]
+rest_map {V} {W} f k (p ∷ ps) = elim (equals p.0 k) as (λ b. map {B = Key × W} (λ (q : Key × V). (q.0, f q.1)) (cond b ps (p ∷ ps)) ≡ cond b (map {B = Key × W} (λ (q : Key × V). (q.0, f q.1)) ps) ((p.0, f p.1) ∷ map {B = Key × W} (λ (q : Key × V). (q.0, f q.1)) ps)) [ true ↦ refl | false ↦ refl ]
 
--- one more in front of what is still to come, or behind what is there
+-- one more in front of what equals still to come, or behind what equals there
 pub moved : {X : Type 0} (es : List X) (e : X) (o : Option (List X)) → option_map (λ xs. (es ++ e ∷ []) ++ xs) o ≡ option_map (λ xs. es ++ xs) (option_map (λ xs. e ∷ xs) o)
 moved es e None = refl
 moved es e (Some xs) = ap Some (moved_list es)
@@ -30,24 +30,24 @@ moved es e (Some xs) = ap Some (moved_list es)
     moved_list [] = refl
     moved_list (d ∷ ds) = ap (λ ys. d ∷ ys) (moved_list ds)
 
--- what is there of some rows, each under its key
+-- what equals there of some rows, each under its key
 module _ {X V : Type 0} (key : X → Key) (opt : X → Option V) where
   abbrev there : List X → List (Key × V)
   there xs = filter_map (λ x. option_map (λ v. (key x, v)) (opt x)) xs
 
-  -- nothing is there for a key before all of these
+  -- nothing equals there for a key before all of these
   nothing : (k : Key) (xs : List X) → AllByRecursion (λ l. is_before k l ≡ true) (map key xs) → (next_for k (there xs) ≡ None) × (rest_for k (there xs) ≡ there xs)
   nothing k [] all = (refl, refl)
   nothing k (x ∷ xs) all = at (opt x) (nothing k xs all.1)
     where
-      differ : (b : Bool) → is (key x) k ≡ b → b ≡ false
+      differ : (b : Bool) → equals (key x) k ≡ b → b ≡ false
       differ false e = refl
       differ true e = absurd (not_before_itself k (subst (λ l. is_before k l ≡ true) (is_same (key x) k e) all.0))
 
       at : (o : Option V) → (next_for k (there xs) ≡ None) × (rest_for k (there xs) ≡ there xs)
           → (next_for k (cons_option (option_map (λ v. (key x, v)) o) (there xs)) ≡ None) × (rest_for k (cons_option (option_map (λ v. (key x, v)) o) (there xs)) ≡ cons_option (option_map (λ v. (key x, v)) o) (there xs))
       at None rest = rest
-      at (Some v) rest = let no : is (key x) k ≡ false = differ (is (key x) k) refl in rw no (refl, refl)
+      at (Some v) rest = let no : equals (key x) k ≡ false = differ (equals (key x) k) refl in rw no (refl, refl)
 
   -- the first row takes its own
   own : (x : X) (xs : List X) → AllByRecursion (λ l. is_before (key x) l ≡ true) (map key xs) → (next_for (key x) (there (x ∷ xs)) ≡ opt x) × (rest_for (key x) (there (x ∷ xs)) ≡ there xs)
@@ -57,12 +57,12 @@ module _ {X V : Type 0} (key : X → Key) (opt : X → Option V) where
       at None = nothing (key x) xs all
       at (Some v) = rw (is_own (key x)) (refl, refl)
 
--- what is taken and what is left is what was there
+-- what equals taken and what equals left equals what was there
 pub put_back : {V : Type 0} (k : Key) (ps : List (Key × V)) → cons_option (option_map (λ v. (k, v)) (next_for k ps)) (rest_for k ps) ≡ ps
 put_back k [] = refl
-put_back {V} k (p ∷ ps) = at (is p.0 k) refl
+put_back {V} k (p ∷ ps) = at (equals p.0 k) refl
   where
-    at : (b : Bool) → is p.0 k ≡ b → cons_option (option_map (λ v. (k, v)) (cond b (Some p.1) None)) (cond b ps (p ∷ ps)) ≡ p ∷ ps
+    at : (b : Bool) → equals p.0 k ≡ b → cons_option (option_map (λ v. (k, v)) (cond b (Some p.1) None)) (cond b ps (p ∷ ps)) ≡ p ∷ ps
     at true e = λ i. (sym (is_same p.0 k e) i, p.1) ∷ ps
     at false e = refl
 
@@ -106,7 +106,7 @@ lecturers_rows (r ∷ rs) ps qs ls e = at (lecturers_fitting rs (rest_for r.key 
           ap (rankings_with (λ l. l.earlier_ranking)) (sym is_ls) ∙ ap (cons_option (option_map (λ v. (r.key, v)) (next_for r.key qs))) rest.2 ∙ put_back r.key qs,
         )
 
--- one more lecturer is put together
+-- one more lecturer equals put together
 pub lecturers_step : (es more : List Lecturer) (row : LecturerRow) (items others : List LecturerRow) (ps ps' qs qs' : List (Key × List Key)) (ranking earlier : Option (List Key)) (all : Option (List Lecturer))
     → option_map (λ ls. es ++ ls) (lecturers_fitting items ps qs) ≡ all → items ≡ row ∷ others → ps' ≡ rest_for row.key ps → qs' ≡ rest_for row.key qs
     → ranking ≡ next_for row.key ps → earlier ≡ next_for row.key qs → more ≡ es ++ record { row = row; ranking = ranking; earlier_ranking = earlier } ∷ []
@@ -122,15 +122,15 @@ lecturers_step es more row items others ps ps' qs qs' ranking earlier all so_far
 
 -- each student has a list
 pub students_back : (round : Round) (ss : List Student) → Rise (map (λ s. s.row.key) ss) → (is_second round ≡ false → AllByRecursion HasNothingEarlier ss)
-    → students_fitting round (map (λ s. s.row) ss) (choices_in ss) (pairs_with (λ s. s.placed) ss) (earlier_choices_in round ss) (pairs_with (λ s. s.earlier_place) ss) ≡ Some ss
+    → students_fitting round (map (λ s. s.row) ss) (choices_in ss) (pairs_with (λ s. s.placed) ss) (earlier_choices_in round ss) (pairs_with (λ s. s.earlier_placement) ss) ≡ Some ss
 students_back First [] rise none = refl
 students_back Second [] rise none = refl
 students_back round (s ∷ ss) rise none =
     let list : (next_for s.row.key (choices_in (s ∷ ss)) ≡ Some s.choice) × (rest_for s.row.key (choices_in (s ∷ ss)) ≡ choices_in ss) = rw (is_own s.row.key) (refl, refl) in
     let place = own (λ (t : Student). t.row.key) (λ (t : Student). t.placed) s ss rise.0 in
-    let earlier_place = own (λ (t : Student). t.row.key) (λ (t : Student). t.earlier_place) s ss rise.0 in
+    let earlier_placement = own (λ (t : Student). t.row.key) (λ (t : Student). t.earlier_placement) s ss rise.0 in
     let earlier = mine round (λ e. (none e).0.0) in
-    (λ i. with_lists s.row (list.0 i) (place.0 i) (earlier.0 i) (earlier_place.0 i) (students_fitting round (map (λ t. t.row) ss) (list.1 i) (place.1 i) (earlier.1 i) (earlier_place.1 i)))
+    (λ i. with_lists s.row (list.0 i) (place.0 i) (earlier.0 i) (earlier_placement.0 i) (students_fitting round (map (λ t. t.row) ss) (list.1 i) (place.1 i) (earlier.1 i) (earlier_placement.1 i)))
     ∙ ap (option_map (λ ts. s ∷ ts)) (students_back round ss rise.1 (λ e. (none e).1))
   where
     mine : (r : Round) → (is_second r ≡ false → s.earlier_choice ≡ [])
@@ -160,7 +160,7 @@ four_left (c ∷ cs) ps es qs y z e = cc
 -- what the rows of students are
 abbrev ListsAre : Round → List Student → List StudentRow → List (Key × List Key) → List (Key × Key) → List (Key × List Key) → List (Key × Key) → Type 0
 ListsAre round ss rs cs ps es qs =
-    (map (λ s. s.row) ss ≡ rs) × (choices_in ss ≡ cs) × (pairs_with (λ s. s.placed) ss ≡ ps) × (earlier_choices_in round ss ≡ es) × (pairs_with (λ s. s.earlier_place) ss ≡ qs)
+    (map (λ s. s.row) ss ≡ rs) × (choices_in ss ≡ cs) × (pairs_with (λ s. s.placed) ss ≡ ps) × (earlier_choices_in round ss ≡ es) × (pairs_with (λ s. s.earlier_placement) ss ≡ qs)
 
 pub students_rows : (round : Round) (rs : List StudentRow) (cs : List (Key × List Key)) (ps : List (Key × Key)) (es : List (Key × List Key)) (qs : List (Key × Key)) (ss : List Student)
     → students_fitting round rs cs ps es qs ≡ Some ss → ListsAre round ss rs cs ps es qs
@@ -171,7 +171,7 @@ students_rows round [] cs ps es qs ss e =
       ap choices_in nobody ∙ sym all.0,
       ap (pairs_with (λ s. s.placed)) nobody ∙ sym all.1,
       ap (earlier_choices_in round) nobody ∙ no_earlier round ∙ sym all.2,
-      ap (pairs_with (λ s. s.earlier_place)) nobody ∙ sym all.3,
+      ap (pairs_with (λ s. s.earlier_placement)) nobody ∙ sym all.3,
     )
 students_rows round (r ∷ rs) cs ps es qs ss e =
     at (next_for r.key cs) (earlier_for round r.key es) (students_fitting round rs (rest_for r.key cs) (rest_for r.key ps) (earlier_rest round r.key es) (rest_for r.key qs)) refl refl
@@ -184,11 +184,11 @@ students_rows round (r ∷ rs) cs ps es qs ss e =
     at (Some list) (Some earlier) None l m again f = cc
     at (Some list) (Some earlier) (Some ts) l m again f =
         let rest : ListsAre round ts rs (rest_for r.key cs) (rest_for r.key ps) (earlier_rest round r.key es) (rest_for r.key qs) = again ts refl in
-        let made : Student = record { row = r; choice = list; placed = next_for r.key ps; earlier_choice = earlier; earlier_place = next_for r.key qs } in
+        let made : Student = record { row = r; choice = list; placed = next_for r.key ps; earlier_choice = earlier; earlier_placement = next_for r.key qs } in
         let is_ss : made ∷ ts ≡ ss = cc in (
           ap (map (λ s. s.row)) (sym is_ss) ∙ ap (λ xs. r ∷ xs) rest.0,
           ap choices_in (sym is_ss) ∙ ap (λ xs. (r.key, list) ∷ xs) rest.1 ∙ ap (λ x. cons_option (option_map (λ v. (r.key, v)) x) (rest_for r.key cs)) (sym l) ∙ put_back r.key cs,
           ap (pairs_with (λ s. s.placed)) (sym is_ss) ∙ ap (cons_option (option_map (λ v. (r.key, v)) (next_for r.key ps))) rest.2 ∙ put_back r.key ps,
           ap (earlier_choices_in round) (sym is_ss) ∙ earlier_back round made ts es m rest.3,
-          ap (pairs_with (λ s. s.earlier_place)) (sym is_ss) ∙ ap (cons_option (option_map (λ v. (r.key, v)) (next_for r.key qs))) rest.4 ∙ put_back r.key qs,
+          ap (pairs_with (λ s. s.earlier_placement)) (sym is_ss) ∙ ap (cons_option (option_map (λ v. (r.key, v)) (next_for r.key qs))) rest.4 ∙ put_back r.key qs,
         )

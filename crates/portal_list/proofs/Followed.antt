@@ -2,7 +2,7 @@
 use Rattle.std.proofs.Common.{◌≡◌, true, List, map, refl, sym, ap, ◌∙◌}
 use Rattle.portal_core.specs.World.{World, Lecturer, Student}
 use Rattle.portal_core.specs.View.{catalogue}
-use Rattle.portal_core.specs.Change.{Change, with_choice, with_ranking, changed, Choices, Ranks, Lecturers, Projects, Students, To, Places, Fill, SecondRound}
+use Rattle.portal_core.specs.Change.{Change, with_choice, with_ranking, changed, Choices, Ranks, Lecturers, Projects, Students, To, Placements, Fill, SecondRound}
 use Rattle.portal_core.specs.Words.{Key}
 use Rattle.portal_core.proofs.Acts.{catalogue_chosen, catalogue_ranked}
 use Rattle.portal_core.proofs.Fills.{catalogue_filled}
@@ -33,7 +33,7 @@ shown_followed w Fill is = catalogue_filled w
 shown_followed w (Lecturers rows) is = cc
 shown_followed w (Projects rows) is = cc
 shown_followed w (Students rows) is = cc
-shown_followed w (Places pairs) is = cc
+shown_followed w (Placements pairs) is = cc
 shown_followed w SecondRound is = cc
 
 pub catalogue_after : (w : World) (change : Change) → is_followed change ≡ true → (after : AllEntries) → HasEntries after (changed w change) → catalogue_in after ≡ catalogue_in (entries_in w)

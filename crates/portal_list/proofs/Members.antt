@@ -9,22 +9,22 @@ use Rattle.spa_rows.specs.Least.{BadAt}
 use Rattle.spa_rows.specs.Faults.{IsEarlierKey, IsKeyOf, Repeats}
 use Rattle.spa_rows.proofs.Lists.{at_place, map_at}
 use Rattle.spa_model.proofs.Zips.{any_map, any_unmap}
-use Rattle.portal_core.specs.Words.{Key, is, has, Rise, AreDistinct}
+use Rattle.portal_core.specs.Words.{Key, equals, has, Rise, AreDistinct}
 use Rattle.portal_core.proofs.Keys.{is_same, is_own}
 use Rattle.portal_core.proofs.AllLaws.{all_at}
 use Rattle.spa_model.proofs.Rising.{never_itself}
 use Rattle.portal_list.proofs.Rising.{pairs_rise}
 
 pub there : (ks : List Key) (k : Key) → has ks k ≡ true → Any (λ x. x ≡ k) ks
-there ks k h = let found = Any-from_list_any (is k) ks h in (found.0, found.1, found.2, found.3, sym (is_same k found.1 found.4))
+there ks k h = let found = Any-from_list_any (equals k) ks h in (found.0, found.1, found.2, found.3, sym (is_same k found.1 found.4))
 
 pub has_it : (ks : List Key) (k : Key) → Any (λ x. x ≡ k) ks → has ks k ≡ true
-has_it ks k (j, x, low, at, same) = list_any-from_Any (is k) ks (j, x, low, at, subst (λ y. is k y ≡ true) (sym same) (is_own k))
+has_it ks k (j, x, low, at, same) = list_any-from_Any (equals k) ks (j, x, low, at, subst (λ y. equals k y ≡ true) (sym same) (is_own k))
 
 pub has_all : (P : Key → Type 0) (ks : List Key) (k : Key) → AllByRecursion P ks → has ks k ≡ true → P k
 has_all P ks k all h = let found = there ks k h in subst P (found.3 ∙ found.4) (all_at P ks found.0 found.1 all found.2)
 
--- a known key is a line's key
+-- a known key equals a line's key
 pub key_there : {X L : Type 0} (f : X → L) (key : L → Key) (xs : List X) (k : Key) → has (map (λ x. key (f x)) xs) k ≡ true → IsKeyOf (map f xs) key k
 key_there f key xs k h =
     let found = any_unmap (λ y. y ≡ k) (λ x. key (f x)) xs (there (map (λ x. key (f x)) xs) k h) in
@@ -34,7 +34,7 @@ pub distinct_apart : (list : List Key) (i j : ℕ) (d : Key) → AreDistinct lis
 distinct_apart [] i j d once less low same = absurd (omega arith)
 distinct_apart (k ∷ ks) i zero d once less low same = absurd (omega arith)
 distinct_apart (k ∷ ks) zero (suc j) d once less low same =
-    let found : has ks k ≡ true = list_any_at (is k) ks j d (omega arith) (subst (λ y. is k y ≡ true) same (is_own k)) in
+    let found : has ks k ≡ true = list_any_at (equals k) ks j d (omega arith) (subst (λ y. equals k y ≡ true) same (is_own k)) in
     cc
 distinct_apart (k ∷ ks) (suc i) (suc j) d once less low same = distinct_apart ks i j d once.1 (omega arith) (omega arith) same
 
@@ -51,7 +51,7 @@ earlier_not key lines j x rise low at (i, y, less, is_y, same) =
     let below : slice_cmp nat_cmp (get_or (map key lines) i []) (get_or (map key lines) j []) ≡ Less = pairs_rise (map key lines) rise i j [] before (omega (arith, length-map lines key)) in
     never_itself (key x) (rw (map_at key lines i y [] (omega arith) y_at, map_at key lines j x [] low at, same) at below)
 
--- no line made of these is bad
+-- no line made of these equals bad
 pub none_of : {E L : Type 0} (P : E → Type 0) (f : E → L) (row : L → ℕ) (Bad : ℕ → L → Type 0) (es : List E) → AllByRecursion P es
     → ((j : ℕ) (e : E) → j < length es → get_or es j e ≡ e → P e → Bad j (f e) → ⊥)
     → (r : ℕ) → BadAt (map f es) row Bad r → ⊥

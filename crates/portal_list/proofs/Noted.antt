@@ -10,11 +10,11 @@ use Rattle.std.proofs.Math.Bool.{or-true, or-false, or_assoc, and-true, and-fals
 use Rattle.std.proofs.lemmas.List.{length-take, get_or-set_same, get_or-set_other, map_push}
 use Rattle.std.proofs.lemmas.List.Folds.{list_any_more, list_any-append}
 use Rattle.spa_rows.specs.Index.{text_eq}
-use Rattle.portal_core.specs.Words.{Key, is, has}
+use Rattle.portal_core.specs.Words.{Key, equals, has}
 use Rattle.portal_core.specs.World.{Student}
 use Rattle.portal_core.proofs.AllLaws.{is_sym}
 use Rattle.portal_core.proofs.Keys.{is_same}
-use Rattle.portal_list.specs.Wanted.{passes_at, is_among, is_noted_in, is_noted, HasWanted}
+use Rattle.portal_list.specs.ApplicantIndex.{passes_at, is_among, is_noted_in, is_noted, IsIndexOf}
 use Rattle.portal_list.proofs.Steps.{grown}
 
 among_push : (ns : List ℕ) (n i : ℕ) → is_among (ns ++ n ∷ []) i ≡ (is_among ns i || (n == i))
@@ -36,10 +36,10 @@ noted_or (Some places) d none = refl
 
 -- one more place was noted at a project
 pub noted_put : {S : Type 0} (s t : HashMap (Bor Key) (Vec ℕ Global) S) (k : Bor Key) (v : Vec ℕ Global) (n : ℕ) → hash.Updates text_eq s t k (Some v)
-    → v.items ≡ noted (hash.get text_eq s k) ++ n ∷ [] → (q : Bor Key) (i : ℕ) → is_noted t q i ≡ (is_noted s q i || (is q.now k.now && (n == i)))
-noted_put s t k v n updates items q i = go (is q.now k.now) refl
+    → v.items ≡ noted (hash.get text_eq s k) ++ n ∷ [] → (q : Bor Key) (i : ℕ) → is_noted t q i ≡ (is_noted s q i || (equals q.now k.now && (n == i)))
+noted_put s t k v n updates items q i = go (equals q.now k.now) refl
   where
-    go : (b : Bool) → is q.now k.now ≡ b → is_noted t q i ≡ (is_noted s q i || (is q.now k.now && (n == i)))
+    go : (b : Bool) → equals q.now k.now ≡ b → is_noted t q i ≡ (is_noted s q i || (equals q.now k.now && (n == i)))
     go true e =
         let now : hash.get text_eq t q ≡ Some v = updates.0 q ∙ ap (λ b. cond b (Some v) (hash.get text_eq s q)) (is_sym k.now q.now ∙ e) in
         let same : hash.get text_eq s k ≡ hash.get text_eq s q = ap (λ y. hash.get text_eq s (record { ref_ptr = (0, 0); now = y })) (sym (is_same q.now k.now e)) in
@@ -60,11 +60,11 @@ and_or true false c = or-false c
 and_or false b c = refl
 
 -- one more project of a list
-pub noted_more : (q k : Key) (choice : List Key) (j : ℕ) (d first old now : Bool) → old ≡ (first || (has (take j choice) q && d)) → now ≡ (old || (is q k && d)) → j < length choice → get_or choice j k ≡ k
+pub noted_more : (q k : Key) (choice : List Key) (j : ℕ) (d first old now : Bool) → old ≡ (first || (has (take j choice) q && d)) → now ≡ (old || (equals q k && d)) → j < length choice → get_or choice j k ≡ k
     → now ≡ (first || (has (take (j + 1) choice) q && d))
 noted_more q k choice j d first old now was is_now low at =
-    is_now ∙ ap (λ b. b || (is q k && d)) was ∙ or_assoc first (has (take j choice) q && d) (is q k && d)
-    ∙ ap (λ b. first || b) (and_or (has (take j choice) q) (is q k) d ∙ ap (λ b. b && d) (ap (λ x. has (take j choice) q || is q x) (sym at) ∙ sym (list_any_more (is q) choice j k low)))
+    is_now ∙ ap (λ b. b || (equals q k && d)) was ∙ or_assoc first (has (take j choice) q && d) (equals q k && d)
+    ∙ ap (λ b. first || b) (and_or (has (take j choice) q) (equals q k) d ∙ ap (λ b. b && d) (ap (λ x. has (take j choice) q || equals q x) (sym at) ∙ sym (list_any_more (equals q) choice j k low)))
 
 module _ {X : Type 0} where
   pub passes_push : (p : X → Bool) (xs : List X) (x : X) (i : ℕ) → passes_at p (xs ++ x ∷ []) i ≡ (passes_at p xs i || (p x && (length xs == i)))
@@ -110,7 +110,7 @@ marked xs k i low = elim (cases_eq i k) [
 pub unmarked : (xs : List Bool) (k i : ℕ) → length xs ≤ k → i < length xs → get_or xs i false ≡ (get_or xs i false || (k == i))
 unmarked xs k i far low = sym (ap (λ b. get_or xs i false || b) (ne_eqb k i (λ e. absurd (omega (arith, e)))) ∙ or-false (get_or xs i false))
 
--- one more place of several: now is what a mark makes of old
+-- one more place of several: now equals what a mark makes of old
 pub marks_more : (places : List ℕ) (j k i : ℕ) (first old now : Bool) → old ≡ (first || is_among (take j places) i) → now ≡ (old || (k == i)) → j < length places → get_or places j k ≡ k
     → now ≡ (first || is_among (take (j + 1) places) i)
 marks_more places j k i first old now was is_now low at =
@@ -118,7 +118,7 @@ marks_more places j k i first old now was is_now low at =
     ∙ ap (λ b. first || b) (ap (λ n. is_among (take j places) i || (n == i)) (sym at) ∙ sym (list_any_more (λ n. n == i) places j k low))
 
 -- once the places of one more project are marked: q has the text of the project x
-pub wanted_more : {S : Type 0} (students : List Student) (table : HashMap (Bor Key) (Vec ℕ Global) S) → HasWanted students table
+pub wanted_more : {S : Type 0} (students : List Student) (table : HashMap (Bor Key) (Vec ℕ Global) S) → IsIndexOf students table
     → (projects : List (Bor Key)) (j : ℕ) (x q : Bor Key) → j < length projects → get_or projects j x ≡ x → q.now ≡ x.now
     → (i : ℕ) (old now : Bool) → old ≡ passes_at (λ s. list_any (λ p. has s.choice p) (map (λ k. k.now) (take j projects))) students i → now ≡ (old || is_noted table q i)
     → now ≡ passes_at (λ s. list_any (λ p. has s.choice p) (map (λ k. k.now) (take (j + 1) projects))) students i

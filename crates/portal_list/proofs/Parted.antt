@@ -9,19 +9,19 @@ use Rattle.portal_core.specs.Good.{Sound, codes_of, IsLecturer, IsStudent}
 use Rattle.portal_core.specs.Instance.{lecturer_keys, student_keys}
 use Rattle.portal_core.proofs.Keys.{all_unmap}
 use Rattle.portal_core.proofs.AllLaws as laws
-use Rattle.portal_list.specs.Rows.{Rows, rows_of, IsFitted}
+use Rattle.portal_list.specs.Rows.{RowsOfWorld, world_rows, IsFitted}
 use Rattle.portal_list.specs.Fit.{lecturers_fitting, students_fitting}
-use Rattle.portal_list.specs.Parts.{codes_in, lecturer_row_keys, student_row_keys, applicant_keys, IsRanked, RollsFit, RollsOf, ListsOf}
+use Rattle.portal_list.specs.Parts.{codes_in, lecturer_row_keys, student_row_keys, applicant_keys, HasRanking, RollsFit, RollsOf, ListsOf}
 use Rattle.portal_list.proofs.Rising.{map_map}
 use Rattle.portal_list.proofs.Fitting.{lecturers_back, lecturers_rows, students_back, students_rows}
 
-lecturer_keys_are : (w : World) → lecturer_row_keys (rows_of w).lecturers ≡ lecturer_keys w
+lecturer_keys_are : (w : World) → lecturer_row_keys (world_rows w).lecturers ≡ lecturer_keys w
 lecturer_keys_are w = map_map (λ r. r.key) (λ l. l.row) w.lecturers
 
-student_keys_are : (w : World) → student_row_keys (rows_of w).students ≡ student_keys w
+student_keys_are : (w : World) → student_row_keys (world_rows w).students ≡ student_keys w
 student_keys_are w = map_map (λ r. r.key) (λ s. s.row) w.students
 
-codes_are : (w : World) → codes_in w.office (rows_of w).lecturers (rows_of w).students ≡ codes_of w
+codes_are : (w : World) → codes_in w.office (world_rows w).lecturers (world_rows w).students ≡ codes_of w
 codes_are w = λ i. w.office ∷ map_map (λ r. r.code) (λ l. l.row) w.lecturers i ++ map_map (λ r. r.code) (λ s. s.row) w.students i
 
 pub applicants_are : (w : World) (l : Key) → applicant_keys w.projects w.students l ≡ map student_key (applicants_of w l)
@@ -62,9 +62,9 @@ module _ (w : World) where
     codes = subst AreDistinct (sym (codes_are w)) sound.codes;
   }
 
-  ranked : Sound w → AllByRecursion (λ l. IsRanked (is_published w.phase) (applicant_keys w.projects w.students l.row.key) l.ranking) w.lecturers
+  ranked : Sound w → AllByRecursion (λ l. HasRanking (is_published w.phase) (applicant_keys w.projects w.students l.row.key) l.ranking) w.lecturers
   ranked sound =
-      laws.all_weaker _ (λ l. IsRanked (is_published w.phase) (applicant_keys w.projects w.students l.row.key) l.ranking) (λ l h. subst (λ keys. IsRanked (is_published w.phase) keys l.ranking) (sym (applicants_are w l.row.key)) (record {
+      laws.all_weaker _ (λ l. HasRanking (is_published w.phase) (applicant_keys w.projects w.students l.row.key) l.ranking) (λ l h. subst (λ keys. HasRanking (is_published w.phase) keys l.ranking) (sym (applicants_are w l.row.key)) (record {
         whole = h.0;
         there = λ asked none. still (applicants_of w l.row.key) l.ranking (h.1 asked) none;
       })) w.lecturers
@@ -78,8 +78,8 @@ module _ (w : World) where
     rankings = ranked sound;
   }
 
-  meant : (l : Lecturer) → IsRanked (is_published w.phase) (applicant_keys w.projects w.students l.row.key) l.ranking → IsRanked (is_published w.phase) (map student_key (applicants_of w l.row.key)) l.ranking
-  meant l h = subst (λ keys. IsRanked (is_published w.phase) keys l.ranking) (applicants_are w l.row.key) h
+  meant : (l : Lecturer) → HasRanking (is_published w.phase) (applicant_keys w.projects w.students l.row.key) l.ranking → HasRanking (is_published w.phase) (map student_key (applicants_of w l.row.key)) l.ranking
+  meant l h = subst (λ keys. HasRanking (is_published w.phase) keys l.ranking) (applicants_are w l.row.key) h
 
   pub sound_of : RollsOf w → ListsOf w → Sound w
   sound_of rolls lists = record {
@@ -113,7 +113,7 @@ module _ (w : World) where
       subst (λ ls. RollsFit w.office ls w.projects (map (λ s. s.row) (first w).students)) (sym (map_map (λ l. l.row) first_published w.lecturers))
       (subst (λ ss. RollsFit w.office (map (λ l. l.row) w.lecturers) w.projects ss) (sym (map_map (λ s. s.row) first_placed w.students)) (rolls_of sound))
 
-module _ (rows : Rows) where
+module _ (rows : RowsOfWorld) where
   abbrev lecturers_from : Option (List Lecturer)
   lecturers_from = lecturers_fitting rows.lecturers rows.rankings rows.earlier_rankings
 
@@ -121,15 +121,15 @@ module _ (rows : Rows) where
   students_from = students_fitting rows.round rows.students rows.choices rows.pairs rows.earlier_choices rows.earlier_pairs
 
   -- the entries of a sound world come again
-  pub lecturers_of_sound : (w : World) → rows ≡ rows_of w → Sound w → lecturers_from ≡ Some w.lecturers
+  pub lecturers_of_sound : (w : World) → rows ≡ world_rows w → Sound w → lecturers_from ≡ Some w.lecturers
   lecturers_of_sound w e sound = ap (λ r. lecturers_fitting r.lecturers r.rankings r.earlier_rankings) e ∙ lecturers_back w.lecturers sound.lecturers_rise
 
-  pub students_of_sound : (w : World) → rows ≡ rows_of w → Sound w → students_from ≡ Some w.students
+  pub students_of_sound : (w : World) → rows ≡ world_rows w → Sound w → students_from ≡ Some w.students
   students_of_sound w e sound =
       ap (λ r. students_fitting r.round r.students r.choices r.pairs r.earlier_choices r.earlier_pairs) e ∙ students_back w.round w.students sound.students_rise sound.no_earlier_lists
 
   module _ (ls : List Lecturer) (ss : List Student) (lecturers : lecturers_from ≡ Some ls) (students : students_from ≡ Some ss) where
-    module _ (w : World) (e : rows ≡ rows_of w) (sound : Sound w) where
+    module _ (w : World) (e : rows ≡ world_rows w) (sound : Sound w) where
       same_lecturers : w.lecturers ≡ ls
       same_lecturers = let l : Some w.lecturers ≡ Some ls = sym (lecturers_of_sound w e sound) ∙ lecturers in cc
 
@@ -155,11 +155,11 @@ module _ (rows : Rows) where
         }
 
   -- no sound world has rows whose rolls, or whose lists, don't fit
-  pub rolls_tell : (RollsFit rows.office rows.lecturers rows.projects rows.students → ⊥) → (w : World) → rows ≡ rows_of w → Sound w → ⊥
+  pub rolls_tell : (RollsFit rows.office rows.lecturers rows.projects rows.students → ⊥) → (w : World) → rows ≡ world_rows w → Sound w → ⊥
   rolls_tell unfit w e sound = unfit (subst (λ r. RollsFit r.office r.lecturers r.projects r.students) (sym e) (rolls_of w sound))
 
   module _ (v : World) (fitted : IsFitted rows v) where
-    pub lists_tell : (ListsOf v → ⊥) → (w : World) → rows ≡ rows_of w → Sound w → ⊥
+    pub lists_tell : (ListsOf v → ⊥) → (w : World) → rows ≡ world_rows w → Sound w → ⊥
     lists_tell unfit w e sound = unfit (subst ListsOf (sym (fitted.once w e sound)) (lists_of w sound))
 
     module _ (rolls : RollsFit rows.office rows.lecturers rows.projects rows.students) where

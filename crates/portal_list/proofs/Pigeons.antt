@@ -3,33 +3,33 @@ use Rattle.std.proofs.Common.{◌≡◌, suc, ◌+◌, ◌≤◌, Bool, true, fa
 use Rattle.std.specs.Prelude.{◌||◌}
 use Rattle.std.specs.List.{AllByRecursion}
 use Rattle.std.proofs.Math.Bool.{or-true}
-use Rattle.portal_core.specs.Words.{Key, is, has, Rise, AreDistinct}
+use Rattle.portal_core.specs.Words.{Key, equals, has, Rise, AreDistinct}
 use Rattle.portal_core.specs.Good.{IsRanking}
 use Rattle.portal_core.proofs.Keys.{is_same, is_own}
 use Rattle.portal_core.proofs.AllLaws.{all_both, all_weaker, none_of}
 use Rattle.portal_core.proofs.Fills.{rise_distinct}
 
--- the keys without the first that is k
+-- the keys without the first that equals k
 without : Key → List Key → List Key
 without k [] = []
-without k (a ∷ as') = cond (is k a) as' (a ∷ without k as')
+without k (a ∷ as') = cond (equals k a) as' (a ∷ without k as')
 
 length_without : (k : Key) (ks : List Key) → has ks k ≡ true → length (without k ks) + 1 ≡ length ks
 unfolding without
 length_without k [] h = cc
-length_without k (a ∷ ks) h = at (is k a) (length_without k ks) h
+length_without k (a ∷ ks) h = at (equals k a) (length_without k ks) h
   where
     at : (b : Bool) → (has ks k ≡ true → length (without k ks) + 1 ≡ length ks) → (b || has ks k) ≡ true → length (cond b ks (a ∷ without k ks)) + 1 ≡ suc (length ks)
     at true again h = omega arith
     at false again h = let rest : length (without k ks) + 1 ≡ length ks = again h in omega arith
 
-has_without : (k x : Key) (ks : List Key) → is k x ≡ false → has ks x ≡ true → has (without k ks) x ≡ true
+has_without : (k x : Key) (ks : List Key) → equals k x ≡ false → has ks x ≡ true → has (without k ks) x ≡ true
 unfolding without
 has_without k x [] other h = h
-has_without k x (a ∷ ks) other h = at (is k a) (is x a) refl refl (has_without k x ks other) h
+has_without k x (a ∷ ks) other h = at (equals k a) (equals x a) refl refl (has_without k x ks other) h
   where
-    at : (b c : Bool) → is k a ≡ b → is x a ≡ c → (has ks x ≡ true → has (without k ks) x ≡ true) → (c || has ks x) ≡ true → has (cond b ks (a ∷ without k ks)) x ≡ true
-    at true true e f again h = let same : x ≡ k = is_same x a f ∙ sym (is_same k a e) in let wrong : is k x ≡ true = subst (λ y. is k y ≡ true) (sym same) (is_own k) in cc
+    at : (b c : Bool) → equals k a ≡ b → equals x a ≡ c → (has ks x ≡ true → has (without k ks) x ≡ true) → (c || has ks x) ≡ true → has (cond b ks (a ∷ without k ks)) x ≡ true
+    at true true e f again h = let same : x ≡ k = is_same x a f ∙ sym (is_same k a e) in let wrong : equals k x ≡ true = subst (λ y. equals k y ≡ true) (sym same) (is_own k) in cc
     at true false e f again h = h
     at false true e f again h = rw f refl
     at false false e f again h = rw f (again h)
@@ -37,13 +37,13 @@ has_without k x (a ∷ ks) other h = at (is k a) (is x a) refl refl (has_without
 pub fits : (ks all : List Key) → AreDistinct ks → AllByRecursion (λ k. has all k ≡ true) ks → length ks ≤ length all
 fits [] all once known = omega arith
 fits (k ∷ ks) all once known =
-    let left : AllByRecursion (λ x. has (without k all) x ≡ true) ks = all_weaker (λ x. (is k x ≡ false) × (has all x ≡ true)) (λ x. has (without k all) x ≡ true) (λ x h. has_without k x all h.0 h.1) ks (all_both (λ x. is k x ≡ false) (λ x. has all x ≡ true) ks (none_of ks k once.0) known.1) in
+    let left : AllByRecursion (λ x. has (without k all) x ≡ true) ks = all_weaker (λ x. (equals k x ≡ false) × (has all x ≡ true)) (λ x. has (without k all) x ≡ true) (λ x h. has_without k x all h.0 h.1) ks (all_both (λ x. equals k x ≡ false) (λ x. has all x ≡ true) ks (none_of ks k once.0) known.1) in
     omega (arith, fits ks (without k all) once.1 left, length_without k all known.0)
 
--- each key of a list is on it
+-- each key of a list equals on it
 own : (front ks : List Key) → AllByRecursion (λ k. has ks k ≡ true) ks
 own front [] = tt
-own front (k ∷ ks) = (rw (is_own k) refl, all_weaker (λ x. has ks x ≡ true) (λ x. has (k ∷ ks) x ≡ true) (λ x h. rw h (or-true (is x k))) ks (own front ks))
+own front (k ∷ ks) = (rw (is_own k) refl, all_weaker (λ x. has ks x ≡ true) (λ x. has (k ∷ ks) x ≡ true) (λ x h. rw h (or-true (equals x k))) ks (own front ks))
 
 pub all_on : (ks all : List Key) → AreDistinct ks → AllByRecursion (λ k. has all k ≡ true) ks → length all ≤ length ks → AllByRecursion (λ a. has ks a ≡ true) all
 all_on ks all once known long = all_weaker (λ a. has all a ≡ true) (λ a. has ks a ≡ true) (λ a h. at a (has ks a) refl h) all (own [] all)

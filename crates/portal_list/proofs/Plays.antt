@@ -6,7 +6,7 @@ use Rattle.portal_core.specs.declared.phase.Round.{Round}
 use Rattle.portal_core.specs.declared.phase.Round.TheVariants.{First, Second}
 use Rattle.portal_core.specs.declared.rows.LecturerRow.{LecturerRow}
 use Rattle.portal_core.specs.declared.rows.ProjectRow.{ProjectRow}
-use Rattle.portal_core.specs.Words.{Key, is, has, Rise}
+use Rattle.portal_core.specs.Words.{Key, equals, has, Rise}
 use Rattle.portal_core.specs.World.{Lecturer, Student, lecturer_key, project_key, pairs_with, lowered_lecturer, lowered_project, lecturers_left, projects_left, students_in, alone_lecturer}
 use Rattle.portal_core.specs.View.{name_in, listing_with, listings}
 use Rattle.portal_core.proofs.AllLaws.{map_same, any_map}
@@ -29,7 +29,7 @@ both_case x false false = refl
 
 module _ (ls : List Lecturer) (ps : List ProjectRow) (ss : List Student) where
   abbrev pairs : List (Key × Key)
-  pairs = pairs_with (λ s. s.earlier_place) ss
+  pairs = pairs_with (λ s. s.earlier_placement) ss
 
   abbrev has_room : Lecturer → Bool
   has_room l = nat_lt 0 l.row.capacity
@@ -48,7 +48,7 @@ module _ (ls : List Lecturer) (ps : List ProjectRow) (ss : List Student) where
   project_is : (left : List Lecturer) (p : ProjectRow) → project_played left pairs p
       ≡ cond (nat_lt 0 (lowered_project ss p).capacity && has (map lecturer_key left) p.lecturer) (Some (lowered_project ss p)) None
   project_is left p =
-      (λ i. cond {A = Option ProjectRow} (sym (any_map (is p.lecturer) lecturer_key left) i) (project_left_is ss p i) None)
+      (λ i. cond {A = Option ProjectRow} (sym (any_map (equals p.lecturer) lecturer_key left) i) (project_left_is ss p i) None)
       ∙ both_case (lowered_project ss p) (nat_lt 0 (lowered_project ss p).capacity) (has (map lecturer_key left) p.lecturer)
 
   pub projects_are : (left : List Lecturer) → left ≡ map alone_lecturer (lecturers_left ls ps ss) → filter_map (project_played left pairs) ps ≡ projects_left ls ps ss
@@ -65,8 +65,8 @@ module _ (ls : List Lecturer) (ps : List ProjectRow) (ss : List Student) where
 -- the catalogue reads nothing of an earlier round
 name_alone : (ls : List Lecturer) (k : Key) → name_in (map alone_lecturer ls) k ≡ name_in ls k
 name_alone ls k =
-    ap (option_map (λ (l : Lecturer). l.row.name)) (find_map alone_lecturer (λ l. is l.row.key k) (λ l. is l.row.key k) (λ l. refl) ls)
-    ∙ again (find (λ l. is l.row.key k) ls)
+    ap (option_map (λ (l : Lecturer). l.row.name)) (find_map alone_lecturer (λ l. equals l.row.key k) (λ l. equals l.row.key k) (λ l. refl) ls)
+    ∙ again (find (λ l. equals l.row.key k) ls)
   where
     again : (o : Option Lecturer) → option_map (λ (l : Lecturer). l.row.name) (option_map alone_lecturer o) ≡ option_map (λ l. l.row.name) o
     again None = refl

@@ -5,12 +5,12 @@ use Rattle.spa_model.specs.Spa.{Spa, IsStable}
 use Rattle.spa_model.specs.Pairs.{number_in}
 use Rattle.portal_core.specs.World.{World, Student, is_published}
 use Rattle.portal_core.specs.Instance.{instance, matching_of}
-use Rattle.portal_list.specs.Parts.{IsSettled}
+use Rattle.portal_list.specs.Parts.{IsStableIfPublished}
 use Rattle.portal_list.specs.Played.{takes_part}
 use Rattle.portal_list.proofs.Plays.{part_is}
 
 pub settled_if : (w : World) (i : Spa) (places : List (Option ℕ)) (r : Bool) → is_published w.phase ≡ true → i ≡ instance w
-    → places ≡ map (λ s. option_map (number_in i.project_keys) s.placed) (filter (takes_part w.round) w.students) → (IsTrue r ↔ IsStable i places) → (IsTrue r ↔ IsSettled w)
+    → places ≡ map (λ s. option_map (number_in i.project_keys) s.placed) (filter (takes_part w.round) w.students) → (IsTrue r ↔ IsStable i places) → (IsTrue r ↔ IsStableIfPublished w)
 settled_if w i places r published same are told =
     let there : places ≡ matching_of w = are ∙ (λ j. map (λ (s : Student). option_map (number_in (same j).project_keys) s.placed) (part_is w.round w.students j)) in
     (λ holds _. subst₂ IsStable same there (told.0 holds), λ settled. told.1 (subst₂ IsStable (sym same) (sym there) (settled published)))

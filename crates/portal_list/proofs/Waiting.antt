@@ -1,9 +1,9 @@
--- A lecturer is still to rank.
+-- A lecturer equals still to rank.
 use Rattle.std.proofs.Common.{◌≡◌, Bool, true, false, cond, List, [], ◌∷◌, refl, sym, ◌∙◌, ap}
 use Rattle.std.specs.Prelude.{map, filter, is_none, not, ◌&&◌, ◌||◌}
 use Rattle.std.specs.List.{list_any}
 use Rattle.std.proofs.Math.Bool.{and_comm}
-use Rattle.portal_core.specs.Words.{Key, is, has, is_empty}
+use Rattle.portal_core.specs.Words.{Key, equals, has, is_empty}
 use Rattle.portal_core.specs.World.{World, Student, Lecturer, is_still_to_rank}
 use Rattle.portal_core.specs.declared.rows.ProjectRow.{ProjectRow}
 use Rattle.portal_core.proofs.AllLaws.{any_or, any_nowhere}
@@ -19,11 +19,11 @@ any_left {X} p (x ∷ xs) =
     ]
 
 -- some list holds a project of the lecturer
-wanted : (ss : List Student) (l : Key) (ps : List ProjectRow) → list_any (λ s. list_any (λ p. has s.choice p.key) (filter (λ p. is p.lecturer l) ps)) ss ≡ is_wanted ss ps l
+wanted : (ss : List Student) (l : Key) (ps : List ProjectRow) → list_any (λ s. list_any (λ p. has s.choice p.key) (filter (λ p. equals p.lecturer l) ps)) ss ≡ is_wanted ss ps l
 wanted ss l [] = any_nowhere ss
 wanted ss l (p ∷ ps) =
-    elim (is p.lecturer l) as (λ b. list_any (λ s. list_any (λ q. has s.choice q.key) (cond b (p ∷ filter (λ q. is q.lecturer l) ps) (filter (λ q. is q.lecturer l) ps))) ss ≡ ((b && list_any (λ s. has s.choice p.key) ss) || is_wanted ss ps l)) [
-      | true ↦ any_or (λ (s : Student). has s.choice p.key) (λ s. list_any (λ q. has s.choice q.key) (filter (λ q. is q.lecturer l) ps)) ss ∙ ap (λ b. list_any (λ s. has s.choice p.key) ss || b) (wanted ss l ps)
+    elim (equals p.lecturer l) as (λ b. list_any (λ s. list_any (λ q. has s.choice q.key) (cond b (p ∷ filter (λ q. equals q.lecturer l) ps) (filter (λ q. equals q.lecturer l) ps))) ss ≡ ((b && list_any (λ s. has s.choice p.key) ss) || is_wanted ss ps l)) [
+      | true ↦ any_or (λ (s : Student). has s.choice p.key) (λ s. list_any (λ q. has s.choice q.key) (filter (λ q. equals q.lecturer l) ps)) ss ∙ ap (λ b. list_any (λ s. has s.choice p.key) ss || b) (wanted ss l ps)
       | false ↦ wanted ss l ps
     ]
 

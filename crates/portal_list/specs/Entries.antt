@@ -4,7 +4,7 @@ use Rattle.portal_core.specs.Words.{Key}
 use Rattle.portal_core.specs.World.{World, Lecturer, Student}
 use Rattle.portal_core.specs.declared.phase.Phase.{Phase}
 use Rattle.portal_core.specs.declared.phase.Round.{Round}
-use Rattle.portal_core.specs.Change.{Change, Choices, Ranks, Lecturers, Projects, Students, To, Places, Fill, SecondRound}
+use Rattle.portal_core.specs.Change.{Change, Choices, Ranks, Lecturers, Projects, Students, To, Placements, Fill, SecondRound}
 use Rattle.portal_core.specs.declared.rows.ProjectRow.{ProjectRow}
 
 pub record AllEntries : Type 0 where
@@ -34,5 +34,5 @@ is_followed Fill = true
 is_followed (Lecturers rows) = false
 is_followed (Projects rows) = false
 is_followed (Students rows) = false
-is_followed (Places pairs) = false
+is_followed (Placements pairs) = false
 is_followed SecondRound = false

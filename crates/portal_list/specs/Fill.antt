@@ -22,5 +22,5 @@ abbrev pub filled : List ProjectRow → List Student → Lecturer → Lecturer
 filled projects students l = with_missing l (missing projects students l)
 
 -- the lecturers still to rank, each with the keys of the applicants
-abbrev pub fills : World → List (Key × List Key)
-fills w = map (λ l. (l.row.key, map student_key (applicants_of w l.row.key))) (filter (is_still_to_rank w) w.lecturers)
+abbrev pub fill_missing : World → List (Key × List Key)
+fill_missing w = map (λ l. (l.row.key, map student_key (applicants_of w l.row.key))) (filter (is_still_to_rank w) w.lecturers)

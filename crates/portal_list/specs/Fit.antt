@@ -1,21 +1,21 @@
--- Rows put together to entries: each roll in its order takes what stands next for it, until nothing is left.
+-- Rows put together to entries: each roll in its order takes what stands next for it, until nothing equals left.
 use Rattle.std.specs.Prelude.{◌&&◌, if◌then◌else◌, List, [], ◌∷◌, Option, Some, None, option_map}
 use Rattle.portal_core.specs.declared.phase.Round.{Round}
 use Rattle.portal_core.specs.declared.phase.Round.TheVariants.{First, Second}
 use Rattle.portal_core.specs.declared.rows.LecturerRow.{LecturerRow}
 use Rattle.portal_core.specs.declared.rows.StudentRow.{StudentRow}
-use Rattle.portal_core.specs.Words.{Key, is, is_empty}
+use Rattle.portal_core.specs.Words.{Key, equals, is_empty}
 use Rattle.portal_core.specs.World.{Lecturer, Student}
 
--- what stands next, if it is for this key
+-- what stands next, if it equals for this key
 abbrev pub next_for : {V : Type 0} → Key → List (Key × V) → Option V
 next_for k [] = None
-next_for k (x ∷ xs) = if is x.0 k then Some x.1 else None
+next_for k (x ∷ xs) = if equals x.0 k then Some x.1 else None
 
 -- the rest, without it
 abbrev pub rest_for : {V : Type 0} → Key → List (Key × V) → List (Key × V)
 rest_for k [] = []
-rest_for k (x ∷ xs) = if is x.0 k then xs else x ∷ xs
+rest_for k (x ∷ xs) = if equals x.0 k then xs else x ∷ xs
 
 -- the list of the earlier round: in the second round the one that stands next, in the first an empty one
 abbrev pub earlier_for : Round → Key → List (Key × List Key) → Option (List Key)
@@ -35,9 +35,9 @@ lecturers_fitting (r ∷ rs) rankings earlier =
 
 -- a student with the lists, if they are there, before other students
 abbrev pub with_lists : StudentRow → Option (List Key) → Option Key → Option (List Key) → Option Key → Option (List Student) → Option (List Student)
-with_lists r (Some list) place (Some earlier) earlier_place others =
-    option_map (λ ss. record { row = r; choice = list; placed = place; earlier_choice = earlier; earlier_place = earlier_place } ∷ ss) others
-with_lists r _ place _ earlier_place others = None
+with_lists r (Some list) place (Some earlier) earlier_placement others =
+    option_map (λ ss. record { row = r; choice = list; placed = place; earlier_choice = earlier; earlier_placement = earlier_placement } ∷ ss) others
+with_lists r _ place _ earlier_placement others = None
 
 -- by the lists and the places, and those of the earlier round
 abbrev pub students_fitting : Round → List StudentRow → List (Key × List Key) → List (Key × Key) → List (Key × List Key) → List (Key × Key) → Option (List Student)

@@ -5,5 +5,5 @@ pub mod Rows
 pub mod Fit
 pub mod Parts
 pub mod Fill
-pub mod Wanted
+pub mod ApplicantIndex
 pub mod Played

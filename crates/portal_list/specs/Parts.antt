@@ -51,7 +51,7 @@ pub record PhaseFits (phase : Phase) (e : AllEntries) : Type 0 where
 
 -- nothing of an earlier round is there
 abbrev pub HasNothingEarlier : Student → Type 0
-HasNothingEarlier s = (s.earlier_choice ≡ []) × (s.earlier_place ≡ None)
+HasNothingEarlier s = (s.earlier_choice ≡ []) × (s.earlier_placement ≡ None)
 
 -- who has a project of the first round has no list and no place of the second
 abbrev pub IsOutIfPlaced : Student → Type 0
@@ -77,7 +77,7 @@ abbrev pub applicant_keys : List ProjectRow → List Student → Key → List Ke
 applicant_keys projects students lecturer = map student_key (wanting (own_keys projects lecturer) students)
 
 -- the ranking, if there is one, is of the applicants; where it is asked for, it is there if there are any
-pub record IsRanked (asked : Bool) (applicants : List Key) (ranking : Option (List Key)) : Type 0 where
+pub record HasRanking (asked : Bool) (applicants : List Key) (ranking : Option (List Key)) : Type 0 where
   pub whole : IfSome ranking (IsRanking applicants)
   pub there : asked ≡ true → ranking ≡ None → applicants ≡ []
 
@@ -85,7 +85,7 @@ pub record ListsFit (phase : Phase) (e : AllEntries) : Type 0 where
   pub phase_fits : PhaseFits phase e
   pub round_fits : RoundFits phase e
   pub choices : HasChoices e
-  pub rankings : AllByRecursion (λ l. IsRanked (is_published phase) (applicant_keys e.projects e.students l.row.key) l.ranking) e.lecturers
+  pub rankings : AllByRecursion (λ l. HasRanking (is_published phase) (applicant_keys e.projects e.students l.row.key) l.ranking) e.lecturers
 
 -- of a world: its rolls fit, its lists fit, and its result, once published, is a stable matching
 abbrev pub RollsOf : World → Type 0
@@ -94,5 +94,5 @@ RollsOf w = RollsFit w.office (map (λ l. l.row) w.lecturers) w.projects (map (�
 abbrev pub ListsOf : World → Type 0
 ListsOf w = ListsFit w.phase (entries_in w)
 
-abbrev pub IsSettled : World → Type 0
-IsSettled w = is_published w.phase ≡ true → IsStable (instance w) (matching_of w)
+abbrev pub IsStableIfPublished : World → Type 0
+IsStableIfPublished w = is_published w.phase ≡ true → IsStable (instance w) (matching_of w)

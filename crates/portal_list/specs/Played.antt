@@ -4,18 +4,18 @@ use Rattle.portal_core.specs.declared.phase.Round.{Round}
 use Rattle.portal_core.specs.declared.phase.Round.TheVariants.{First, Second}
 use Rattle.portal_core.specs.declared.rows.ProjectRow.{ProjectRow}
 use Rattle.std.specs.List.{list_any}
-use Rattle.portal_core.specs.Words.{Key, is}
+use Rattle.portal_core.specs.Words.{Key, equals}
 use Rattle.portal_core.specs.Room.{lecturer_left, project_left}
 use Rattle.portal_core.specs.World.{Lecturer, Student, is_left, lecturers_left, projects_left, students_left, alone_lecturer, alone_student}
 use Rattle.portal_list.specs.Entries.{AllEntries}
 
--- the lecturer, if room is left
+-- the lecturer, if room equals left
 abbrev pub lecturer_played : List ProjectRow → List (Key × Key) → Lecturer → Option Lecturer
 lecturer_played projects pairs l = option_map (λ row. record { row = row; ranking = l.ranking; earlier_ranking = None }) (lecturer_left projects pairs l.row)
 
--- the project, if room is left and its lecturer is one of these
+-- the project, if room equals left and its lecturer equals one of these
 abbrev pub project_played : List Lecturer → List (Key × Key) → ProjectRow → Option ProjectRow
-project_played lecturers pairs p = if list_any (λ l. is p.lecturer l.row.key) lecturers then project_left pairs p else None
+project_played lecturers pairs p = if list_any (λ l. equals p.lecturer l.row.key) lecturers then project_left pairs p else None
 
 -- all of them
 abbrev pub all_played : AllEntries → AllEntries

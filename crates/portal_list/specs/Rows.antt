@@ -11,7 +11,7 @@ use Rattle.portal_core.specs.Words.{Key}
 use Rattle.portal_core.specs.World.{World, Lecturer, Student, pairs_with}
 use Rattle.portal_core.specs.Good.{Sound}
 
-pub record Rows : Type 0 where
+pub record RowsOfWorld : Type 0 where
   pub round : Round
   pub phase : Phase
   pub office : Key
@@ -39,8 +39,8 @@ earlier_choices_in Second students = map (λ s. (s.row.key, s.earlier_choice)) s
 abbrev pub rankings_with : (Lecturer → Option (List Key)) → List Lecturer → List (Key × List Key)
 rankings_with ranking lecturers = filter_map (λ l. option_map (λ list. (l.row.key, list)) (ranking l)) lecturers
 
-abbrev pub rows_of : World → Rows
-rows_of w =
+abbrev pub world_rows : World → RowsOfWorld
+world_rows w =
     record {
       round = w.round;
       phase = w.phase;
@@ -53,10 +53,10 @@ rows_of w =
       pairs = pairs_with (λ s. s.placed) w.students;
       earlier_choices = earlier_choices_in w.round w.students;
       earlier_rankings = rankings_with (λ l. l.earlier_ranking) w.lecturers;
-      earlier_pairs = pairs_with (λ s. s.earlier_place) w.students;
+      earlier_pairs = pairs_with (λ s. s.earlier_placement) w.students;
     }
 
 -- these are the rows of the world, and of no other that is sound
-pub record IsFitted (rows : Rows) (w : World) : Type 0 where
-  pub rows_are : rows ≡ rows_of w
-  pub once : (v : World) → rows ≡ rows_of v → Sound v → w ≡ v
+pub record IsFitted (rows : RowsOfWorld) (w : World) : Type 0 where
+  pub rows_are : rows ≡ world_rows w
+  pub once : (v : World) → rows ≡ world_rows v → Sound v → w ≡ v

@@ -7,14 +7,14 @@ ghost use Rattle.portal_core.specs.Change.{with_choice, with_ranking};
 
 mod fill;
 mod opening;
-mod places;
+mod placements;
 mod rolls;
 
-use crate::by_key::place_of;
+use crate::by_key::index_of;
 use crate::entries::{LecturerEntry, StudentEntry};
 pub(crate) use fill::{applicants_by_key, fill_rankings};
 pub(crate) use opening::{lay_by_lists, lay_by_rankings};
-pub(crate) use places::place_all;
+pub(crate) use placements::place_all;
 use portal_core::copy_keys;
 pub(crate) use rolls::{add_rows, new_lecturers, new_students};
 use spa_rows::Key;
@@ -32,7 +32,7 @@ pub(crate) fn replace_choice(
     ensures same { OnErr result (students.new ≡ students.old) }
 {
     let list = copy_keys(alloc, list)?;
-    if let Some(place) = place_of(students, key) {
+    if let Some(place) = index_of(students, key) {
         let student = &mut students[place];
         student.choice = list;
     }
@@ -51,7 +51,7 @@ pub(crate) fn replace_ranking(
     ensures same { OnErr result (lecturers.new ≡ lecturers.old) }
 {
     let list = copy_keys(alloc, list)?;
-    if let Some(place) = place_of(lecturers, key) {
+    if let Some(place) = index_of(lecturers, key) {
         let lecturer = &mut lecturers[place];
         lecturer.ranking = Some(list);
     }

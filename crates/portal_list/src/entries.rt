@@ -4,7 +4,7 @@ ghost use Rattle.std.specs.Prelude.{◌≡◌, true, false, Ok, IfOk, OnOk, OnEr
 ghost use Rattle.portal_core.specs.World.{World};
 ghost use Rattle.portal_core.specs.Change.{changed, with_place};
 ghost use Rattle.portal_core.specs.Good.{Sound};
-ghost use Rattle.portal_core.specs.Meaning.{meant};
+ghost use Rattle.portal_core.specs.Meaning.{change_model};
 ghost use Rattle.portal_list.specs.Entries.{HasEntries, is_followed};
 
 use crate::changes::{fill_rankings, place_all, replace_choice, replace_ranking};
@@ -38,7 +38,7 @@ pub(crate) struct StudentEntry {
     pub choice: Vec<Key>,
     pub placed: Option<Key>,
     pub earlier_choice: Vec<Key>,
-    pub earlier_place: Option<Key>,
+    pub earlier_placement: Option<Key>,
 }
 
 impl Model for StudentEntry {
@@ -46,7 +46,7 @@ impl Model for StudentEntry {
 
     ghost Value = { Student };
 
-    ghost view = { λ e. record { row = e.row; choice = e.choice.items; placed = e.placed; earlier_choice = e.earlier_choice.items; earlier_place = e.earlier_place } };
+    ghost view = { λ e. record { row = e.row; choice = e.choice.items; placed = e.placed; earlier_choice = e.earlier_choice.items; earlier_placement = e.earlier_placement } };
 }
 
 /// The entries of a world, in the order of its rolls.
@@ -79,9 +79,9 @@ impl Entries {
     /// Follows a change of a list, a ranking, the phase, or a fill, and says so. New rolls, the result and the second round are not
     /// followed; then, and where memory is short, all stays as it was.
     pub fn follow(&mut self, alloc: Global, change: &Change) -> Result<bool, AllocError>
-        ensures followed { IfOk result (λ yes. yes ≡ is_followed (meant change.now)) }
+        ensures followed { IfOk result (λ yes. yes ≡ is_followed (change_model change.now)) }
         ensures made { result ≡ Ok true → (w : World) → Sound w → HasEntries self.old w
-            → HasEntries self.new (changed w (meant change.now)) }
+            → HasEntries self.new (changed w (change_model change.now)) }
         ensures not_made { result ≡ Ok false → self.new ≡ self.old }
         ensures same { OnErr result (self.new ≡ self.old) }
     {

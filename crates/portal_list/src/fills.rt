@@ -5,12 +5,12 @@ ghost use Rattle.portal_core.specs.Words as words;
 ghost use Rattle.portal_core.specs.World.{World};
 ghost use Rattle.portal_list.specs.Entries.{HasEntries};
 ghost use Rattle.portal_list.specs.Parts.{applicant_keys};
-ghost use Rattle.portal_list.specs.Fill.{fills};
+ghost use Rattle.portal_list.specs.Fill.{fill_missing};
 
 use crate::changes::applicants_by_key;
 use crate::entries::{Entries, StudentEntry};
 use crate::views::waiting;
-use crate::wanted::Wanted;
+use crate::applicant_index::ApplicantIndex;
 use portal_core::ProjectRow;
 use spa_rows::Key;
 use std::alloc::{AllocError, Global};
@@ -25,7 +25,7 @@ fn with_applicants(
     ensures { IfOk result (λ v. map {B = words.Key × List words.Key} (λ f. (f.0, f.1.items)) v.items
         ≡ map (λ k. (k, applicant_keys projects.now students.now k)) lecturers.now) }
 {
-    let wanted = Wanted::of(alloc, students)?;
+    let wanted = ApplicantIndex::of(alloc, students)?;
     let mut fills = Vec::with_capacity(alloc, lecturers.len())?;
     for lecturer in lecturers {
         let keys = applicants_by_key(alloc, projects, &wanted, lecturer)?;
@@ -39,7 +39,7 @@ impl Entries {
     /// rankings that a fill would put.
     pub fn fills(&self, alloc: Global) -> Result<Vec<(Key, Vec<Key>)>, AllocError>
         ensures { IfOk result (λ v. (w : World) → HasEntries self.now w
-            → map {B = words.Key × List words.Key} (λ f. (f.0, f.1.items)) v.items ≡ fills w) }
+            → map {B = words.Key × List words.Key} (λ f. (f.0, f.1.items)) v.items ≡ fill_missing w) }
     {
         let lecturers = waiting(alloc, &self.lecturers, &self.projects, &self.students)?;
         with_applicants(alloc, &lecturers, &self.projects, &self.students)

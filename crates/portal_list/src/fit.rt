@@ -101,13 +101,13 @@ pub(crate) fn student_entries(
             return Ok(None);
         };
         let placed = take_for(&mut pairs, &row.key);
-        let earlier_place = take_for(&mut earlier_pairs, &row.key);
+        let earlier_placement = take_for(&mut earlier_pairs, &row.key);
         entries.push(StudentEntry {
             row,
             choice,
             placed,
             earlier_choice,
-            earlier_place,
+            earlier_placement,
         })?;
     }
     Ok(if choices.is_empty()

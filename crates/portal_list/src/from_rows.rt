@@ -5,7 +5,7 @@ ghost use Rattle.portal_core.specs.World.{World};
 ghost use Rattle.portal_core.specs.Good.{Sound};
 ghost use Rattle.portal_list.specs.Entries.{HasEntries};
 ghost use Rattle.portal_list.specs.Parts.{RollsFit};
-ghost use Rattle.portal_list.specs.Rows.{rows_of, IsFitted};
+ghost use Rattle.portal_list.specs.Rows.{world_rows, IsFitted};
 ghost use Rattle.portal_list.specs.declared.from_rows.RowsFault.TheVariants.{Memory};
 
 use crate::entries::Entries;
@@ -43,9 +43,9 @@ pub struct WorldRows {
 
 impl Model for WorldRows {
     ghost use Rattle.std.specs.Prelude.{map};
-    ghost use Rattle.portal_list.specs.Rows.{Rows};
+    ghost use Rattle.portal_list.specs.Rows.{RowsOfWorld};
 
-    ghost Value = { Rows };
+    ghost Value = { RowsOfWorld };
 
     ghost view = { λ x. record { round = x.round; phase = x.phase; office = x.office; lecturers = x.lecturers.items; projects = x.projects.items; students = x.students.items; choices = map (λ c. (c.0, c.1.items)) x.choices.items; rankings = map (λ r. (r.0, r.1.items)) x.rankings.items; pairs = x.pairs.items; earlier_choices = map (λ c. (c.0, c.1.items)) x.earlier_choices.items; earlier_rankings = map (λ r. (r.0, r.1.items)) x.earlier_rankings.items; earlier_pairs = x.earlier_pairs.items } };
 }
@@ -83,7 +83,7 @@ fn rolls_of_rows_fit(alloc: Global, rows: &WorldRows) -> Result<bool, AllocError
 
 /// The keeper of these rows, if they are those of a world.
 fn fitted(alloc: Global, rows: WorldRows) -> Result<Option<ListKeeper>, AllocError>
-    ensures { IfOk result (λ found. MatchOption found ((w : World) → rows ≡ rows_of w → Sound w → ⊥)
+    ensures { IfOk result (λ found. MatchOption found ((w : World) → rows ≡ world_rows w → Sound w → ⊥)
         (λ keeper. IsFitted rows keeper)) }
 {
     let WorldRows {
@@ -131,9 +131,9 @@ fn fitted(alloc: Global, rows: WorldRows) -> Result<Option<ListKeeper>, AllocErr
 impl ListKeeper {
     /// The keeper of the rows of a sound world.
     pub fn from_rows(alloc: Global, rows: WorldRows) -> Result<ListKeeper, RowsFault>
-        ensures ok { IfOk result (λ keeper. rows ≡ rows_of keeper) }
+        ensures ok { IfOk result (λ keeper. rows ≡ world_rows keeper) }
         ensures sound { IfOk result (λ keeper. Sound keeper) }
-        ensures err { result ≡ Err RowsFault.NotGood → (w : World) → rows ≡ rows_of w → Sound w
+        ensures err { result ≡ Err RowsFault.NotGood → (w : World) → rows ≡ world_rows w → Sound w
             → ⊥ }
     {
         if !rolls_of_rows_fit(alloc, &rows)? {
@@ -160,9 +160,9 @@ impl Entries {
     /// The entries of the rows of a sound world. No list is judged: of other rows entries may come that mean nothing, or
     /// `NotGood`.
     pub fn from_rows(alloc: Global, rows: WorldRows) -> Result<Entries, RowsFault>
-        ensures entries { IfOk result (λ e. (w : World) → rows ≡ rows_of w → Sound w
+        ensures entries { IfOk result (λ e. (w : World) → rows ≡ world_rows w → Sound w
             → HasEntries e w) }
-        ensures refused { result ≡ Err RowsFault.NotGood → (w : World) → rows ≡ rows_of w → Sound w
+        ensures refused { result ≡ Err RowsFault.NotGood → (w : World) → rows ≡ world_rows w → Sound w
             → ⊥ }
     {
         match fitted(alloc, rows)? {

@@ -5,7 +5,7 @@ ghost use Rattle.spa_model.specs.Pairs.{number_in};
 ghost use Rattle.spa_model.specs.Spa.{IsStable};
 ghost use Rattle.portal_core.specs.Good.{Good, Sound, IsRound};
 ghost use Rattle.portal_core.specs.World.{first, first_published, first_placed, is_second};
-ghost use Rattle.portal_list.specs.Parts.{IsSettled, RollsOf};
+ghost use Rattle.portal_list.specs.Parts.{IsStableIfPublished, RollsOf};
 ghost use Rattle.portal_list.specs.Played.{takes_part};
 
 use crate::copies::{place_copy, project_rows_of, ranking_copy};
@@ -20,7 +20,7 @@ use spa_model::{Instance, Matching};
 use std::alloc::{AllocError, Global};
 
 /// The number of the project that the result gives; the count of projects where that is unknown.
-fn place_in(instance: &Instance, student: &StudentEntry) -> Option<usize>
+fn placement_in(instance: &Instance, student: &StudentEntry) -> Option<usize>
     ensures { result ≡ option_map (number_in instance.now.project_keys) student.now.placed }
 {
     match &student.placed {
@@ -30,7 +30,7 @@ fn place_in(instance: &Instance, student: &StudentEntry) -> Option<usize>
 }
 
 /// The result of who takes part in the round, by the numbers of projects.
-fn places_in(
+fn placements_in(
     alloc: Global,
     instance: &Instance,
     round: Round,
@@ -43,7 +43,7 @@ fn places_in(
     let mut places = Vec::new(alloc);
     for student in students {
         if takes_part(round, student) {
-            places.push(place_in(instance, student))?;
+            places.push(placement_in(instance, student))?;
         }
     }
     Ok(places)
@@ -91,9 +91,9 @@ fn first_student(alloc: Global, student: &StudentEntry) -> Result<StudentEntry, 
     Ok(StudentEntry {
         row: student.row.copy(alloc)?,
         choice: copy_keys(alloc, &student.earlier_choice)?,
-        placed: place_copy(alloc, student.earlier_place.as_ref())?,
+        placed: place_copy(alloc, student.earlier_placement.as_ref())?,
         earlier_choice: Vec::new(alloc),
-        earlier_place: None,
+        earlier_placement: None,
     })
 }
 
@@ -111,14 +111,14 @@ impl ListKeeper {
     /// Whether the result of the round, once it is published, is a stable matching.
     fn is_settled(&self, alloc: Global) -> Result<bool, AllocError>
         requires { Sound self.now }
-        ensures { IfOk result (λ yes. IsTrue yes ↔ IsSettled self.now) }
+        ensures { IfOk result (λ yes. IsTrue yes ↔ IsStableIfPublished self.now) }
     {
         if !is_published(self.phase) {
             return Ok(true);
         }
         let entries = &self.entries;
         let instance = instance_of(alloc, entries)?;
-        let places = places_in(alloc, &instance, entries.round, &entries.students)?;
+        let places = placements_in(alloc, &instance, entries.round, &entries.students)?;
         Ok(are_stable(&instance, places))
     }
 

@@ -7,7 +7,7 @@ ghost use Rattle.portal_core.specs.declared.phase.Round.TheVariants.{First};
 ghost use Rattle.portal_core.specs.Good.{Sound};
 ghost use Rattle.portal_core.specs.Instance as meant_by;
 ghost use Rattle.portal_list.specs.Entries.{HasEntries};
-ghost use Rattle.portal_list.specs.Lines.{lecturer_line, project_line, student_line, lines_of};
+ghost use Rattle.portal_list.specs.Lines.{instance_lecturer, instance_project, instance_student, instance_rows};
 
 use crate::entries::{Entries, LecturerEntry, StudentEntry};
 use crate::from_rows::RowsFault;
@@ -36,7 +36,7 @@ fn texts_of(alloc: Global, keys: &[Key]) -> Result<Vec<Vec<u8>>, AllocError>
 }
 
 fn lecturer_line(alloc: Global, entry: &LecturerEntry) -> Result<LecturerLine, AllocError>
-    ensures { IfOk result (λ line. line ≡ lecturer_line entry.now) }
+    ensures { IfOk result (λ line. line ≡ instance_lecturer entry.now) }
 {
     let list = match &entry.ranking {
         Some(ranking) => texts_of(alloc, ranking)?,
@@ -51,7 +51,7 @@ fn lecturer_line(alloc: Global, entry: &LecturerEntry) -> Result<LecturerLine, A
 }
 
 fn project_line(alloc: Global, project: &ProjectRow) -> Result<ProjectLine, AllocError>
-    ensures { IfOk result (λ line. line ≡ project_line project.now) }
+    ensures { IfOk result (λ line. line ≡ instance_project project.now) }
 {
     Ok(ProjectLine {
         row: 0,
@@ -62,7 +62,7 @@ fn project_line(alloc: Global, project: &ProjectRow) -> Result<ProjectLine, Allo
 }
 
 fn student_line(alloc: Global, entry: &StudentEntry) -> Result<StudentLine, AllocError>
-    ensures { IfOk result (λ line. line ≡ student_line entry.now) }
+    ensures { IfOk result (λ line. line ≡ instance_student entry.now) }
 {
     Ok(StudentLine {
         row: 0,
@@ -72,7 +72,7 @@ fn student_line(alloc: Global, entry: &StudentEntry) -> Result<StudentLine, Allo
 }
 
 fn lecturer_lines(alloc: Global, entries: &[LecturerEntry]) -> Result<Vec<LecturerLine>, AllocError>
-    ensures { IfOk result (λ lines. lines.items ≡ map lecturer_line entries.now) }
+    ensures { IfOk result (λ lines. lines.items ≡ map instance_lecturer entries.now) }
 {
     let mut lines = Vec::new(alloc);
     for entry in entries {
@@ -82,7 +82,7 @@ fn lecturer_lines(alloc: Global, entries: &[LecturerEntry]) -> Result<Vec<Lectur
 }
 
 fn project_lines(alloc: Global, projects: &[ProjectRow]) -> Result<Vec<ProjectLine>, AllocError>
-    ensures { IfOk result (λ lines. lines.items ≡ map project_line projects.now) }
+    ensures { IfOk result (λ lines. lines.items ≡ map instance_project projects.now) }
 {
     let mut lines = Vec::new(alloc);
     for project in projects {
@@ -92,7 +92,7 @@ fn project_lines(alloc: Global, projects: &[ProjectRow]) -> Result<Vec<ProjectLi
 }
 
 fn student_lines(alloc: Global, entries: &[StudentEntry]) -> Result<Vec<StudentLine>, AllocError>
-    ensures { IfOk result (λ lines. lines.items ≡ map student_line entries.now) }
+    ensures { IfOk result (λ lines. lines.items ≡ map instance_student entries.now) }
 {
     let mut lines = Vec::new(alloc);
     for entry in entries {
@@ -103,7 +103,7 @@ fn student_lines(alloc: Global, entries: &[StudentEntry]) -> Result<Vec<StudentL
 
 /// The lines of the entries.
 fn rows_of(alloc: Global, entries: &Entries) -> Result<InstanceRows, AllocError>
-    ensures { IfOk result (λ rows. rows ≡ lines_of entries.now) }
+    ensures { IfOk result (λ rows. rows ≡ instance_rows entries.now) }
 {
     Ok(InstanceRows {
         lecturers: lecturer_lines(alloc, &entries.lecturers)?,

@@ -4,8 +4,8 @@ ghost use Rattle.std.specs.Prelude.{◌≡◌, true, [], IfOk, IfErr, OnOk, OnEr
 ghost use Rattle.portal_core.specs.View as seen;
 ghost use Rattle.portal_core.specs.Good.{Good, Sound, CanPublish};
 ghost use Rattle.portal_core.specs.Instance as meant_by;
-ghost use Rattle.portal_core.specs.Change.{changed, Lecturers, Projects, Students, Places, SecondRound};
-ghost use Rattle.portal_core.specs.Meaning.{meant};
+ghost use Rattle.portal_core.specs.Change.{changed, Lecturers, Projects, Students, Placements, SecondRound};
+ghost use Rattle.portal_core.specs.Meaning.{change_model};
 ghost use Rattle.portal_list.specs.Entries.{is_followed};
 
 use crate::changes::{add_rows, lay_by_lists, lay_by_rankings, new_lecturers, new_students};
@@ -197,7 +197,7 @@ impl ListKeeper {
 
     /// Gives each student who takes part the project of the pairs, or none, and publishes the result.
     fn publish(&mut self, alloc: Global, pairs: &[(Key, Key)]) -> Result<(), AllocError>
-        ensures made { OnOk result (self.new ≡ changed self.old (Places pairs.now)) }
+        ensures made { OnOk result (self.new ≡ changed self.old (Placements pairs.now)) }
         ensures same { OnErr result (self.new ≡ self.old) }
     {
         self.entries.place(alloc, pairs)?;
@@ -208,9 +208,9 @@ impl ListKeeper {
     /// Follows a change of a list or a ranking, or a fill.
     fn follow(&mut self, alloc: Global, change: &Change) -> Result<(), AllocError>
         requires sound { Sound self.old }
-        requires followed { is_followed (meant change.now) ≡ true }
-        requires phase { (changed self.old (meant change.now)).phase ≡ self.old.phase }
-        ensures made { OnOk result (self.new ≡ changed self.old (meant change.now)) }
+        requires followed { is_followed (change_model change.now) ≡ true }
+        requires phase { (changed self.old (change_model change.now)).phase ≡ self.old.phase }
+        ensures made { OnOk result (self.new ≡ changed self.old (change_model change.now)) }
         ensures same { OnErr result (self.new ≡ self.old) }
     {
         self.entries.follow(alloc, change)?;
@@ -220,7 +220,7 @@ impl ListKeeper {
     /// Makes one change, or leaves all as it was where memory is short.
     pub(crate) fn make(&mut self, alloc: Global, change: &Change) -> Result<(), AllocError>
         requires { Sound self.old }
-        ensures made { OnOk result (self.new ≡ changed self.old (meant change.now)) }
+        ensures made { OnOk result (self.new ≡ changed self.old (change_model change.now)) }
         ensures same { OnErr result (self.new ≡ self.old) }
     {
         match change {
@@ -272,7 +272,7 @@ impl Keeper for ListKeeper {
 
     fn apply(&mut self, alloc: Global, change: &Change) -> Result<(), KeepFault>
         requires good { Good self.old }
-        ensures made { OnOk result (self.new ≡ changed self.old (meant change.now)) }
+        ensures made { OnOk result (self.new ≡ changed self.old (change_model change.now)) }
         ensures same { OnErr result (self.new ≡ self.old) }
         ensures memory { IfErr result (λ fault. fault ≡ KeepFault.Memory) }
     {

@@ -17,7 +17,7 @@ mod lists;
 mod played;
 mod rolls;
 mod views;
-mod wanted;
+mod applicant_index;
 
 pub use entries::Entries;
 pub use from_rows::{RowsFault, WorldRows};

@@ -5,13 +5,13 @@ ghost use Rattle.std.specs.List.{AllByRecursion};
 ghost use Rattle.portal_core.specs.Words.{has, Rise};
 ghost use Rattle.portal_core.specs.World.{project_key, student_key, is_published};
 ghost use Rattle.portal_core.specs.Good.{IsChoice, IsRanking};
-ghost use Rattle.portal_list.specs.Parts.{PhaseFits, HasNothingEarlier, IsOutIfPlaced, RoundFits, HasChoices, applicant_keys, IsRanked, ListsFit};
+ghost use Rattle.portal_list.specs.Parts.{PhaseFits, HasNothingEarlier, IsOutIfPlaced, RoundFits, HasChoices, applicant_keys, HasRanking, ListsFit};
 
 use crate::distinct::keys_are_distinct;
 use crate::entries::{Entries, LecturerEntry, StudentEntry};
 use crate::keyed::is_known;
 use crate::played::played;
-use crate::wanted::Wanted;
+use crate::applicant_index::ApplicantIndex;
 use portal_core::{Phase, ProjectRow, Round, own_keys};
 use spa_rows::Key;
 use std::alloc::{AllocError, Global};
@@ -38,7 +38,7 @@ fn have_no_rankings(lecturers: &[LecturerEntry]) -> bool
     true
 }
 
-fn have_no_places(students: &[StudentEntry]) -> bool
+fn have_no_placements(students: &[StudentEntry]) -> bool
     ensures { IsTrue result ↔ AllByRecursion (λ s. s.placed ≡ None) students.now }
 {
     for student in students {
@@ -64,10 +64,10 @@ fn phase_fits(phase: Phase, entries: &Entries) -> bool
         Phase::Setup => {
             have_no_choices(students)
                 && have_no_rankings(&entries.lecturers)
-                && have_no_places(students)
+                && have_no_placements(students)
         }
-        Phase::Choosing => have_no_rankings(&entries.lecturers) && have_no_places(students),
-        Phase::Ranking => have_no_places(students),
+        Phase::Choosing => have_no_rankings(&entries.lecturers) && have_no_placements(students),
+        Phase::Ranking => have_no_placements(students),
         Phase::Published => true,
     }
 }
@@ -76,7 +76,7 @@ fn phase_fits(phase: Phase, entries: &Entries) -> bool
 fn has_nothing_earlier(student: &StudentEntry) -> bool
     ensures { IsTrue result ↔ HasNothingEarlier student.now }
 {
-    student.earlier_choice.is_empty() && student.earlier_place.is_none()
+    student.earlier_choice.is_empty() && student.earlier_placement.is_none()
 }
 
 fn have_nothing_earlier(students: &[StudentEntry]) -> bool
@@ -105,7 +105,7 @@ fn have_no_earlier_rankings(lecturers: &[LecturerEntry]) -> bool
 fn is_out_if_placed(student: &StudentEntry) -> bool
     ensures { IsTrue result ↔ IsOutIfPlaced student.now }
 {
-    student.earlier_place.is_none() || (student.choice.is_empty() && student.placed.is_none())
+    student.earlier_placement.is_none() || (student.choice.is_empty() && student.placed.is_none())
 }
 
 fn are_out_if_placed(students: &[StudentEntry]) -> bool
@@ -190,7 +190,7 @@ fn choices_in_play_fit(alloc: Global, entries: &Entries) -> Result<bool, AllocEr
 pub(crate) fn applicants<'a>(
     alloc: Global,
     projects: &[ProjectRow],
-    wanted: &Wanted<'a>,
+    wanted: &ApplicantIndex<'a>,
     lecturer: &Key,
 ) -> Result<Vec<&'a Key>, AllocError>
     ensures { IfOk result (λ keys. map (λ k. k.now) keys.items
@@ -234,7 +234,7 @@ fn is_ranked(
 ) -> Result<bool, AllocError>
     requires { Rise (map (λ k. k.now) applicants.now) }
     ensures { IfOk result (λ yes. IsTrue yes
-        ↔ IsRanked asked (map (λ k. k.now) applicants.now)
+        ↔ HasRanking asked (map (λ k. k.now) applicants.now)
         (option_map (λ r. r.items) ranking.now)) }
 {
     match ranking {
@@ -248,12 +248,12 @@ fn ranking_fits(
     alloc: Global,
     asked: bool,
     projects: &[ProjectRow],
-    wanted: &Wanted<'_>,
+    wanted: &ApplicantIndex<'_>,
     lecturer: &LecturerEntry,
 ) -> Result<bool, AllocError>
     requires { Rise (map student_key wanted.now) }
     ensures { IfOk result (λ yes. IsTrue yes
-        ↔ IsRanked asked
+        ↔ HasRanking asked
         (applicant_keys projects.now wanted.now lecturer.now.row.key) lecturer.now.ranking) }
 {
     if !asked && lecturer.ranking.is_none() {
@@ -273,10 +273,10 @@ fn rankings_fit(
     requires { Rise (map student_key students.now) }
     ensures { IfOk result (λ yes. IsTrue yes
         ↔ AllByRecursion
-        (λ l. IsRanked asked
+        (λ l. HasRanking asked
         (applicant_keys projects.now students.now l.row.key) l.ranking) lecturers.now) }
 {
-    let wanted = Wanted::of(alloc, students)?;
+    let wanted = ApplicantIndex::of(alloc, students)?;
     for lecturer in lecturers {
         if !ranking_fits(alloc, asked, projects, &wanted, lecturer)? {
             return Ok(false);

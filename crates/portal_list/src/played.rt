@@ -2,7 +2,7 @@
 
 ghost use Rattle.std.specs.Prelude.{◌≡◌, IfOk, map, filter, option_map};
 ghost use Rattle.std.specs.List.{list_any, filter_map};
-ghost use Rattle.portal_core.specs.Words.{is};
+ghost use Rattle.portal_core.specs.Words.{equals};
 ghost use Rattle.portal_core.specs.World.{is_left, pairs_with, alone_student};
 ghost use Rattle.portal_list.specs.Played as meant;
 ghost use Rattle.portal_list.specs.Played.{lecturer_played, project_played, all_played};
@@ -19,16 +19,16 @@ pub(crate) fn takes_part(round: Round, student: &StudentEntry) -> bool
 {
     match round {
         Round::First => true,
-        Round::Second => student.earlier_place.is_none(),
+        Round::Second => student.earlier_placement.is_none(),
     }
 }
 
 /// The student's pair of the first round's result, if there is one.
 fn earlier_pair(alloc: Global, student: &StudentEntry) -> Result<Option<(Key, Key)>, AllocError>
     ensures { IfOk result (λ o. o
-        ≡ option_map (λ p. (student.now.row.key, p)) student.now.earlier_place) }
+        ≡ option_map (λ p. (student.now.row.key, p)) student.now.earlier_placement) }
 {
-    match &student.earlier_place {
+    match &student.earlier_placement {
         Some(project) => Ok(Some((student.row.key.copy(alloc)?, project.copy(alloc)?))),
         None => Ok(None),
     }
@@ -36,7 +36,7 @@ fn earlier_pair(alloc: Global, student: &StudentEntry) -> Result<Option<(Key, Ke
 
 /// The pairs of the first round's result.
 fn earlier_pairs(alloc: Global, students: &[StudentEntry]) -> Result<Vec<(Key, Key)>, AllocError>
-    ensures { IfOk result (λ v. v.items ≡ pairs_with (λ s. s.earlier_place) students.now) }
+    ensures { IfOk result (λ v. v.items ≡ pairs_with (λ s. s.earlier_placement) students.now) }
 {
     let mut pairs = Vec::new(alloc);
     for student in students {
@@ -87,7 +87,7 @@ fn lecturers_played(
 
 /// Whether a lecturer has the key.
 fn is_there(lecturers: &[LecturerEntry], key: &Key) -> bool
-    ensures { result ≡ list_any (λ l. is key.now l.row.key) lecturers.now }
+    ensures { result ≡ list_any (λ l. equals key.now l.row.key) lecturers.now }
 {
     lecturers.iter().any(|l| *key == l.row.key)
 }
@@ -136,7 +136,7 @@ fn alone(alloc: Global, student: &StudentEntry) -> Result<StudentEntry, AllocErr
         choice: copy_keys(alloc, &student.choice)?,
         placed: place_copy(alloc, student.placed.as_ref())?,
         earlier_choice: Vec::new(alloc),
-        earlier_place: None,
+        earlier_placement: None,
     })
 }
 
@@ -149,7 +149,7 @@ fn students_played(
 {
     let mut found = Vec::new(alloc);
     for student in students {
-        if student.earlier_place.is_none() {
+        if student.earlier_placement.is_none() {
             found.push(alone(alloc, student)?)?;
         }
     }

@@ -2,14 +2,14 @@
 
 ghost use Rattle.std.specs.Prelude.{◌≡◌, IfOk, option_map};
 ghost use Rattle.std.specs.List.{find};
-ghost use Rattle.portal_core.specs.Words.{is};
+ghost use Rattle.portal_core.specs.Words.{equals};
 ghost use Rattle.portal_core.specs.World.{is_from_ranking};
 ghost use Rattle.portal_core.specs.View.{student_sees, lecturer_sees, office_sees};
 
 mod by_project;
 mod catalogue;
 mod office;
-mod places;
+mod placements;
 
 use crate::copies::{person_of, place_copy, ranking_copy};
 use crate::entries::{LecturerEntry, StudentEntry};
@@ -18,7 +18,7 @@ use by_project::{applicants_by_project, placed_by_project};
 pub(crate) use catalogue::catalogue_of;
 pub(crate) use office::waiting;
 use office::{lecturer_rows, project_rows, still_to_rank, student_rows, without_list};
-use places::{pairs_of, place_shown};
+use placements::{pairs_of, placement_shown};
 use portal_core::{LecturerView, OfficeView, Phase, StudentView, copy_keys};
 use std::alloc::{AllocError, Global};
 
@@ -27,7 +27,7 @@ pub(crate) fn lecturer_with<'a>(
     lecturers: &'a [LecturerEntry],
     code: &[u8],
 ) -> Option<&'a LecturerEntry>
-    ensures { option_map (λ l. l.now) result ≡ find (λ l. is l.row.code code.now) lecturers.now }
+    ensures { option_map (λ l. l.now) result ≡ find (λ l. equals l.row.code code.now) lecturers.now }
 {
     for lecturer in lecturers {
         if lecturer.row.code.as_bytes() == code {
@@ -42,7 +42,7 @@ pub(crate) fn student_with<'a>(
     students: &'a [StudentEntry],
     code: &[u8],
 ) -> Option<&'a StudentEntry>
-    ensures { option_map (λ s. s.now) result ≡ find (λ s. is s.row.code code.now) students.now }
+    ensures { option_map (λ s. s.now) result ≡ find (λ s. equals s.row.code code.now) students.now }
 {
     for student in students {
         if student.row.code.as_bytes() == code {
@@ -75,7 +75,7 @@ pub(crate) fn student_view(
         me: person_of(alloc, &student.row.key, &student.row.name)?,
         catalogue: keeper.catalogue(alloc)?,
         choices: copy_keys(alloc, &student.choice)?,
-        result: place_copy(alloc, place_shown(keeper.phase, student))?,
+        result: place_copy(alloc, placement_shown(keeper.phase, student))?,
     })
 }
 

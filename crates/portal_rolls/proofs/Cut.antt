@@ -17,7 +17,7 @@ use Rattle.spa_rows.specs.Lines.{Text}
 use Rattle.portal_rolls.specs.declared.line.Line.{Line}
 use Rattle.portal_rolls.specs.declared.line.Line.TheVariants as variant
 use Rattle.portal_rolls.specs.Lines.{File, file_of}
-use Rattle.portal_rolls.specs.Fields.{cut_at_blanks, with_front, list_of, capacity_of, digits_value}
+use Rattle.portal_rolls.specs.Fields.{cut_at_blanks, with_front, list_of, capacity_in, digits_value}
 use Rattle.portal_rolls.specs.Records.{Record}
 
 -- these bytes before the first piece
@@ -139,7 +139,7 @@ list_is_cut [] e = absurd cc
 list_is_cut (b ∷ s) e = refl
 
 -- what passes the three tests
-pub capacity_is : (s : Text) (n : ℕ) → eqb (length s) 0 ≡ false → length s ≤ 7 → list_all is_ascii_digit s ≡ true → n ≡ digits_value s → Some n ≡ capacity_of s
+pub capacity_is : (s : Text) (n : ℕ) → eqb (length s) 0 ≡ false → length s ≤ 7 → list_all is_ascii_digit s ≡ true → n ≡ digits_value s → Some n ≡ capacity_in s
 capacity_is s n nonempty le digits e =
     let one : 1 ≤ length s = grind (arith, nat_tests) in
     rw (le-leb 1 (length s) one, le-leb (length s) 7 le, digits) (ap (λ (k : ℕ). Some k) e)

@@ -6,7 +6,7 @@ use Rattle.csv.specs.declared.parser.State.{State}
 use Rattle.csv.specs.declared.parser.State.TheVariants as st
 use Rattle.csv.specs.declared.parser.Config.{Config}
 use Rattle.csv.specs.declared.reader.Reader.{Reader}
-use Rattle.portal_rolls.specs.Records.{Has, Record, Takes, rest_of}
+use Rattle.portal_rolls.specs.Records.{Has, Record, TakesRecord, rest_of}
 
 -- a record takes a byte at least, or ends the text
 abbrev Shrinks : List ℕ → Read → Type 0
@@ -82,19 +82,19 @@ abbrev known : Bor (List ℕ) → Option (List ℕ)
 known s = Some s.now
 
 took : (o : Option Read) (rows : List Record) (found : Bool) (fields : Record) (rdr : Reader (Bor (List ℕ))) (z : List ℕ)
-    → rows ≡ records_next rest_of o → source_of known rdr ≡ Some z → NextIs o found fields (reader_state rdr) z → Takes rows found fields rdr
+    → rows ≡ records_next rest_of o → source_of known rdr ≡ Some z → NextIs o found fields (reader_state rdr) z → TakesRecord rows found fields rdr
 took None rows found fields rdr z e source r = rw e r
 took (Some p) rows found fields rdr z e source r =
     rw e (r.0, r.1, record { left = z; source = source; rows_are = ap₂ rest_of (sym r.2) (sym r.3) })
 
 took_known : (s : State) (xs : List ℕ) (rows : List Record) (found : Bool) (fields : Record) (rdr : Reader (Bor (List ℕ))) (k : Option (List ℕ))
     → rows ≡ records_next rest_of (next_record default_config s [] [] xs) → source_of known rdr ≡ k
-    → ReadsNext default_config s (Some xs) k found fields (reader_state rdr) → Takes rows found fields rdr
+    → ReadsNext default_config s (Some xs) k found fields (reader_state rdr) → TakesRecord rows found fields rdr
 took_known s xs rows found fields rdr None e source r = absurd r
 took_known s xs rows found fields rdr (Some z) e source r = took (next_record default_config s [] [] xs) rows found fields rdr z e source r
 
 -- what one read does
 pub takes_next : (old new : Reader (Bor (List ℕ))) (rows : List Record) (found : Bool) (fields : Record) → Has old rows → old.config ≡ default_config
-    → ReadRecord known old new found fields → Takes rows found fields new
+    → ReadRecord known old new found fields → TakesRecord rows found fields new
 takes_next old new rows found fields h cfg r =
     took_known old.state h.left rows found fields new (pending_of (known new.rdr) new) (h.rows_are ∙ rest_is_next old.state h.left) (rw r.1 refl) (rw (cfg, h.source) at r.0)

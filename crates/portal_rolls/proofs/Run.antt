@@ -7,7 +7,7 @@ use Rattle.std.proofs.lemmas.List.{append-nil}
 use Rattle.csv.specs.declared.reader.Reader.{Reader}
 use Rattle.portal_rolls.specs.Gives.{Fails}
 use Rattle.portal_rolls.specs.Reading.{Format, first_or, line_of, lines_of, reading, same_record}
-use Rattle.portal_rolls.specs.Records.{Has, Record, Takes}
+use Rattle.portal_rolls.specs.Records.{Has, Record, TakesRecord}
 use Rattle.portal_rolls.specs.declared.fault.RollFault.{RollFault}
 use Rattle.portal_rolls.specs.declared.fault.RollFault.TheVariants as fault
 
@@ -43,17 +43,17 @@ module _ {X : Type 0} (faults : List RollFault) (lines later : List X) where
 
 module _ {X : Type 0} (format : Format X) where
   -- no record was there
-  pub no_header : (rows : List Record) (fields : Record) (rdr : Reader (Bor (List ℕ))) → Takes rows false fields rdr → lines_of format rows ≡ Err fault.NoHeader
+  pub no_header : (rows : List Record) (fields : Record) (rdr : Reader (Bor (List ℕ))) → TakesRecord rows false fields rdr → lines_of format rows ≡ Err fault.NoHeader
   no_header [] fields rdr h = refl
   no_header (r ∷ rows) fields rdr h = absurd (cc h.0)
 
-  pub bad_header : (rows : List Record) (fields : Record) (rdr : Reader (Bor (List ℕ))) → Takes rows true fields rdr → same_record format.header fields ≡ false
+  pub bad_header : (rows : List Record) (fields : Record) (rdr : Reader (Bor (List ℕ))) → TakesRecord rows true fields rdr → same_record format.header fields ≡ false
       → lines_of format rows ≡ Err fault.BadHeader
   bad_header [] fields rdr h isnt = absurd (cc h)
   bad_header (r ∷ rows) fields rdr h isnt = rw (← h.1, isnt) refl
 
   -- the header was read
-  pub begun : (rows : List Record) (fields : Record) (rdr : Reader (Bor (List ℕ))) → Takes rows true fields rdr → same_record format.header fields ≡ true
+  pub begun : (rows : List Record) (fields : Record) (rdr : Reader (Bor (List ℕ))) → TakesRecord rows true fields rdr → same_record format.header fields ≡ true
       → Progress format rows 1 rdr []
   begun [] fields rdr h good = absurd (cc h)
   begun (r ∷ rows) fields rdr h good = record {
@@ -69,7 +69,7 @@ module _ {X : Type 0} (format : Format X) where
   past number fields lt = rw (lt-leb number format.limit lt) refl
 
   -- the next record, and those that are left then
-  next : (number : ℕ) (lines : List X) (left : List Record) (fields : Record) (rdr : Reader (Bor (List ℕ))) → Takes left true fields rdr
+  next : (number : ℕ) (lines : List X) (left : List Record) (fields : Record) (rdr : Reader (Bor (List ℕ))) → TakesRecord left true fields rdr
       → (more : List Record) × Has rdr more
       × (first_or (cons_option (result_err (reading format (number, fields))) (faults_from format (number + 1) more)) (lines ++ cons_option (result_ok (reading format (number, fields))) (lines_from format (number + 1) more))
       ≡ first_or (faults_from format number left) (lines ++ lines_from format number left))
@@ -78,7 +78,7 @@ module _ {X : Type 0} (format : Format X) where
 
   -- one more line
   pub goes_on : (rows : List Record) (number : ℕ) (old new : Reader (Bor (List ℕ))) (lines : List X) (fields : Record) (l : X) (p : Progress format rows number old lines) → number ≤ format.limit
-      → ((left : List Record) → Has old left → Takes left true fields new) → line_of format number fields ≡ Ok l → Progress format rows (number + 1) new (lines ++ l ∷ [])
+      → ((left : List Record) → Has old left → TakesRecord left true fields new) → line_of format number fields ≡ Ok l → Progress format rows (number + 1) new (lines ++ l ∷ [])
   goes_on rows number old new lines fields l p le took read =
       let n = next number lines p.left fields new (took p.left p.has) in
       record {
@@ -89,27 +89,27 @@ module _ {X : Type 0} (format : Format X) where
 
   -- a record that says no line is the first fault
   ends : (rows : List Record) (number : ℕ) (old new : Reader (Bor (List ℕ))) (lines : List X) (fields : Record) (e : RollFault) (p : Progress format rows number old lines)
-      → ((left : List Record) → Has old left → Takes left true fields new) → Fails e (reading format (number, fields)) → Fails e (lines_of format rows)
+      → ((left : List Record) → Has old left → TakesRecord left true fields new) → Fails e (reading format (number, fields)) → Fails e (lines_of format rows)
   ends rows number old new lines fields e p took read =
       let n = next number lines p.left fields new (took p.left p.has) in
       subst (λ (x : Result (List X) RollFault). Fails e x) (n.2 ∙ p.so_far)
       (one_fault (faults_from format (number + 1) n.0) lines (lines_from format (number + 1) n.0) (reading format (number, fields)) e read)
 
   pub stops : (rows : List Record) (number : ℕ) (old new : Reader (Bor (List ℕ))) (lines : List X) (fields : Record) (e : RollFault) (p : Progress format rows number old lines) → number ≤ format.limit
-      → ((left : List Record) → Has old left → Takes left true fields new) → Fails e (line_of format number fields) → Fails e (lines_of format rows)
+      → ((left : List Record) → Has old left → TakesRecord left true fields new) → Fails e (line_of format number fields) → Fails e (lines_of format rows)
   stops rows number old new lines fields e p le took read =
       ends rows number old new lines fields e p took (subst (λ (x : Result X RollFault). Fails e x) (sym (within number fields le)) read)
 
   -- a record is left after the last that may be there
   pub too_many : (rows : List Record) (number : ℕ) (old new : Reader (Bor (List ℕ))) (lines : List X) (fields : Record) (p : Progress format rows number old lines) → format.limit < number
-      → ((left : List Record) → Has old left → Takes left true fields new) → lines_of format rows ≡ Err fault.TooMany
+      → ((left : List Record) → Has old left → TakesRecord left true fields new) → lines_of format rows ≡ Err fault.TooMany
   too_many rows number old new lines fields p lt took = ends rows number old new lines fields fault.TooMany p took (past number fields lt)
 
   -- every record was read
   pub is_whole : (rows : List Record) (number : ℕ) (old new : Reader (Bor (List ℕ))) (lines : List X) (fields : Record) (p : Progress format rows number old lines)
-      → ((left : List Record) → Has old left → Takes left false fields new) → lines_of format rows ≡ Ok lines
+      → ((left : List Record) → Has old left → TakesRecord left false fields new) → lines_of format rows ≡ Ok lines
   is_whole rows number old new lines fields p took = none_left p.left p.so_far (took p.left p.has)
     where
-      none_left : (left : List Record) → first_or (faults_from format number left) (lines ++ lines_from format number left) ≡ lines_of format rows → Takes left false fields new → lines_of format rows ≡ Ok lines
+      none_left : (left : List Record) → first_or (faults_from format number left) (lines ++ lines_from format number left) ≡ lines_of format rows → TakesRecord left false fields new → lines_of format rows ≡ Ok lines
       none_left [] so_far h = sym so_far ∙ ap (λ (ls : List X). Ok ls) (append-nil lines)
       none_left (r ∷ left) so_far h = absurd (cc h.0)

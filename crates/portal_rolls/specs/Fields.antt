@@ -44,8 +44,8 @@ list_of (b ∷ text) = cut_at_blanks (b ∷ text)
 
 -- ---- what one field says by itself, for the contracts of the code
 
-abbrev pub capacity_of : Text → Option ℕ
-capacity_of text = if is_number text then Some (digits_value text) else None
+abbrev pub capacity_in : Text → Option ℕ
+capacity_in text = if is_number text then Some (digits_value text) else None
 
 -- a field that has its form, or the fault of its column
 abbrev pub formed : (Text → Bool) → ℕ → ℕ → Text → Result Text RollFault

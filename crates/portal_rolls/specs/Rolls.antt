@@ -28,22 +28,22 @@ abbrev pub student : ℕ → Record → Result StudentRow RollFault
 student row (key ∷ name ∷ code ∷ []) = by_columns row (is_key key ∷ is_name name ∷ is_code code ∷ []) (record { key = key; name = name; code = code })
 student row _ = Err (fault.FieldCount row)
 
-abbrev pub lecturer_roll : Format LecturerRow
-lecturer_roll = record {
+abbrev pub lecturer_format : Format LecturerRow
+lecturer_format = record {
   header = codes "id" ∷ codes "name" ∷ codes "code" ∷ codes "capacity" ∷ [];
   limit = 300;
   says = lecturer;
 }
 
-abbrev pub project_roll : Format ProjectRow
-project_roll = record {
+abbrev pub project_format : Format ProjectRow
+project_format = record {
   header = codes "id" ∷ codes "lecturer" ∷ codes "title" ∷ codes "capacity" ∷ [];
   limit = 1000;
   says = project;
 }
 
-abbrev pub student_roll : Format StudentRow
-student_roll = record {
+abbrev pub student_format : Format StudentRow
+student_format = record {
   header = codes "id" ∷ codes "name" ∷ codes "code" ∷ [];
   limit = 2000;
   says = student;
@@ -52,10 +52,10 @@ student_roll = record {
 -- the rows of a roll, or its first fault
 
 abbrev pub lecturers : Text → Result (List LecturerRow) RollFault
-lecturers text = lines_of lecturer_roll (records_of text)
+lecturers text = lines_of lecturer_format (records_of text)
 
 abbrev pub projects : Text → Result (List ProjectRow) RollFault
-projects text = lines_of project_roll (records_of text)
+projects text = lines_of project_format (records_of text)
 
 abbrev pub students : Text → Result (List StudentRow) RollFault
-students text = lines_of student_roll (records_of text)
+students text = lines_of student_format (records_of text)

@@ -8,8 +8,8 @@ use Rattle.portal_rolls.specs.declared.line.File.{File}
 use Rattle.portal_rolls.specs.declared.fields.FourFields.{FourFields}
 use Rattle.portal_rolls.specs.declared.fields.ThreeFields.{ThreeFields}
 
-abbrev pub texts : {Z : Type 0} → List (Vec ℕ Z) → List Text
-texts vs = map (λ v. v.items) vs
+abbrev pub text_views : {Z : Type 0} → List (Vec ℕ Z) → List Text
+text_views vs = map (λ v. v.items) vs
 
 abbrev pub same : {X : Type 0} → X → X
 same x = x

@@ -5,7 +5,7 @@ use Rattle.csv.specs.Writing.{default_writer, writer_setup, fields_written, has_
 use Rattle.csv.specs.declared.writer.Writer.{Writer}
 
 -- it holds this text, and writes as the crate does by default
-pub record Holds (w : Writer (Vec ℕ Global)) (text : List ℕ) : Type 0 where
+pub record HasWritten (w : Writer (Vec ℕ Global)) (text : List ℕ) : Type 0 where
   pub text_is : text_written (λ v. Some v.items) w ≡ Some text
   pub setup : writer_setup w ≡ default_writer
   pub fields : fields_written w ≡ 0

@@ -2,7 +2,7 @@
 
 ghost use Rattle.std.specs.Prelude.{◌≡◌, ◌++◌, ℕ, List, map, IfOk, OnOk};
 ghost use Rattle.portal_core.specs.Sheets as sheet;
-ghost use Rattle.portal_rolls.specs.Written.{Holds};
+ghost use Rattle.portal_rolls.specs.Written.{HasWritten};
 
 use csv::Writer;
 use portal_core::{OfficeView, Placings, StudentRow};
@@ -10,8 +10,8 @@ use std::alloc::{AllocError, Global};
 
 /// Writes one record of five fields.
 fn put_record(writer: &mut Writer<Vec<u8>>, fields: &[&[u8]; 5]) -> Result<(), AllocError>
-    ensures { OnOk result ((text : List ℕ) → Holds writer.old text
-        → Holds writer.new (text ++ sheet.csv_record (map (λ f. f.now) fields.now))) }
+    ensures { OnOk result ((text : List ℕ) → HasWritten writer.old text
+        → HasWritten writer.new (text ++ sheet.csv_record (map (λ f. f.now) fields.now))) }
 {
     let Ok(()) = writer.write_fields(fields.as_slice()) else {
         return Err(AllocError);
@@ -25,8 +25,8 @@ fn put_student(
     placings: &Placings,
     student: &StudentRow,
 ) -> Result<(), AllocError>
-    ensures { OnOk result ((text : List ℕ) → Holds writer.old text
-        → Holds writer.new (text ++ sheet.csv_record (sheet.student_fields placings.now student.now))) }
+    ensures { OnOk result ((text : List ℕ) → HasWritten writer.old text
+        → HasWritten writer.new (text ++ sheet.csv_record (sheet.student_fields placings.now student.now))) }
 {
     let key = student.key.as_bytes();
     let name = student.name.as_bytes();
@@ -50,7 +50,7 @@ fn put_student(
 
 /// The text that a writer holds.
 fn text_of(writer: Writer<Vec<u8>>) -> Result<Vec<u8>, AllocError>
-    ensures { IfOk result (λ v. (text : List ℕ) → Holds writer text → v.items ≡ text) }
+    ensures { IfOk result (λ v. (text : List ℕ) → HasWritten writer text → v.items ≡ text) }
 {
     match writer.into_inner() {
         Ok(text) => Ok(text),

@@ -115,7 +115,7 @@ fn is_digits(field: &[u8]) -> bool
 
 /// The number that 1 to 7 digits spell.
 pub(crate) fn capacity_of(field: &[u8]) -> Option<u32>
-    ensures { result ≡ spec.capacity_of field.now }
+    ensures { result ≡ spec.capacity_in field.now }
 {
     if field.is_empty() || field.len() > 7 || !is_digits(field) {
         return None;
@@ -172,7 +172,7 @@ pub(crate) fn code_at(alloc: Global, row: u32, column: u32, field: &[u8]) -> Res
 
 /// The keys of a list, which stand between single blanks.
 pub(crate) fn list_of(alloc: Global, field: &[u8]) -> Result<Vec<Vec<u8>>, AllocError>
-    ensures { IfOk result (λ v. view.texts v.items ≡ spec.list_of field.now) }
+    ensures { IfOk result (λ v. view.text_views v.items ≡ spec.list_of field.now) }
 {
     let mut list = Vec::new(alloc);
     if field.is_empty() {

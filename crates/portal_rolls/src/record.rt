@@ -2,7 +2,7 @@
 
 ghost use Rattle.std.specs.Prelude.{◌≡◌, List, OnOk, IfOk, IfErr};
 ghost use Rattle.csv.specs.Records.{fields_of};
-ghost use Rattle.portal_rolls.specs.Records.{Has, IsSetUp, Record, Takes};
+ghost use Rattle.portal_rolls.specs.Records.{Has, IsSetUp, Record, TakesRecord};
 
 use crate::fault::RollFault;
 use csv::{ByteRecord, ErrorKind, Reader};
@@ -12,7 +12,7 @@ pub(crate) fn take_record(rdr: &mut Reader<&[u8]>, row: &mut ByteRecord) -> Resu
     requires { IsSetUp rdr.old }
     ensures kept { OnOk result (IsSetUp rdr.new) }
     ensures took { (rows : List Record) → Has rdr.old rows
-        → IfOk result (λ found. Takes rows found (fields_of row.new) rdr.new) }
+        → IfOk result (λ found. TakesRecord rows found (fields_of row.new) rdr.new) }
     ensures fault { IfErr result (λ e. e ≡ RollFault.Memory) }
 {
     match rdr.read_byte_record(row) {

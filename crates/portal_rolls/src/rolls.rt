@@ -21,7 +21,7 @@ struct LecturerRoll;
 impl Kind for LecturerRoll {
     type Line = LecturerRow;
 
-    ghost format = { spec.lecturer_roll };
+    ghost format = { spec.lecturer_format };
 
     fn names() -> &'static [&'static str] {
         &["id", "name", "code", "capacity"]
@@ -52,7 +52,7 @@ struct ProjectRoll;
 impl Kind for ProjectRoll {
     type Line = ProjectRow;
 
-    ghost format = { spec.project_roll };
+    ghost format = { spec.project_format };
 
     fn names() -> &'static [&'static str] {
         &["id", "lecturer", "title", "capacity"]
@@ -83,7 +83,7 @@ struct StudentRoll;
 impl Kind for StudentRoll {
     type Line = StudentRow;
 
-    ghost format = { spec.student_roll };
+    ghost format = { spec.student_format };
 
     fn names() -> &'static [&'static str] {
         &["id", "name", "code"]

@@ -6,7 +6,7 @@ use Rattle.std.proofs.lemmas.Bool.{cases_lt, lt-ltb}
 use Rattle.std.proofs.lemmas.List.{length-take, take_all}
 use Rattle.portal_answer.specs.Told.{Text, Told}
 use Rattle.portal_answer.specs.Answer.{IfLonger, IsAnswer}
-use Rattle.portal_run.specs.Run.{Answers, AnswersSome}
+use Rattle.portal_run.specs.Run.{WritesAnswer, AnswersSome}
 use Rattle.portal_answer.specs.declared.answer.Task.{Task}
 
 -- of a longer file nothing is read
@@ -35,7 +35,7 @@ IsSaid status old new t = ((status ≡ t.status) ⊎ (status ≡ 3)) × (status 
 
 -- what was said is what is answered to the whole input
 pub said : (task : Task) (k : Option Text) (bytes : Text) (old new : Option Text) (status : ℕ) (t : Told) → IfSome k (λ b. bytes ≡ take 4194305 b) → IsAnswer task bytes t
-    → IsSaid status old new t → status < 3 → Answers task k status old new
+    → IsSaid status old new t → status < 3 → WritesAnswer task k status old new
 said task None bytes old new status t cut is done small = tt
 said task (Some b) bytes old new status t cut is done small =
     (t, cut_answer task b t (subst (λ (xs : Text). IsAnswer task xs t) cut is), said_status status t.status done.0 small, done.1 (omega arith))

@@ -7,10 +7,10 @@ use Rattle.std.proofs.lemmas.Bool.{cases_lt}
 use Rattle.std.proofs.lemmas.List.{take_all, take-append-le, append-nil}
 use Rattle.portal_desk.specs.Devices.{TakesAtMost as TakesFew}
 use Rattle.portal_answer.specs.Told.{Text}
-use Rattle.portal_run.specs.Taken.{TakesAtMost, Adds}
+use Rattle.portal_run.specs.Taken.{ConsumesAtMost, TakesMore}
 
 -- what was taken first, and then
-pub more_taken : (n most : ℕ) (a b c : Option Text) (before : Text) → Consumes a b before → length before ≤ n → most + length before ≤ n → TakesAtMost most b c → TakesAtMost n a c
+pub more_taken : (n most : ℕ) (a b c : Option Text) (before : Text) → Consumes a b before → length before ≤ n → most + length before ≤ n → ConsumesAtMost most b c → ConsumesAtMost n a c
 more_taken n most a b c before first low fits then =
     (before ++ then.0, omega (arith, length-append before then.0), Consumes-trans a b c before then.0 first then.2)
 
@@ -27,7 +27,7 @@ all_taken n (Some b) (Some rest) bytes taken low end = elim (cases_lt (length by
 ]
 
 -- the last read, which gave nothing
-pub last_taken : (n most k : ℕ) (a b c : Option Text) (before after : Text) → Consumes a b before → length before ≤ n → (length before < n → 0 < most) → Adds most k b c before after → k ≡ 0
+pub last_taken : (n most k : ℕ) (a b c : Option Text) (before after : Text) → Consumes a b before → length before ≤ n → (length before < n → 0 < most) → TakesMore most k b c before after → k ≡ 0
     → IfSome a (λ xs. after ≡ take n xs)
 last_taken n most k a b c before after first low room adds none =
     let same : length after ≡ length before = omega (arith, ap length adds.added, length-append before adds.taken, adds.count) in
@@ -35,7 +35,7 @@ last_taken n most k a b c before after first low room adds none =
     all_taken n a c after whole (omega arith) (λ less. adds.end none (room (omega arith)))
 
 -- how much is left says how much was taken
-pub few_taken : (n m : ℕ) (a b : Option Text) → n ≤ m → TakesAtMost n a b → TakesFew m a b
+pub few_taken : (n m : ℕ) (a b : Option Text) → n ≤ m → ConsumesAtMost n a b → TakesFew m a b
 few_taken n m None b fits taken = tt
 few_taken n m (Some bytes) None fits taken = absurd taken.2
 few_taken n m (Some bytes) (Some rest) fits taken = (rest, refl, omega (arith, fits, taken.1, ap length taken.2, length-append taken.0 rest))

@@ -11,13 +11,13 @@ pub record Says (line : Text) (own status : ℕ) (old new : Option Text) : Type 
   pub given : (status ≡ own) ⊎ (status ≡ 3)
   pub written : status < 3 → Appends old new line
 
-abbrev pub line_of : Refusal → Text
-line_of NotPortal = codes "refused not_portal\n"
-line_of OtherVersion = codes "refused other_version\n"
-line_of Damaged = codes "refused damaged\n"
-line_of Exists = codes "refused exists\n"
-line_of Store = codes "fault store\n"
-line_of Memory = codes "fault memory\n"
+abbrev pub refusal_line : Refusal → Text
+refusal_line NotPortal = codes "refused not_portal\n"
+refusal_line OtherVersion = codes "refused other_version\n"
+refusal_line Damaged = codes "refused damaged\n"
+refusal_line Exists = codes "refused exists\n"
+refusal_line Store = codes "fault store\n"
+refusal_line Memory = codes "fault memory\n"
 
 abbrev pub status_of : Refusal → ℕ
 status_of Store = 3

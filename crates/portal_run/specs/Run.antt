@@ -9,8 +9,8 @@ use Rattle.portal_words.specs.declared.command.Command.{Command}
 use Rattle.portal_words.specs.declared.command.Command.TheVariants as command
 
 -- an answer to the whole input was written, and its status is given
-abbrev pub Answers : Task → Option Text → ℕ → Option Text → Option Text → Type 0
-Answers task input status old new = IfSome input (λ bytes. (told : Told) × IsAnswer task bytes told × (status ≡ told.status) × Appends old new told.text)
+abbrev pub WritesAnswer : Task → Option Text → ℕ → Option Text → Option Text → Type 0
+WritesAnswer task input status old new = IfSome input (λ bytes. (told : Told) × IsAnswer task bytes told × (status ≡ told.status) × Appends old new told.text)
 
 -- an answer to some bytes, by this task, was written, and its status is given
 abbrev pub AnswersSome : Task → ℕ → Option Text → Option Text → Type 0

@@ -3,10 +3,10 @@
 ghost use Rattle.std.specs.Prelude.{◌≡◌, ◌*◌, ◌<◌, ◌≤◌, ◌⊎◌, ◌∷◌, [], codes, drop, map, None, IfSome, IfOk, IsErr, IsTrue};
 ghost use Rattle.clap.specs.Words.{Text};
 ghost use Rattle.portal_words.specs.Line.{is_file_word};
-ghost use Rattle.portal_run.specs.Run.{Answers, AnswersSome, IsOfFile, IsUpgrade, task_of};
+ghost use Rattle.portal_run.specs.Run.{WritesAnswer, AnswersSome, IsOfFile, IsUpgrade, task_of};
 ghost use Rattle.portal_run.specs.Lines.{SaysUpgrade};
 ghost use Rattle.portal_desk.specs.Devices.{TakesAtMost as TakesFew};
-ghost use Rattle.portal_run.specs.Taken.{TakesAtMost};
+ghost use Rattle.portal_run.specs.Taken.{ConsumesAtMost};
 
 use crate::init::{init, upgrade_database};
 use crate::input::{InputFault, bytes_of};
@@ -25,8 +25,8 @@ const MOST: u8 = 2;
 /// Answers to what a reader gives.
 fn answer<R: Read, W: Write>(alloc: Global, task: Task, reader: &mut R, writer: &mut W) -> u8
     ensures bound { result ≤ 3 }
-    ensures takes { TakesAtMost 4194305 (R.remaining reader.old) (R.remaining reader.new) }
-    ensures answers { result < 3 → Answers task (R.remaining reader.old) result
+    ensures takes { ConsumesAtMost 4194305 (R.remaining reader.old) (R.remaining reader.new) }
+    ensures answers { result < 3 → WritesAnswer task (R.remaining reader.old) result
         (W.contents writer.old) (W.contents writer.new) }
     ensures some { result < 3 → AnswersSome task result (W.contents writer.old)
         (W.contents writer.new) }
@@ -51,7 +51,7 @@ fn answer_opened<F: Read + Drop, W: Write>(
 ) -> u8
     ensures bound { result ≤ 3 }
     ensures answers { IfOk opened (λ f. result < 3
-        → Answers task (F.remaining f) result (W.contents writer.old) (W.contents writer.new)) }
+        → WritesAnswer task (F.remaining f) result (W.contents writer.old) (W.contents writer.new)) }
     ensures some { result < 3 → AnswersSome task result (W.contents writer.old)
         (W.contents writer.new) }
     ensures closed { IsErr opened → result ≡ 3 }
@@ -71,9 +71,9 @@ fn answer_file<R: Read, W: Write>(
     writer: &mut W,
 ) -> u8
     ensures bound { result ≤ 3 }
-    ensures takes { TakesAtMost 4194305 (R.remaining reader.old) (R.remaining reader.new) }
+    ensures takes { ConsumesAtMost 4194305 (R.remaining reader.old) (R.remaining reader.new) }
     ensures answers { file.entry ≡ None → result < 3
-        → Answers task (R.remaining reader.old) result (W.contents writer.old)
+        → WritesAnswer task (R.remaining reader.old) result (W.contents writer.old)
         (W.contents writer.new) }
     ensures some { result < 3 → AnswersSome task result (W.contents writer.old)
         (W.contents writer.new) }
@@ -97,15 +97,15 @@ pub fn perform<R: Read, W: Write>(
     ensures bound { result ≤ 3 }
     ensures takes { TakesFew (256 * 1064960) (R.remaining reader.old) (R.remaining reader.new) }
     ensures files { IsOfFile command.entry
-        → TakesAtMost 4194305 (R.remaining reader.old) (R.remaining reader.new) }
+        → ConsumesAtMost 4194305 (R.remaining reader.old) (R.remaining reader.new) }
     ensures check { command.entry ≡ Command.Check None → result < 3
-        → Answers Task.Check (R.remaining reader.old) result (W.contents writer.old)
+        → WritesAnswer Task.Check (R.remaining reader.old) result (W.contents writer.old)
         (W.contents writer.new) }
     ensures own_task { IfSome (task_of command.entry)
         (λ task. result < 3
         → AnswersSome task result (W.contents writer.old) (W.contents writer.new)) }
     ensures solve { command.entry ≡ Command.Solve None → result < 3
-        → Answers Task.Solve (R.remaining reader.old) result (W.contents writer.old)
+        → WritesAnswer Task.Solve (R.remaining reader.old) result (W.contents writer.old)
         (W.contents writer.new) }
     ensures upgrade { IsUpgrade command.entry → result < 3
         → SaysUpgrade result (W.contents writer.old) (W.contents writer.new) }
@@ -139,12 +139,12 @@ pub fn run<S: AsStr, R: Read, W: Write>(
     ensures takes { TakesFew (256 * 1064960) (R.remaining reader.old) (R.remaining reader.new) }
     ensures files { (drop 1 (map S.text words.entry.now) ≡ codes "check" ∷ [])
         ⊎ (drop 1 (map S.text words.entry.now) ≡ codes "solve" ∷ [])
-        → TakesAtMost 4194305 (R.remaining reader.old) (R.remaining reader.new) }
+        → ConsumesAtMost 4194305 (R.remaining reader.old) (R.remaining reader.new) }
     ensures check { drop 1 (map S.text words.entry.now) ≡ codes "check" ∷ [] → result < 3
-        → Answers Task.Check (R.remaining reader.old) result (W.contents writer.old)
+        → WritesAnswer Task.Check (R.remaining reader.old) result (W.contents writer.old)
         (W.contents writer.new) }
     ensures solve { drop 1 (map S.text words.entry.now) ≡ codes "solve" ∷ [] → result < 3
-        → Answers Task.Solve (R.remaining reader.old) result (W.contents writer.old)
+        → WritesAnswer Task.Solve (R.remaining reader.old) result (W.contents writer.old)
         (W.contents writer.new) }
     ensures check_file { (file : Text)
         → drop 1 (map S.text words.entry.now) ≡ codes "check" ∷ file ∷ []

@@ -2,7 +2,7 @@
 
 ghost use Rattle.std.specs.Prelude.{◌<◌, ◌≡◌, ◌≤◌};
 ghost use Rattle.portal_run.specs.Lines.{SaysUpgrade};
-ghost use Rattle.portal_run.specs.Taken.{TakesAtMost};
+ghost use Rattle.portal_run.specs.Taken.{ConsumesAtMost};
 
 use crate::database::{close, connect, connect_there};
 use crate::input::{InputFault, first_bytes};
@@ -42,7 +42,7 @@ fn line_of(bytes: &[u8]) -> Option<&[u8]> {
 
 /// The code in the first line of an input.
 fn code_of<R: Read>(alloc: Global, reader: &mut R) -> Result<Code, NoCode>
-    ensures takes { TakesAtMost 64 (R.remaining reader.old) (R.remaining reader.new) }
+    ensures takes { ConsumesAtMost 64 (R.remaining reader.old) (R.remaining reader.new) }
 {
     let bytes = match first_bytes(alloc, reader) {
         Ok(bytes) => bytes,
@@ -85,7 +85,7 @@ pub(crate) fn init<R: Read, W: Write>(
     writer: &mut W,
 ) -> u8
     ensures bound { result ≤ 3 }
-    ensures takes { TakesAtMost 64 (R.remaining reader.old) (R.remaining reader.new) }
+    ensures takes { ConsumesAtMost 64 (R.remaining reader.old) (R.remaining reader.new) }
 {
     match code_of(rt.alloc(), reader) {
         Ok(office) => say_done(writer, create(rt, path, office), b"made\n"),

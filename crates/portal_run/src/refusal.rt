@@ -1,7 +1,7 @@
 //! Why a command did nothing with a database, and what is said then.
 
 ghost use Rattle.std.specs.Prelude.{◌≡◌, ◌↔◌, IfErr, IfOk};
-ghost use Rattle.portal_run.specs.Lines.{Says, line_of, status_of};
+ghost use Rattle.portal_run.specs.Lines.{Says, refusal_line, status_of};
 
 use crate::output::{say, say_memory, say_store};
 use portal_store::{CreateFault, OpenFault, UpgradeFault};
@@ -69,7 +69,7 @@ pub(crate) fn not_upgraded(fault: UpgradeFault) -> Refusal
 
 /// Says why a command did nothing with a database.
 pub(crate) fn refuse<W: Write>(writer: &mut W, why: Refusal) -> u8
-    ensures { Says (line_of why) (status_of why) result (W.contents writer.old)
+    ensures { Says (refusal_line why) (status_of why) result (W.contents writer.old)
         (W.contents writer.new) }
 {
     match why {
@@ -86,7 +86,7 @@ pub(crate) fn refuse<W: Write>(writer: &mut W, why: Refusal) -> u8
 pub(crate) fn say_done<W: Write>(writer: &mut W, done: Result<(), Refusal>, line: &[u8]) -> u8
     ensures done { IfOk done (λ _. Says line.now 0 result (W.contents writer.old)
         (W.contents writer.new)) }
-    ensures refused { IfErr done (λ why. Says (line_of why) (status_of why) result
+    ensures refused { IfErr done (λ why. Says (refusal_line why) (status_of why) result
         (W.contents writer.old) (W.contents writer.new)) }
 {
     match done {

@@ -1,15 +1,15 @@
--- Who sees what an office sees is the office.
+-- Who sees what an office sees equals the office.
 use Rattle.std.proofs.Common.{◌≡◌, Bool, true, false, if◌then◌else◌, ℕ, List, Option, Some, None}
 use Rattle.portal_core.specs.World as rows
 use Rattle.portal_core.specs.World.{World}
-use Rattle.portal_core.specs.Words.{Key, is}
+use Rattle.portal_core.specs.Words.{Key, equals}
 use Rattle.portal_core.specs.View.{view, sight_of, caller_among, OfficeCaller, lecturer_with, student_with, office_sees}
-use Rattle.portal_serve.specs.Report.{told_of, IsTold}
+use Rattle.portal_serve.specs.Report.{told_of, IsOfficeReport}
 
-pub told_is : (w : World) (code : Key) (text : List ℕ) → IsTold (view w code) text → text ≡ told_of (office_sees w)
-told_is w code text h = go (is w.office code) (lecturer_with w code) (student_with w code) h
+pub told_is : (w : World) (code : Key) (text : List ℕ) → IsOfficeReport (view w code) text → text ≡ told_of (office_sees w)
+told_is w code text h = go (equals w.office code) (lecturer_with w code) (student_with w code) h
   where
-    go : (b : Bool) (l : Option rows.Lecturer) (s : Option rows.Student) → IsTold (sight_of w (if b then OfficeCaller else caller_among l s)) text → text ≡ told_of (office_sees w)
+    go : (b : Bool) (l : Option rows.Lecturer) (s : Option rows.Student) → IsOfficeReport (sight_of w (if b then OfficeCaller else caller_among l s)) text → text ≡ told_of (office_sees w)
     go true l s h = h
     go false (Some l) s h = absurd h
     go false None (Some s) h = absurd h

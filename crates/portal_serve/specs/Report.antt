@@ -12,8 +12,8 @@ abbrev pub told_of : OfficeSees → List ℕ
 told_of v = status_text v ++ (if has_result v.round v.phase then line_feed ++ report_text v else [])
 
 -- it is the office that sees this, and the text is its report
-abbrev pub IsTold : Sight → List ℕ → Type 0
-IsTold Nobody text = ⊥
-IsTold (Office v) text = text ≡ told_of v
-IsTold (Lecturer v) text = ⊥
-IsTold (Student v) text = ⊥
+abbrev pub IsOfficeReport : Sight → List ℕ → Type 0
+IsOfficeReport Nobody text = ⊥
+IsOfficeReport (Office v) text = text ≡ told_of v
+IsOfficeReport (Lecturer v) text = ⊥
+IsOfficeReport (Student v) text = ⊥

@@ -3,7 +3,7 @@
 ghost use Rattle.std.specs.Prelude.{◌≡◌, IfOk};
 ghost use Rattle.portal_core.specs.Good.{Good};
 ghost use Rattle.portal_core.specs.View.{office_sees};
-ghost use Rattle.portal_serve.specs.Report.{told_of, IsTold};
+ghost use Rattle.portal_serve.specs.Report.{told_of, IsOfficeReport};
 
 use portal_core::{Code, KeepFault, Keeper, OfficeView, View};
 use portal_reports::{allocation_text, status_text};
@@ -34,7 +34,7 @@ fn text_of(alloc: Global, view: &OfficeView) -> Result<Vec<u8>, AllocError>
 
 /// The report, if it is the office that sees this.
 fn told(alloc: Global, view: &View) -> Result<Vec<u8>, Unreported>
-    ensures { IfOk result (λ text. IsTold view.now text.items) }
+    ensures { IfOk result (λ text. IsOfficeReport view.now text.items) }
 {
     match view {
         View::Office(office) => text_of(alloc, office).map_err(|_| Unreported::Memory),

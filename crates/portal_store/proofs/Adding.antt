@@ -1,4 +1,4 @@
--- New rows of a roll: what a loop of INSERTs leaves of the tables, and what that is to the world.
+-- New rows of a roll: what a loop of INSERTs leaves of the tables, and what that equals to the world.
 use Rattle.std.proofs.Common.{◌≡◌, ℕ, false, ◌||◌, List, [], ◌∷◌, ◌++◌, None, map, drop, refl, sym, ap, ap₂, subst, subst₂, ◌∙◌}
 use Rattle.std.proofs.lemmas.List.{map-append}
 use Rattle.std.specs.List.{AllByRecursion, IsDistinct}
@@ -13,22 +13,22 @@ use Rattle.portal_core.specs.declared.phase.Round.TheVariants.{First, Second}
 use Rattle.portal_core.specs.declared.rows.LecturerRow.{LecturerRow}
 use Rattle.portal_core.specs.declared.rows.ProjectRow.{ProjectRow}
 use Rattle.portal_core.specs.declared.rows.StudentRow.{StudentRow}
-use Rattle.portal_core.specs.Words.{Key, is, has, Rise, put_all}
+use Rattle.portal_core.specs.Words.{Key, equals, has, Rise, put_all}
 use Rattle.portal_core.specs.World.{lecturer_key, project_key, student_key}
 use Rattle.portal_core.specs.Change.{changed, Lecturers, Projects, Students, new_lecturer, new_student}
 use Rattle.portal_core.specs.Good.{Good}
 use Rattle.portal_tables.specs.Tables.{lecturer_tree, project_tree, student_tree, choice_tree, ranking_tree}
 use Rattle.portal_tables.specs.declared.list_table.Lists.TheVariants as which
-use Rattle.portal_tables.specs.Changes.{IsApart, Puts, Keeps, with_rows, AreNew}
+use Rattle.portal_tables.specs.Changes.{RowNumbersDiffer, InsertsRows, Keeps, with_rows, AreNew}
 use Rattle.portal_tables.specs.Rows.{Adds, lecturer_new, project_new, student_new}
 use Rattle.portal_tables.proofs.Keeping.{puts_apart}
 use Rattle.portal_tables.proofs.Writes.{unnumbered}
 use Rattle.portal_tables.proofs.Lists.{put_splits}
-use Rattle.portal_store.specs.Adding.{added}
+use Rattle.portal_store.specs.Adding.{with_rows_added}
 use Rattle.portal_store.specs.declared.rolls.NewRows.{NewRows}
 use Rattle.portal_store.specs.declared.rolls.NewRows.TheVariants as come
-use Rattle.portal_store.specs.Kept.{HoldsIn, TurnedIn, TurnsIn}
-use Rattle.portal_tables.specs.Lists.{of_key, IsWhole, list_of}
+use Rattle.portal_store.specs.Kept.{IsConsistentIn, HasChangedIn, IsTransitionIn}
+use Rattle.portal_tables.specs.Lists.{of_key, IsWhole, list_in_order}
 use Rattle.portal_tables.specs.Rolls.{row_key}
 use Rattle.portal_store.proofs.Still.{holds_after, world_after}
 use Rattle.portal_store.specs.World.{world_in, project_row}
@@ -47,7 +47,7 @@ bare r = Null ∷ drop 1 r
 pub record Added (tree : ℕ) (cells : List Row) (old new : Database) : Type 0 where
   pub schema_is : new.schema ≡ old.schema
   pub rows : IsPermutation (map unnumbered cells ++ map bare (old.trees tree)) (map bare (new.trees tree))
-  pub apart : IsApart (old.trees tree) → IsApart (new.trees tree)
+  pub apart : RowNumbersDiffer (old.trees tree) → RowNumbersDiffer (new.trees tree)
   pub others : Keeps tree old new
   pub sound : IsDatabase old → IsDatabase new
 
@@ -65,7 +65,7 @@ rows_permute table (c ∷ cells) new =
     IsPermutation-append_right front _ _ (IsPermutation-map bare (row ∷ table) (put_row row table) one) in
     IsPermutation-trans _ _ _ moved (IsPermutation-trans _ _ _ put (rows_permute (put_row row table) cells new.1))
 
-pub added_of : (tree : ℕ) (cells : List Row) (old new : Database) → Puts tree cells old new → Added tree cells old new
+pub added_of : (tree : ℕ) (cells : List Row) (old new : Database) → InsertsRows tree cells old new → Added tree cells old new
 added_of tree cells old new put = record {
   schema_is = put.schema_is;
   rows = subst (λ t. IsPermutation (map unnumbered cells ++ map bare (old.trees tree)) (map bare t)) (sym put.rows) (rows_permute (old.trees tree) cells put.free);
@@ -74,7 +74,7 @@ added_of tree cells old new put = record {
   sound = λ h. put.sound (λ _. h);
 }
 
--- what is read of a row does not depend on its number
+-- what equals read of a row does not depend on its number
 key_bare : (r : Row) → row_key (bare r) ≡ row_key r
 key_bare [] = refl
 key_bare (v ∷ r) = refl
@@ -113,12 +113,12 @@ all_added P tree cells old new to back a fresh was =
 
 -- keys that rise together are new
 module _ {X : Type 0} (key : X → Key) where
-  behind : (k : Key) (us ys : List X) → AllByRecursion (λ l. is k l ≡ false) (map key (us ++ ys)) → has (map key ys) k ≡ false
+  behind : (k : Key) (us ys : List X) → AllByRecursion (λ l. equals k l ≡ false) (map key (us ++ ys)) → has (map key ys) k ≡ false
   behind k [] [] h = refl
   behind k [] (y ∷ ys) h = ap (λ b. b || has (map key ys) k) h.0 ∙ behind k [] ys h.1
   behind k (u ∷ us) ys h = behind k us ys h.1
 
-  fresh_from : (xs ys : List X) → IsDistinct is (map key (xs ++ ys)) → AllByRecursion (λ x. has (map key ys) (key x) ≡ false) xs
+  fresh_from : (xs ys : List X) → IsDistinct equals (map key (xs ++ ys)) → AllByRecursion (λ x. has (map key ys) (key x) ≡ false) xs
   unfolding IsDistinct
   fresh_from [] ys d = tt
   fresh_from (x ∷ xs) ys d = (behind (key x) xs ys d.0, fresh_from xs ys d.1)
@@ -140,7 +140,7 @@ roll_added key cells show rows news tree old new blind are a =
     more_put key news (map show (old.trees tree)) (map show (new.trees tree))
     (subst (λ l. IsPermutation (l ++ map show (old.trees tree)) (map show (new.trees tree))) (sym (map_twice (λ c. show (unnumbered c)) cells rows) ∙ are) (decoded show tree (map cells rows) old new blind a))
 
--- no row of a list is that of an owner who is new
+-- no row of a list equals that of an owner who equals new
 none_yet : {X Y : Type 0} (Q : Row → Type 0) (key : Y → Key) (of : X → Y) (show : Row → Y) (rows : List X) (roll lists : List Row) → map key (map show roll) ≡ map row_key roll → AllByRecursion (λ r. OnRoll roll (row_key r) × Q r) lists
     → Rise (map key (put_all key (map of rows) (put_all key (map show roll) []))) → AllByRecursion (λ x. of_key (key (of x)) lists ≡ []) rows
 none_yet Q key of show rows roll lists keys owned up =
@@ -150,7 +150,7 @@ none_yet Q key of show rows roll lists keys owned up =
 whole_none : {X : Type 0} (key : X → Key) (lists : List Row) (xs : List X) → AllByRecursion (λ x. of_key (key x) lists ≡ []) xs → AllByRecursion (λ x. IsWhole (of_key (key x) lists)) xs
 whole_none key lists xs = all_weaker (λ x. of_key (key x) lists ≡ []) (λ x. IsWhole (of_key (key x) lists)) (λ x none. subst IsWhole (sym none) tt) xs
 
-module _ (rows : List LecturerRow) (old new : Database) (was : HoldsIn First old) (better : Good (changed (world_in First old.trees) (Lecturers rows))) (a : Added lecturer_tree (map lecturer_new rows) old new) where
+module _ (rows : List LecturerRow) (old new : Database) (was : IsConsistentIn First old) (better : Good (changed (world_in First old.trees) (Lecturers rows))) (a : Added lecturer_tree (map lecturer_new rows) old new) where
   abbrev lists : List Row
   lists = old.trees ranking_tree
 
@@ -162,7 +162,7 @@ module _ (rows : List LecturerRow) (old new : Database) (was : HoldsIn First old
   unranked_yet = none_yet _ lecturer_key new_lecturer (lecturer_of lists) rows (old.trees lecturer_tree) lists (sym (map_twice lecturer_key (lecturer_of lists) (old.trees lecturer_tree)))
       (place_parents old which.Rankings was.own was.sound was.apart.1.1.1.1.1.0) lecturers_up
 
-  lecturers_turned : TurnedIn First (Lecturers rows) old new
+  lecturers_turned : HasChangedIn First (Lecturers rows) old new
   unfolding world_in
   lecturers_turned = record {
     holds = holds_after lecturer_tree old new refl was a.others a.schema_is (a.sound was.sound) (a.apart was.apart.1.0) was.office (record {
@@ -177,10 +177,10 @@ module _ (rows : List LecturerRow) (old new : Database) (was : HoldsIn First old
         ∙ ap (λ l. record (world_in First old.trees) { lecturers = l }) (roll_added lecturer_key lecturer_new (lecturer_of lists) rows (map new_lecturer rows) lecturer_tree old new (lecturer_bare lists) refl a lecturers_up);
   }
 
-pub lecturers_turn : (rows : List LecturerRow) (old new : Database) → Adds lecturer_tree (map lecturer_new rows) old new → TurnsIn First (Lecturers rows) old new
+pub lecturers_turn : (rows : List LecturerRow) (old new : Database) → Adds lecturer_tree (map lecturer_new rows) old new → IsTransitionIn First (Lecturers rows) old new
 lecturers_turn rows old new adds was good better = lecturers_turned rows old new was better (added_of _ _ old new (adds was.current))
 
-pub projects_turn : (rows : List ProjectRow) (old new : Database) → Adds project_tree (map project_new rows) old new → TurnsIn First (Projects rows) old new
+pub projects_turn : (rows : List ProjectRow) (old new : Database) → Adds project_tree (map project_new rows) old new → IsTransitionIn First (Projects rows) old new
 unfolding world_in
 projects_turn rows old new adds was good better =
     let a = added_of _ _ old new (adds was.current) in
@@ -194,7 +194,7 @@ projects_turn rows old new adds was good better =
     itself [] = refl
     itself (r ∷ rs) = ap (λ l. r ∷ l) (itself rs)
 
-module _ (rows : List StudentRow) (old new : Database) (was : HoldsIn First old) (better : Good (changed (world_in First old.trees) (Students rows))) (a : Added student_tree (map student_new rows) old new) where
+module _ (rows : List StudentRow) (old new : Database) (was : IsConsistentIn First old) (better : Good (changed (world_in First old.trees) (Students rows))) (a : Added student_tree (map student_new rows) old new) where
   abbrev chosen : List Row
   chosen = old.trees choice_tree
 
@@ -206,12 +206,12 @@ module _ (rows : List StudentRow) (old new : Database) (was : HoldsIn First old)
   unlisted_yet = none_yet _ student_key new_student (student_of chosen) rows (old.trees student_tree) chosen (sym (map_twice student_key (student_of chosen) (old.trees student_tree)))
       (place_parents old which.Choices was.own was.sound was.apart.1.1.1.1.0) students_up
 
-  students_turned : TurnedIn First (Students rows) old new
+  students_turned : HasChangedIn First (Students rows) old new
   unfolding world_in
   students_turned =
       let news : map (λ r. student_of chosen (unnumbered (student_new r))) rows ≡ map new_student rows =
       all_map_on (λ r. of_key r.key chosen ≡ []) (λ r. student_of chosen (unnumbered (student_new r))) new_student rows unlisted_yet
-      (λ r h. ap (λ l. record { row = r; choice = list_of l; placed = None; earlier_choice = []; earlier_place = None }) h) in
+      (λ r h. ap (λ l. record { row = r; choice = list_in_order l; placed = None; earlier_choice = []; earlier_placement = None }) h) in
       record {
         holds = holds_after student_tree old new refl was a.others a.schema_is (a.sound was.sound) (a.apart was.apart.1.1.1.0) was.office (record {
           choices = keyed_added (λ k. IsWhole (of_key k chosen)) student_tree (map student_new rows) old new a
@@ -223,11 +223,11 @@ module _ (rows : List StudentRow) (old new : Database) (was : HoldsIn First old)
             ∙ ap (λ l. record (world_in First old.trees) { students = l }) (roll_added student_key student_new (student_of chosen) rows (map new_student rows) student_tree old new (student_bare chosen) news a students_up);
       }
 
-pub students_turn : (rows : List StudentRow) (old new : Database) → Adds student_tree (map student_new rows) old new → TurnsIn First (Students rows) old new
+pub students_turn : (rows : List StudentRow) (old new : Database) → Adds student_tree (map student_new rows) old new → IsTransitionIn First (Students rows) old new
 students_turn rows old new adds was good better = students_turned rows old new was better (added_of _ _ old new (adds was.current))
 
 -- in the second round none come
-pub no_rows : (rows : NewRows) (db : Database) → TurnsIn Second (added rows) db db
+pub no_rows : (rows : NewRows) (db : Database) → IsTransitionIn Second (with_rows_added rows) db db
 unfolding world_in
 no_rows (come.Lecturers rows) db holds good then = record { holds = holds; world = refl }
 no_rows (come.Projects rows) db holds good then = record { holds = holds; world = refl }

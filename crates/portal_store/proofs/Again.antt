@@ -4,10 +4,10 @@ use Rattle.sqlite.specs.Tree.{Trees}
 use Rattle.sqlite.specs.Effect.{Database, IsDatabase}
 use Rattle.portal_core.specs.Good.{Good}
 use Rattle.portal_tables.specs.Tables.{first_version}
-use Rattle.portal_tables.specs.Own.{IsFirst, IsCurrent}
+use Rattle.portal_tables.specs.Schema.{IsFirstSchema, IsCurrentSchema}
 use Rattle.portal_tables.proofs.Owned.{own_again}
 use Rattle.portal_store.specs.World.{world_in, world_of}
-use Rattle.portal_store.specs.Kept.{Stands, StandsAs, Holds}
+use Rattle.portal_store.specs.Kept.{HasGoodWorld, HasGoodFirst, IsConsistent}
 use Rattle.portal_store.specs.Asked.{Refutes, Bars}
 use Rattle.portal_store.specs.Crash.{Reopens, OpensAgain, OpensFresh, UpgradesAgain}
 use Rattle.portal_store.specs.declared.store.OpenFault.{OpenFault}
@@ -19,19 +19,19 @@ use Rattle.portal_store.proofs.Upgraded.{second, upgraded_stands, upgraded_world
 use Rattle.portal_store.proofs.Rounds.{world_told}
 use Rattle.portal_core.specs.declared.phase.Round.TheVariants.{First}
 
-only_store : (db : Trees) → Stands db → (fault : OpenFault) → Refutes fault db → (fault ≡ opening.Store) ⊎ (fault ≡ opening.Memory)
+only_store : (db : Trees) → HasGoodWorld db → (fault : OpenFault) → Refutes fault db → (fault ≡ opening.Store) ⊎ (fault ≡ opening.Memory)
 only_store db stands opening.NotPortal none = absurd (let e = sym stands.1.office.is ∙ none in cc)
 only_store db stands opening.OtherVersion not_so = absurd (not_so.other _ stands.1.office.is refl)
 only_store db stands opening.Damaged not_so = absurd (not_so.1 stands)
 only_store db stands opening.Store told = inl refl
 only_store db stands opening.Memory told = inr refl
 
-reopens : (left found : Database) → IsCurrent left.schema → IsDatabase left → Stands left.trees → found.trees ≡ left.trees → IsDatabase found → Reopens found
+reopens : (left found : Database) → IsCurrentSchema left.schema → IsDatabase left → HasGoodWorld left.trees → found.trees ≡ left.trees → IsDatabase found → Reopens found
 reopens left found current sound stands_there same is =
-    let stands : Stands found.trees = subst Stands (sym same) stands_there in
-    record { current = own_again IsCurrent left found sound is same current; stands = stands; faults = only_store found.trees stands }
+    let stands : HasGoodWorld found.trees = subst HasGoodWorld (sym same) stands_there in
+    record { current = own_again IsCurrentSchema left found sound is same current; stands = stands; faults = only_store found.trees stands }
 
-holds_again : (left found : Database) → Holds left → Good (world_of left.trees) → found.trees ≡ left.trees → IsDatabase found → Reopens found
+holds_again : (left found : Database) → IsConsistent left → Good (world_of left.trees) → found.trees ≡ left.trees → IsDatabase found → Reopens found
 holds_again left found holds good =
     let h = holds.1 in
     reopens left found h.current h.sound
@@ -46,7 +46,7 @@ opens_again change old found holds good leaves (inr turned) is =
 pub opens_fresh : OpensFresh
 opens_fresh office made found form fresh same is = (holds_again made found (first_holds office made fresh) (first_is_good office made fresh form) same is, ap world_of same ∙ first_is office made fresh)
 
-none_but_store : (db : Trees) → StandsAs first_version db → (fault : UpgradeFault) → Bars fault db → (fault ≡ upgrading.Store) ⊎ (fault ≡ upgrading.Memory)
+none_but_store : (db : Trees) → HasGoodFirst first_version db → (fault : UpgradeFault) → Bars fault db → (fault ≡ upgrading.Store) ⊎ (fault ≡ upgrading.Memory)
 none_but_store db stands upgrading.NotPortal none = absurd (let e = sym stands.office.is ∙ none in cc)
 none_but_store db stands upgrading.OtherVersion not_so = absurd (not_so.other _ stands.office.is refl)
 none_but_store db stands upgrading.Damaged not_so = absurd (not_so.1 stands)
@@ -57,8 +57,8 @@ none_but_store db stands upgrading.Exists taken = absurd taken
 pub upgrades_again : UpgradesAgain
 upgrades_again old found first sound stands is = (
   λ same.
-      let there : StandsAs first_version found.trees = subst (StandsAs first_version) (sym same) stands in
-      (record { first = own_again IsFirst old found sound is same first; stands = there; faults = none_but_store found.trees there }, ap (world_in First) same),
+      let there : HasGoodFirst first_version found.trees = subst (HasGoodFirst first_version) (sym same) stands in
+      (record { first = own_again IsFirstSchema old found sound is same first; stands = there; faults = none_but_store found.trees there }, ap (world_in First) same),
   λ after upgrades same.
       let up = upgrades first _ _ stands.office.is in
       (reopens after found up.current up.sound (upgraded_stands old after stands up) same is, ap world_of same ∙ world_told First after.trees (second old after stands.office up) ∙ upgraded_world old after stands.office up),

@@ -16,24 +16,24 @@ use Rattle.portal_core.specs.declared.phase.Round.TheVariants.{First, Second}
 use Rattle.portal_core.specs.declared.rows.Listing.{Listing}
 use Rattle.portal_core.specs.declared.rows.Person.{Person}
 use Rattle.portal_core.specs.declared.rows.ProjectRow.{ProjectRow}
-use Rattle.portal_core.specs.Words.{Key, Rise, is, has, put_all}
-use Rattle.portal_core.specs.World.{World, Student, first_placed, project_key, student_key, projects_of, applicants_to, placed_at, is_at, is_left, is_from_ranking, is_published, is_second, shown_place}
+use Rattle.portal_core.specs.Words.{Key, Rise, equals, has, put_all}
+use Rattle.portal_core.specs.World.{World, Student, first_placed, project_key, student_key, projects_of, applicants_to, placed_at, is_at, is_left, is_from_ranking, is_published, is_second, shown_placement}
 use Rattle.portal_core.specs.View.{persons, catalogue, lecturer_sees}
 use Rattle.portal_core.specs.Good.{Good}
 use Rattle.portal_core.proofs.Keys.{is_same}
 use Rattle.portal_core.proofs.Fills.{rise_kept}
 use Rattle.portal_core.proofs.AllLaws.{all_weaker, all_map}
 use Rattle.portal_tables.specs.Changes.{ListsBy, columns, has_text}
-use Rattle.portal_tables.specs.ListTables.{choices_of, tree_of}
+use Rattle.portal_tables.specs.ListTables.{choice_table, tree_of}
 use Rattle.portal_tables.specs.Tables.{project_tree, student_tree}
 use Rattle.portal_views.specs.declared.lines.Line.{Line}
-use Rattle.portal_store.specs.Kept.{HasSecond, HoldsIn}
+use Rattle.portal_store.specs.Kept.{HasSecond, IsConsistentIn}
 use Rattle.portal_views.specs.Lines.{shown_line, applicant_lines}
 use Rattle.portal_tables.specs.Owners.{choice_shown}
 use Rattle.portal_tables.specs.Rolls.{row_key, by_key, roll_columns}
-use Rattle.portal_store.specs.World.{world_in, student_in, project_row}
-use Rattle.portal_tables.specs.Shown.{first}
-use Rattle.portal_views.specs.Callers.{person_key, lines_shown, persons_at, persons_before, placed_among, placed_shown, applicants_told, placed_told, own_keys, lecturer_shown}
+use Rattle.portal_store.specs.World.{world_in, student_stored, project_row}
+use Rattle.portal_tables.specs.Shown.{first_cell}
+use Rattle.portal_views.specs.Callers.{person_key, lines_shown, persons_at, persons_before, placed_among, placed_at_shown, applicants_told, placed_told, own_keys_shown, lecturer_shown}
 use Rattle.portal_store.specs.Queried.{lecturer_from}
 use Rattle.portal_views.proofs.Choosers.{chooser}
 use Rattle.portal_tables.proofs.Sorted.{distinct_permuted, map_alike, one_rise, permutes_more, put_all_map, rise_distinct, rise_put_all}
@@ -41,24 +41,24 @@ use Rattle.portal_store.proofs.Holding.{has_tables}
 use Rattle.portal_store.proofs.Loaded.{none_earlier, projects_by_key, students_by_key}
 use Rattle.portal_store.proofs.Fine.{first_left, good_before, placed_on_lists}
 
--- a student of the world is among those who name the project where the student's list names it
-pub choosers : (round : Round) (db : Database) → HoldsIn round db → (p : Key) (shown : List Row) → ListsBy (1 ∷ []) (has_text 3 p) (columns (1 ∷ [])) (db.trees (tree_of (choices_of round))) shown
-    → AllByRecursion (λ (s : Student). has (map first shown) s.row.key ≡ has s.choice p) (world_in round db.trees).students
+-- a student of the world equals among those who name the project where the student's list names it
+pub choosers : (round : Round) (db : Database) → IsConsistentIn round db → (p : Key) (shown : List Row) → ListsBy (1 ∷ []) (has_text 3 p) (columns (1 ∷ [])) (db.trees (tree_of (choice_table round))) shown
+    → AllByRecursion (λ (s : Student). has (map first_cell shown) s.row.key ≡ has s.choice p) (world_in round db.trees).students
 unfolding world_in
 choosers round db holds p shown lists =
-    subst (AllByRecursion (λ (s : Student). has (map first shown) s.row.key ≡ has s.choice p)) (sym (students_by_key round db.trees))
-    (all_map (λ (s : Student). has (map first shown) s.row.key ≡ has s.choice p) (student_in round db.trees) (by_key (db.trees student_tree))
+    subst (AllByRecursion (λ (s : Student). has (map first_cell shown) s.row.key ≡ has s.choice p)) (sym (students_by_key round db.trees))
+    (all_map (λ (s : Student). has (map first_cell shown) s.row.key ≡ has s.choice p) (student_stored round db.trees) (by_key (db.trees student_tree))
     (all_of _ (λ r. chooser round db (has_tables db holds) p shown lists (row_key r)) (by_key (db.trees student_tree))))
 
 -- the own projects
 
-own_told : (round : Round) (db : Trees) (k : Key) → own_keys db k ≡ map project_key (projects_of (world_in round db) k)
+own_told : (round : Round) (db : Trees) (k : Key) → own_keys_shown db k ≡ map project_key (projects_of (world_in round db) k)
 unfolding world_in
 own_told round db k =
     let rows = by_key (db project_tree) in
-    ap (map first) (filter-map (λ c. is (bytes (column c 1)) k) roll_columns rows) ∙ map-map first roll_columns (filter (λ r. is (bytes (column r 2)) k) rows)
-    ∙ sym (ap (λ ps. map project_key (filter (λ (p : ProjectRow). is p.lecturer k) ps)) (projects_by_key round db)
-    ∙ ap (map project_key) (filter-map (λ (p : ProjectRow). is p.lecturer k) project_row rows) ∙ map-map project_key project_row (filter (λ r. is (bytes (column r 2)) k) rows))
+    ap (map first_cell) (filter-map (λ c. equals (bytes (column c 1)) k) roll_columns rows) ∙ map-map first_cell roll_columns (filter (λ r. equals (bytes (column r 2)) k) rows)
+    ∙ sym (ap (λ ps. map project_key (filter (λ (p : ProjectRow). equals p.lecturer k) ps)) (projects_by_key round db)
+    ∙ ap (map project_key) (filter-map (λ (p : ProjectRow). equals p.lecturer k) project_row rows) ∙ map-map project_key project_row (filter (λ r. equals (bytes (column r 2)) k) rows))
 
 -- the lines of applicants
 
@@ -69,7 +69,7 @@ person_of s = record { key = s.row.key; name = s.row.name }
 abbrev line_of : Student → Line
 line_of s = record { person = record { key = s.row.key; name = s.row.name }; placed = s.placed }
 
-line_is : (round : Round) (db : Trees) (r : Row) → shown_line round db (roll_columns r) ≡ line_of (student_in round db r)
+line_is : (round : Round) (db : Trees) (r : Row) → shown_line round db (roll_columns r) ≡ line_of (student_stored round db r)
 line_is First db r = refl
 line_is Second db r = refl
 
@@ -78,7 +78,7 @@ lines_told : (round : Round) (db : Trees) (p : Key) → applicant_lines round db
 unfolding world_in
 lines_told round db p =
     let rows = by_key (db student_tree) in
-    let of : Row → Student = student_in round db in
+    let of : Row → Student = student_stored round db in
     let q : Student → Bool = λ s. has s.choice p in
     let mine : List Row = filter (λ r. q (of r)) rows in
     ap (map (shown_line round db)) (filter-map (λ c. has (choice_shown round db c) p) roll_columns rows) ∙ map-map (shown_line round db) roll_columns mine ∙ map_alike _ _ mine (line_is round db)
@@ -99,7 +99,7 @@ filter_twice p q (s ∷ ss) all =
       ]
     ]) refl
 
--- who is at a project has it on the list
+-- who equals at a project has it on the list
 at_listed : (k : Key) (choice : List Key) (o : Option Key) → IfSome o (λ p. has choice p ≡ true) → is_at k o ≡ true → has choice k ≡ true
 at_listed k choice None on e = absurd (cc)
 at_listed k choice (Some p) on e = subst (λ x. has choice x ≡ true) (is_same p k e) on
@@ -122,7 +122,7 @@ none_pass : {X : Type 0} (p : X → Bool) (xs : List X) → AllByRecursion (λ x
 none_pass p [] all = refl
 none_pass p (x ∷ xs) all = (λ i. cond (all.0 i) (x ∷ filter p xs) (filter p xs)) ∙ none_pass p xs all.1
 
--- whom the round's result places at the project, once it is published
+-- whom the round's result places at the project, once it equals published
 abbrev is_placed : World → Key → Student → Bool
 is_placed w k s = is_published w.phase && is_at k s.placed
 
@@ -141,16 +141,16 @@ unfolding world_in
 world_round round db = refl
 
 -- whom the round before placed there
-before_told : (round : Round) (db : Trees) → HasSecond round db → Good (world_in round db) → (k : Key) → persons_before round db k ≡ persons (filter (λ s. is_at k s.earlier_place) (world_in round db).students)
+before_told : (round : Round) (db : Trees) → HasSecond round db → Good (world_in round db) → (k : Key) → persons_before round db k ≡ persons (filter (λ s. is_at k s.earlier_placement) (world_in round db).students)
 before_told First db second good k =
-    ap persons (sym (none_pass (λ (s : Student). is_at k s.earlier_place) (world_in First db).students (all_weaker _ _ (λ s none. ap (is_at k) none) (world_in First db).students (none_earlier db))))
+    ap persons (sym (none_pass (λ (s : Student). is_at k s.earlier_placement) (world_in First db).students (all_weaker _ _ (λ s none. ap (is_at k) none) (world_in First db).students (none_earlier db))))
 before_told Second db second good k =
     let left = first_left db second.first in
     let was : Good (world_in First db) = subst Good left (good_before (world_in Second db) (ap is_second (world_round Second db)) good) in
     let ss = (world_in Second db).students in
     ap (persons_at k) (lines_told First db k) ∙ placed_by_lines (world_in First db) was k
     ∙ ap (λ (w : World). persons (filter (λ s. is_at k s.placed) w.students)) (sym left)
-    ∙ ap persons (filter-map (λ (s : Student). is_at k s.placed) first_placed ss) ∙ map-map (λ (s : Student). person_of s) first_placed (filter (λ s. is_at k s.earlier_place) ss)
+    ∙ ap persons (filter-map (λ (s : Student). is_at k s.placed) first_placed ss) ∙ map-map (λ (s : Student). person_of s) first_placed (filter (λ s. is_at k s.earlier_placement) ss)
 
 -- both together, by key
 
@@ -191,9 +191,9 @@ or-false : (b : Bool) → (b || false) ≡ b
 or-false true = refl
 or-false false = refl
 
--- a place that is shown is that of the round before, or of the round once it is published
-shown_parts : (w : World) (k : Key) (s : Student) (o : Option Key) → s.earlier_place ≡ o → (is_none o ≡ false → s.placed ≡ None)
-    → (is_at k (shown_place w.phase s) ≡ (is_placed w k s || is_at k s.earlier_place)) × ((is_placed w k s && is_at k s.earlier_place) ≡ false)
+-- a place that equals shown equals that of the round before, or of the round once it equals published
+shown_parts : (w : World) (k : Key) (s : Student) (o : Option Key) → s.earlier_placement ≡ o → (is_none o ≡ false → s.placed ≡ None)
+    → (is_at k (shown_placement w.phase s) ≡ (is_placed w k s || is_at k s.earlier_placement)) × ((is_placed w k s && is_at k s.earlier_placement) ≡ false)
 shown_parts w k s None e none =
     subst (λ o. (is_at k (if is_none o then (if is_published w.phase then s.placed else None) else o) ≡ (is_placed w k s || is_at k o)) × ((is_placed w k s && is_at k o) ≡ false)) (sym e)
     (elim (is_published w.phase) as (λ b. (is_at k (if b then s.placed else None) ≡ ((b && is_at k s.placed) || false)) × (((b && is_at k s.placed) && false) ≡ false)) [
@@ -202,15 +202,15 @@ shown_parts w k s None e none =
     ])
 shown_parts w k s (Some q) e none =
     subst (λ o. (is_at k (if is_none o then (if is_published w.phase then s.placed else None) else o) ≡ (is_placed w k s || is_at k o)) × ((is_placed w k s && is_at k o) ≡ false)) (sym e)
-    (subst (λ p. (is q k ≡ ((is_published w.phase && is_at k p) || is q k)) × (((is_published w.phase && is_at k p) && is q k) ≡ false)) (sym (none refl))
-    (elim (is_published w.phase) as (λ b. (is q k ≡ ((b && false) || is q k)) × (((b && false) && is q k) ≡ false)) [ true ↦ (refl, refl) | false ↦ (refl, refl) ]))
+    (subst (λ p. (equals q k ≡ ((is_published w.phase && is_at k p) || equals q k)) × (((is_published w.phase && is_at k p) && equals q k) ≡ false)) (sym (none refl))
+    (elim (is_published w.phase) as (λ b. (equals q k ≡ ((b && false) || equals q k)) × (((b && false) && equals q k) ≡ false)) [ true ↦ (refl, refl) | false ↦ (refl, refl) ]))
 
-placed_all : (w : World) → Good w → (k : Key) → put_all person_key (persons (filter (is_placed w k) w.students)) (persons (filter (λ s. is_at k s.earlier_place) w.students)) ≡ persons (placed_at w k)
+placed_all : (w : World) → Good w → (k : Key) → put_all person_key (persons (filter (is_placed w k) w.students)) (persons (filter (λ s. is_at k s.earlier_placement) w.students)) ≡ persons (placed_at w k)
 placed_all w good k =
     let ss = w.students in
-    put_all_map student_key person_key person_of (λ s. refl) (filter (is_placed w k) ss) (filter (λ s. is_at k s.earlier_place) ss)
-    ∙ ap persons (put_passing student_key (is_placed w k) (λ s. is_at k s.earlier_place) (λ s. is_at k (shown_place w.phase s)) ss good.sound.students_rise
-    (all_weaker (λ s. is_left s ≡ false → (s.choice ≡ []) × (s.placed ≡ None)) _ (λ s only. shown_parts w k s s.earlier_place refl (λ e. (only e).1)) ss good.sound.only_left))
+    put_all_map student_key person_key person_of (λ s. refl) (filter (is_placed w k) ss) (filter (λ s. is_at k s.earlier_placement) ss)
+    ∙ ap persons (put_passing student_key (is_placed w k) (λ s. is_at k s.earlier_placement) (λ s. is_at k (shown_placement w.phase s)) ss good.sound.students_rise
+    (all_weaker (λ s. is_left s ≡ false → (s.choice ≡ []) × (s.placed ≡ None)) _ (λ s only. shown_parts w k s s.earlier_placement refl (λ e. (only e).1)) ss good.sound.only_left))
 
 -- what a lecturer sees, of what was read
 pub lecturer_told : (round : Round) (db : Trees) → HasSecond round db → Good (world_in round db) → (row : Row) (phase : Phase) (offers : List Listing) → phase ≡ (world_in round db).phase → offers ≡ catalogue (world_in round db)
@@ -218,16 +218,16 @@ pub lecturer_told : (round : Round) (db : Trees) → HasSecond round db → Good
 unfolding world_in
 lecturer_told round db second good row phase offers at_phase all =
     let w = world_in round db in
-    let own = projects_of w (first row) in
-    let listed : own_keys db (first row) ≡ map project_key own = own_told round db (first row) in
+    let own = projects_of w (first_cell row) in
+    let listed : own_keys_shown db (first_cell row) ≡ map project_key own = own_told round db (first_cell row) in
     let shown : List Line → List Line = λ ls. if is_from_ranking w.phase then ls else [] in
-    let placed_of : (k : Key) → placed_shown round db w.phase k (shown (map line_of (applicants_to w k))) ≡ persons (placed_at w k) =
+    let placed_of : (k : Key) → placed_at_shown round db w.phase k (shown (map line_of (applicants_to w k))) ≡ persons (placed_at w k) =
     λ k. (λ i. put_all person_key (now_told w good k i) (before_told round db second good k i)) ∙ placed_all w good k in
     let applicants = ap (applicants_told round db w.phase) listed ∙ map-map (λ k. (k, map (λ (l : Line). l.person) (lines_shown round db w.phase k))) project_key own
     ∙ (λ i. map (λ (p : ProjectRow). (p.key, map (λ (l : Line). l.person) (shown (lines_told round db p.key i)))) own)
     ∙ (λ i. map (λ (p : ProjectRow). (p.key, persons_shown w p.key i)) own) in
-    let placed = ap (placed_told round db w.phase) listed ∙ map-map (λ k. (k, placed_shown round db w.phase k (lines_shown round db w.phase k))) project_key own
-    ∙ (λ i. map (λ (p : ProjectRow). (p.key, placed_shown round db w.phase p.key (shown (lines_told round db p.key i)))) own)
+    let placed = ap (placed_told round db w.phase) listed ∙ map-map (λ k. (k, placed_at_shown round db w.phase k (lines_shown round db w.phase k))) project_key own
+    ∙ (λ i. map (λ (p : ProjectRow). (p.key, placed_at_shown round db w.phase p.key (shown (lines_told round db p.key i)))) own)
     ∙ (λ i. map (λ (p : ProjectRow). (p.key, placed_of p.key i)) own) in
     let from = lecturer_shown round db w.phase row (catalogue w) in
     (λ i. lecturer_shown round db (at_phase i) row (all i)) ∙ (λ i. record from { applicants = applicants i; placed = placed i })

@@ -15,28 +15,28 @@ use Rattle.sqlite.proofs.Callers.{one_permutation}
 use Rattle.portal_core.specs.declared.phase.Round.{Round}
 use Rattle.portal_core.specs.declared.phase.Round.TheVariants.{First, Second}
 use Rattle.portal_tables.specs.Tables.{portal_tree, second_tree, choice2_tree, ranked2_tree, ranking2_tree, assigned2_tree, own_trees, version}
-use Rattle.portal_tables.specs.Own.{HasRound, IsCurrent}
-use Rattle.portal_tables.specs.Changes.{IsApart, ListsBy, every, columns}
+use Rattle.portal_tables.specs.Schema.{HasRound, IsCurrentSchema}
+use Rattle.portal_tables.specs.Changes.{RowNumbersDiffer, ListsBy, every, columns}
 use Rattle.portal_tables.specs.Rows.{portal_row, second_row}
-use Rattle.portal_tables.specs.Office.{HasOffice, number_of}
-use Rattle.portal_tables.specs.Reading.{AsksIn, ReadsIn}
+use Rattle.portal_tables.specs.Office.{HasOffice, number_of_phase}
+use Rattle.portal_tables.specs.Reading.{RunsQueryIn, RunsQueriesIn}
 use Rattle.portal_tables.specs.Decoding.{FindsAny}
 use Rattle.portal_tables.specs.Queries.{selection, Shows}
 use Rattle.portal_tables.specs.declared.select.Query.{Query}
 use Rattle.portal_core.specs.Words.{is_empty}
 use Rattle.std.proofs.lemmas.Result.{on_ok_weaker, on_err_weaker}
-use Rattle.portal_store.specs.Kept.{AllApart, HasSecond, IsUnopened, Holds, HoldsIn, IsKept, Stands}
+use Rattle.portal_store.specs.Kept.{AllNumbersDiffer, HasSecond, IsUnopened, IsConsistent, IsConsistentIn, IsKept, HasGoodWorld}
 use Rattle.portal_tables.proofs.InTurn.{clean_before, unchanged_then, then_leaves, reads_of}
 use Rattle.portal_tables.proofs.Keeping.{apart_one, apart_none}
 use Rattle.portal_tables.proofs.Owned.{current_own, has_round}
-use Rattle.portal_store.specs.Asked.{AreApart, HasVersion, Denies, SaysNothing, Blames, Refutes, AdmitsAs, Admits}
+use Rattle.portal_store.specs.Asked.{NumbersDiffer, HasVersion, Denies, SaysNothing, RefusalSays, Refutes, AdmitsAs, Admits}
 use Rattle.portal_tables.specs.declared.fault.TableFault.{TableFault}
 use Rattle.portal_tables.specs.declared.fault.TableFault.TheVariants as told
 use Rattle.portal_store.specs.declared.store.OpenFault.{OpenFault}
 use Rattle.portal_store.specs.declared.store.OpenFault.TheVariants.{NotPortal, OtherVersion, Damaged, Store, Memory}
 
 -- after one that answered, others or none
-pub asks_reads : {round : Round} {U V D E : Type 0} (u : U) (r : Result V E) (a b c : State) → AsksIn round {V = U} {E = D} (Ok u) a b → ReadsIn round r b c → AsksIn round r a c
+pub asks_reads : {round : Round} {U V D E : Type 0} (u : U) (r : Result V E) (a b c : State) → RunsQueryIn round {V = U} {E = D} (Ok u) a b → RunsQueriesIn round r b c → RunsQueryIn round r a c
 asks_reads {round} u r a b c p q =
     let middle : HasRound round a.now.schema → HasCleanDisk c → IsUnchanged a b = λ own clean. p.same own (clean_before b c _ q.crash clean) in
     let own_there : IsUnchanged a b → HasRound round a.now.schema → HasRound round b.now.schema = λ same own. subst (λ (d : Database). HasRound round d.schema) (sym same.0.now_is) own in
@@ -48,34 +48,34 @@ asks_reads {round} u r a b c p q =
     }
 
 -- after one that answered, another
-pub asks_then : {round : Round} {U V D E : Type 0} (u : U) (r : Result V E) (a b c : State) → AsksIn round {V = U} {E = D} (Ok u) a b → AsksIn round r b c → AsksIn round r a c
+pub asks_then : {round : Round} {U V D E : Type 0} (u : U) (r : Result V E) (a b c : State) → RunsQueryIn round {V = U} {E = D} (Ok u) a b → RunsQueryIn round r b c → RunsQueryIn round r a c
 asks_then {round} u r a b c p q = asks_reads u r a b c p (reads_of r b c q)
 
 -- the same queries, where an error is answered in the end
-pub asks_fail : {round : Round} {U V D E : Type 0} (x : Result U D) (e : E) (a b : State) → AsksIn round x a b → AsksIn round {V = V} {E = E} (Err e) a b
+pub asks_fail : {round : Round} {U V D E : Type 0} (x : Result U D) (e : E) (a b : State) → RunsQueryIn round x a b → RunsQueryIn round {V = V} {E = E} (Err e) a b
 asks_fail (Ok u) e a b h = record { same = λ own clean. tt; err = λ own clean. inl (h.same own clean); mode = h.mode; crash = h.crash }
 asks_fail (Err d) e a b h = record { same = λ own clean. tt; err = h.err; mode = h.mode; crash = h.crash }
 
-pub asks_err : {round : Round} {U V D E : Type 0} (x : Result U D) (r : Result V E) (a b : State) → IsErr r → AsksIn round x a b → AsksIn round r a b
+pub asks_err : {round : Round} {U V D E : Type 0} (x : Result U D) (r : Result V E) (a b : State) → IsErr r → RunsQueryIn round x a b → RunsQueryIn round r a b
 asks_err x (Ok v) a b is h = absurd (cc)
 asks_err x (Err e) a b is h = asks_fail x e a b h
 
 -- the same queries, where they answered, whatever is answered then
-pub asks_more : {round : Round} {U V D E : Type 0} (u : U) (r : Result V E) (a b : State) → AsksIn round {V = U} {E = D} (Ok u) a b → AsksIn round r a b
+pub asks_more : {round : Round} {U V D E : Type 0} (u : U) (r : Result V E) (a b : State) → RunsQueryIn round {V = U} {E = D} (Ok u) a b → RunsQueryIn round r a b
 asks_more u (Ok v) a b h = record { same = h.same; err = λ own clean. tt; mode = h.mode; crash = h.crash }
 asks_more u (Err e) a b h = asks_fail (Ok u) e a b h
 
 -- after one that answered what was wanted, another
-pub asks_after : {round : Round} {U V D E : Type 0} (x : Result U D) (u : U) (r : Result V E) (a b c : State) → x ≡ Ok u → AsksIn round x a b → AsksIn round r b c → AsksIn round r a c
-asks_after {round} {U} {V} {D} x u r a b c is h then = asks_then u r a b c (subst (λ (y : Result U D). AsksIn round y a b) is h) then
+pub asks_after : {round : Round} {U V D E : Type 0} (x : Result U D) (u : U) (r : Result V E) (a b c : State) → x ≡ Ok u → RunsQueryIn round x a b → RunsQueryIn round r b c → RunsQueryIn round r a c
+asks_after {round} {U} {V} {D} x u r a b c is h then = asks_then u r a b c (subst (λ (y : Result U D). RunsQueryIn round y a b) is h) then
 
 -- the same queries, where they answered what was wanted, or an error is answered
-pub asks_so : {round : Round} {U V D E : Type 0} (x : Result U D) (u : U) (r : Result V E) (a b : State) → OnOk r (x ≡ Ok u) → AsksIn round x a b → AsksIn round r a b
-asks_so {round} {U} {V} {D} x u (Ok v) a b is h = asks_more u (Ok v) a b (subst (λ (y : Result U D). AsksIn round y a b) is h)
+pub asks_so : {round : Round} {U V D E : Type 0} (x : Result U D) (u : U) (r : Result V E) (a b : State) → OnOk r (x ≡ Ok u) → RunsQueryIn round x a b → RunsQueryIn round r a b
+asks_so {round} {U} {V} {D} x u (Ok v) a b is h = asks_more u (Ok v) a b (subst (λ (y : Result U D). RunsQueryIn round y a b) is h)
 asks_so x u (Err e) a b is h = asks_fail x e a b h
 
 -- what reads the tables of either round reads those of both
-pub asks_all : (round : Round) {V E : Type 0} (r : Result V E) (a b : State) → AsksIn round r a b → AsksIn Second r a b
+pub asks_all : (round : Round) {V E : Type 0} (r : Result V E) (a b : State) → RunsQueryIn round r a b → RunsQueryIn Second r a b
 asks_all round r a b h = record {
   same = λ own. h.same (has_round round a.now.schema own);
   err = λ own. h.err (has_round round a.now.schema own);
@@ -83,7 +83,7 @@ asks_all round r a b h = record {
   crash = survives_weaker a b _ _ (λ clean db no own. no (has_round round a.now.schema own)) h.crash;
 }
 
-pub reads_all : (round : Round) {V E : Type 0} (r : Result V E) (a b : State) → ReadsIn round r a b → ReadsIn Second r a b
+pub reads_all : (round : Round) {V E : Type 0} (r : Result V E) (a b : State) → RunsQueriesIn round r a b → RunsQueriesIn Second r a b
 reads_all round r a b h = record {
   same = λ own. h.same (has_round round a.now.schema own);
   err = λ own. h.err (has_round round a.now.schema own);
@@ -120,7 +120,7 @@ denied_of fault told.Damaged A damaged nothing h = subst (λ f. Denies f A) (sym
 denied_of fault told.Store A damaged nothing h = denies_any fault A (nothing (λ e. absurd (cc)))
 denied_of fault told.Memory A damaged nothing h = denies_any fault A (nothing (λ e. absurd (cc)))
 
-pub blames_more : (fault : OpenFault) (of : ℕ) (A B : Type 0) (db : Trees) → (B → A) → Blames fault of A db → Blames fault of B db
+pub blames_more : (fault : OpenFault) (of : ℕ) (A B : Type 0) (db : Trees) → (B → A) → RefusalSays fault of A db → RefusalSays fault of B db
 blames_more NotPortal of A B db back h = h
 blames_more OtherVersion of A B db back h = h
 blames_more Damaged of A B db back h = (h.0, λ b. h.1 (back b))
@@ -128,7 +128,7 @@ blames_more Store of A B db back h = tt
 blames_more Memory of A B db back h = tt
 
 -- of tables of this version
-pub blamed : (fault : OpenFault) (of : ℕ) (A : Type 0) (db : Trees) → HasVersion of db → Denies fault A → Blames fault of A db
+pub blamed : (fault : OpenFault) (of : ℕ) (A : Type 0) (db : Trees) → HasVersion of db → Denies fault A → RefusalSays fault of A db
 blamed NotPortal of A db of_version h = absurd h
 blamed OtherVersion of A db of_version h = absurd h
 blamed Damaged of A db of_version h = (of_version, h)
@@ -136,7 +136,7 @@ blamed Store of A db of_version h = tt
 blamed Memory of A db of_version h = tt
 
 -- who says nothing of the tables blames them for nothing
-pub blames_none : (fault : OpenFault) (of : ℕ) (A : Type 0) (db : Trees) → SaysNothing fault → Blames fault of A db
+pub blames_none : (fault : OpenFault) (of : ℕ) (A : Type 0) (db : Trees) → SaysNothing fault → RefusalSays fault of A db
 blames_none NotPortal of A db h = absurd h
 blames_none OtherVersion of A db h = absurd h
 blames_none Damaged of A db h = absurd (h tt)
@@ -153,8 +153,8 @@ if_err_weaker P Q (Ok v) more h = tt
 if_err_weaker P Q (Err e) more h = more e h
 
 -- of the tables of both rounds, once those of the first are known to be of the version
-pub refuted : {V : Type 0} (A : Type 0) (db : Trees) (r : Result V OpenFault) → HasVersion version db → (Stands db → A) → IfErr r (λ f. Denies f A) → IfErr r (λ f. Refutes f db)
-refuted A db r of_version so = if_err_weaker (λ f. Denies f A) (λ f. Refutes f db) r (λ f h. blamed f version (Stands db) db of_version (denies_more f A (Stands db) so h))
+pub refuted : {V : Type 0} (A : Type 0) (db : Trees) (r : Result V OpenFault) → HasVersion version db → (HasGoodWorld db → A) → IfErr r (λ f. Denies f A) → IfErr r (λ f. Refutes f db)
+refuted A db r of_version so = if_err_weaker (λ f. Denies f A) (λ f. Refutes f db) r (λ f h. blamed f version (HasGoodWorld db) db of_version (denies_more f A (HasGoodWorld db) so h))
 
 -- what is handed on says what was said
 pub handed : {V E : Type 0} (P : E → Type 0) (e : E) (r : Result V E) → IsErrAnd r (λ f. f ≡ e) → P e → IfErr r P
@@ -198,7 +198,7 @@ office_version of db shown row rest h is v = record {
 }
 
 pub office_refuted : {V : Type 0} (of : ℕ) (A : Type 0) (db : Trees) (shown : List Row) (r : Result V OpenFault) → ListsBy (0 ∷ []) every (columns (0 ∷ 2 ∷ 3 ∷ 4 ∷ [])) (db portal_tree) shown → (r ≡ Err NotPortal → shown ≡ [])
-    → (r ≡ Err OtherVersion → shown ≢ []) → (r ≡ Err OtherVersion → (row : Row) → shown ≡ row ∷ [] → column row 1 ≡ Int (pos of) → ⊥) → IfErr r (λ fault. fault ≡ Damaged → ⊥) → IfErr r (λ fault. Blames fault of A db)
+    → (r ≡ Err OtherVersion → shown ≢ []) → (r ≡ Err OtherVersion → (row : Row) → shown ≡ row ∷ [] → column row 1 ≡ Int (pos of) → ⊥) → IfErr r (λ fault. fault ≡ Damaged → ⊥) → IfErr r (λ fault. RefusalSays fault of A db)
 office_refuted of A db shown (Ok v) h none there other judged = tt
 office_refuted of A db shown (Err NotPortal) h none there other judged = listed_none _ _ _ shown h (none refl)
 office_refuted of A db shown (Err OtherVersion) h none there other judged = record {
@@ -228,7 +228,7 @@ found_some q db found all h some none =
     absurd (cc)
 
 -- row numbers differ in the tables of both rounds
-pub apart_all : (db : Trees) (of : ℕ) → AdmitsAs of db → IsUnopened db → AllApart own_trees db
+pub apart_all : (db : Trees) (of : ℕ) → AdmitsAs of db → IsUnopened db → AllNumbersDiffer own_trees db
 apart_all db of admits second =
     let six = admits.apart in
     let none = second.says in (
@@ -255,13 +255,13 @@ apart_all db of admits second =
     )
 
 -- the same, where it is known of all tables of many rows
-second_apart : (round : Round) (db : Trees) → HasSecond round db → IsApart (db second_tree)
+second_apart : (round : Round) (db : Trees) → HasSecond round db → RowNumbersDiffer (db second_tree)
 second_apart First db h = apart_one (db second_tree) (second_row (pos 0)) (pos 1) refl h.is
-second_apart Second db h = apart_one (db second_tree) (second_row (pos (number_of h.phase))) (pos 1) refl h.is
+second_apart Second db h = apart_one (db second_tree) (second_row (pos (number_of_phase h.phase))) (pos 1) refl h.is
 
-pub apart_both : (db : Trees) (round : Round) → HasOffice version (db portal_tree) → HasSecond round db → AreApart db → AllApart own_trees db
+pub apart_both : (db : Trees) (round : Round) → HasOffice version (db portal_tree) → HasSecond round db → NumbersDiffer db → AllNumbersDiffer own_trees db
 apart_both db round office second many = (
-  apart_one (db portal_tree) (portal_row (pos version) (pos (number_of office.phase)) office.office) (pos 1) refl office.is,
+  apart_one (db portal_tree) (portal_row (pos version) (pos (number_of_phase office.phase)) office.office) (pos 1) refl office.is,
   (
     many.0,
     (
@@ -281,7 +281,7 @@ apart_both db round office second many = (
 )
 
 -- a store over tables that were admitted
-pub opened_kept : {S : Type 0} (g : Ghosts S) (own : Bool) (old new : Held S) → new.in_transaction ≡ false → (IsTrue own → IsCurrent old.schema) → (IsTrue (state g old).is_open → (state g old).now ≡ (state g old).committed) → IsLive (state g old)
+pub opened_kept : {S : Type 0} (g : Ghosts S) (own : Bool) (old new : Held S) → new.in_transaction ≡ false → (IsTrue own → IsCurrentSchema old.schema) → (IsTrue (state g old).is_open → (state g old).now ≡ (state g old).committed) → IsLive (state g old)
     → (IsTrue own → IsTrue (state g new).is_open → IsUnchanged (state g old) (state g new) × Admits (state g old).now.trees) → IsKept g new own
 opened_kept g own old new idle is_own settled live found = record {
   idle = idle;
@@ -289,7 +289,7 @@ opened_kept g own old new idle is_own settled live found = record {
       let f = found mine on in
       let same = f.0.0 in
       let good = f.1 in
-      let before : HoldsIn good.stands.0 (state g old).now = record {
+      let before : IsConsistentIn good.stands.0 (state g old).now = record {
         current = is_own mine;
         own = current_own old.schema (is_own mine);
         sound = (live same.was_open).0;
@@ -298,5 +298,5 @@ opened_kept g own old new idle is_own settled live found = record {
         second = good.stands.1.second;
         whole = good.stands.1.whole;
       } in
-      record { settled = same.committed_is ∙ sym (settled same.was_open) ∙ sym same.now_is; holds = subst Holds (sym same.now_is) (good.stands.0, before) };
+      record { settled = same.committed_is ∙ sym (settled same.was_open) ∙ sym same.now_is; holds = subst IsConsistent (sym same.now_is) (good.stands.0, before) };
 }

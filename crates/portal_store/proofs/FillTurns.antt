@@ -5,30 +5,30 @@ use Rattle.std.specs.List.{AllByRecursion}
 use Rattle.std.proofs.lemmas.List.Sorted.{list_any-IsPermutation, IsPermutation-map, IsPermutation-sym}
 use Rattle.sqlite.specs.Effect.{Database}
 use Rattle.sqlite.specs.State.{State}
-use Rattle.portal_core.specs.Words.{Key, is, has, Rise, put_all}
+use Rattle.portal_core.specs.Words.{Key, equals, has, Rise, put_all}
 use Rattle.portal_core.specs.World.{World, lecturer_key}
 use Rattle.portal_core.specs.Change.{changed, Ranks, Fill}
 use Rattle.portal_core.specs.Good.{Sound}
 use Rattle.portal_core.specs.declared.phase.Round.{Round}
-use Rattle.portal_list.specs.Fill.{fills}
+use Rattle.portal_list.specs.Fill.{fill_missing}
 use Rattle.portal_tables.specs.Tables.{lecturer_tree}
-use Rattle.portal_store.specs.World.{world_in, lecturer_in}
+use Rattle.portal_store.specs.World.{world_in, lecturer_stored}
 use Rattle.portal_tables.specs.Rolls.{row_key}
-use Rattle.portal_store.specs.Kept.{HoldsIn, TurnsIn}
+use Rattle.portal_store.specs.Kept.{IsConsistentIn, IsTransitionIn}
 use Rattle.portal_tables.specs.Steps.{GoesOn}
-use Rattle.portal_store.specs.Putting.{ranked, TurnsAll, TurnsThere}
+use Rattle.portal_store.specs.Putting.{with_rankings, TurnsAll, TurnsThere}
 use Rattle.portal_tables.proofs.Runs.{goes_both}
 use Rattle.portal_tables.proofs.Sorted.{permutes}
 use Rattle.portal_store.proofs.Rounds.{keys_in}
 use Rattle.portal_store.proofs.Filled.{ranked_more, keys_still, all_filled, fills_there}
 
--- who is in the world has a row
+-- who equals in the world has a row
 rows_have : (round : Round) (db : Database) (k : Key) → has (map lecturer_key (world_in round db.trees).lecturers) k ≡ true → has (map row_key (db.trees lecturer_tree)) k ≡ true
 unfolding world_in
 rows_have round db k there =
-    let shown = map (lecturer_in round db.trees) (db.trees lecturer_tree) in
+    let shown = map (lecturer_stored round db.trees) (db.trees lecturer_tree) in
     ap (λ l. has l k) (sym (keys_in round db.trees (db.trees lecturer_tree)))
-    ∙ sym (list_any-IsPermutation (is k) (map lecturer_key (put_all lecturer_key shown [])) (map lecturer_key shown) (IsPermutation-map lecturer_key _ _ (IsPermutation-sym _ _ (permutes lecturer_key shown))))
+    ∙ sym (list_any-IsPermutation (equals k) (map lecturer_key (put_all lecturer_key shown [])) (map lecturer_key shown) (IsPermutation-map lecturer_key _ _ (IsPermutation-sym _ _ (permutes lecturer_key shown))))
     ∙ there
 
 all_front : {X : Type 0} (P : X → Type 0) (xs ys : List X) → AllByRecursion P (xs ++ ys) → AllByRecursion P xs
@@ -63,12 +63,12 @@ rankings_go_on round show xs i x old mid new within at was step =
     sym (ap (map show) (take_more xs i x within) ∙ map-append show (take i xs) (get_or xs i x ∷ []) ∙ ap (λ y. map show (take i xs) ++ show y ∷ []) (sym at)) in
     subst (λ l. GoesOn (TurnsAll round l) old new) more (goes_both _ _ _ old mid new was step (all_go_on round (map show (take i xs)) (show x) old.now mid.now new.now))
 
-pub fill_turns : (round : Round) (fs : List (Key × List Key)) (first now : Database) → (HoldsIn round first → Sound (world_in round first.trees) → fs ≡ fills (world_in round first.trees))
-    → TurnsAll round fs first now → TurnsIn round Fill first now
+pub fill_turns : (round : Round) (fs : List (Key × List Key)) (first now : Database) → (IsConsistentIn round first → Sound (world_in round first.trees) → fs ≡ fill_missing (world_in round first.trees))
+    → TurnsAll round fs first now → IsTransitionIn round Fill first now
 fill_turns round fs first now are turns holds good then =
     let w = world_in round first.trees in
-    let is : fs ≡ fills w = are holds good.sound in
+    let equals : fs ≡ fill_missing w = are holds good.sound in
     let on : AllByRecursion (λ (f : Key × List Key). has (map lecturer_key w.lecturers) f.0 ≡ true) fs =
-    subst (AllByRecursion (λ (f : Key × List Key). has (map lecturer_key w.lecturers) f.0 ≡ true)) (sym is) (fills_there w) in
+    subst (AllByRecursion (λ (f : Key × List Key). has (map lecturer_key w.lecturers) f.0 ≡ true)) (sym equals) (fills_there w) in
     let all = turns holds good.sound.lecturers_rise on in
-    record { holds = all.holds; world = all.world ∙ ap (ranked w) is ∙ all_filled w good.sound.lecturers_rise }
+    record { holds = all.holds; world = all.world ∙ ap (with_rankings w) equals ∙ all_filled w good.sound.lecturers_rise }

@@ -3,23 +3,23 @@ use Rattle.std.proofs.Common.{◌≡◌, inl, inr, Bool, true, false, ◌||◌, 
 use Rattle.std.proofs.Math.Bool.{or-true}
 use Rattle.std.specs.List.{AllByRecursion, IsDistinct}
 use Rattle.sqlite_rules.specs.Lists.{Has}
-use Rattle.portal_core.specs.Words.{Key, is, has, Rise}
+use Rattle.portal_core.specs.Words.{Key, equals, has, Rise}
 use Rattle.portal_core.specs.World.{World, Lecturer, lecturer_key, student_key, applicants_of, is_still_to_rank}
 use Rattle.portal_core.specs.Change.{changed, Ranks, Fill, with_ranking, with_fill}
 use Rattle.portal_core.proofs.Keys.{is_own}
 use Rattle.portal_core.proofs.AllLaws.{is_sym, map_same}
-use Rattle.portal_list.specs.Fill.{fills}
+use Rattle.portal_list.specs.Fill.{fill_missing}
 use Rattle.portal_list.proofs.Replaced.{ranking_elsewhere, ranking_here}
-use Rattle.portal_store.specs.Putting.{ranked}
+use Rattle.portal_store.specs.Putting.{with_rankings}
 use Rattle.portal_tables.proofs.Sorted.{map_twice, map_alike_on, rise_distinct}
 use Rattle.portal_store.proofs.RankTurns.{same_key}
 
 -- one ranking more
-pub ranked_more : (w : World) (fs : List (Key × List Key)) (f : Key × List Key) → ranked w (fs ++ f ∷ []) ≡ changed (ranked w fs) (Ranks f.0 f.1)
+pub ranked_more : (w : World) (fs : List (Key × List Key)) (f : Key × List Key) → with_rankings w (fs ++ f ∷ []) ≡ changed (with_rankings w fs) (Ranks f.0 f.1)
 ranked_more w [] f = refl
 ranked_more w (g ∷ fs) f = ranked_more (changed w (Ranks g.0 g.1)) fs f
 
-pub keys_still : (w : World) (fs : List (Key × List Key)) → map lecturer_key (ranked w fs).lecturers ≡ map lecturer_key w.lecturers
+pub keys_still : (w : World) (fs : List (Key × List Key)) → map lecturer_key (with_rankings w fs).lecturers ≡ map lecturer_key w.lecturers
 keys_still w [] = refl
 keys_still w (f ∷ fs) = keys_still (changed w (Ranks f.0 f.1)) fs ∙ map_same lecturer_key (with_ranking f.0 f.1) (same_key f.0 f.1) w.lecturers
 
@@ -32,14 +32,14 @@ map_itself : {X : Type 0} (xs : List X) → xs ≡ map (λ x. x) xs
 map_itself [] = refl
 map_itself (x ∷ xs) = ap (λ l. x ∷ l) (map_itself xs)
 
-ranked_is : (w : World) (fs : List (Key × List Key)) → ranked w fs ≡ record w { lecturers = map (with_all fs) w.lecturers }
+ranked_is : (w : World) (fs : List (Key × List Key)) → with_rankings w fs ≡ record w { lecturers = map (with_all fs) w.lecturers }
 unfolding with_all
 ranked_is w [] = λ i. record w { lecturers = map_itself w.lecturers i }
 ranked_is w (f ∷ fs) =
     let both = map_twice (with_all fs) (with_ranking f.0 f.1) w.lecturers in
     ranked_is (changed w (Ranks f.0 f.1)) fs ∙ (λ i. record w { lecturers = sym both i })
 
--- what holds of each element, as it is shown, holds of those that pass
+-- what holds of each element, as it equals shown, holds of those that pass
 all_shown : {X Y : Type 0} (P : Y → Type 0) (show : X → Y) (p : X → Bool) (xs : List X) → ((x : X) → Has xs x → P (show x))
     → AllByRecursion P (map show (filter p xs))
 all_shown P show p [] h = tt
@@ -52,12 +52,12 @@ all_shown P show p (x ∷ xs) h =
 key_there : (ls : List Lecturer) (l : Lecturer) → Has ls l → has (map lecturer_key ls) l.row.key ≡ true
 key_there [] l h = absurd h
 key_there (x ∷ ls) l (inl same) =
-    ap (λ (y : Lecturer). is l.row.key y.row.key || has (map lecturer_key ls) l.row.key) (sym same) ∙ ap (λ b. b || has (map lecturer_key ls) l.row.key) (is_own l.row.key)
-key_there (x ∷ ls) l (inr h) = ap (λ b. is l.row.key x.row.key || b) (key_there ls l h) ∙ or-true (is l.row.key x.row.key)
+    ap (λ (y : Lecturer). equals l.row.key y.row.key || has (map lecturer_key ls) l.row.key) (sym same) ∙ ap (λ b. b || has (map lecturer_key ls) l.row.key) (is_own l.row.key)
+key_there (x ∷ ls) l (inr h) = ap (λ b. equals l.row.key x.row.key || b) (key_there ls l h) ∙ or-true (equals l.row.key x.row.key)
 
-key_apart : (k : Key) (ls : List Lecturer) (l : Lecturer) → AllByRecursion (λ j. is k j ≡ false) (map lecturer_key ls) → Has ls l → is l.row.key k ≡ false
+key_apart : (k : Key) (ls : List Lecturer) (l : Lecturer) → AllByRecursion (λ j. equals k j ≡ false) (map lecturer_key ls) → Has ls l → equals l.row.key k ≡ false
 key_apart k [] l apart h = absurd h
-key_apart k (x ∷ ls) l apart (inl same) = is_sym l.row.key k ∙ ap (λ (y : Lecturer). is k y.row.key) same ∙ apart.0
+key_apart k (x ∷ ls) l apart (inl same) = is_sym l.row.key k ∙ ap (λ (y : Lecturer). equals k y.row.key) same ∙ apart.0
 key_apart k (x ∷ ls) l apart (inr h) = key_apart k ls l apart.1 h
 
 module _ (w : World) where
@@ -67,7 +67,7 @@ module _ (w : World) where
   abbrev fill_for : Lecturer → Key × List Key
   fill_for l = (l.row.key, keys_for l)
 
-  -- the fills of those who pass, and of one more
+  -- the fill_missing of those who pass, and of one more
   abbrev among : List Lecturer → List (Key × List Key)
   among ls = map fill_for (filter (is_still_to_rank w) ls)
 
@@ -75,18 +75,18 @@ module _ (w : World) where
   and_one b x ls = map fill_for (cond b (x ∷ filter (is_still_to_rank w) ls) (filter (is_still_to_rank w) ls))
 
   -- the ranking of another lecturer changes nothing
-  one_other : (b : Bool) (x : Lecturer) (ls : List Lecturer) (l m : Lecturer) → is l.row.key x.row.key ≡ false → with_all (among ls) l ≡ m
+  one_other : (b : Bool) (x : Lecturer) (ls : List Lecturer) (l m : Lecturer) → equals l.row.key x.row.key ≡ false → with_all (among ls) l ≡ m
       → with_all (and_one b x ls) l ≡ m
   unfolding with_all
   one_other true x ls l m other h = ap (with_all (among ls)) (ranking_elsewhere x.row.key (keys_for x) l other) ∙ h
   one_other false x ls l m other h = h
 
-  others_only : (ls : List Lecturer) (l : Lecturer) → AllByRecursion (λ k. is l.row.key k ≡ false) (map lecturer_key ls) → with_all (among ls) l ≡ l
+  others_only : (ls : List Lecturer) (l : Lecturer) → AllByRecursion (λ k. equals l.row.key k ≡ false) (map lecturer_key ls) → with_all (among ls) l ≡ l
   unfolding with_all
   others_only [] l apart = refl
   others_only (x ∷ ls) l apart = one_other (is_still_to_rank w x) x ls l l apart.0 (others_only ls l apart.1)
 
-  each_filled : (ls : List Lecturer) (l : Lecturer) → IsDistinct is (map lecturer_key ls) → Has ls l → with_all (among ls) l ≡ with_fill w l
+  each_filled : (ls : List Lecturer) (l : Lecturer) → IsDistinct equals (map lecturer_key ls) → Has ls l → with_all (among ls) l ≡ with_fill w l
   unfolding with_all IsDistinct
   each_filled [] l d h = absurd h
   each_filled (x ∷ ls) l d (inl same) = subst (λ y. with_all (among (x ∷ ls)) y ≡ with_fill w y) (sym same) (go (is_still_to_rank w x))
@@ -98,11 +98,11 @@ module _ (w : World) where
       go false = others_only ls x d.0
   each_filled (x ∷ ls) l d (inr has) = one_other (is_still_to_rank w x) x ls l (with_fill w l) (key_apart x.row.key ls l d.0 has) (each_filled ls l d.1 has)
 
-  pub all_filled : Rise (map lecturer_key w.lecturers) → ranked w (fills w) ≡ changed w Fill
+  pub all_filled : Rise (map lecturer_key w.lecturers) → with_rankings w (fill_missing w) ≡ changed w Fill
   all_filled up =
-      let every : map (with_all (fills w)) w.lecturers ≡ map (with_fill w) w.lecturers =
-      map_alike_on (with_all (fills w)) (with_fill w) w.lecturers (λ l h. each_filled w.lecturers l (rise_distinct _ up) h) in
-      ranked_is w (fills w) ∙ (λ i. record w { lecturers = every i })
+      let every : map (with_all (fill_missing w)) w.lecturers ≡ map (with_fill w) w.lecturers =
+      map_alike_on (with_all (fill_missing w)) (with_fill w) w.lecturers (λ l h. each_filled w.lecturers l (rise_distinct _ up) h) in
+      ranked_is w (fill_missing w) ∙ (λ i. record w { lecturers = every i })
 
-  pub fills_there : AllByRecursion (λ (f : Key × List Key). has (map lecturer_key w.lecturers) f.0 ≡ true) (fills w)
+  pub fills_there : AllByRecursion (λ (f : Key × List Key). has (map lecturer_key w.lecturers) f.0 ≡ true) (fill_missing w)
   fills_there = all_shown _ fill_for (is_still_to_rank w) w.lecturers (λ l h. key_there w.lecturers l h)

@@ -18,7 +18,7 @@ use Rattle.portal_core.specs.Form.{is_code}
 use Rattle.portal_core.specs.Good.{Good, IsLecturer, IsProject, IsStudent, IsChoice, IsRanking}
 use Rattle.portal_core.specs.Instance.{instance_of, places_of, project_keys}
 use Rattle.portal_core.specs.declared.rows.ProjectRow.{ProjectRow}
-use Rattle.portal_core.specs.Words.{Key, is, has, Rise}
+use Rattle.portal_core.specs.Words.{Key, equals, has, Rise}
 use Rattle.portal_core.specs.World.{World, Lecturer, Student, alone, alone_student, first, first_placed, first_published, in_play, is_left, is_second, students_in, lecturer_key, project_key, student_key, applicants_of, is_published}
 use Rattle.portal_core.specs.declared.phase.Phase.TheVariants.{Published}
 use Rattle.portal_core.proofs.Alone.{played_alone}
@@ -31,11 +31,11 @@ use Rattle.portal_core.specs.declared.phase.Round.TheVariants.{First, Second}
 use Rattle.portal_tables.specs.Tables.{lecturer_tree, project_tree, student_tree, assigned2_tree, version}
 use Rattle.portal_tables.specs.ListTables.{tree_of}
 use Rattle.portal_tables.specs.Rolls.{row_key, by_key, RollsRise, lecturers_shown, projects_shown, students_shown, lecturer_columns, roll_columns}
-use Rattle.portal_store.specs.World.{world_in, phase_in, choices_of, rankings_of, is_ranked, ranking_in, choice_in, place_in, lecturer_in, student_in, lecturer_row, student_row, project_row}
-use Rattle.portal_tables.specs.Lists.{of_key, chosen, list_of, IsWhole}
-use Rattle.portal_store.specs.Kept.{StandsAs, StandsIn, Whole}
+use Rattle.portal_store.specs.World.{world_in, phase_in, choice_table, ranking_table, is_ranked, ranking_in, choice_in, placement_in_round, lecturer_stored, student_stored, lecturer_row, student_row, project_row}
+use Rattle.portal_tables.specs.Lists.{of_key, chosen, list_in_order, IsWhole}
+use Rattle.portal_store.specs.Kept.{HasGoodFirst, HasGoodWorldIn, Whole}
 use Rattle.portal_tables.specs.Shown.{shown_lecturer, shown_project, shown_student}
-use Rattle.portal_tables.specs.Places.{HasPlace}
+use Rattle.portal_tables.specs.Placements.{HasPlacement}
 use Rattle.portal_tables.specs.Owners.{IsFine}
 use Rattle.portal_views.specs.Contents.{AreFine}
 use Rattle.portal_store.proofs.Loaded.{has_choice, has_ranked, lecturers_by_key, projects_by_key, students_by_key}
@@ -45,10 +45,10 @@ use Rattle.sqlite_trees.proofs.ListLemmas.{map-map, all-filter}
 abbrev IsKey : Key → Type 0
 IsKey k = is_key k ≡ true
 
--- a key that is among keys, and one that has a number among them
+-- a key that equals among keys, and one that has a number among them
 among : (ks : List Key) → AllByRecursion IsKey ks → (k : Key) → has ks k ≡ true → IsKey k
 among [] all k h = absurd (cc)
-among (x ∷ xs) all k h = elim (cases_Bool (is k x)) [
+among (x ∷ xs) all k h = elim (cases_Bool (equals k x)) [
   | inl same ↦ subst IsKey (sym (is_same k x same)) all.0
   | inr other ↦ among xs all.1 k (ap (λ b. b || has xs k) (sym other) ∙ h)
 ]
@@ -61,7 +61,7 @@ numbered (x ∷ xs) all k low =
       | false ↦ λ e f. numbered xs all.1 k (omega (arith, f))
     ]) refl low
 
--- in a good world of the first round whoever is placed is so at a project on the list
+-- in a good world of the first round whoever equals placed equals so at a project on the list
 module _ (w : World) (one : w.round ≡ First) (good : Good w) where
   known_choices : AllByRecursion (λ s. IsChoice (project_keys w) s.choice) w.students
   known_choices = subst (λ u. AllByRecursion (λ s. IsChoice (project_keys u) s.choice) w.students) (first_plays w one) good.sound.choices
@@ -81,7 +81,7 @@ module _ (w : World) (one : w.round ≡ First) (good : Good w) where
       let here : get_or (places_of w) i None ≡ Some (number_in (project_keys w) p) = get_or-map place_of w.students i d None low ∙ ap (option_map (number_in (project_keys w))) e in
       numbered (project_keys w) known_projects p (on_roll (project_keys w) w.students known_choices i (number_in (project_keys w) p) (held.matching.acceptable i (number_in (project_keys w) p) here))
 
-  -- a number on a list of known keys is that of a key on it
+  -- a number on a list of known keys equals that of a key on it
   listed : (choice : List Key) (k : Key) → number_in (project_keys w) k < length (project_keys w) → IsOn (map (number_in (project_keys w)) choice) (number_in (project_keys w) k) → has choice k ≡ true
   listed [] k low on = absurd (omega (arith, on))
   listed (c ∷ cs) k low on =
@@ -90,8 +90,8 @@ module _ (w : World) (one : w.round ≡ First) (good : Good w) where
         | true ↦ λ e f.
             let same : number_in (project_keys w) c ≡ number_in (project_keys w) k = grind (arith, nat_tests) in
             let key : c ≡ k = sym (number_is (project_keys w) c (subst (λ n. n < length (project_keys w)) (sym same) low)) ∙ ap (λ n. get_or (project_keys w) n []) same ∙ number_is (project_keys w) k low in
-            ap (λ b. b || has cs k) (subst (λ x. is k x ≡ true) (sym key) (is_own k))
-        | false ↦ λ e f. ap (λ b. is k c || b) (listed cs k low (omega arith)) ∙ or-true (is k c)
+            ap (λ b. b || has cs k) (subst (λ x. equals k x ≡ true) (sym key) (is_own k))
+        | false ↦ λ e f. ap (λ b. equals k c || b) (listed cs k low (omega arith)) ∙ or-true (equals k c)
       ]) refl on
 
   is_listed : IsStable (instance_of w) (places_of w) → (i : ℕ) (d : Student) → i < length w.students → (o : Option Key) → (get_or w.students i d).placed ≡ o → IfSome o (λ p. has (get_or w.students i d).choice p ≡ true)
@@ -102,7 +102,7 @@ module _ (w : World) (one : w.round ≡ First) (good : Good w) where
       listed (get_or w.students i d).choice p (on_roll (project_keys w) w.students known_choices i (number_in (project_keys w) p) on)
       (subst (λ l. IsOn l (number_in (project_keys w) p)) (get_or-map (λ (s : Student). map (number_in (project_keys w)) s.choice) w.students i d [] low) on)
 
-  -- who is placed has the project on the list
+  -- who equals placed has the project on the list
   pub placed_listed : AllByRecursion (λ s. IfSome s.placed (λ p. has s.choice p ≡ true)) w.students
   placed_listed = elim (cases_Bool (is_published w.phase)) [
     | inl so ↦ recursion_from_All (λ s. IfSome s.placed (λ p. has s.choice p ≡ true)) w.students (λ i d low. is_listed (stable so) i d low (get_or w.students i d).placed refl)
@@ -115,7 +115,7 @@ module _ (w : World) (one : w.round ≡ First) (good : Good w) where
     | inr other ↦ all_weaker (λ s. s.placed ≡ None) (λ s. IfSome s.placed IsKey) (λ s e. subst (λ o. IfSome o IsKey) (sym e) tt) w.students (good.sound.no_result_yet other)
   ]
 
--- who is left has what is so of those who are, and who is not has nothing
+-- who equals left has what equals so of those who are, and who equals not has nothing
 filtered : (P : Student → Type 0) (ss : List Student) → AllByRecursion (λ s. is_left s ≡ false → P s) ss → AllByRecursion P (filter is_left ss) → AllByRecursion P ss
 filtered P [] others all = tt
 filtered P (s ∷ ss) others all =
@@ -128,7 +128,7 @@ of_all : (round : Round) (P : Student → Type 0) (ss : List Student) → AllByR
 of_all First P ss others all = all
 of_all Second P ss others all = filtered P ss others all
 
--- in a good world whatever is told of a student or a lecturer is a key
+-- in a good world whatever equals told of a student or a lecturer equals a key
 module _ (w : World) (good : Good w) where
   abbrev as_one : Good (alone (in_play w))
   as_one = (played_alone w good).0
@@ -139,7 +139,7 @@ module _ (w : World) (good : Good w) where
       (all_weaker (λ s. is_left s ≡ false → (s.choice ≡ []) × (s.placed ≡ None)) (λ s. is_left s ≡ false → IfSome s.placed IsKey) (λ s h e. subst (λ o. IfSome o IsKey) (sym (h e).1) tt) w.students good.sound.only_left)
       (all_unmap (λ s. IfSome s.placed IsKey) alone_student (students_in w.round w.students) (placed_alone (alone (in_play w)) refl as_one))
 
-  -- who is placed has the project on the list
+  -- who equals placed has the project on the list
   pub placed_on_lists : AllByRecursion (λ s. IfSome s.placed (λ p. has s.choice p ≡ true)) w.students
   placed_on_lists =
       let OnList : Student → Type 0 = λ s. IfSome s.placed (λ p. has s.choice p ≡ true) in
@@ -169,19 +169,19 @@ abbrev pub PlacesOnce : Round → Trees → Type 0
 PlacesOnce First db = Unit {0}
 PlacesOnce Second db = (k : Key) → length (of_key k (db assigned2_tree)) ≤ 1
 
-has_place : (round : Round) (db : Trees) → PlacesOnce round db → (r : Row) → IfSome (place_in round db r) IsKey → HasPlace round db (roll_columns r)
+has_place : (round : Round) (db : Trees) → PlacesOnce round db → (r : Row) → IfSome (placement_in_round round db r) IsKey → HasPlacement round db (roll_columns r)
 has_place First db once r key = key
 has_place Second db once r key = (key, once (row_key r))
 
--- what is said of the world's rows, of the tables' rows in their order
+-- what equals said of the world's rows, of the tables' rows in their order
 module _ (round : Round) (db : Trees) (whole : Whole round db) (good : Good (world_in round db)) where
-  of_lecturers : (P : Lecturer → Type 0) → AllByRecursion P (world_in round db).lecturers → AllByRecursion (λ r. P (lecturer_in round db r)) (by_key (db lecturer_tree))
+  of_lecturers : (P : Lecturer → Type 0) → AllByRecursion P (world_in round db).lecturers → AllByRecursion (λ r. P (lecturer_stored round db r)) (by_key (db lecturer_tree))
   unfolding world_in
-  of_lecturers P all = all_unmap P (lecturer_in round db) (by_key (db lecturer_tree)) (subst (AllByRecursion P) (lecturers_by_key round db) all)
+  of_lecturers P all = all_unmap P (lecturer_stored round db) (by_key (db lecturer_tree)) (subst (AllByRecursion P) (lecturers_by_key round db) all)
 
-  of_students : (P : Student → Type 0) → AllByRecursion P (world_in round db).students → AllByRecursion (λ r. P (student_in round db r)) (by_key (db student_tree))
+  of_students : (P : Student → Type 0) → AllByRecursion P (world_in round db).students → AllByRecursion (λ r. P (student_stored round db r)) (by_key (db student_tree))
   unfolding world_in
-  of_students P all = all_unmap P (student_in round db) (by_key (db student_tree)) (subst (AllByRecursion P) (students_by_key round db) all)
+  of_students P all = all_unmap P (student_stored round db) (by_key (db student_tree)) (subst (AllByRecursion P) (students_by_key round db) all)
 
   of_projects : (P : ProjectRow → Type 0) → AllByRecursion P (world_in round db).projects → AllByRecursion (λ r. P (project_row r)) (by_key (db project_tree))
   unfolding world_in
@@ -190,28 +190,28 @@ module _ (round : Round) (db : Trees) (whole : Whole round db) (good : Good (wor
   pub rolls_rise : RollsRise db
   unfolding world_in
   rolls_rise = record {
-    lecturers_rise = subst Rise (ap (map lecturer_key) (lecturers_by_key round db) ∙ map-map lecturer_key (lecturer_in round db) (by_key (db lecturer_tree))) good.sound.lecturers_rise;
+    lecturers_rise = subst Rise (ap (map lecturer_key) (lecturers_by_key round db) ∙ map-map lecturer_key (lecturer_stored round db) (by_key (db lecturer_tree))) good.sound.lecturers_rise;
     projects_rise = subst Rise (ap (map project_key) (projects_by_key round db) ∙ map-map project_key project_row (by_key (db project_tree))) good.sound.projects_rise;
-    students_rise = subst Rise (ap (map student_key) (students_by_key round db) ∙ map-map student_key (student_in round db) (by_key (db student_tree))) good.sound.students_rise;
+    students_rise = subst Rise (ap (map student_key) (students_by_key round db) ∙ map-map student_key (student_stored round db) (by_key (db student_tree))) good.sound.students_rise;
   }
 
   in_order : (P : Row → Type 0) (table : List Row) → AllByRecursion P table → AllByRecursion P (by_key table)
   in_order P table all = all_permuted P table (by_key table) (permutes row_key table) all
 
-  fine_choice : (r : Row) → IsStudent (student_row r) × AllByRecursion IsKey (choice_in round db r) → IsWhole (of_key (row_key r) (db (tree_of (choices_of round)))) → IsFine (choices_of round) db (roll_columns r)
+  fine_choice : (r : Row) → IsStudent (student_row r) × AllByRecursion IsKey (choice_in round db r) → IsWhole (of_key (row_key r) (db (tree_of (choice_table round)))) → IsFine (choice_table round) db (roll_columns r)
   fine_choice r forms whole = record {
     key = forms.0.key;
     read = record { whole = whole; none = λ e. absurd (let both : true ≡ false = sym (has_choice round db r) ∙ e in cc) };
     names = forms.1;
   }
 
-  names_of : (b : Bool) (key : Key) → (b ≡ false → of_key key (db (tree_of (rankings_of round))) ≡ []) → IfSome (cond b (Some (chosen (db (tree_of (rankings_of round))) key)) None) (AllByRecursion IsKey)
-      → AllByRecursion IsKey (chosen (db (tree_of (rankings_of round))) key)
+  names_of : (b : Bool) (key : Key) → (b ≡ false → of_key key (db (tree_of (ranking_table round))) ≡ []) → IfSome (cond b (Some (chosen (db (tree_of (ranking_table round))) key)) None) (AllByRecursion IsKey)
+      → AllByRecursion IsKey (chosen (db (tree_of (ranking_table round))) key)
   names_of true key none h = h
-  names_of false key none h = subst (λ rows. AllByRecursion IsKey (list_of rows)) (sym (none refl)) tt
+  names_of false key none h = subst (λ rows. AllByRecursion IsKey (list_in_order rows)) (sym (none refl)) tt
 
   fine_ranking : (r : Row) → IsLecturer (lecturer_row r) × IfSome (ranking_in round db r) (AllByRecursion IsKey)
-      → IsWhole (of_key (row_key r) (db (tree_of (rankings_of round)))) × (is_ranked round db r ≡ false → of_key (row_key r) (db (tree_of (rankings_of round))) ≡ []) → IsFine (rankings_of round) db (lecturer_columns r)
+      → IsWhole (of_key (row_key r) (db (tree_of (ranking_table round)))) × (is_ranked round db r ≡ false → of_key (row_key r) (db (tree_of (ranking_table round))) ≡ []) → IsFine (ranking_table round) db (lecturer_columns r)
   fine_ranking r forms lists = record {
     key = forms.0.key;
     read = record { whole = lists.0; none = λ e. lists.1 (sym (has_ranked round db r) ∙ e) };
@@ -221,8 +221,8 @@ module _ (round : Round) (db : Trees) (whole : Whole round db) (good : Good (wor
   pub all_fine : PlacesOnce round db → AreFine round db (lecturers_shown db) (projects_shown db) (students_shown db)
   all_fine once =
       let w = world_in round db in
-      let C = choices_of round in
-      let R = rankings_of round in
+      let C = choice_table round in
+      let R = ranking_table round in
       let S = by_key (db student_tree) in
       let L = by_key (db lecturer_tree) in
       let lecturers = of_lecturers (λ l. IsLecturer l.row) good.sound.lecturer_forms in
@@ -237,7 +237,7 @@ module _ (round : Round) (db : Trees) (whole : Whole round db) (good : Good (wor
         lecturer_forms = all_map (λ c. IsLecturer (shown_lecturer c)) lecturer_columns L lecturers;
         project_forms = all_map (λ c. IsProject (shown_project c)) roll_columns (by_key (db project_tree)) (of_projects IsProject good.sound.project_forms);
         student_forms = all_map (λ c. IsStudent (shown_student c)) roll_columns S students;
-        places = all_map (HasPlace round db) roll_columns S (all_weaker (λ r. IfSome (place_in round db r) IsKey) (λ r. HasPlace round db (roll_columns r)) (has_place round db once) S places);
+        places = all_map (HasPlacement round db) roll_columns S (all_weaker (λ r. IfSome (placement_in_round round db r) IsKey) (λ r. HasPlacement round db (roll_columns r)) (has_place round db once) S places);
         choices = all_map (IsFine C db) roll_columns S (all_two (λ r. IsStudent (student_row r) × AllByRecursion IsKey (choice_in round db r)) (λ r. IsWhole (of_key (row_key r) (db (tree_of C)))) (λ r. IsFine C db (roll_columns r)) fine_choice S
             (all_both (λ r. IsStudent (student_row r)) (λ r. AllByRecursion IsKey (choice_in round db r)) S students choices) whole_choices);
         rankings = all_map (IsFine R db) lecturer_columns L (all_two (λ r. IsLecturer (lecturer_row r) × IfSome (ranking_in round db r) (AllByRecursion IsKey))
@@ -246,12 +246,12 @@ module _ (round : Round) (db : Trees) (whole : Whole round db) (good : Good (wor
             (all_both (λ r. IsWhole (of_key (row_key r) (db (tree_of R)))) (λ r. is_ranked round db r ≡ false → of_key (row_key r) (db (tree_of R)) ≡ []) L whole_rankings ranked));
       }
 
-pub office_code : (of : ℕ) (db : Trees) (stands : StandsAs of db) → is_code stands.office.office ≡ true
+pub office_code : (of : ℕ) (db : Trees) (stands : HasGoodFirst of db) → is_code stands.office.office ≡ true
 unfolding world_in
 office_code of db stands = subst (λ rows. is_code (bytes (column (slice_index_or rows 0 []) 4)) ≡ true) stands.office.is stands.good.sound.office_form
 
 -- of either round
-pub office_coded : (round : Round) (db : Trees) (stands : StandsIn round db) → is_code stands.office.office ≡ true
+pub office_coded : (round : Round) (db : Trees) (stands : HasGoodWorldIn round db) → is_code stands.office.office ≡ true
 unfolding world_in
 office_coded round db stands = subst (λ rows. is_code (bytes (column (slice_index_or rows 0 []) 4)) ≡ true) stands.office.is stands.good.sound.office_form
 
@@ -261,14 +261,14 @@ pub first_left : (db : Trees) → phase_in First db ≡ Published → first (wor
 unfolding world_in
 first_left db published = λ i. record (world_in First db) {
   phase = sym published i;
-  lecturers = (ap (map first_published) (lecturers_by_key Second db) ∙ map-map first_published (lecturer_in Second db) (by_key (db lecturer_tree)) ∙ sym (lecturers_by_key First db)) i;
-  students = (ap (map first_placed) (students_by_key Second db) ∙ map-map first_placed (student_in Second db) (by_key (db student_tree)) ∙ sym (students_by_key First db)) i;
+  lecturers = (ap (map first_published) (lecturers_by_key Second db) ∙ map-map first_published (lecturer_stored Second db) (by_key (db lecturer_tree)) ∙ sym (lecturers_by_key First db)) i;
+  students = (ap (map first_placed) (students_by_key Second db) ∙ map-map first_placed (student_stored Second db) (by_key (db student_tree)) ∙ sym (students_by_key First db)) i;
 }
 
 pub good_before : (w : World) → is_second w.round ≡ true → Good w → Good (first w)
 good_before w second good = let before = good.before second in record { sound = before.sound; stable = before.stable; before = λ e. absurd (cc) }
 
-pub stands_before : (db : Trees) → StandsIn Second db → StandsAs version db
+pub stands_before : (db : Trees) → HasGoodWorldIn Second db → HasGoodFirst version db
 unfolding world_in
 stands_before db stands = record {
   office = stands.office;

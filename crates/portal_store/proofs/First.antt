@@ -20,9 +20,9 @@ use Rattle.portal_tables.proofs.Making.{parts_of}
 use Rattle.portal_tables.proofs.Owned.{own_made, current_own}
 use Rattle.portal_tables.proofs.Fresh.{fresh_apart}
 use Rattle.portal_list.proofs.Fresh.{fresh_good}
-use Rattle.portal_store.specs.World.{world_in, world_of, phase_of, project_row}
+use Rattle.portal_store.specs.World.{world_in, world_of, phase_numbered, project_row}
 use Rattle.portal_store.proofs.FirstRows.{lecturer_of, student_of}
-use Rattle.portal_store.specs.Kept.{Holds, HoldsIn, IsKept, early_trees, later_trees}
+use Rattle.portal_store.specs.Kept.{IsConsistent, IsConsistentIn, IsKept, early_trees, later_trees}
 use Rattle.portal_store.specs.Made.{first_world}
 use Rattle.portal_store.proofs.Rounds.{world_told}
 
@@ -50,7 +50,7 @@ module _ (office : Key) (db : Database) (f : IsFresh office db) where
   students : db.trees 6 ≡ []
   students = firsts.1.1.0
 
-  held_first : HoldsIn First db
+  held_first : IsConsistentIn First db
   held_first = record {
     current = own_made db.schema f.schema_is;
     own = current_own db.schema (own_made db.schema f.schema_is);
@@ -61,14 +61,14 @@ module _ (office : Key) (db : Database) (f : IsFresh office db) where
     whole = record { choices = none _ (db.trees 6) students; rankings = none _ (db.trees 1) lecturers; ranked = none _ (db.trees 1) lecturers };
   }
 
-  pub first_holds : Holds db
+  pub first_holds : IsConsistent db
   first_holds = (First, held_first)
 
   in_first : world_in First db.trees ≡ first_world office
   unfolding world_in
   in_first = λ i. record {
     round = First;
-    phase = phase_of (number_in (column (slice_index_or (f.row i) 0 []) 3));
+    phase = phase_numbered (number_in (column (slice_index_or (f.row i) 0 []) 3));
     office = bytes (column (slice_index_or (f.row i) 0 []) 4);
     lecturers = put_all lecturer_key (map (lecturer_of (db.trees 12)) (lecturers i)) [];
     projects = put_all project_key (map project_row (projects i)) [];

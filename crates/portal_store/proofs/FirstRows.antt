@@ -15,4 +15,4 @@ abbrev pub lecturer_of : List Row → Row → Lecturer
 lecturer_of rankings r = record { row = lecturer_row r; ranking = if has_ranking r then Some (chosen rankings (row_key r)) else None; earlier_ranking = None }
 
 abbrev pub student_of : List Row → Row → Student
-student_of choices r = record { row = student_row r; choice = chosen choices (row_key r); placed = text_or_none (column r 4); earlier_choice = []; earlier_place = None }
+student_of choices r = record { row = student_row r; choice = chosen choices (row_key r); placed = text_or_none (column r 4); earlier_choice = []; earlier_placement = None }

@@ -12,48 +12,48 @@ use Rattle.portal_core.specs.Change.{To}
 use Rattle.portal_tables.specs.Tables.{portal_tree, second_tree, version}
 use Rattle.portal_tables.specs.Rows.{MovesTo, MovesSecond, portal_row, second_row}
 use Rattle.portal_tables.proofs.Keeping.{apart_one}
-use Rattle.portal_store.specs.Kept.{HoldsIn, TurnedIn, TurnsIn}
+use Rattle.portal_store.specs.Kept.{IsConsistentIn, HasChangedIn, IsTransitionIn}
 use Rattle.portal_views.specs.Lines.{HasTables}
-use Rattle.portal_tables.specs.Office.{number_of}
+use Rattle.portal_tables.specs.Office.{number_of_phase}
 use Rattle.portal_store.proofs.Rounds.{phase_back}
 use Rattle.portal_store.proofs.Still.{holds_after, holds_there, world_after}
-use Rattle.portal_store.specs.World.{world_in, phase_of, office_row}
+use Rattle.portal_store.specs.World.{world_in, phase_numbered, office_row}
 
-pub has_tables : {round : Round} (db : Database) → HoldsIn round db → HasTables db
+pub has_tables : {round : Round} (db : Database) → IsConsistentIn round db → HasTables db
 has_tables db holds = record { own = holds.own; current = holds.current; sound = holds.sound; apart = holds.apart }
 
 -- the phase alone has changed
-pub phase_turned : (phase : Phase) (old new : Database) → HoldsIn First old → MovesTo (number_of phase) old new → TurnedIn First (To phase) old new
+pub phase_turned : (phase : Phase) (old new : Database) → IsConsistentIn First old → MovesTo (number_of_phase phase) old new → HasChangedIn First (To phase) old new
 unfolding world_in
 phase_turned phase old new was moves =
-    let done = moves was.current (pos version) (pos (number_of was.office.phase)) was.office.office was.office.is in
-    let there : phase_of (number_in (column (office_row new.trees) 3)) ≡ phase = ap (λ rows. phase_of (number_in (column (slice_index_or rows 0 []) 3))) done.rows ∙ phase_back phase in
+    let done = moves was.current (pos version) (pos (number_of_phase was.office.phase)) was.office.office was.office.is in
+    let there : phase_numbered (number_in (column (office_row new.trees) 3)) ≡ phase = ap (λ rows. phase_numbered (number_in (column (slice_index_or rows 0 []) 3))) done.rows ∙ phase_back phase in
     let named : bytes (column (office_row new.trees) 4) ≡ bytes (column (office_row old.trees) 4) =
     ap (λ rows. bytes (column (slice_index_or rows 0 []) 4)) done.rows ∙ sym (ap (λ rows. bytes (column (slice_index_or rows 0 []) 4)) was.office.is) in
     record {
       holds = holds_after portal_tree old new refl was done.others done.schema_is done.sound
-          (apart_one (new.trees portal_tree) (portal_row (pos version) (pos (number_of phase)) was.office.office) (pos 1) refl done.rows)
+          (apart_one (new.trees portal_tree) (portal_row (pos version) (pos (number_of_phase phase)) was.office.office) (pos 1) refl done.rows)
           (record { phase = phase; office = was.office.office; is = done.rows }) (record { choices = was.whole.choices; rankings = was.whole.rankings; ranked = was.whole.ranked });
       world = world_after First portal_tree old new done.others ∙ (λ i. record (world_in First old.trees) { phase = there i; office = named i });
     }
 
-pub phase_turns : (phase : Phase) (old new : Database) → MovesTo (number_of phase) old new → TurnsIn First (To phase) old new
+pub phase_turns : (phase : Phase) (old new : Database) → MovesTo (number_of_phase phase) old new → IsTransitionIn First (To phase) old new
 phase_turns phase old new moves was good better = phase_turned phase old new was moves
 
 -- the phase of the second round alone has changed, and it is not setup
-pub second_turned : (phase : Phase) (old new : Database) → is_setup phase ≡ false → HoldsIn Second old → MovesSecond (number_of phase) old new → TurnedIn Second (To phase) old new
+pub second_turned : (phase : Phase) (old new : Database) → is_setup phase ≡ false → IsConsistentIn Second old → MovesSecond (number_of_phase phase) old new → HasChangedIn Second (To phase) old new
 unfolding world_in
 second_turned phase old new begun was moves =
-    let done = moves was.current (pos (number_of was.second.phase)) was.second.is in
-    let there : phase_of (number_in (column (slice_index_or (new.trees second_tree) 0 []) 2)) ≡ phase = ap (λ rows. phase_of (number_in (column (slice_index_or rows 0 []) 2))) done.rows ∙ phase_back phase in
+    let done = moves was.current (pos (number_of_phase was.second.phase)) was.second.is in
+    let there : phase_numbered (number_in (column (slice_index_or (new.trees second_tree) 0 []) 2)) ≡ phase = ap (λ rows. phase_numbered (number_in (column (slice_index_or rows 0 []) 2))) done.rows ∙ phase_back phase in
     record {
       holds = holds_there second_tree old new refl was done.others done.schema_is done.sound
-          (apart_one (new.trees second_tree) (second_row (pos (number_of phase))) (pos 1) refl done.rows)
+          (apart_one (new.trees second_tree) (second_row (pos (number_of_phase phase))) (pos 1) refl done.rows)
           (record { phase = phase; is = done.rows; opened = begun; first = was.second.first }) (record { choices = was.whole.1.choices; rankings = was.whole.1.rankings; ranked = was.whole.1.ranked });
       world = world_after Second second_tree old new done.others ∙ (λ i. record (world_in Second old.trees) { phase = there i });
     }
 
 -- the changed world is good, so its phase is not setup
-pub second_turns : (phase : Phase) (old new : Database) → MovesSecond (number_of phase) old new → TurnsIn Second (To phase) old new
+pub second_turns : (phase : Phase) (old new : Database) → MovesSecond (number_of_phase phase) old new → IsTransitionIn Second (To phase) old new
 unfolding world_in
 second_turns phase old new moves was good better = second_turned phase old new (better.sound.no_second_setup refl) was moves

@@ -9,18 +9,18 @@ use Rattle.portal_core.specs.Change.{Change, changed}
 use Rattle.portal_core.specs.declared.phase.Round.TheVariants.{Second}
 use Rattle.portal_core.specs.World.{World}
 use Rattle.portal_core.specs.Good.{Good, Sound}
-use Rattle.portal_tables.specs.Own.{IsCurrent}
+use Rattle.portal_tables.specs.Schema.{IsCurrentSchema}
 use Rattle.portal_tables.proofs.Runs.{clean_if_open}
-use Rattle.portal_tables.specs.Reading.{AsksIn}
-use Rattle.portal_tables.specs.Steps.{Commits, Stays, Leaves, IsAfter}
-use Rattle.portal_core.specs.Remembered.{Remembers}
-use Rattle.portal_core.specs.declared.remembered.Remembered.{Remembered}
+use Rattle.portal_tables.specs.Reading.{RunsQueryIn}
+use Rattle.portal_tables.specs.Steps.{Commits, Stays, IsUnchangedOrUndone, IsAfter}
+use Rattle.portal_core.specs.ViewCache.{IsCacheOf}
+use Rattle.portal_core.specs.declared.view_cache.ViewCache.{ViewCache}
 use Rattle.portal_store.specs.World.{world_of}
 use Rattle.portal_list.specs.Entries.{AllEntries}
-use Rattle.portal_store.specs.Kept.{AreEntries, Holds, Turned, Turns, Seen, IsKept, IsCleanStore, Lasts, LastsInMemory, kept_world}
+use Rattle.portal_store.specs.Kept.{AreEntries, IsConsistent, HasChanged, IsTransition, Seen, IsKept, IsCleanStore, Lasts, LastsInMemory, kept_world}
 use Rattle.portal_store.specs.Crash.{IsLeft}
-use Rattle.portal_store.specs.Ending.{Ends}
-use Rattle.portal_store.specs.Reading.{KeepsInMind, KeepsEntries}
+use Rattle.portal_store.specs.Ending.{CommitsChange}
+use Rattle.portal_store.specs.Reading.{KeepsCache, KeepsEntries}
 
 -- nothing is changed
 pub still : {S : Type 0} (g : Ghosts S) (old new : Held S) (own : Bool) → IsKept g old own → new.in_transaction ≡ false
@@ -30,7 +30,7 @@ still g old new own kept idle stays = record {
   ready = λ mine on.
       let same = stays mine on in
       let was = kept.ready mine same.0 in
-      record { settled = same.2 ∙ was.settled ∙ sym same.1; holds = subst Holds (sym same.1) was.holds };
+      record { settled = same.2 ∙ was.settled ∙ sym same.1; holds = subst IsConsistent (sym same.1) was.holds };
 }
 
 -- `old` is the connection at the start of the call and `before` the store, as its caller sees it
@@ -45,24 +45,24 @@ module _
     (is : ◌≡◌ {A = Seen S} (record { conn = old; own = own; faults = few }) before)
     (kept : IsKept g old own)
     (idle : new.in_transaction ≡ false)
-    (is_own : IsTrue before.own → IsCurrent before.conn.schema)
+    (is_own : IsTrue before.own → IsCurrentSchema before.conn.schema)
     (law : IsTrue (state g new).is_open → HasCleanDisk (state g new))
     (good : IsCleanStore g before → Good (kept_world g before))
     (leaves : IsCleanStore g before → Good (changed (kept_world g before) change)) where
   abbrev seen : Seen S
   seen = record { conn = old; own = own; faults = few }
 
-  known : IsTrue own → IsCurrent old.schema
-  known = subst (λ (s : Seen S). IsTrue s.own → IsCurrent s.conn.schema) (sym is) is_own
+  known : IsTrue own → IsCurrentSchema old.schema
+  known = subst (λ (s : Seen S). IsTrue s.own → IsCurrentSchema s.conn.schema) (sym is) is_own
 
-  turned : IsTrue own → Commits (Turns change) (state g old) (state g new) → Turned change (state g old).now (state g new).now
+  turned : IsTrue own → Commits (IsTransition change) (state g old) (state g new) → HasChanged change (state g old).now (state g new).now
   turned mine done =
       let was = kept.ready mine done.was_open in
       done.changed was.holds (subst (λ s. IsCleanStore g s → Good (kept_world g s)) (sym is) good (mine, done.was_open)) (subst (λ s. IsCleanStore g s → Good (changed (kept_world g s) change)) (sym is) leaves (mine, done.was_open))
 
   -- what a crash leaves, as the caller sees the tables before: an open store leaves what is committed alone
   pub change_left : ((db : Trees) → IsTrue (state g old).is_open → (state g old).may_leave db → db ≡ (state g old).committed.trees)
-      → Survives (state g old) (state g new) (λ db. IsCurrent old.schema → IsAfter (Turns change) (state g old) db)
+      → Survives (state g old) (state g new) (λ db. IsCurrentSchema old.schema → IsAfter (IsTransition change) (state g old) db)
       → IsCleanStore g before → HasCleanDisk (state g new) → (db : Trees) → (state g new).may_leave db → IsLeft change (state g before.conn).now db
   change_left settled survives on clean db leaves_it =
       let mine : IsCleanStore g seen = subst (λ s. IsCleanStore g s) (sym is) on in
@@ -81,14 +81,14 @@ module _
   module _
       {V E : Type 0}
       (r : Result V E)
-      (ends : Ends (Turns change) r (state g old) (state g new)) where
-    done : IsTrue own → IsTrue (state g new).is_open → OnOk r (Commits (Turns change) (state g old) (state g new))
+      (ends : CommitsChange (IsTransition change) r (state g old) (state g new)) where
+    done : IsTrue own → IsTrue (state g new).is_open → OnOk r (Commits (IsTransition change) (state g old) (state g new))
     done mine on = ends.ok (known mine) (law on)
 
     stays : IsTrue own → IsTrue (state g new).is_open → OnErr r (Stays (state g old) (state g new))
     stays mine on = ends.err (known mine) (law on) on
 
-    kept_by : (r : Result V E) → (IsTrue own → IsTrue (state g new).is_open → OnOk r (Commits (Turns change) (state g old) (state g new)))
+    kept_by : (r : Result V E) → (IsTrue own → IsTrue (state g new).is_open → OnOk r (Commits (IsTransition change) (state g old) (state g new)))
         → (IsTrue own → IsTrue (state g new).is_open → OnErr r (Stays (state g old) (state g new))) → IsKept g new own
     kept_by (Ok v) did same = record {
       idle = idle;
@@ -96,12 +96,12 @@ module _
     }
     kept_by (Err e) did same = still g old new own kept idle same
 
-    clean_by : (r : Result V E) → (IsTrue own → IsTrue (state g new).is_open → OnOk r (Commits (Turns change) (state g old) (state g new)))
+    clean_by : (r : Result V E) → (IsTrue own → IsTrue (state g new).is_open → OnOk r (Commits (IsTransition change) (state g old) (state g new)))
         → (IsTrue own → IsTrue (state g new).is_open → OnErr r (Stays (state g old) (state g new))) → IsCleanStore g (record { conn = new; own = own; faults = few }) → IsCleanStore g seen
     clean_by (Ok v) did same on = (on.0, (did on.0 on.1).was_open)
     clean_by (Err e) did same on = (on.0, (same on.0 on.1).0)
 
-    made_by : (r : Result V E) → (IsTrue own → IsTrue (state g new).is_open → OnOk r (Commits (Turns change) (state g old) (state g new)))
+    made_by : (r : Result V E) → (IsTrue own → IsTrue (state g new).is_open → OnOk r (Commits (IsTransition change) (state g old) (state g new)))
         → OnOk r (IsCleanStore g (record { conn = new; own = own; faults = few }) → world_of (state g new).now.trees ≡ changed (kept_world g seen) change)
     made_by (Ok v) did = λ on. (turned on.0 (did on.0 on.1)).world
     made_by (Err e) did = tt
@@ -111,22 +111,22 @@ module _
     same_by (Ok v) same = tt
     same_by (Err e) same = λ on. ap (λ (d : Database). world_of d.trees) (same on.0 on.1).1
 
-    shown_by : (m n : Remembered) → (IsCleanStore g seen → Remembers m (kept_world g seen)) → (r : Result V E)
-        → OnOk r ((w : World) → Remembers m w → Remembers n (changed w change)) → OnErr r (n ≡ m)
-        → (IsTrue own → IsTrue (state g new).is_open → OnOk r (Commits (Turns change) (state g old) (state g new)))
-        → (IsTrue own → IsTrue (state g new).is_open → OnErr r (Stays (state g old) (state g new))) → IsCleanStore g (record { conn = new; own = own; faults = few }) → Remembers n (world_of (state g new).now.trees)
-    shown_by m n was (Ok v) follows stayed did same on = subst (Remembers n) (sym (turned on.0 (did on.0 on.1)).world) (follows (kept_world g seen) (was (clean_by (Ok v) did same on)))
+    shown_by : (m n : ViewCache) → (IsCleanStore g seen → IsCacheOf m (kept_world g seen)) → (r : Result V E)
+        → OnOk r ((w : World) → IsCacheOf m w → IsCacheOf n (changed w change)) → OnErr r (n ≡ m)
+        → (IsTrue own → IsTrue (state g new).is_open → OnOk r (Commits (IsTransition change) (state g old) (state g new)))
+        → (IsTrue own → IsTrue (state g new).is_open → OnErr r (Stays (state g old) (state g new))) → IsCleanStore g (record { conn = new; own = own; faults = few }) → IsCacheOf n (world_of (state g new).now.trees)
+    shown_by m n was (Ok v) follows stayed did same on = subst (IsCacheOf n) (sym (turned on.0 (did on.0 on.1)).world) (follows (kept_world g seen) (was (clean_by (Ok v) did same on)))
     shown_by m n was (Err e) follows stayed did same on =
-        subst (λ k. Remembers k (world_of (state g new).now.trees)) (sym stayed) (subst (Remembers m) (sym (same_by (Err e) same on)) (was (clean_by (Err e) did same on)))
+        subst (λ k. IsCacheOf k (world_of (state g new).now.trees)) (sym stayed) (subst (IsCacheOf m) (sym (same_by (Err e) same on)) (was (clean_by (Err e) did same on)))
 
     -- what is remembered is right: after a change that was made what follows, and otherwise what it was
-    pub change_shown : (m n : Remembered) → (IsCleanStore g seen → Remembers m (kept_world g seen)) → OnOk r ((w : World) → Remembers m w → Remembers n (changed w change)) → OnErr r (n ≡ m)
-        → IsCleanStore g (record { conn = new; own = own; faults = few }) → Remembers n (world_of (state g new).now.trees)
+    pub change_shown : (m n : ViewCache) → (IsCleanStore g seen → IsCacheOf m (kept_world g seen)) → OnOk r ((w : World) → IsCacheOf m w → IsCacheOf n (changed w change)) → OnErr r (n ≡ m)
+        → IsCleanStore g (record { conn = new; own = own; faults = few }) → IsCacheOf n (world_of (state g new).now.trees)
     change_shown m n was follows stayed = shown_by m n was r follows stayed done stays
 
     told_by : (before m n : Option AllEntries) → (IsCleanStore g seen → AreEntries before (kept_world g seen)) → KeepsEntries before m (state g old) (state g new) → (r : Result V E)
         → OnOk r ((w : World) → Sound w → AreEntries m w → AreEntries n (changed w change)) → OnErr r (n ≡ m)
-        → (IsTrue own → IsTrue (state g new).is_open → OnOk r (Commits (Turns change) (state g old) (state g new)))
+        → (IsTrue own → IsTrue (state g new).is_open → OnOk r (Commits (IsTransition change) (state g old) (state g new)))
         → (IsTrue own → IsTrue (state g new).is_open → OnErr r (Stays (state g old) (state g new))) → IsCleanStore g (record { conn = new; own = own; faults = few }) → AreEntries n (world_of (state g new).now.trees)
     told_by before m n was keeps (Ok v) follows stayed did same on =
         let d = did on.0 on.1 in
@@ -140,7 +140,7 @@ module _
         (subst (AreEntries m) (sym (same_by (Err e) same on)) (keeps (kept.ready on.0 s.0).holds fine (law on.1) (was (on.0, s.0))))
 
     -- the entries are the world's: after a change that was made what follows, and otherwise those at hand
-    pub change_told : (before m n : Option AllEntries) → (IsCleanStore g seen → AreEntries before (kept_world g seen)) → (IsCurrent old.schema → KeepsEntries before m (state g old) (state g new))
+    pub change_told : (before m n : Option AllEntries) → (IsCleanStore g seen → AreEntries before (kept_world g seen)) → (IsCurrentSchema old.schema → KeepsEntries before m (state g old) (state g new))
         → OnOk r ((w : World) → Sound w → AreEntries m w → AreEntries n (changed w change)) → OnErr r (n ≡ m)
         → IsCleanStore g (record { conn = new; own = own; faults = few }) → AreEntries n (world_of (state g new).now.trees)
     change_told before m n was keeps follows stayed on = told_by before m n was (keeps (known on.0)) r follows stayed done stays on
@@ -158,7 +158,7 @@ module _
     change_same = subst (λ s. OnErr r (IsCleanStore g (record { conn = new; own = own; faults = few }) → world_of (state g new).now.trees ≡ kept_world g s)) is (same_by r stays)
 
 -- what leaves all as it was, or undoes a transaction that is not there
-rests : {S : Type 0} (g : Ghosts S) (old new : Held S) (own : Bool) → IsKept g old own → IsTrue own → Leaves (state g old) (state g new) → IsTrue (state g new).is_open
+rests : {S : Type 0} (g : Ghosts S) (old new : Held S) (own : Bool) → IsKept g old own → IsTrue own → IsUnchangedOrUndone (state g old) (state g new) → IsTrue (state g new).is_open
     → Stays (state g old) (state g new)
 rests g old new own kept mine (inl same) on = (same.0.was_open, same.0.now_is, same.0.committed_is)
 rests g old new own kept mine (inr undone) on =
@@ -175,14 +175,14 @@ module _
     (is : ◌≡◌ {A = Seen S} (record { conn = old; own = own; faults = few }) before)
     (kept : IsKept g old own)
     (idle : new.in_transaction ≡ false)
-    (is_own : IsTrue before.own → IsCurrent before.conn.schema)
+    (is_own : IsTrue before.own → IsCurrentSchema before.conn.schema)
     (law : IsTrue (state g new).is_open → HasCleanDisk (state g new))
     (r : Result V E)
-    (asks : AsksIn Second r (state g old) (state g new)) where
-  own_known : IsTrue own → IsCurrent old.schema
-  own_known = subst (λ (s : Seen S). IsTrue s.own → IsCurrent s.conn.schema) (sym is) is_own
+    (asks : RunsQueryIn Second r (state g old) (state g new)) where
+  own_known : IsTrue own → IsCurrentSchema old.schema
+  own_known = subst (λ (s : Seen S). IsTrue s.own → IsCurrentSchema s.conn.schema) (sym is) is_own
 
-  either : (r : Result V E) → OnOk r (IsUnchanged (state g old) (state g new)) → OnErr r (Leaves (state g old) (state g new)) → Leaves (state g old) (state g new)
+  either : (r : Result V E) → OnOk r (IsUnchanged (state g old) (state g new)) → OnErr r (IsUnchangedOrUndone (state g old) (state g new)) → IsUnchangedOrUndone (state g old) (state g new)
   either (Ok v) a b = inl a
   either (Err e) a b = b
 
@@ -199,11 +199,11 @@ module _
   read_same on = ap (λ (d : Database). world_of d.trees) (rest on.0 on.1).1 ∙ ap (λ s. kept_world g s) is
 
   -- what is remembered stays right
-  pub read_shown : (m n : Remembered) → (IsCleanStore g (record { conn = old; own = own; faults = few }) → Remembers m (world_of (state g old).now.trees)) → KeepsInMind m n (state g old) (state g new)
-      → IsCleanStore g (record { conn = new; own = own; faults = few }) → Remembers n (world_of (state g new).now.trees)
-  read_shown m n was mind on =
+  pub read_shown : (m n : ViewCache) → (IsCleanStore g (record { conn = old; own = own; faults = few }) → IsCacheOf m (world_of (state g old).now.trees)) → KeepsCache m n (state g old) (state g new)
+      → IsCleanStore g (record { conn = new; own = own; faults = few }) → IsCacheOf n (world_of (state g new).now.trees)
+  read_shown m n was cache on =
       let same = rest on.0 on.1 in
-      subst (λ (d : Database). Remembers n (world_of d.trees)) (sym same.1) (mind (kept.ready on.0 same.0).holds (law on.1) same.0 (was (on.0, same.0)))
+      subst (λ (d : Database). IsCacheOf n (world_of d.trees)) (sym same.1) (cache (kept.ready on.0 same.0).holds (law on.1) same.0 (was (on.0, same.0)))
 
   -- the entries stay the world's
   pub read_still : (n : Option AllEntries) → (IsCleanStore g (record { conn = old; own = own; faults = few }) → AreEntries n (world_of (state g old).now.trees))
@@ -213,7 +213,7 @@ module _
       subst (λ (d : Database). AreEntries n (world_of d.trees)) (sym same.1) (was (on.0, same.0))
 
   -- what is known where a call may rely on what is kept
-  pub read_holds : (P : Type 0) → (IsCurrent old.schema → HasCleanDisk (state g new) → Holds (state g old).now → P) → IsCleanStore g (record { conn = new; own = own; faults = few }) → P
+  pub read_holds : (P : Type 0) → (IsCurrentSchema old.schema → HasCleanDisk (state g new) → IsConsistent (state g old).now → P) → IsCleanStore g (record { conn = new; own = own; faults = few }) → P
   read_holds P found on = found (own_known on.0) (law on.1) (kept.ready on.0 (rest on.0 on.1).0).holds
 
 -- what follows of an answer, whatever it is, from what is said of it under a premise

@@ -15,13 +15,13 @@ pub mod Keeps
 pub mod Loaded
 pub mod OfficeSeen
 pub mod Opened
-pub mod Places
+pub mod Placements
 pub mod Queried
 pub mod RankTurns
-pub mod Remembered
+pub mod ViewCache
 pub mod Rounds
 pub mod RowsOnce
-pub mod SecondPlaces
+pub mod SecondPlacements
 pub mod SecondRanks
 pub mod SecondRows
 pub mod Still

@@ -15,18 +15,18 @@ use Rattle.portal_core.specs.Words.{Key, put_all}
 use Rattle.portal_core.specs.World.{World, Lecturer, Student, pairs_with, is_second, alone, alone_lecturer, alone_student, lecturer_key, project_key, student_key}
 use Rattle.portal_core.proofs.AllLaws.{all_weaker, all_map}
 use Rattle.portal_core.proofs.Keys.{all_unmap}
-use Rattle.portal_list.specs.Rows.{Rows, rows_of, choices_in, rankings_with}
+use Rattle.portal_list.specs.Rows.{RowsOfWorld, world_rows, choices_in, rankings_with}
 use Rattle.portal_tables.specs.Tables.{portal_tree, lecturer_tree, project_tree, student_tree, second_tree, version}
 use Rattle.portal_tables.specs.Rows.{portal_row, second_row}
 use Rattle.portal_tables.specs.ListTables.{tree_of}
-use Rattle.portal_tables.specs.Office.{number_of}
+use Rattle.portal_tables.specs.Office.{number_of_phase}
 use Rattle.portal_tables.specs.Rolls.{row_key, by_key, lecturers_shown, projects_shown, students_shown, lecturer_columns, roll_columns}
-use Rattle.portal_store.specs.World.{round_in, world_in, phase_of, second_phase, choices_of, rankings_of, is_ranked, lecturer_in, student_in, project_row}
+use Rattle.portal_store.specs.World.{round_in, world_in, phase_numbered, second_phase, choice_table, ranking_table, is_ranked, lecturer_stored, student_stored, project_row}
 use Rattle.portal_tables.specs.Lists.{of_key, chosen, IsWhole}
 use Rattle.portal_store.specs.Kept.{Whole}
 use Rattle.portal_store.specs.Loads.{Loads, LoadsIn, after_first}
 use Rattle.portal_tables.specs.Shown.{shown_lecturer, shown_project, shown_student}
-use Rattle.portal_tables.specs.Places.{pair_shown}
+use Rattle.portal_tables.specs.Placements.{pair_shown}
 use Rattle.portal_tables.specs.Owners.{entry, has_list, IsRead}
 use Rattle.portal_views.specs.Contents.{AllRows, AreRead, rows_from}
 use Rattle.portal_tables.proofs.Sorted.{all_permuted, map_alike, permutes, put_all_map}
@@ -38,7 +38,7 @@ abbrev pub HasRead : Round → AllRows → Trees → Type 0
 HasRead round rows db = (rows ≡ rows_from round db (lecturers_shown db) (projects_shown db) (students_shown db)) × AreRead round db (lecturers_shown db) (students_shown db)
 
 -- the rows of a world: that of the office, and the others
-abbrev pub with_office : Phase → Key → AllRows → Rows
+abbrev pub with_office : Phase → Key → AllRows → RowsOfWorld
 with_office phase code rows =
     record {
       round = First;
@@ -109,28 +109,28 @@ abbrev earlier_entry : Lecturer → Option (Key × List Key)
 earlier_entry l = option_map (λ list. (l.row.key, list)) l.earlier_ranking
 
 abbrev earlier_pair : Student → Option (Key × Key)
-earlier_pair s = option_map (λ p. (s.row.key, p)) s.earlier_place
+earlier_pair s = option_map (λ p. (s.row.key, p)) s.earlier_placement
 
 -- what the tables of a round show of it
 
-pub has_choice : (round : Round) (db : Trees) (r : Row) → has_list (choices_of round) db (roll_columns r) ≡ true
+pub has_choice : (round : Round) (db : Trees) (r : Row) → has_list (choice_table round) db (roll_columns r) ≡ true
 has_choice First db r = refl
 has_choice Second db r = refl
 
-pub has_ranked : (round : Round) (db : Trees) (r : Row) → has_list (rankings_of round) db (lecturer_columns r) ≡ is_ranked round db r
+pub has_ranked : (round : Round) (db : Trees) (r : Row) → has_list (ranking_table round) db (lecturer_columns r) ≡ is_ranked round db r
 has_ranked First db r = refl
 has_ranked Second db r = refl
 
-choice_shown : (round : Round) (db : Trees) (r : Row) → entry (choices_of round) db (roll_columns r) ≡ Some (chosen_pair (student_in round db r))
+choice_shown : (round : Round) (db : Trees) (r : Row) → entry (choice_table round) db (roll_columns r) ≡ Some (chosen_pair (student_stored round db r))
 choice_shown First db r = refl
 choice_shown Second db r = refl
 
-ranking_shown : (round : Round) (db : Trees) (r : Row) → entry (rankings_of round) db (lecturer_columns r) ≡ ranking_entry (lecturer_in round db r)
+ranking_shown : (round : Round) (db : Trees) (r : Row) → entry (ranking_table round) db (lecturer_columns r) ≡ ranking_entry (lecturer_stored round db r)
 ranking_shown round db r =
-    let list = chosen (db (tree_of (rankings_of round))) (row_key r) in
+    let list = chosen (db (tree_of (ranking_table round))) (row_key r) in
     ap (λ b. cond {A = Option (Key × List Key)} b (Some (row_key r, list)) None) (has_ranked round db r) ∙ ranked_pair (is_ranked round db r) (row_key r) list
 
-place_told : (round : Round) (db : Trees) (r : Row) → pair_shown round None db (roll_columns r) ≡ placed_pair (student_in round db r)
+place_told : (round : Round) (db : Trees) (r : Row) → pair_shown round None db (roll_columns r) ≡ placed_pair (student_stored round db r)
 place_told First db r = refl
 place_told Second db r = refl
 
@@ -147,28 +147,28 @@ rows_now w =
     }
 
 module _ (round : Round) (db : Trees) where
-  pub lecturers_by_key : put_all lecturer_key (map (lecturer_in round db) (db lecturer_tree)) [] ≡ map (lecturer_in round db) (by_key (db lecturer_tree))
-  lecturers_by_key = put_all_map row_key lecturer_key (lecturer_in round db) (λ r. refl) (db lecturer_tree) []
+  pub lecturers_by_key : put_all lecturer_key (map (lecturer_stored round db) (db lecturer_tree)) [] ≡ map (lecturer_stored round db) (by_key (db lecturer_tree))
+  lecturers_by_key = put_all_map row_key lecturer_key (lecturer_stored round db) (λ r. refl) (db lecturer_tree) []
 
   pub projects_by_key : put_all project_key (map project_row (db project_tree)) [] ≡ map project_row (by_key (db project_tree))
   projects_by_key = put_all_map row_key project_key project_row (λ r. refl) (db project_tree) []
 
-  pub students_by_key : put_all student_key (map (student_in round db) (db student_tree)) [] ≡ map (student_in round db) (by_key (db student_tree))
-  students_by_key = put_all_map row_key student_key (student_in round db) (λ r. refl) (db student_tree) []
+  pub students_by_key : put_all student_key (map (student_stored round db) (db student_tree)) [] ≡ map (student_stored round db) (by_key (db student_tree))
+  students_by_key = put_all_map row_key student_key (student_stored round db) (λ r. refl) (db student_tree) []
 
   pub round_rows : rows_from round db (lecturers_shown db) (projects_shown db) (students_shown db) ≡ rows_now (world_in round db)
   unfolding world_in
   round_rows =
       let L = by_key (db lecturer_tree) in
       let S = by_key (db student_tree) in
-      let lecturers = each_map (λ (l : Lecturer). l.row) (lecturer_in round db) shown_lecturer lecturer_columns L _ lecturers_by_key (λ r. refl) in
+      let lecturers = each_map (λ (l : Lecturer). l.row) (lecturer_stored round db) shown_lecturer lecturer_columns L _ lecturers_by_key (λ r. refl) in
       let projects = map-map shown_project roll_columns (by_key (db project_tree)) ∙ sym projects_by_key in
-      let students = each_map (λ (s : Student). s.row) (student_in round db) shown_student roll_columns S _ students_by_key (λ r. refl) in
-      let choices = some_mapped (entry (choices_of round) db) roll_columns S
-      ∙ some_alike (λ r. entry (choices_of round) db (roll_columns r)) (λ r. Some (chosen_pair (student_in round db r))) S (choice_shown round db) ∙ each_some (λ r. chosen_pair (student_in round db r)) S
-      ∙ sym (ap (map chosen_pair) students_by_key ∙ map-map chosen_pair (student_in round db) S) in
-      let rankings = each_found ranking_entry (lecturer_in round db) (entry (rankings_of round) db) lecturer_columns L _ lecturers_by_key (ranking_shown round db) in
-      let pairs = each_found placed_pair (student_in round db) (pair_shown round None db) roll_columns S _ students_by_key (place_told round db) in
+      let students = each_map (λ (s : Student). s.row) (student_stored round db) shown_student roll_columns S _ students_by_key (λ r. refl) in
+      let choices = some_mapped (entry (choice_table round) db) roll_columns S
+      ∙ some_alike (λ r. entry (choice_table round) db (roll_columns r)) (λ r. Some (chosen_pair (student_stored round db r))) S (choice_shown round db) ∙ each_some (λ r. chosen_pair (student_stored round db r)) S
+      ∙ sym (ap (map chosen_pair) students_by_key ∙ map-map chosen_pair (student_stored round db) S) in
+      let rankings = each_found ranking_entry (lecturer_stored round db) (entry (ranking_table round) db) lecturer_columns L _ lecturers_by_key (ranking_shown round db) in
+      let pairs = each_found placed_pair (student_stored round db) (pair_shown round None db) roll_columns S _ students_by_key (place_told round db) in
       λ i. record { lecturers = lecturers i; projects = projects i; students = students i; choices = choices i; rankings = rankings i; pairs = pairs i }
 
   -- what was found of the rows in their order holds of the table
@@ -177,8 +177,8 @@ module _ (round : Round) (db : Trees) where
 
   pub whole_is : AreRead round db (lecturers_shown db) (students_shown db) → Whole round db
   whole_is read =
-      let C = choices_of round in
-      let R = rankings_of round in
+      let C = choice_table round in
+      let R = ranking_table round in
       let L = by_key (db lecturer_tree) in
       let S = by_key (db student_tree) in
       let lists = all_unmap (IsRead C db) roll_columns S read.choices in
@@ -201,29 +201,29 @@ module _ (db : Trees) where
   pub world_alone : alone (world_in First db) ≡ world_in First db
   unfolding world_in
   world_alone = λ i. record (world_in First db) {
-    lecturers = (ap (map alone_lecturer) (lecturers_by_key First db) ∙ map-map alone_lecturer (lecturer_in First db) by_lecturer ∙ sym (lecturers_by_key First db)) i;
-    students = (ap (map alone_student) (students_by_key First db) ∙ map-map alone_student (student_in First db) by_student ∙ sym (students_by_key First db)) i;
+    lecturers = (ap (map alone_lecturer) (lecturers_by_key First db) ∙ map-map alone_lecturer (lecturer_stored First db) by_lecturer ∙ sym (lecturers_by_key First db)) i;
+    students = (ap (map alone_student) (students_by_key First db) ∙ map-map alone_student (student_stored First db) by_student ∙ sym (students_by_key First db)) i;
   }
 
   pub world_first : (world_in First db).round ≡ First
   unfolding world_in
   world_first = refl
 
-  pub none_earlier : AllByRecursion (λ (s : Student). s.earlier_place ≡ None) (world_in First db).students
+  pub none_earlier : AllByRecursion (λ (s : Student). s.earlier_placement ≡ None) (world_in First db).students
   none_earlier =
-      subst (λ w. AllByRecursion (λ (s : Student). s.earlier_place ≡ None) w.students) world_alone
-      (all_map (λ (s : Student). s.earlier_place ≡ None) alone_student (world_in First db).students (all_of _ (λ s. refl) (world_in First db).students))
+      subst (λ w. AllByRecursion (λ (s : Student). s.earlier_placement ≡ None) w.students) world_alone
+      (all_map (λ (s : Student). s.earlier_placement ≡ None) alone_student (world_in First db).students (all_of _ (λ s. refl) (world_in First db).students))
 
-  pub rows_are : (of : ℕ) (phase : Phase) (code : Key) → db portal_tree ≡ portal_row (pos of) (pos (number_of phase)) code ∷ []
-      → with_office phase code (rows_from First db (lecturers_shown db) (projects_shown db) (students_shown db)) ≡ rows_of (world_in First db)
+  pub rows_are : (of : ℕ) (phase : Phase) (code : Key) → db portal_tree ≡ portal_row (pos of) (pos (number_of_phase phase)) code ∷ []
+      → with_office phase code (rows_from First db (lecturers_shown db) (projects_shown db) (students_shown db)) ≡ world_rows (world_in First db)
   unfolding world_in
   rows_are of phase code office =
-      let phase_is : phase ≡ phase_of (number_in (column (slice_index_or (db portal_tree) 0 []) 3)) = sym (ap (λ rows. phase_of (number_in (column (slice_index_or rows 0 []) 3))) office ∙ phase_back phase) in
+      let phase_is : phase ≡ phase_numbered (number_in (column (slice_index_or (db portal_tree) 0 []) 3)) = sym (ap (λ rows. phase_numbered (number_in (column (slice_index_or rows 0 []) 3))) office ∙ phase_back phase) in
       let code_is : code ≡ bytes (column (slice_index_or (db portal_tree) 0 []) 4) = sym (ap (λ rows. bytes (column (slice_index_or rows 0 []) 4)) office) in
-      let earlier_rankings : filter_map earlier_entry (put_all lecturer_key (map (lecturer_in First db) (db lecturer_tree)) []) ≡ [] =
-      ap (filter_map earlier_entry) (lecturers_by_key First db) ∙ some_mapped earlier_entry (lecturer_in First db) by_lecturer ∙ none_some (λ r. earlier_entry (lecturer_in First db r)) by_lecturer (λ r. refl) in
-      let earlier_pairs : filter_map earlier_pair (put_all student_key (map (student_in First db) (db student_tree)) []) ≡ [] =
-      ap (filter_map earlier_pair) (students_by_key First db) ∙ some_mapped earlier_pair (student_in First db) by_student ∙ none_some (λ r. earlier_pair (student_in First db r)) by_student (λ r. refl) in
+      let earlier_rankings : filter_map earlier_entry (put_all lecturer_key (map (lecturer_stored First db) (db lecturer_tree)) []) ≡ [] =
+      ap (filter_map earlier_entry) (lecturers_by_key First db) ∙ some_mapped earlier_entry (lecturer_stored First db) by_lecturer ∙ none_some (λ r. earlier_entry (lecturer_stored First db r)) by_lecturer (λ r. refl) in
+      let earlier_pairs : filter_map earlier_pair (put_all student_key (map (student_stored First db) (db student_tree)) []) ≡ [] =
+      ap (filter_map earlier_pair) (students_by_key First db) ∙ some_mapped earlier_pair (student_stored First db) by_student ∙ none_some (λ r. earlier_pair (student_stored First db r)) by_student (λ r. refl) in
       let same = round_rows First db in
       λ i. record {
         round = First;
@@ -240,7 +240,7 @@ module _ (db : Trees) where
         earlier_pairs = sym earlier_pairs i;
       }
 
-  pub loads : (of : ℕ) (phase : Phase) (code : Key) → db portal_tree ≡ portal_row (pos of) (pos (number_of phase)) code ∷ [] → (rows : AllRows) → HasRead First rows db → Loads of db (with_office phase code rows)
+  pub loads : (of : ℕ) (phase : Phase) (code : Key) → db portal_tree ≡ portal_row (pos of) (pos (number_of_phase phase)) code ∷ [] → (rows : AllRows) → HasRead First rows db → Loads of db (with_office phase code rows)
   loads of phase code office rows read = record {
     office = record { phase = phase; office = code; is = office };
     whole = whole_is First db read.1;
@@ -248,14 +248,14 @@ module _ (db : Trees) where
   }
 
   -- after the rows of the first round, those of the second
-  after_rows : (first : Rows) (phase : Phase) → first ≡ rows_of (world_in First db) → db second_tree ≡ second_row (pos (number_of phase)) ∷ []
-      → after_first first phase (rows_from Second db (lecturers_shown db) (projects_shown db) (students_shown db)) ≡ rows_of (world_in Second db)
+  after_rows : (first : RowsOfWorld) (phase : Phase) → first ≡ world_rows (world_in First db) → db second_tree ≡ second_row (pos (number_of_phase phase)) ∷ []
+      → after_first first phase (rows_from Second db (lecturers_shown db) (projects_shown db) (students_shown db)) ≡ world_rows (world_in Second db)
   unfolding world_in
   after_rows first phase is row =
-      let phase_is : phase ≡ phase_of (second_phase db) = sym (ap (λ rows. phase_of (number_in (column (slice_index_or rows 0 []) 2))) row ∙ phase_back phase) in
-      let choices = ap (λ (r : Rows). r.choices) is ∙ each_alike chosen_pair earlier_choice_pair (student_in First db) (student_in Second db) by_student _ _ (students_by_key First db) (students_by_key Second db) (λ r. refl) in
-      let rankings = ap (λ (r : Rows). r.rankings) is ∙ found_alike ranking_entry earlier_entry (lecturer_in First db) (lecturer_in Second db) by_lecturer _ _ (lecturers_by_key First db) (lecturers_by_key Second db) (λ r. refl) in
-      let pairs = ap (λ (r : Rows). r.pairs) is ∙ found_alike placed_pair earlier_pair (student_in First db) (student_in Second db) by_student _ _ (students_by_key First db) (students_by_key Second db) (λ r. refl) in
+      let phase_is : phase ≡ phase_numbered (second_phase db) = sym (ap (λ rows. phase_numbered (number_in (column (slice_index_or rows 0 []) 2))) row ∙ phase_back phase) in
+      let choices = ap (λ (r : RowsOfWorld). r.choices) is ∙ each_alike chosen_pair earlier_choice_pair (student_stored First db) (student_stored Second db) by_student _ _ (students_by_key First db) (students_by_key Second db) (λ r. refl) in
+      let rankings = ap (λ (r : RowsOfWorld). r.rankings) is ∙ found_alike ranking_entry earlier_entry (lecturer_stored First db) (lecturer_stored Second db) by_lecturer _ _ (lecturers_by_key First db) (lecturers_by_key Second db) (λ r. refl) in
+      let pairs = ap (λ (r : RowsOfWorld). r.pairs) is ∙ found_alike placed_pair earlier_pair (student_stored First db) (student_stored Second db) by_student _ _ (students_by_key First db) (students_by_key Second db) (λ r. refl) in
       let same = round_rows Second db in
       λ i. record {
         round = Second;
@@ -272,7 +272,7 @@ module _ (db : Trees) where
         earlier_pairs = pairs i;
       }
 
-  pub loads_after : (first : Rows) (phase : Phase) → Loads version db first → db second_tree ≡ second_row (pos (number_of phase)) ∷ [] → (rows : AllRows) → HasRead Second rows db → LoadsIn Second db (after_first first phase rows)
+  pub loads_after : (first : RowsOfWorld) (phase : Phase) → Loads version db first → db second_tree ≡ second_row (pos (number_of_phase phase)) ∷ [] → (rows : AllRows) → HasRead Second rows db → LoadsIn Second db (after_first first phase rows)
   loads_after first phase loads row rows read = record {
     office = loads.office;
     whole = (loads.whole, whole_is Second db read.1);
@@ -291,5 +291,5 @@ nothing_earlier First db e = nothing_before (world_in First db) (world_alone db)
 nothing_earlier Second db e = absurd (cc)
 
 -- the rows of the round of the tables
-pub loads_first : (db : Trees) (rows : Rows) → round_in db ≡ First → Loads version db rows → LoadsIn (round_in db) db rows
+pub loads_first : (db : Trees) (rows : RowsOfWorld) → round_in db ≡ First → Loads version db rows → LoadsIn (round_in db) db rows
 loads_first db rows is loads = subst (λ r. LoadsIn r db rows) (sym is) (record { office = loads.office; whole = loads.whole; rows_are = loads.rows_are })

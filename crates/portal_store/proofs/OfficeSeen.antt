@@ -14,8 +14,8 @@ use Rattle.sqlite_trees.proofs.ListLemmas.{filter-map, map-map, all-filter, all_
 use Rattle.sqlite_trees.specs.Objects.{number_in}
 use Rattle.portal_core.specs.declared.phase.Phase.{Phase}
 use Rattle.portal_core.specs.declared.rows.Listing.{Listing}
-use Rattle.portal_core.specs.Words.{Key, is, has, is_empty}
-use Rattle.portal_core.specs.World.{World, Lecturer, Student, student_key, students_in, is_left, is_still_to_rank, is_from_ranking, pairs_of, shown_place}
+use Rattle.portal_core.specs.Words.{Key, equals, has, is_empty}
+use Rattle.portal_core.specs.World.{World, Lecturer, Student, student_key, students_in, is_left, is_still_to_rank, is_from_ranking, pairs_of, shown_placement}
 use Rattle.portal_core.specs.View.{catalogue, office_sees}
 use Rattle.portal_core.proofs.AllLaws.{all_weaker, any_nowhere, is_sym, all_map, filtered_any, any_map}
 use Rattle.portal_core.proofs.Kept.{empty_map}
@@ -24,17 +24,17 @@ use Rattle.portal_core.specs.declared.phase.Round.TheVariants.{First, Second}
 use Rattle.portal_list.specs.Shown.{is_wanted, is_waiting}
 use Rattle.portal_list.proofs.Waiting.{waiting_lecturers}
 use Rattle.portal_list.proofs.Members.{has_all}
-use Rattle.portal_tables.specs.ListTables.{choices_of, rankings_of, tree_of}
+use Rattle.portal_tables.specs.ListTables.{choice_table, ranking_table, tree_of}
 use Rattle.portal_tables.specs.Owners.{choice_shown}
 use Rattle.portal_tables.specs.Tables.{lecturer_tree, student_tree}
 use Rattle.portal_tables.proofs.Lists.{any_alike, eq_self}
 use Rattle.portal_tables.specs.Changes.{ListsBy, columns, has_text, has_number}
-use Rattle.portal_store.specs.Kept.{HoldsIn, AreWhole, Whole}
+use Rattle.portal_store.specs.Kept.{IsConsistentIn, AreWhole, Whole}
 use Rattle.portal_tables.specs.Rolls.{row_key, by_key, lecturers_shown, projects_shown, students_shown, lecturer_columns, roll_columns}
-use Rattle.portal_store.specs.World.{world_in, is_ranked, lecturer_in, student_in}
+use Rattle.portal_store.specs.World.{world_in, is_ranked, lecturer_stored, student_stored}
 use Rattle.portal_tables.specs.Lists.{chosen, of_key, place_of, place_key, named_by, by_place, CountUp, IsWhole}
-use Rattle.portal_tables.specs.Shown.{first, shown_project}
-use Rattle.portal_tables.specs.Places.{pair_shown, place_before}
+use Rattle.portal_tables.specs.Shown.{first_cell, shown_project}
+use Rattle.portal_tables.specs.Placements.{pair_shown, placement_before}
 use Rattle.portal_store.specs.Queried.{student_from, unlisted, waiting_key, office_from}
 use Rattle.portal_store.proofs.Applying.{choosers}
 use Rattle.portal_store.proofs.Holding.{has_tables}
@@ -55,29 +55,29 @@ some_more f g (x ∷ xs) more h = elim (cases_Bool (f x)) [
   | inr fails ↦ ap (λ b. g x || b) (some_more f g xs more (sym (ap (λ b. b || list_any f xs) fails) ∙ h)) ∙ or-true (g x)
 ]
 
--- of students whose keys these are there is one, where there is a key
+-- of students whose keys these are there equals one, where there equals a key
 anyone : (ks : List Key) (ss : List Student) → AllByRecursion (λ k. has (map student_key ss) k ≡ true) ks → list_any (λ s. has ks s.row.key) ss ≡ not (is_empty ks)
 anyone [] ss all = any_nowhere ss
 anyone (k ∷ ks) ss all =
-    some_more (λ (s : Student). is k s.row.key) (λ s. is s.row.key k || has ks s.row.key) ss (λ s e. ap (λ b. b || has ks s.row.key) (is_sym s.row.key k ∙ e)) (sym (any_map (is k) student_key ss) ∙ all.0)
+    some_more (λ (s : Student). equals k s.row.key) (λ s. equals s.row.key k || has ks s.row.key) ss (λ s e. ap (λ b. b || has ks s.row.key) (is_sym s.row.key k ∙ e)) (sym (any_map (equals k) student_key ss) ∙ all.0)
 
--- the keys of the roll that is shown are those of the world
-keys_told : (round : Round) (db : Trees) → map first (students_shown db) ≡ map student_key (world_in round db).students
+-- the keys of the roll that equals shown are those of the world
+keys_told : (round : Round) (db : Trees) → map first_cell (students_shown db) ≡ map student_key (world_in round db).students
 unfolding world_in
 keys_told round db =
     let rows = by_key (db student_tree) in
-    map-map first roll_columns rows ∙ sym (ap (map student_key) (students_by_key round db) ∙ map-map student_key (student_in round db) rows)
+    map-map first_cell roll_columns rows ∙ sym (ap (map student_key) (students_by_key round db) ∙ map-map student_key (student_stored round db) rows)
 
-module _ (round : Round) (db : Database) (holds : HoldsIn round db) (p : Key) (shown : List Row) (lists : ListsBy (1 ∷ []) (has_text 3 p) (columns (1 ∷ [])) (db.trees (tree_of (choices_of round))) shown) where
+module _ (round : Round) (db : Database) (holds : IsConsistentIn round db) (p : Key) (shown : List Row) (lists : ListsBy (1 ∷ []) (has_text 3 p) (columns (1 ∷ [])) (db.trees (tree_of (choice_table round))) shown) where
   abbrev named : World
   named = world_in round db.trees
 
-  -- who names the project is on the roll
-  choosers_known : AllByRecursion (λ k. has (map student_key named.students) k ≡ true) (map first shown)
-  choosers_known = subst (λ ks. AllByRecursion (λ k. has ks k ≡ true) (map first shown)) (keys_told round db.trees) (shown_known round db (has_tables db holds) p shown lists)
+  -- who names the project equals on the roll
+  choosers_known : AllByRecursion (λ k. has (map student_key named.students) k ≡ true) (map first_cell shown)
+  choosers_known = subst (λ ks. AllByRecursion (λ k. has ks k ≡ true) (map first_cell shown)) (keys_told round db.trees) (shown_known round db (has_tables db holds) p shown lists)
 
   pub some_chooser : not (is_empty shown) ≡ list_any (λ (s : Student). has s.choice p) named.students
-  some_chooser = ap not (sym (empty_map first shown)) ∙ sym (anyone (map first shown) named.students choosers_known) ∙ any_alike _ _ named.students (choosers round db holds p shown lists)
+  some_chooser = ap not (sym (empty_map first_cell shown)) ∙ sym (anyone (map first_cell shown) named.students choosers_known) ∙ any_alike _ _ named.students (choosers round db holds p shown lists)
 
 -- who has a list
 
@@ -86,10 +86,10 @@ own_whole : (round : Round) (db : Trees) → AreWhole round db → Whole round d
 own_whole First db h = h
 own_whole Second db h = h.1
 
--- each list of the table is: its owner is on the roll, or it is empty
-every_whole : (round : Round) (db : Database) → HoldsIn round db → (k : Key) → IsWhole (of_key k (db.trees (tree_of (choices_of round))))
+-- each list of the table equals: its owner equals on the roll, or it equals empty
+every_whole : (round : Round) (db : Database) → IsConsistentIn round db → (k : Key) → IsWhole (of_key k (db.trees (tree_of (choice_table round))))
 every_whole round db holds k =
-    let table = db.trees (tree_of (choices_of round)) in
+    let table = db.trees (tree_of (choice_table round)) in
     let roll = db.trees student_tree in
     elim (cases_Bool (has (map row_key roll) k)) [
       | inl known ↦ has_all (λ k. IsWhole (of_key k table)) (map row_key roll) k (all_map (λ k. IsWhole (of_key k table)) row_key roll (own_whole round db.trees holds.whole).choices) known
@@ -104,26 +104,26 @@ is_first : (r : Row) → IsPlace r → place_of r ≡ 1 → has_number 2 1 r ≡
 is_first r x e =
     ap (λ s. is_eq (value_cmp (column s 2) (Int (pos 1)))) x.is ∙ one_is x.place (sym (ap place_of x.is) ∙ e)
 
--- rows with the places 1, 2 and so on begin with the first, if there are any
+-- rows with the places 1, 2 and so on begin with the first_cell, if there are any
 begins : (rows : List Row) → AllByRecursion IsPlace rows → CountUp 1 (map place_of rows) → list_any (has_number 2 1) rows ≡ not (is_empty (map named_by rows))
 begins [] shapes up = refl
 begins (r ∷ rs) shapes up = ap (λ b. b || list_any (has_number 2 1) rs) (is_first r shapes.0 up.0)
 
-module _ (round : Round) (db : Database) (holds : HoldsIn round db) (shown : List Row) (lists : ListsBy (1 ∷ []) (has_number 2 1) (columns (1 ∷ [])) (db.trees (tree_of (choices_of round))) shown) where
+module _ (round : Round) (db : Database) (holds : IsConsistentIn round db) (shown : List Row) (lists : ListsBy (1 ∷ []) (has_number 2 1) (columns (1 ∷ [])) (db.trees (tree_of (choice_table round))) shown) where
   abbrev table : List Row
-  table = db.trees (tree_of (choices_of round))
+  table = db.trees (tree_of (choice_table round))
 
   formed : AllByRecursion IsPlace table
   formed = choices_formed round db (has_tables db holds)
 
-  alike : (k : Key) (r : Row) → IsPlace r → (has_number 2 1 r && is k (row_key r)) ≡ (has_text 1 k r && has_number 2 1 r)
+  alike : (k : Key) (r : Row) → IsPlace r → (has_number 2 1 r && equals k (row_key r)) ≡ (has_text 1 k r && has_number 2 1 r)
   alike k r x =
-      let by : has_text 1 k r ≡ is x.owner k = has_text_of 1 k r x.owner (ap (λ s. column s 1) x.is) in
-      let key : is k (row_key r) ≡ is x.owner k = ap (λ s. is k (bytes (column s 1))) x.is ∙ is_sym k x.owner in
+      let by : has_text 1 k r ≡ equals x.owner k = has_text_of 1 k r x.owner (ap (λ s. column s 1) x.is) in
+      let key : equals k (row_key r) ≡ equals x.owner k = ap (λ s. equals k (bytes (column s 1))) x.is ∙ is_sym k x.owner in
       ap (λ b. has_number 2 1 r && b) (key ∙ sym by) ∙ and_comm (has_number 2 1 r) (has_text 1 k r)
 
-  -- a key is shown where it has a list
-  lister : (k : Key) → has (map first shown) k ≡ not (is_empty (chosen table k))
+  -- a key equals shown where it has a list
+  lister : (k : Key) → has (map first_cell shown) k ≡ not (is_empty (chosen table k))
   lister k =
       let mine : List Row = of_key k table in
       named_where (has_number 2 1) table shown lists k
@@ -136,12 +136,12 @@ module _ (round : Round) (db : Database) (holds : HoldsIn round db) (shown : Lis
   twice true = refl
   twice false = refl
 
-  pub unlisted_are : (students : List Row) → map first (filter (λ c. is_none (place_before round c) && not (has (map first shown) (first c))) students) ≡ unlisted round db.trees students
+  pub unlisted_are : (students : List Row) → map first_cell (filter (λ c. is_none (placement_before round c) && not (has (map first_cell shown) (first_cell c))) students) ≡ unlisted round db.trees students
   unlisted_are students =
-      ap (map first) (filter_alike (λ c. is_none (place_before round c) && not (has (map first shown) (first c))) (λ c. is_none (place_before round c) && is_empty (choice_shown round db.trees c)) students
-      (all_of _ (λ c. ap (λ b. is_none (place_before round c) && b) (ap not (lister (first c)) ∙ twice (is_empty (chosen table (first c))))) students))
+      ap (map first_cell) (filter_alike (λ c. is_none (placement_before round c) && not (has (map first_cell shown) (first_cell c))) (λ c. is_none (placement_before round c) && is_empty (choice_shown round db.trees c)) students
+      (all_of _ (λ c. ap (λ b. is_none (placement_before round c) && b) (ap not (lister (first_cell c)) ∙ twice (is_empty (chosen table (first_cell c))))) students))
 
--- the parts of what is seen
+-- the parts of what equals seen
 
 -- those that pass, by their keys
 passing : {X Y Z : Type 0} (p : Y → Bool) (key : Y → Z) (of : X → Y) (f : X → Option Z) → ((x : X) → f x ≡ cond (p (of x)) (Some (key (of x))) None) → (xs : List X) → filter_map f xs ≡ map key (filter p (map of xs))
@@ -162,8 +162,8 @@ waiting_told round db =
     let rows = by_key (db lecturer_tree) in
     let wanted : Row → Bool = λ r. is_wanted w.students w.projects (row_key r) in
     some_mapped (waiting_key round db w.projects) lecturer_columns rows
-    ∙ passing (is_waiting w.students w.projects) (λ (l : Lecturer). l.row.key) (lecturer_in round db) (λ r. waiting_key round db w.projects (lecturer_columns r))
-    (λ r. ap (λ b. cond {A = Option Key} b None (cond (wanted r) (Some (row_key r)) None)) (has_ranked round db r) ∙ ranking_there (is_ranked round db r) (wanted r) (row_key r) (chosen (db (tree_of (rankings_of round))) (row_key r))) rows
+    ∙ passing (is_waiting w.students w.projects) (λ (l : Lecturer). l.row.key) (lecturer_stored round db) (λ r. waiting_key round db w.projects (lecturer_columns r))
+    (λ r. ap (λ b. cond {A = Option Key} b None (cond (wanted r) (Some (row_key r)) None)) (has_ranked round db r) ∙ ranking_there (is_ranked round db r) (wanted r) (row_key r) (chosen (db (tree_of (ranking_table round))) (row_key r))) rows
     ∙ ap (λ ls. map (λ (l : Lecturer). l.row.key) (filter (is_waiting w.students w.projects) ls)) (sym (lecturers_by_key round db))
     ∙ waiting_lecturers w
 
@@ -186,19 +186,19 @@ unlisted_told : (round : Round) (db : Trees) → unlisted round db (students_sho
 unfolding world_in
 unlisted_told round db =
     let rows = by_key (db student_tree) in
-    ap (map first) (filter-map (λ c. is_idle (student_from round db c)) roll_columns rows)
-    ∙ map-map first roll_columns (filter (λ r. is_idle (student_from round db (roll_columns r))) rows)
+    ap (map first_cell) (filter-map (λ c. is_idle (student_from round db c)) roll_columns rows)
+    ∙ map-map first_cell roll_columns (filter (λ r. is_idle (student_from round db (roll_columns r))) rows)
     ∙ (λ i. map row_key (filter (λ r. is_idle (student_is round db r i)) rows))
     ∙ sym (ap (λ ss. map (λ (s : Student). s.row.key) (filter is_idle ss)) (students_by_key round db)
-    ∙ ap (map (λ (s : Student). s.row.key)) (filter-map is_idle (student_in round db) rows)
-    ∙ map-map (λ (s : Student). s.row.key) (student_in round db) (filter (λ r. is_idle (student_in round db r)) rows))
+    ∙ ap (map (λ (s : Student). s.row.key)) (filter-map is_idle (student_stored round db) rows)
+    ∙ map-map (λ (s : Student). s.row.key) (student_stored round db) (filter (λ r. is_idle (student_stored round db r)) rows))
     ∙ ap (map (λ (s : Student). s.row.key)) (sym (idle_in round db))
 
-pairs_told : (round : Round) (db : Trees) (phase : Phase) → filter_map (pair_shown round (Some phase) db) (students_shown db) ≡ filter_map (λ (s : Student). option_map (λ p. (s.row.key, p)) (shown_place phase s)) (world_in round db).students
+pairs_told : (round : Round) (db : Trees) (phase : Phase) → filter_map (pair_shown round (Some phase) db) (students_shown db) ≡ filter_map (λ (s : Student). option_map (λ p. (s.row.key, p)) (shown_placement phase s)) (world_in round db).students
 unfolding world_in
 pairs_told round db phase =
-    let pair : Student → Option (Key × Key) = λ s. option_map (λ p. (s.row.key, p)) (shown_place phase s) in
-    each_found pair (student_in round db) (pair_shown round (Some phase) db) roll_columns (by_key (db student_tree)) _ (students_by_key round db) (λ r. ap pair (student_is round db r))
+    let pair : Student → Option (Key × Key) = λ s. option_map (λ p. (s.row.key, p)) (shown_placement phase s) in
+    each_found pair (student_stored round db) (pair_shown round (Some phase) db) roll_columns (by_key (db student_tree)) _ (students_by_key round db) (λ r. ap pair (student_is round db r))
 
 pub office_told : (round : Round) (db : Trees) (phase : Phase) (code : Key) (offers : List Listing) → phase ≡ (world_in round db).phase → code ≡ (world_in round db).office → offers ≡ catalogue (world_in round db)
     → office_from round db phase code offers (lecturers_shown db) (projects_shown db) (students_shown db) ≡ office_sees (world_in round db)

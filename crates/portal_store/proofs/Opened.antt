@@ -11,8 +11,8 @@ use Rattle.portal_core.specs.declared.phase.Round.{Round}
 use Rattle.portal_core.specs.declared.phase.Round.TheVariants.{First, Second}
 use Rattle.portal_core.specs.Words.{put_all}
 use Rattle.portal_core.specs.World.{World, is_published, is_second, lecturer_key, project_key, student_key}
-use Rattle.portal_core.specs.Change.{Change, Choices, Ranks, Lecturers, Projects, Students, To, Places, Fill, SecondRound, opened, ranked_before, placed_before}
-use Rattle.portal_tables.specs.Own.{IsOwn, IsCurrent}
+use Rattle.portal_core.specs.Change.{Change, Choices, Ranks, Lecturers, Projects, Students, To, Placements, Fill, SecondRound, opened, ranked_before, placed_before}
+use Rattle.portal_tables.specs.Schema.{HasFirstSchema, IsCurrentSchema}
 use Rattle.portal_tables.specs.Changes.{Becomes}
 use Rattle.portal_tables.specs.Lists.{of_key, IsWhole}
 use Rattle.portal_tables.specs.Office.{HasOffice}
@@ -21,16 +21,16 @@ use Rattle.portal_tables.specs.Rows.{MovesSecond, second_row}
 use Rattle.portal_tables.specs.Tables.{portal_tree, lecturer_tree, project_tree, student_tree, choice_tree, ranking_tree, second_tree, choice2_tree, ranked2_tree, ranking2_tree, assigned2_tree, own_trees, version}
 use Rattle.portal_tables.proofs.Keeping.{apart_one}
 use Rattle.portal_tables.proofs.Sorted.{put_all_map, map_alike, map_twice}
-use Rattle.portal_store.specs.World.{phase_of, phase_in, lecturer_in, project_row, student_in, world_in}
-use Rattle.portal_store.specs.Kept.{HoldsIn, TurnedFrom, TurnsFrom, TurnsIn, Whole}
-use Rattle.portal_store.specs.Opening.{Opens, is_opening}
-use Rattle.portal_store.specs.Ending.{Ends}
+use Rattle.portal_store.specs.World.{phase_numbered, phase_in, lecturer_stored, project_row, student_stored, world_in}
+use Rattle.portal_store.specs.Kept.{IsConsistentIn, HasChangedFrom, IsTransitionFrom, IsTransitionIn, Whole}
+use Rattle.portal_store.specs.Opening.{OpensSecondRound, is_opening}
+use Rattle.portal_store.specs.Ending.{CommitsChange}
 use Rattle.portal_store.proofs.Ended.{ends_more}
 use Rattle.portal_store.proofs.Rounds.{from_in, world_told}
 use Rattle.portal_store.proofs.SecondRows.{lecturer_after, student_after}
 use Rattle.portal_store.proofs.Still.{apart_kept, first_kept, kept_at, whole_first}
 
-module _ (old new : Database) (holds : HoldsIn First old) (published : phase_in First old.trees ≡ Published) (moves : MovesSecond 1 old new) where
+module _ (old new : Database) (holds : IsConsistentIn First old) (published : phase_in First old.trees ≡ Published) (moves : MovesSecond 1 old new) where
   abbrev done : Becomes second_tree (second_row (pos 1)) old new
   done = moves holds.current (pos 0) holds.second.is
 
@@ -49,10 +49,10 @@ module _ (old new : Database) (holds : HoldsIn First old) (published : phase_in 
   assigned2 : new.trees assigned2_tree ≡ []
   assigned2 = kept assigned2_tree refl refl ∙ holds.second.says.1.1.1.0
 
-  student_before : (r : Row) → student_in Second new.trees r ≡ placed_before (student_in First old.trees r)
+  student_before : (r : Row) → student_stored Second new.trees r ≡ placed_before (student_stored First old.trees r)
   student_before r = λ i. student_after (choices2 i) (assigned2 i) (kept choice_tree refl refl i) r
 
-  lecturer_before : (r : Row) → lecturer_in Second new.trees r ≡ ranked_before (lecturer_in First old.trees r)
+  lecturer_before : (r : Row) → lecturer_stored Second new.trees r ≡ ranked_before (lecturer_stored First old.trees r)
   lecturer_before r = λ i. lecturer_after (ranked2 i) (rankings2 i) (kept ranking_tree refl refl i) r
 
   abbrev was : World
@@ -61,27 +61,27 @@ module _ (old new : Database) (holds : HoldsIn First old) (published : phase_in 
   second_world : world_in Second new.trees ≡ opened First Published was
   unfolding world_in
   second_world =
-      let students : put_all student_key (map (student_in Second new.trees) (new.trees student_tree)) [] ≡ map placed_before (put_all student_key (map (student_in First old.trees) (old.trees student_tree)) []) =
-      ap (λ rows. put_all student_key (map (student_in Second new.trees) rows) []) (kept student_tree refl refl)
-      ∙ ap (λ l. put_all student_key l []) (map_alike _ _ (old.trees student_tree) student_before ∙ map_twice placed_before (student_in First old.trees) (old.trees student_tree))
-      ∙ put_all_map student_key student_key placed_before (λ s. refl) (map (student_in First old.trees) (old.trees student_tree)) [] in
-      let lecturers : put_all lecturer_key (map (lecturer_in Second new.trees) (new.trees lecturer_tree)) [] ≡ map ranked_before (put_all lecturer_key (map (lecturer_in First old.trees) (old.trees lecturer_tree)) []) =
-      ap (λ rows. put_all lecturer_key (map (lecturer_in Second new.trees) rows) []) (kept lecturer_tree refl refl)
-      ∙ ap (λ l. put_all lecturer_key l []) (map_alike _ _ (old.trees lecturer_tree) lecturer_before ∙ map_twice ranked_before (lecturer_in First old.trees) (old.trees lecturer_tree))
-      ∙ put_all_map lecturer_key lecturer_key ranked_before (λ l. refl) (map (lecturer_in First old.trees) (old.trees lecturer_tree)) [] in
+      let students : put_all student_key (map (student_stored Second new.trees) (new.trees student_tree)) [] ≡ map placed_before (put_all student_key (map (student_stored First old.trees) (old.trees student_tree)) []) =
+      ap (λ rows. put_all student_key (map (student_stored Second new.trees) rows) []) (kept student_tree refl refl)
+      ∙ ap (λ l. put_all student_key l []) (map_alike _ _ (old.trees student_tree) student_before ∙ map_twice placed_before (student_stored First old.trees) (old.trees student_tree))
+      ∙ put_all_map student_key student_key placed_before (λ s. refl) (map (student_stored First old.trees) (old.trees student_tree)) [] in
+      let lecturers : put_all lecturer_key (map (lecturer_stored Second new.trees) (new.trees lecturer_tree)) [] ≡ map ranked_before (put_all lecturer_key (map (lecturer_stored First old.trees) (old.trees lecturer_tree)) []) =
+      ap (λ rows. put_all lecturer_key (map (lecturer_stored Second new.trees) rows) []) (kept lecturer_tree refl refl)
+      ∙ ap (λ l. put_all lecturer_key l []) (map_alike _ _ (old.trees lecturer_tree) lecturer_before ∙ map_twice ranked_before (lecturer_stored First old.trees) (old.trees lecturer_tree))
+      ∙ put_all_map lecturer_key lecturer_key ranked_before (λ l. refl) (map (lecturer_stored First old.trees) (old.trees lecturer_tree)) [] in
       λ i. record {
         round = Second;
-        phase = phase_of (number_in (column (slice_index_or (done.rows i) 0 []) 2));
+        phase = phase_numbered (number_in (column (slice_index_or (done.rows i) 0 []) 2));
         office = bytes (column (slice_index_or (kept portal_tree refl refl i) 0 []) 4);
         lecturers = lecturers i;
         projects = put_all project_key (map project_row (kept project_tree refl refl i)) [];
         students = students i;
       }
 
-  opened_holds : HoldsIn Second new
+  opened_holds : IsConsistentIn Second new
   opened_holds = record {
-    current = subst IsCurrent (sym done.schema_is) holds.current;
-    own = subst IsOwn (sym done.schema_is) holds.own;
+    current = subst IsCurrentSchema (sym done.schema_is) holds.current;
+    own = subst HasFirstSchema (sym done.schema_is) holds.own;
     sound = done.sound;
     apart = apart_kept second_tree old new done.others (apart_one (new.trees second_tree) (second_row (pos 1)) (pos 1) refl done.rows) holds.apart;
     office = subst (HasOffice version) (sym (kept portal_tree refl refl)) holds.office;
@@ -89,7 +89,7 @@ module _ (old new : Database) (holds : HoldsIn First old) (published : phase_in 
       phase = Choosing;
       is = done.rows;
       opened = refl;
-      first = ap (λ rows. phase_of (number_in (column (slice_index_or rows 0 []) 3))) (kept portal_tree refl refl) ∙ published;
+      first = ap (λ rows. phase_numbered (number_in (column (slice_index_or rows 0 []) 3))) (kept portal_tree refl refl) ∙ published;
     };
     whole = (
       whole_first old.trees new.trees (first_kept second_tree old new refl done.others) holds.whole,
@@ -110,14 +110,14 @@ module _ (old new : Database) (holds : HoldsIn First old) (published : phase_in 
       }
 
   -- from the first round's published world
-  turned : TurnedFrom First SecondRound old new
+  turned : HasChangedFrom First SecondRound old new
   unfolding world_in
   turned = record {
     holds = (Second, opened_holds);
     world = world_told Second new.trees opened_holds.second ∙ second_world ∙ ap (λ p. opened First p was) (sym published);
   }
 
-pub second_opens : (old new : Database) → MovesSecond 1 old new → Opens old new
+pub second_opens : (old new : Database) → MovesSecond 1 old new → OpensSecondRound old new
 second_opens old new moves holds published = turned old new holds published moves
 
 -- it opens from there alone
@@ -129,10 +129,10 @@ is_first First Ranking e = absurd (cc)
 is_first First Published e = (refl, refl)
 is_first Second phase e = absurd (cc)
 
-pub opens_in : (round : Round) (phase : Phase) (old new : Database) → (not (is_second round) && is_published phase) ≡ true → phase_in First old.trees ≡ phase → Opens old new → TurnsFrom round SecondRound old new
+pub opens_in : (round : Round) (phase : Phase) (old new : Database) → (not (is_second round) && is_published phase) ≡ true → phase_in First old.trees ≡ phase → OpensSecondRound old new → IsTransitionFrom round SecondRound old new
 opens_in round phase old new e is opens =
     let so = is_first round phase e in
-    subst (λ r. TurnsFrom r SecondRound old new) (sym so.0) (λ holds good better. opens holds (is ∙ so.1))
+    subst (λ r. IsTransitionFrom r SecondRound old new) (sym so.0) (λ holds good better. opens holds (is ∙ so.1))
 
 stays : (round : Round) (phase : Phase) (w : World) → (not (is_second round) && is_published phase) ≡ false → opened round phase w ≡ w
 stays First Setup w e = refl
@@ -142,7 +142,7 @@ stays First Published w e = absurd (cc)
 stays Second phase w e = refl
 
 -- elsewhere nothing changes
-pub opens_none : (round : Round) (phase : Phase) (db : Database) → (not (is_second round) && is_published phase) ≡ false → phase_in First db.trees ≡ phase → TurnsFrom round SecondRound db db
+pub opens_none : (round : Round) (phase : Phase) (db : Database) → (not (is_second round) && is_published phase) ≡ false → phase_in First db.trees ≡ phase → IsTransitionFrom round SecondRound db db
 unfolding world_in
 opens_none First phase db e is holds good better = record {
   holds = (First, holds);
@@ -151,8 +151,8 @@ opens_none First phase db e is holds good better = record {
 opens_none Second phase db e is holds good better = record { holds = (Second, holds); world = world_told Second db.trees holds.second }
 
 -- every other change stays in its round
-pub ends_any : {V E : Type 0} (round : Round) (change : Change) (r : Result V E) (old new : State) → (is_opening change ≡ false → Ends (TurnsIn round change) r old new) → (change ≡ SecondRound → Ends (TurnsFrom round SecondRound) r old new)
-    → Ends (TurnsFrom round change) r old new
+pub ends_any : {V E : Type 0} (round : Round) (change : Change) (r : Result V E) (old new : State) → (is_opening change ≡ false → CommitsChange (IsTransitionIn round change) r old new) → (change ≡ SecondRound → CommitsChange (IsTransitionFrom round SecondRound) r old new)
+    → CommitsChange (IsTransitionFrom round change) r old new
 ends_any round SecondRound r old new stay begins = begins refl
 ends_any round (Choices k list) r old new stay begins = ends_more _ _ r old new (stay refl) (λ after. from_in round (Choices k list) old.now after)
 ends_any round (Ranks k list) r old new stay begins = ends_more _ _ r old new (stay refl) (λ after. from_in round (Ranks k list) old.now after)
@@ -160,5 +160,5 @@ ends_any round (Lecturers rows) r old new stay begins = ends_more _ _ r old new 
 ends_any round (Projects rows) r old new stay begins = ends_more _ _ r old new (stay refl) (λ after. from_in round (Projects rows) old.now after)
 ends_any round (Students rows) r old new stay begins = ends_more _ _ r old new (stay refl) (λ after. from_in round (Students rows) old.now after)
 ends_any round (To phase) r old new stay begins = ends_more _ _ r old new (stay refl) (λ after. from_in round (To phase) old.now after)
-ends_any round (Places pairs) r old new stay begins = ends_more _ _ r old new (stay refl) (λ after. from_in round (Places pairs) old.now after)
+ends_any round (Placements pairs) r old new stay begins = ends_more _ _ r old new (stay refl) (λ after. from_in round (Placements pairs) old.now after)
 ends_any round Fill r old new stay begins = ends_more _ _ r old new (stay refl) (λ after. from_in round Fill old.now after)

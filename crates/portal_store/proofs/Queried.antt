@@ -7,7 +7,7 @@ use Rattle.sqlite.specs.Effect.{Database}
 use Rattle.portal_core.specs.declared.rows.LecturerRow.{LecturerRow}
 use Rattle.portal_core.specs.declared.rows.Listing.{Listing}
 use Rattle.portal_core.specs.declared.rows.ProjectRow.{ProjectRow}
-use Rattle.portal_core.specs.Words.{Key, is}
+use Rattle.portal_core.specs.Words.{Key, equals}
 use Rattle.portal_core.specs.World.{World, Lecturer, Student}
 use Rattle.portal_core.specs.declared.phase.Phase.{Phase}
 use Rattle.portal_core.specs.View.{name_in, listing_with, listings, catalogue, student_sees, lecturer_with, student_with}
@@ -19,48 +19,48 @@ use Rattle.portal_core.specs.declared.phase.Round.TheVariants.{First, Second}
 use Rattle.portal_tables.specs.Tables.{lecturer_tree, student_tree}
 use Rattle.portal_tables.specs.Changes.{ListsBy, columns, has_text}
 use Rattle.portal_views.specs.Contents.{AllRows}
-use Rattle.portal_store.specs.Kept.{HoldsIn}
+use Rattle.portal_store.specs.Kept.{IsConsistentIn}
 use Rattle.portal_tables.specs.Rolls.{lecturer_columns, roll_columns}
-use Rattle.portal_store.specs.World.{world_in, lecturer_in, student_in}
+use Rattle.portal_store.specs.World.{world_in, lecturer_stored, student_stored}
 use Rattle.portal_tables.specs.Shown.{as_list}
-use Rattle.portal_views.specs.Offers.{name_of, offered, catalogue_shown}
+use Rattle.portal_views.specs.Catalogue.{name_of, offered, catalogue_shown}
 use Rattle.portal_views.specs.Callers.{student_shown}
 use Rattle.portal_store.specs.Queried.{lecturer_from, student_from}
 use Rattle.portal_tables.proofs.OneFound.{found}
 use Rattle.portal_store.proofs.Loaded.{lecturers_by_key, students_by_key, round_rows, world_first, some_alike}
 use Rattle.portal_tables.proofs.Shapes.{IsLecturerRow, IsStudentRow, has_text_of, lecturer_rows_formed, student_rows_formed}
 
--- a row of a roll, and as it is shown, stand for one lecturer or student
-pub lecturer_is : (round : Round) (db : Trees) (r : Row) → lecturer_from round db (lecturer_columns r) ≡ lecturer_in round db r
+-- a row of a roll, and as it equals shown, stand for one lecturer or student
+pub lecturer_is : (round : Round) (db : Trees) (r : Row) → lecturer_from round db (lecturer_columns r) ≡ lecturer_stored round db r
 lecturer_is First db r = refl
 lecturer_is Second db r = refl
 
-pub student_is : (round : Round) (db : Trees) (r : Row) → student_from round db (roll_columns r) ≡ student_in round db r
+pub student_is : (round : Round) (db : Trees) (r : Row) → student_from round db (roll_columns r) ≡ student_stored round db r
 student_is First db r = refl
 student_is Second db r = refl
 
-lecturer_agrees : (code : Key) (r : Row) → IsLecturerRow r → has_text 3 code r ≡ is (bytes (column r 3)) code
-lecturer_agrees code r x = has_text_of 3 code r x.code (ap (λ s. column s 3) x.is) ∙ ap (λ s. is (bytes (column s 3)) code) (sym x.is)
+lecturer_agrees : (code : Key) (r : Row) → IsLecturerRow r → has_text 3 code r ≡ equals (bytes (column r 3)) code
+lecturer_agrees code r x = has_text_of 3 code r x.code (ap (λ s. column s 3) x.is) ∙ ap (λ s. equals (bytes (column s 3)) code) (sym x.is)
 
-student_agrees : (code : Key) (r : Row) → IsStudentRow r → has_text 3 code r ≡ is (bytes (column r 3)) code
-student_agrees code r x = has_text_of 3 code r x.code (ap (λ s. column s 3) x.is) ∙ ap (λ s. is (bytes (column s 3)) code) (sym x.is)
+student_agrees : (code : Key) (r : Row) → IsStudentRow r → has_text 3 code r ≡ equals (bytes (column r 3)) code
+student_agrees code r x = has_text_of 3 code r x.code (ap (λ s. column s 3) x.is) ∙ ap (λ s. equals (bytes (column s 3)) code) (sym x.is)
 
-module _ (round : Round) (db : Database) (holds : HoldsIn round db) where
+module _ (round : Round) (db : Database) (holds : IsConsistentIn round db) where
   pub lecturer_found : (code : Key) (shown : List Row) → ListsBy (1 ∷ []) (has_text 3 code) (columns (1 ∷ 2 ∷ 3 ∷ 4 ∷ 5 ∷ [])) (db.trees lecturer_tree) shown → (o : Option Row) → as_list o ≡ shown
       → option_map (lecturer_from round db.trees) o ≡ lecturer_with (world_in round db.trees) code
   unfolding world_in
   lecturer_found code shown lists o told =
-      found (1 ∷ []) (has_text 3 code) lecturer_columns (lecturer_in round db.trees) (lecturer_from round db.trees) (λ (l : Lecturer). is l.row.code code) (lecturer_is round db.trees) (db.trees lecturer_tree) shown
-      (all_weaker IsLecturerRow (λ r. has_text 3 code r ≡ is (bytes (column r 3)) code) (lecturer_agrees code) (db.trees lecturer_tree) (lecturer_rows_formed db holds.own holds.sound holds.apart.1.0)) lists o told
-      ∙ ap (find (λ (l : Lecturer). is l.row.code code)) (sym (lecturers_by_key round db.trees))
+      found (1 ∷ []) (has_text 3 code) lecturer_columns (lecturer_stored round db.trees) (lecturer_from round db.trees) (λ (l : Lecturer). equals l.row.code code) (lecturer_is round db.trees) (db.trees lecturer_tree) shown
+      (all_weaker IsLecturerRow (λ r. has_text 3 code r ≡ equals (bytes (column r 3)) code) (lecturer_agrees code) (db.trees lecturer_tree) (lecturer_rows_formed db holds.own holds.sound holds.apart.1.0)) lists o told
+      ∙ ap (find (λ (l : Lecturer). equals l.row.code code)) (sym (lecturers_by_key round db.trees))
 
   pub student_found : (code : Key) (shown : List Row) → ListsBy (1 ∷ []) (has_text 3 code) (columns (1 ∷ 2 ∷ 3 ∷ 4 ∷ [])) (db.trees student_tree) shown → (o : Option Row) → as_list o ≡ shown
       → option_map (student_from round db.trees) o ≡ student_with (world_in round db.trees) code
   unfolding world_in
   student_found code shown lists o told =
-      found (1 ∷ []) (has_text 3 code) roll_columns (student_in round db.trees) (student_from round db.trees) (λ (s : Student). is s.row.code code) (student_is round db.trees) (db.trees student_tree) shown
-      (all_weaker IsStudentRow (λ r. has_text 3 code r ≡ is (bytes (column r 3)) code) (student_agrees code) (db.trees student_tree) (student_rows_formed db holds.own holds.sound holds.apart.1.1.1.0)) lists o told
-      ∙ ap (find (λ (s : Student). is s.row.code code)) (sym (students_by_key round db.trees))
+      found (1 ∷ []) (has_text 3 code) roll_columns (student_stored round db.trees) (student_from round db.trees) (λ (s : Student). equals s.row.code code) (student_is round db.trees) (db.trees student_tree) shown
+      (all_weaker IsStudentRow (λ r. has_text 3 code r ≡ equals (bytes (column r 3)) code) (student_agrees code) (db.trees student_tree) (student_rows_formed db holds.own holds.sound holds.apart.1.1.1.0)) lists o told
+      ∙ ap (find (λ (s : Student). equals s.row.code code)) (sym (students_by_key round db.trees))
 
 -- what a student sees, of what was read
 pub student_told : (round : Round) (db : Trees) (row : Row) (phase : Phase) (offers : List Listing) → phase ≡ (world_in round db).phase → offers ≡ catalogue (world_in round db)
@@ -77,8 +77,8 @@ name_row (Some l) = refl
 all_offered : (ls : List Lecturer) (ps : List ProjectRow) → offered (map (λ (l : Lecturer). l.row) ls) ps ≡ listings ls ps
 all_offered ls ps =
     some_alike (λ p. option_map (listing_with p) (name_of (map (λ (l : Lecturer). l.row) ls) p.lecturer)) (λ p. option_map (listing_with p) (name_in ls p.lecturer)) ps (λ p.
-    ap (option_map (listing_with p)) (ap (option_map (λ (r : LecturerRow). r.name)) (find_map (λ (l : Lecturer). l.row) (λ (l : Lecturer). is l.row.key p.lecturer) (λ (r : LecturerRow). is r.key p.lecturer) (λ l. refl) ls)
-    ∙ name_row (find (λ (l : Lecturer). is l.row.key p.lecturer) ls)))
+    ap (option_map (listing_with p)) (ap (option_map (λ (r : LecturerRow). r.name)) (find_map (λ (l : Lecturer). l.row) (λ (l : Lecturer). equals l.row.key p.lecturer) (λ (r : LecturerRow). equals r.key p.lecturer) (λ l. refl) ls)
+    ∙ name_row (find (λ (l : Lecturer). equals l.row.key p.lecturer) ls)))
 
 pub catalogue_told : (db : Trees) → catalogue_shown db ≡ catalogue (world_in First db)
 catalogue_told db =

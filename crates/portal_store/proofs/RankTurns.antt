@@ -10,15 +10,15 @@ use Rattle.sqlite.specs.Tree.{Trees}
 use Rattle.sqlite.specs.Effect.{Database}
 use Rattle.sqlite.specs.State.{State}
 use Rattle.portal_core.specs.declared.phase.Round.TheVariants.{First}
-use Rattle.portal_core.specs.Words.{Key, is, has, put_all, Rise}
+use Rattle.portal_core.specs.Words.{Key, equals, has, put_all, Rise}
 use Rattle.portal_core.specs.World.{Lecturer, lecturer_key}
 use Rattle.portal_core.specs.Change.{changed, Ranks, with_ranking}
 use Rattle.portal_core.proofs.Keys.{is_same, is_own}
 use Rattle.portal_core.proofs.AllLaws.{all_weaker, is_sym, map_same}
 use Rattle.portal_list.proofs.Replaced.{ranking_here, ranking_elsewhere}
-use Rattle.portal_tables.specs.Own.{IsOwn, IsCurrent}
+use Rattle.portal_tables.specs.Schema.{HasFirstSchema, IsCurrentSchema}
 use Rattle.portal_tables.specs.Tables.{lecturer_tree, ranking_tree, own_trees, version}
-use Rattle.portal_tables.specs.Changes.{IsApart, Sets, has_text}
+use Rattle.portal_tables.specs.Changes.{RowNumbersDiffer, Sets, has_text}
 use Rattle.portal_tables.specs.Rows as rows
 use Rattle.portal_tables.specs.Rows.{lecturer_cells}
 use Rattle.portal_tables.specs.Steps.{Made, GoesOn}
@@ -31,7 +31,7 @@ use Rattle.portal_store.specs.World.{world_in, lecturer_row}
 use Rattle.portal_store.proofs.FirstRows.{lecturer_of, has_ranking}
 use Rattle.portal_tables.specs.Rolls.{row_key}
 use Rattle.portal_tables.specs.Office.{HasOffice}
-use Rattle.portal_store.specs.Kept.{Whole, HoldsIn}
+use Rattle.portal_store.specs.Kept.{Whole, IsConsistentIn}
 use Rattle.portal_tables.specs.Putting.{HasPut, PutsList}
 use Rattle.portal_store.specs.Putting.{TurnsThere}
 use Rattle.portal_tables.proofs.Listed.{all_map_on}
@@ -52,8 +52,8 @@ split_filter p (x ∷ xs) =
     ]
 
 -- whether the row of a lecturer has the key
-pub key_test : (k : Key) (r : Row) → IsLecturerRow r → has_text 1 k r ≡ is (row_key r) k
-key_test k r f = has_text_of 1 k r f.key (ap (λ x. column x 1) f.is) ∙ ap (λ x. is (row_key x) k) (sym f.is)
+pub key_test : (k : Key) (r : Row) → IsLecturerRow r → has_text 1 k r ≡ equals (row_key r) k
+key_test k r f = has_text_of 1 k r f.key (ap (λ x. column x 1) f.is) ∙ ap (λ x. equals (row_key x) k) (sym f.is)
 
 -- the one row with the key
 record OneRow (k : Key) (table : List Row) : Type 0 where
@@ -62,21 +62,21 @@ record OneRow (k : Key) (table : List Row) : Type 0 where
   pub formed : IsLecturerRow row
   pub key : row_key row ≡ k
 
-none_with : (k : Key) (table : List Row) → AllByRecursion IsLecturerRow table → AllByRecursion (λ l. is k l ≡ false) (map row_key table)
+none_with : (k : Key) (table : List Row) → AllByRecursion IsLecturerRow table → AllByRecursion (λ l. equals k l ≡ false) (map row_key table)
     → filter (has_text 1 k) table ≡ []
 none_with k [] all d = refl
 none_with k (r ∷ table) all d = rw (key_test k r all.0 ∙ is_sym (row_key r) k ∙ d.0) (none_with k table all.1 d.1)
 
-one_row : (k : Key) (table : List Row) → AllByRecursion IsLecturerRow table → IsDistinct is (map row_key table) → has (map row_key table) k ≡ true
+one_row : (k : Key) (table : List Row) → AllByRecursion IsLecturerRow table → IsDistinct equals (map row_key table) → has (map row_key table) k ≡ true
     → OneRow k table
 unfolding IsDistinct
 one_row k [] all d h = absurd (cc)
-one_row k (r ∷ table) all d h = elim (cases_Bool (is (row_key r) k)) [
+one_row k (r ∷ table) all d h = elim (cases_Bool (equals (row_key r) k)) [
   | inl same ↦
       let e : row_key r ≡ k = is_same (row_key r) k same in
       record {
         row = r;
-        is = rw (key_test k r all.0 ∙ same) (ap (λ l. r ∷ l) (none_with k table all.1 (subst (λ x. AllByRecursion (λ l. is x l ≡ false) (map row_key table)) e d.0)));
+        is = rw (key_test k r all.0 ∙ same) (ap (λ l. r ∷ l) (none_with k table all.1 (subst (λ x. AllByRecursion (λ l. equals x l ≡ false) (map row_key table)) e d.0)));
         formed = all.0;
         key = e;
       }
@@ -87,20 +87,20 @@ one_row k (r ∷ table) all d h = elim (cases_Bool (is (row_key r) k)) [
 
 -- the rows without the key
 others_apart : (k : Key) (table : List Row) → AllByRecursion IsLecturerRow table
-    → AllByRecursion (λ r. is (row_key r) k ≡ false) (filter (λ r. not (has_text 1 k r)) table)
+    → AllByRecursion (λ r. equals (row_key r) k ≡ false) (filter (λ r. not (has_text 1 k r)) table)
 others_apart k [] all = tt
 others_apart k (r ∷ table) all = go (has_text 1 k r) refl (others_apart k table all.1)
   where
     rest : List Row
     rest = filter (λ r. not (has_text 1 k r)) table
 
-    go : (b : Bool) → has_text 1 k r ≡ b → AllByRecursion (λ r. is (row_key r) k ≡ false) rest
-        → AllByRecursion (λ r. is (row_key r) k ≡ false) (cond (not b) (r ∷ rest) rest)
+    go : (b : Bool) → has_text 1 k r ≡ b → AllByRecursion (λ r. equals (row_key r) k ≡ false) rest
+        → AllByRecursion (λ r. equals (row_key r) k ≡ false) (cond (not b) (r ∷ rest) rest)
     go true e h = h
     go false e h = (sym (key_test k r all.0) ∙ e, h)
 
 pub same_key : (k : Key) (list : List Key) (l : Lecturer) → lecturer_key (with_ranking k list l) ≡ lecturer_key l
-same_key k list l = elim (is l.row.key k) as (λ b. lecturer_key (cond b (record l { ranking = Some list }) l) ≡ lecturer_key l) [ true ↦ refl | false ↦ refl ]
+same_key k list l = elim (equals l.row.key k) as (λ b. lecturer_key (cond b (record l { ranking = Some list }) l) ≡ lecturer_key l) [ true ↦ refl | false ↦ refl ]
 
 -- the lists of an owner are whole; an owner with no ranking has no row of one
 abbrev WholeIn : List Row → Row → Type 0
@@ -109,7 +109,7 @@ WholeIn lists r = IsWhole (of_key (row_key r) lists)
 abbrev NoneUnranked : List Row → Row → Type 0
 NoneUnranked lists r = has_ranking r ≡ false → of_key (row_key r) lists ≡ []
 
--- the ranking is put, and then the lecturer's one row says so
+-- the ranking equals put, and then the lecturer's one row says so
 module _ (k : Key) (list : List Key) (first mid now : Database) (put : HasPut ranking_tree k list first mid) (n : ℤ) (name code : List ℕ) (capacity was : ℤ)
     (one : filter (has_text 1 k) (first.trees lecturer_tree) ≡ (Int n ∷ lecturer_cells k name code capacity was) ∷ [])
     (set : Sets lecturer_tree (has_text 1 k) (Int n ∷ lecturer_cells k name code capacity (pos 1)) mid now) (formed : AllByRecursion IsLecturerRow (first.trees lecturer_tree)) where
@@ -135,7 +135,7 @@ module _ (k : Key) (list : List Key) (first mid now : Database) (put : HasPut ra
       let from : split.0 ++ split.1 ≡ rest = sym split.2 ∙ ap (filter (λ r. not (has_text 1 k r))) lecturers in
       subst (λ l. IsPermutation (after ∷ l) (now.trees 1)) from (subst (IsPermutation (after ∷ (split.0 ++ split.1))) (sym (set.rows ∙ split.3)) (IsPermutation-sym _ _ back))
 
-  other_row : (r : Row) → is (row_key r) k ≡ false → lecturer_of (mid.trees 12) r ≡ with_ranking k list (lecturer_of (first.trees 12) r)
+  other_row : (r : Row) → equals (row_key r) k ≡ false → lecturer_of (mid.trees 12) r ≡ with_ranking k list (lecturer_of (first.trees 12) r)
   other_row r other =
       let same : chosen (mid.trees 12) (row_key r) ≡ chosen (first.trees 12) (row_key r) =
       chosen_is ranking_tree k list first mid put (row_key r) ∙ rw other refl in
@@ -146,13 +146,13 @@ module _ (k : Key) (list : List Key) (first mid now : Database) (put : HasPut ra
       let same : chosen (mid.trees 12) k ≡ list = chosen_is ranking_tree k list first mid put k ∙ rw (is_own k) refl in
       (λ i. record { row = lecturer_row before; ranking = Some (same i); earlier_ranking = None }) ∙ ranking_here k list (lecturer_of (first.trees 12) before) (is_own k)
 
-  apart_rest : AllByRecursion (λ r. is (row_key r) k ≡ false) rest
+  apart_rest : AllByRecursion (λ r. equals (row_key r) k ≡ false) rest
   apart_rest = others_apart k (first.trees 1) formed
 
   all_rows : map (lecturer_of (mid.trees 12)) (after ∷ rest) ≡ map (with_ranking k list) (map (lecturer_of (first.trees 12)) (before ∷ rest))
   all_rows =
       let others : map (lecturer_of (mid.trees 12)) rest ≡ map (with_ranking k list) (map (lecturer_of (first.trees 12)) rest) =
-      all_map_on (λ r. is (row_key r) k ≡ false) _ _ rest apart_rest other_row ∙ map_twice (with_ranking k list) (lecturer_of (first.trees 12)) rest in
+      all_map_on (λ r. equals (row_key r) k ≡ false) _ _ rest apart_rest other_row ∙ map_twice (with_ranking k list) (lecturer_of (first.trees 12)) rest in
       λ i. this_row i ∷ others i
 
   roll_is : Rise (map lecturer_key (put_all lecturer_key (map (lecturer_of (first.trees 12)) (first.trees 1)) []))
@@ -188,29 +188,29 @@ module _ (k : Key) (list : List Key) (first mid now : Database) (put : HasPut ra
       let whole = λ (r : Row) (h : WholeIn (first.trees 12) r). whole_at ranking_tree k list first mid put (row_key r) h in
       let all_new : AllByRecursion (WholeIn (mid.trees 12)) (after ∷ rest) = (whole before all_old.0, all_weaker _ _ whole rest all_old.1) in
       let ranked_new : AllByRecursion (NoneUnranked (mid.trees 12)) (after ∷ rest) =
-      (λ e. absurd (cc), all_two (λ r. is (row_key r) k ≡ false) _ _ (λ r other h e. put.others (row_key r) other ∙ h e) rest apart_rest ranked_old.1) in
+      (λ e. absurd (cc), all_two (λ r. equals (row_key r) k ≡ false) _ _ (λ r other h e. put.others (row_key r) other ∙ h e) rest apart_rest ranked_old.1) in
       whole_same First there now.trees same (record {
         choices = was.choices;
         rankings = all_permuted _ (after ∷ rest) (now.trees 1) new_rows all_new;
         ranked = all_permuted _ (after ∷ rest) (now.trees 1) new_rows ranked_new;
       })
 
-  rank_holds : HoldsIn First first → HoldsIn First now
+  rank_holds : IsConsistentIn First first → IsConsistentIn First now
   rank_holds was = record {
-    current = subst IsCurrent (sym (set.schema_is ∙ put.schema_is)) was.current;
-    own = subst IsOwn (sym (set.schema_is ∙ put.schema_is)) was.own;
+    current = subst IsCurrentSchema (sym (set.schema_is ∙ put.schema_is)) was.current;
+    own = subst HasFirstSchema (sym (set.schema_is ∙ put.schema_is)) was.own;
     sound = set.sound;
-    apart = apart_kept lecturer_tree mid now set.others (sets_apart lecturer_tree (has_text 1 k) after n mid now refl set (subst IsApart (sym lecturers) was.apart.1.0)) (apart_kept ranking_tree first mid put.tables put.apart was.apart);
+    apart = apart_kept lecturer_tree mid now set.others (sets_apart lecturer_tree (has_text 1 k) after n mid now refl set (subst RowNumbersDiffer (sym lecturers) was.apart.1.0)) (apart_kept ranking_tree first mid put.tables put.apart was.apart);
     office = subst (HasOffice version) (sym same.0) was.office;
     second = second_kept lecturer_tree mid now refl set.others (second_kept ranking_tree first mid refl put.tables was.second);
     whole = rank_whole was.whole;
   }
 
 -- the keys of the rows are those of the world's lecturers, in some order
-pub keys_distinct : (db : Database) → Rise (map lecturer_key (world_in First db.trees).lecturers) → IsDistinct is (map row_key (db.trees lecturer_tree))
+pub keys_distinct : (db : Database) → Rise (map lecturer_key (world_in First db.trees).lecturers) → IsDistinct equals (map row_key (db.trees lecturer_tree))
 unfolding world_in
 keys_distinct db up =
-    subst (IsDistinct is) (sym (map_twice lecturer_key (lecturer_of (db.trees ranking_tree)) (db.trees lecturer_tree)))
+    subst (IsDistinct equals) (sym (map_twice lecturer_key (lecturer_of (db.trees ranking_tree)) (db.trees lecturer_tree)))
     (distinct_if_rise lecturer_key (map (lecturer_of (db.trees ranking_tree)) (db.trees lecturer_tree)) up)
 
 pub rank_turns : (k : Key) (list : List Key) (first mid now : Database) → PutsList ranking_tree k list first mid → rows.Ranks k mid now
@@ -224,8 +224,8 @@ rank_turns k list first mid now puts ranks there holds up =
     let key : f.key ≡ k = sym (ap row_key f.is) ∙ one.key in
     let row_of = λ (x : Key). Int f.number ∷ lecturer_cells x f.name f.code f.capacity f.ranked in
     let was : filter (has_text 1 k) (first.trees 1) ≡ row_of k ∷ [] = one.is ∙ ap (λ r. r ∷ []) (f.is ∙ ap row_of key) in
-    let own = subst IsCurrent (sym put.schema_is) holds.current in
-    let apart = subst IsApart (sym same) holds.apart.1.0 in
+    let own = subst IsCurrentSchema (sym put.schema_is) holds.current in
+    let apart = subst RowNumbersDiffer (sym same) holds.apart.1.0 in
     let set = ranks own apart f.number f.name f.code f.capacity f.ranked (ap (filter (has_text 1 k)) same ∙ was) in
     record {
       holds = rank_holds k list first mid now put f.number f.name f.code f.capacity f.ranked was set formed holds;

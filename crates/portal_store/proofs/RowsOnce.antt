@@ -9,7 +9,7 @@ use Rattle.portal_core.specs.World.{World, Lecturer, Student, alone, alone_stude
 use Rattle.portal_core.specs.Good.{Sound}
 use Rattle.portal_core.proofs.AllLaws.{all_map}
 use Rattle.portal_core.proofs.Capacities.{each_one}
-use Rattle.portal_list.specs.Rows.{Rows, rows_of}
+use Rattle.portal_list.specs.Rows.{RowsOfWorld, world_rows}
 use Rattle.portal_list.specs.Fit.{lecturers_fitting, students_fitting}
 use Rattle.portal_list.proofs.Fitting.{lecturers_back, students_back}
 use Rattle.sqlite_trees.proofs.ListLemmas.{map-map}
@@ -18,32 +18,32 @@ same_some : {X : Type 0} (x y : X) → Some x ≡ Some y → x ≡ y
 same_some x y e = cc
 
 abbrev pub HasNothingBefore : World → Type 0
-HasNothingBefore w = AllByRecursion (λ (s : Student). (s.earlier_choice ≡ []) × (s.earlier_place ≡ None)) w.students
+HasNothingBefore w = AllByRecursion (λ (s : Student). (s.earlier_choice ≡ []) × (s.earlier_placement ≡ None)) w.students
 
 pub nothing_before : (w : World) → alone w ≡ w → HasNothingBefore w
 nothing_before w same =
     subst HasNothingBefore same
-    (all_map (λ (s : Student). (s.earlier_choice ≡ []) × (s.earlier_place ≡ None)) alone_student w.students
-    (each_one (λ s. ((alone_student s).earlier_choice ≡ []) × ((alone_student s).earlier_place ≡ None)) (λ s. (refl, refl)) w.students))
+    (all_map (λ (s : Student). (s.earlier_choice ≡ []) × (s.earlier_placement ≡ None)) alone_student w.students
+    (each_one (λ s. ((alone_student s).earlier_choice ≡ []) × ((alone_student s).earlier_placement ≡ None)) (λ s. (refl, refl)) w.students))
 
-pub rows_once : (w v : World) → Sound w → (is_second v.round ≡ false → HasNothingBefore v) → rows_of v ≡ rows_of w → v ≡ w
+pub rows_once : (w v : World) → Sound w → (is_second v.round ≡ false → HasNothingBefore v) → world_rows v ≡ world_rows w → v ≡ w
 rows_once w v sound before same =
     λ i. record { round = (same i).round; phase = (same i).phase; office = (same i).office; lecturers = lecturers i; projects = (same i).projects; students = students i }
   where
     lecturers_rise : Rise (map (λ l. l.row.key) v.lecturers)
     lecturers_rise =
-        subst Rise (sym (map-map (λ (r : LecturerRow). r.key) (λ (l : Lecturer). l.row) w.lecturers) ∙ ap (λ (r : Rows). map (λ l. l.key) r.lecturers) (sym same) ∙ map-map (λ (r : LecturerRow). r.key) (λ (l : Lecturer). l.row) v.lecturers) sound.lecturers_rise
+        subst Rise (sym (map-map (λ (r : LecturerRow). r.key) (λ (l : Lecturer). l.row) w.lecturers) ∙ ap (λ (r : RowsOfWorld). map (λ l. l.key) r.lecturers) (sym same) ∙ map-map (λ (r : LecturerRow). r.key) (λ (l : Lecturer). l.row) v.lecturers) sound.lecturers_rise
 
     students_rise : Rise (map (λ s. s.row.key) v.students)
     students_rise =
-        subst Rise (sym (map-map (λ (r : StudentRow). r.key) (λ (s : Student). s.row) w.students) ∙ ap (λ (r : Rows). map (λ s. s.key) r.students) (sym same) ∙ map-map (λ (r : StudentRow). r.key) (λ (s : Student). s.row) v.students) sound.students_rise
+        subst Rise (sym (map-map (λ (r : StudentRow). r.key) (λ (s : Student). s.row) w.students) ∙ ap (λ (r : RowsOfWorld). map (λ s. s.key) r.students) (sym same) ∙ map-map (λ (r : StudentRow). r.key) (λ (s : Student). s.row) v.students) sound.students_rise
 
     lecturers : v.lecturers ≡ w.lecturers
     lecturers =
-        same_some _ _ (sym (lecturers_back v.lecturers lecturers_rise) ∙ ap (λ (r : Rows). lecturers_fitting r.lecturers r.rankings r.earlier_rankings) same ∙ lecturers_back w.lecturers sound.lecturers_rise)
+        same_some _ _ (sym (lecturers_back v.lecturers lecturers_rise) ∙ ap (λ (r : RowsOfWorld). lecturers_fitting r.lecturers r.rankings r.earlier_rankings) same ∙ lecturers_back w.lecturers sound.lecturers_rise)
 
     students : v.students ≡ w.students
     students =
         same_some _ _ (sym (students_back v.round v.students students_rise before)
-        ∙ ap (λ (r : Rows). students_fitting r.round r.students r.choices r.pairs r.earlier_choices r.earlier_pairs) same
+        ∙ ap (λ (r : RowsOfWorld). students_fitting r.round r.students r.choices r.pairs r.earlier_choices r.earlier_pairs) same
         ∙ students_back w.round w.students sound.students_rise sound.no_earlier_lists)

@@ -2,7 +2,7 @@
 use Rattle.std.specs.Prelude.{if◌then◌else◌, List, map, Some, None, option_map}
 use Rattle.std.specs.List.{find}
 use Rattle.sqlite.specs.Order.{Row, column, bytes}
-use Rattle.portal_core.specs.Words.{is, has}
+use Rattle.portal_core.specs.Words.{equals, has}
 use Rattle.portal_core.specs.World.{Lecturer, Student}
 use Rattle.portal_tables.specs.Lists.{chosen}
 use Rattle.portal_tables.specs.Rolls.{row_key}
@@ -25,7 +25,7 @@ student_after choices places earlier r =
     record {
       row = student_row r;
       choice = chosen choices (row_key r);
-      placed = option_map (λ a. bytes (column a 2)) (find (λ a. is (row_key a) (row_key r)) places);
+      placed = option_map (λ a. bytes (column a 2)) (find (λ a. equals (row_key a) (row_key r)) places);
       earlier_choice = chosen earlier (row_key r);
-      earlier_place = text_or_none (column r 4);
+      earlier_placement = text_or_none (column r 4);
     }

@@ -10,8 +10,8 @@ use Rattle.sqlite_trees.specs.Tree.{Trees, with_tree}
 use Rattle.portal_core.specs.declared.phase.Round.{Round}
 use Rattle.portal_core.specs.declared.phase.Round.TheVariants.{First, Second}
 use Rattle.portal_core.proofs.AllLaws.{all_weaker}
-use Rattle.portal_tables.specs.Own.{IsOwn, IsCurrent}
-use Rattle.portal_tables.specs.Changes.{IsApart, Keeps}
+use Rattle.portal_tables.specs.Schema.{HasFirstSchema, IsCurrentSchema}
+use Rattle.portal_tables.specs.Changes.{RowNumbersDiffer, Keeps}
 use Rattle.portal_tables.specs.Office.{HasOffice}
 use Rattle.portal_tables.specs.ListTables.{tree_of}
 use Rattle.portal_tables.specs.Lists.{of_key, IsWhole}
@@ -20,18 +20,18 @@ use Rattle.portal_tables.specs.Tables.{portal_tree, lecturer_tree, student_tree,
 use Rattle.portal_tables.proofs.Keeping.{others_are}
 use Rattle.portal_tables.proofs.Making.{parts_of}
 use Rattle.portal_tables.proofs.Sorted.{all_two}
-use Rattle.portal_store.specs.World.{choices_of, rankings_of, is_ranked, phase_of, world_in}
-use Rattle.portal_store.specs.Kept.{AllApart, IsUnopened, IsOpened, HoldsIn, Whole}
+use Rattle.portal_store.specs.World.{choice_table, ranking_table, is_ranked, phase_numbered, world_in}
+use Rattle.portal_store.specs.Kept.{AllNumbersDiffer, IsUnopened, IsOpened, IsConsistentIn, Whole}
 
 -- numbers of rows differ, where they do in the one table that has changed
-pub apart_among : (trees : List ℕ) (tree : ℕ) (old new : Trees) → AllByRecursion (λ t. t ≢ tree → new t ≡ old t) trees → IsApart (new tree) → AllApart trees old → AllApart trees new
+pub apart_among : (trees : List ℕ) (tree : ℕ) (old new : Trees) → AllByRecursion (λ t. t ≢ tree → new t ≡ old t) trees → RowNumbersDiffer (new tree) → AllNumbersDiffer trees old → AllNumbersDiffer trees new
 apart_among trees tree old new keeps apart was =
-    all_two (λ t. t ≢ tree → new t ≡ old t) (λ t. IsApart (old t)) (λ t. IsApart (new t)) (λ t same a. elim (eqb_tells t tree) [
-      | inl met ↦ subst (λ x. IsApart (new x)) (sym met.1) apart
-      | inr missed ↦ subst IsApart (sym (same missed.1)) a
+    all_two (λ t. t ≢ tree → new t ≡ old t) (λ t. RowNumbersDiffer (old t)) (λ t. RowNumbersDiffer (new t)) (λ t same a. elim (eqb_tells t tree) [
+      | inl met ↦ subst (λ x. RowNumbersDiffer (new x)) (sym met.1) apart
+      | inr missed ↦ subst RowNumbersDiffer (sym (same missed.1)) a
     ]) trees keeps was
 
-pub apart_kept : (tree : ℕ) (old new : Database) → Keeps tree old new → IsApart (new.trees tree) → AllApart own_trees old.trees → AllApart own_trees new.trees
+pub apart_kept : (tree : ℕ) (old new : Database) → Keeps tree old new → RowNumbersDiffer (new.trees tree) → AllNumbersDiffer own_trees old.trees → AllNumbersDiffer own_trees new.trees
 apart_kept tree old new = apart_among own_trees tree old.trees new.trees
 
 -- what is so of each of the trees is so of one of them
@@ -101,9 +101,9 @@ world_after round tree old new keeps = world_same round (but_one tree old new) n
 
 abbrev Lists : Round → Trees → Type 0
 Lists round db =
-    AllByRecursion (λ r. IsWhole (of_key (row_key r) (db (tree_of (choices_of round))))) (db student_tree)
-    × AllByRecursion (λ r. IsWhole (of_key (row_key r) (db (tree_of (rankings_of round))))) (db lecturer_tree)
-    × AllByRecursion (λ r. is_ranked round db r ≡ false → of_key (row_key r) (db (tree_of (rankings_of round))) ≡ []) (db lecturer_tree)
+    AllByRecursion (λ r. IsWhole (of_key (row_key r) (db (tree_of (choice_table round))))) (db student_tree)
+    × AllByRecursion (λ r. IsWhole (of_key (row_key r) (db (tree_of (ranking_table round))))) (db lecturer_tree)
+    × AllByRecursion (λ r. is_ranked round db r ≡ false → of_key (row_key r) (db (tree_of (ranking_table round))) ≡ []) (db lecturer_tree)
 
 whole_of : (round : Round) (db : Trees) → Lists round db → Whole round db
 whole_of round db lists = record { choices = lists.0; rankings = lists.1; ranked = lists.2 }
@@ -131,13 +131,13 @@ second_kept tree old new of_first keeps was =
     }
 
 -- what the store keeps, where one table of the first round has changed
-pub holds_after : (tree : ℕ) (old new : Database) → IsOfFirst tree → HoldsIn First old → Keeps tree old new → new.schema ≡ old.schema → IsDatabase new → IsApart (new.trees tree)
-    → HasOffice version (but_one tree old new portal_tree) → Whole First (but_one tree old new) → HoldsIn First new
+pub holds_after : (tree : ℕ) (old new : Database) → IsOfFirst tree → IsConsistentIn First old → Keeps tree old new → new.schema ≡ old.schema → IsDatabase new → RowNumbersDiffer (new.trees tree)
+    → HasOffice version (but_one tree old new portal_tree) → Whole First (but_one tree old new) → IsConsistentIn First new
 holds_after tree old new of_first was keeps schema sound apart office whole =
     let same = one_changed tree old new keeps in
     record {
-      current = subst IsCurrent (sym schema) was.current;
-      own = subst IsOwn (sym schema) was.own;
+      current = subst IsCurrentSchema (sym schema) was.current;
+      own = subst HasFirstSchema (sym schema) was.own;
       sound = sound;
       apart = apart_kept tree old new keeps apart was.apart;
       office = subst (HasOffice version) (sym same.0) office;
@@ -166,15 +166,15 @@ opened_kept old new portal second was = record {
   phase = was.phase;
   is = second ∙ was.is;
   opened = was.opened;
-  first = ap (λ rows. phase_of (number_in (column (slice_index_or rows 0 []) 3))) portal ∙ was.first;
+  first = ap (λ rows. phase_numbered (number_in (column (slice_index_or rows 0 []) 3))) portal ∙ was.first;
 }
 
 -- what the store keeps, where the first round's tables are as they were
-pub holds_second : (old new : Database) → HoldsIn Second old → KeepsFirst old new → new.schema ≡ old.schema → IsDatabase new → AllApart own_trees new.trees → IsOpened new.trees → Whole Second new.trees
-    → HoldsIn Second new
+pub holds_second : (old new : Database) → IsConsistentIn Second old → KeepsFirst old new → new.schema ≡ old.schema → IsDatabase new → AllNumbersDiffer own_trees new.trees → IsOpened new.trees → Whole Second new.trees
+    → IsConsistentIn Second new
 holds_second old new was same schema sound apart opened whole = record {
-  current = subst IsCurrent (sym schema) was.current;
-  own = subst IsOwn (sym schema) was.own;
+  current = subst IsCurrentSchema (sym schema) was.current;
+  own = subst HasFirstSchema (sym schema) was.own;
   sound = sound;
   apart = apart;
   office = subst (HasOffice version) (sym same.0) was.office;
@@ -183,8 +183,8 @@ holds_second old new was same schema sound apart opened whole = record {
 }
 
 -- where one table of the second round has changed
-pub holds_there : (tree : ℕ) (old new : Database) → IsOfSecond tree → HoldsIn Second old → Keeps tree old new → new.schema ≡ old.schema → IsDatabase new → IsApart (new.trees tree)
-    → IsOpened (but_one tree old new) → Whole Second (but_one tree old new) → HoldsIn Second new
+pub holds_there : (tree : ℕ) (old new : Database) → IsOfSecond tree → IsConsistentIn Second old → Keeps tree old new → new.schema ≡ old.schema → IsDatabase new → RowNumbersDiffer (new.trees tree)
+    → IsOpened (but_one tree old new) → Whole Second (but_one tree old new) → IsConsistentIn Second new
 holds_there tree old new of_second was keeps schema sound apart opened whole =
     let same = one_changed tree old new keeps in
     holds_second old new was (first_kept tree old new of_second keeps) schema sound (apart_kept tree old new keeps apart was.apart)

@@ -13,24 +13,24 @@ use Rattle.sqlite_tied.specs.Compute.{everything}
 use Rattle.portal_core.specs.declared.phase.Round.TheVariants.{First}
 use Rattle.portal_core.specs.Good.{Good}
 use Rattle.portal_tables.specs.Tables.{portal_tree, first_trees, version, first_version, first_schema}
-use Rattle.portal_tables.specs.Own.{IsFirst, SameTable}
+use Rattle.portal_tables.specs.Schema.{IsFirstSchema, SameTable}
 use Rattle.portal_tables.specs.Making.{Upgraded, Upgrades}
 use Rattle.portal_tables.specs.Names.{has_name, has_names, is_named_table, is_named_view}
 use Rattle.portal_tables.specs.declared.names.Names.{Names}
 use Rattle.portal_tables.specs.declared.names.Names.TheVariants.{OfSecond}
-use Rattle.portal_tables.specs.Office.{HasOffice, number_of}
+use Rattle.portal_tables.specs.Office.{HasOffice, number_of_phase}
 use Rattle.portal_tables.specs.Rows.{portal_row}
 use Rattle.portal_tables.specs.Steps.{Commits}
 use Rattle.portal_tables.proofs.Keeping.{apart_one}
 use Rattle.portal_tables.proofs.Owned.{current_own}
-use Rattle.portal_store.specs.World.{world_in, world_of, phase_of}
-use Rattle.portal_store.specs.Kept.{HoldsIn, IsKept, IsUnopened, Stands, StandsAs}
+use Rattle.portal_store.specs.World.{world_in, world_of, phase_numbered}
+use Rattle.portal_store.specs.Kept.{IsConsistentIn, IsKept, IsUnopened, HasGoodWorld, HasGoodFirst}
 use Rattle.portal_store.specs.Asked.{AdmitsAs}
 use Rattle.portal_store.proofs.Asked.{apart_all}
 use Rattle.portal_store.proofs.Rounds.{world_told}
 use Rattle.portal_store.proofs.Still.{apart_among, one_among, whole_first, world_first}
 
-module _ (old new : Database) (office : HasOffice first_version (old.trees portal_tree)) (up : Upgraded (pos (number_of office.phase)) office.office old new) where
+module _ (old new : Database) (office : HasOffice first_version (old.trees portal_tree)) (up : Upgraded (pos (number_of_phase office.phase)) office.office old new) where
   -- the first round's tables, with the new row of the office
   abbrev there : Trees
   there = with_tree old.trees portal_tree (new.trees portal_tree)
@@ -45,12 +45,12 @@ module _ (old new : Database) (office : HasOffice first_version (old.trees porta
       ap (λ rows. column (slice_index_or rows 0 []) 3) up.portal ∙ sym (ap (λ rows. column (slice_index_or rows 0 []) 3) office.is) in
       let codes : column (slice_index_or (new.trees 0) 0 []) 4 ≡ column (slice_index_or (old.trees 0) 0 []) 4 =
       ap (λ rows. column (slice_index_or rows 0 []) 4) up.portal ∙ sym (ap (λ rows. column (slice_index_or rows 0 []) 4) office.is) in
-      world_first there new.trees same ∙ (λ i. record (world_in First old.trees) { phase = phase_of (number_in (phases i)); office = bytes (codes i) })
+      world_first there new.trees same ∙ (λ i. record (world_in First old.trees) { phase = phase_numbered (number_in (phases i)); office = bytes (codes i) })
 
   pub second : IsUnopened new.trees
   second = record { is = up.second; says = up.empty }
 
-  first_stands : StandsAs first_version old.trees → StandsAs version new.trees
+  first_stands : HasGoodFirst first_version old.trees → HasGoodFirst version new.trees
   first_stands was = record {
     office = record { phase = office.phase; office = office.office; is = up.portal };
     whole = whole_first there new.trees same (record { choices = was.whole.choices; rankings = was.whole.rankings; ranked = was.whole.ranked });
@@ -59,11 +59,11 @@ module _ (old new : Database) (office : HasOffice first_version (old.trees porta
 
   admits : AdmitsAs first_version old.trees → AdmitsAs version new.trees
   admits was = record {
-    apart = apart_among first_trees portal_tree old.trees new.trees up.others (apart_one (new.trees 0) (portal_row (pos version) (pos (number_of office.phase)) office.office) (pos 1) refl up.portal) was.apart;
+    apart = apart_among first_trees portal_tree old.trees new.trees up.others (apart_one (new.trees 0) (portal_row (pos version) (pos (number_of_phase office.phase)) office.office) (pos 1) refl up.portal) was.apart;
     stands = first_stands was.stands;
   }
 
-  upgraded_holds : AdmitsAs first_version old.trees → HoldsIn First new
+  upgraded_holds : AdmitsAs first_version old.trees → IsConsistentIn First new
   upgraded_holds was = record {
     current = up.current;
     own = current_own new.schema up.current;
@@ -74,7 +74,7 @@ module _ (old new : Database) (office : HasOffice first_version (old.trees porta
     whole = (admits was).stands.whole;
   }
 
-pub upgraded_stands : (old new : Database) (was : StandsAs first_version old.trees) → Upgraded (pos (number_of was.office.phase)) was.office.office old new → Stands new.trees
+pub upgraded_stands : (old new : Database) (was : HasGoodFirst first_version old.trees) → Upgraded (pos (number_of_phase was.office.phase)) was.office.office old new → HasGoodWorld new.trees
 upgraded_stands old new was up =
     let first = first_stands old new was.office up was in
     (First, record { office = first.office; second = second old new was.office up; whole = first.whole; good = first.good })
@@ -91,7 +91,7 @@ none_named : has_names OfSecond first_schema ≡ false
 unfolding everything
 none_named = refl
 
-pub first_untaken : (s : Schema) → IsFirst s → has_names OfSecond s ≡ false
+pub first_untaken : (s : Schema) → IsFirstSchema s → has_names OfSecond s ≡ false
 first_untaken s h = (λ i. named_alike OfSecond s.tables first_schema.tables h.tables i || list_any (is_named_view OfSecond) (h.no_views i)) ∙ none_named
 
 pub not_taken : (b : Bool) → b ≡ false → IsTrue b → ⊥
@@ -103,10 +103,10 @@ module _
     (g : Ghosts S)
     (own : Bool)
     (old new : Held S)
-    (is_first : IsTrue own → IsFirst old.schema)
+    (is_first : IsTrue own → IsFirstSchema old.schema)
     (done : IsTrue own → IsTrue (state g new).is_open → Commits Upgrades (state g old) (state g new) × AdmitsAs first_version (state g old).now.trees) where
   made : (mine : IsTrue own) (on : IsTrue (state g new).is_open)
-      → Upgraded (pos (number_of (done mine on).1.stands.office.phase)) (done mine on).1.stands.office.office (state g old).now (state g new).now
+      → Upgraded (pos (number_of_phase (done mine on).1.stands.office.phase)) (done mine on).1.stands.office.office (state g old).now (state g new).now
   made mine on = let d = done mine on in d.0.changed (is_first mine) _ _ d.1.stands.office.is
 
   pub upgraded_kept : new.in_transaction ≡ false → IsKept g new own

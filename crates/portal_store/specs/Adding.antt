@@ -5,7 +5,7 @@ use Rattle.portal_store.specs.declared.rolls.NewRows.{NewRows}
 use Rattle.portal_store.specs.declared.rolls.NewRows.TheVariants.{Lecturers, Projects, Students}
 
 -- the change of the world that they are
-abbrev pub added : NewRows → Change
-added (Lecturers rows) = changes.Lecturers rows.now
-added (Projects rows) = changes.Projects rows.now
-added (Students rows) = changes.Students rows.now
+abbrev pub with_rows_added : NewRows → Change
+with_rows_added (Lecturers rows) = changes.Lecturers rows.now
+with_rows_added (Projects rows) = changes.Projects rows.now
+with_rows_added (Students rows) = changes.Students rows.now

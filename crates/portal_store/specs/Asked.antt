@@ -7,7 +7,7 @@ use Rattle.portal_core.specs.Good.{Good}
 use Rattle.portal_tables.specs.Tables.{portal_tree, first_trees, own_trees, version, first_version}
 use Rattle.portal_tables.specs.Office.{HasOffice}
 use Rattle.portal_store.specs.World.{round_in, world_of}
-use Rattle.portal_store.specs.Kept.{AllApart, AreWhole, Stands, StandsAs, early_trees, later_trees}
+use Rattle.portal_store.specs.Kept.{AllNumbersDiffer, AreWhole, HasGoodWorld, HasGoodFirst, early_trees, later_trees}
 use Rattle.portal_store.specs.declared.store.OpenFault.{OpenFault}
 use Rattle.portal_store.specs.declared.store.OpenFault.TheVariants as opening
 use Rattle.portal_store.specs.declared.store.UpgradeFault.{UpgradeFault}
@@ -37,29 +37,29 @@ SaysNothing fault = Denies fault (Unit {0})
 
 -- what a refusal says of tables that should be of this version and be so: there is no row of the office; it is of another version; it is of this one,
 -- and they are not so
-abbrev pub Blames : OpenFault → ℕ → Type 0 → Trees → Type 0
-Blames opening.NotPortal of so db = db portal_tree ≡ []
-Blames opening.OtherVersion of so db = HasOther of db
-Blames opening.Damaged of so db = HasVersion of db × (so → ⊥)
-Blames opening.Store of so db = Unit {0}
-Blames opening.Memory of so db = Unit {0}
+abbrev pub RefusalSays : OpenFault → ℕ → Type 0 → Trees → Type 0
+RefusalSays opening.NotPortal of so db = db portal_tree ≡ []
+RefusalSays opening.OtherVersion of so db = HasOther of db
+RefusalSays opening.Damaged of so db = HasVersion of db × (so → ⊥)
+RefusalSays opening.Store of so db = Unit {0}
+RefusalSays opening.Memory of so db = Unit {0}
 
 -- what a refusal to open says: it is Damaged where they stand for no good world
 abbrev pub Refutes : OpenFault → Trees → Type 0
-Refutes fault db = Blames fault version (Stands db) db
+Refutes fault db = RefusalSays fault version (HasGoodWorld db) db
 
 -- What a refusal to upgrade says: the same by the rules of version 1. That one of the names is there is not said of tables of version 1 alone.
 abbrev pub Bars : UpgradeFault → Trees → Type 0
 Bars upgrading.NotPortal db = db portal_tree ≡ []
 Bars upgrading.OtherVersion db = HasOther first_version db
-Bars upgrading.Damaged db = HasVersion first_version db × (StandsAs first_version db → ⊥)
+Bars upgrading.Damaged db = HasVersion first_version db × (HasGoodFirst first_version db → ⊥)
 Bars upgrading.Store db = Unit {0}
 Bars upgrading.Memory db = Unit {0}
 Bars upgrading.Exists db = ⊥
 
 -- row numbers of the tables of many rows differ
-abbrev pub AreApart : Trees → Type 0
-AreApart = AllApart (early_trees ++ later_trees)
+abbrev pub NumbersDiffer : Trees → Type 0
+NumbersDiffer = AllNumbersDiffer (early_trees ++ later_trees)
 
 -- the lists of the tables' rounds are whole, and their world is good
 pub record IsJudged (db : Trees) : Type 0 where
@@ -69,10 +69,10 @@ pub record IsJudged (db : Trees) : Type 0 where
 
 -- row numbers of the first round's tables differ, and as tables of this version they stand for a good world
 pub record AdmitsAs (of : ℕ) (db : Trees) : Type 0 where
-  pub apart : AllApart first_trees db
-  pub stands : StandsAs of db
+  pub apart : AllNumbersDiffer first_trees db
+  pub stands : HasGoodFirst of db
 
 -- the same of the tables of both rounds
 pub record Admits (db : Trees) : Type 0 where
-  pub apart : AllApart own_trees db
-  pub stands : Stands db
+  pub apart : AllNumbersDiffer own_trees db
+  pub stands : HasGoodWorld db

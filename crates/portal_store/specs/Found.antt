@@ -9,7 +9,7 @@ use Rattle.portal_core.specs.declared.phase.Round.{Round}
 use Rattle.portal_core.specs.declared.phase.Round.TheVariants.{First}
 use Rattle.portal_store.specs.Kept.{Whole, AreWhole}
 
-pub record Finds (of : ℕ) (db : Trees) (w : World) : Type 0 where
+pub record ShowsWorld (of : ℕ) (db : Trees) (w : World) : Type 0 where
   pub office : HasOffice of (db portal_tree)
   pub whole : Whole First db
   pub world : w ≡ world_in First db

@@ -16,24 +16,24 @@ use Rattle.portal_core.specs.declared.phase.Round.TheVariants.{First, Second}
 use Rattle.portal_core.specs.World.{World, is_setup}
 use Rattle.portal_core.specs.Change.{Change, changed}
 use Rattle.portal_core.specs.Good.{Good}
-use Rattle.portal_core.specs.Remembered.{Remembers}
-use Rattle.portal_core.specs.declared.remembered.Remembered.{Remembered}
+use Rattle.portal_core.specs.ViewCache.{IsCacheOf}
+use Rattle.portal_core.specs.declared.view_cache.ViewCache.{ViewCache}
 use Rattle.portal_list.specs.Entries.{AllEntries, HasEntries}
 use Rattle.portal_tables.specs.ListTables.{tree_of}
 use Rattle.portal_tables.specs.Tables.{portal_tree, lecturer_tree, project_tree, student_tree, choice_tree, ranking_tree, second_tree, choice2_tree, ranked2_tree, ranking2_tree, assigned2_tree, own_trees, version}
-use Rattle.portal_tables.specs.Own.{IsOwn, IsCurrent}
-use Rattle.portal_tables.specs.Changes.{IsApart}
+use Rattle.portal_tables.specs.Schema.{HasFirstSchema, IsCurrentSchema}
+use Rattle.portal_tables.specs.Changes.{RowNumbersDiffer}
 use Rattle.portal_tables.specs.Lists.{of_key, IsWhole}
-use Rattle.portal_tables.specs.Office.{HasOffice, number_of}
+use Rattle.portal_tables.specs.Office.{HasOffice, number_of_phase}
 use Rattle.portal_tables.specs.Rolls.{row_key}
 use Rattle.portal_tables.specs.Rows.{second_row}
-use Rattle.portal_store.specs.World.{world_in, world_of, choices_of, rankings_of, is_ranked, phase_in}
+use Rattle.portal_store.specs.World.{world_in, world_of, choice_table, ranking_table, is_ranked, phase_in}
 
 -- of a round: no list has a gap, and who has no ranking has no row of one
 pub record Whole (round : Round) (db : Trees) : Type 0 where
-  pub choices : AllByRecursion (λ r. IsWhole (of_key (row_key r) (db (tree_of (choices_of round))))) (db student_tree)
-  pub rankings : AllByRecursion (λ r. IsWhole (of_key (row_key r) (db (tree_of (rankings_of round))))) (db lecturer_tree)
-  pub ranked : AllByRecursion (λ r. is_ranked round db r ≡ false → of_key (row_key r) (db (tree_of (rankings_of round))) ≡ []) (db lecturer_tree)
+  pub choices : AllByRecursion (λ r. IsWhole (of_key (row_key r) (db (tree_of (choice_table round))))) (db student_tree)
+  pub rankings : AllByRecursion (λ r. IsWhole (of_key (row_key r) (db (tree_of (ranking_table round))))) (db lecturer_tree)
+  pub ranked : AllByRecursion (λ r. is_ranked round db r ≡ false → of_key (row_key r) (db (tree_of (ranking_table round))) ≡ []) (db lecturer_tree)
 
 -- the tables of many rows: the rolls and the lists of the first round, and the lists and places of the second
 abbrev pub early_trees : List ℕ
@@ -47,8 +47,8 @@ abbrev pub AreEmpty : Trees → Type 0
 AreEmpty db = AllByRecursion (λ t. db t ≡ []) later_trees
 
 -- row numbers of these tables differ
-abbrev pub AllApart : List ℕ → Trees → Type 0
-AllApart trees db = AllByRecursion (λ t. IsApart (db t)) trees
+abbrev pub AllNumbersDiffer : List ℕ → Trees → Type 0
+AllNumbersDiffer trees db = AllByRecursion (λ t. RowNumbersDiffer (db t)) trees
 
 -- the one row of `second` tells that there is no second round, and nothing of one is there
 pub record IsUnopened (db : Trees) : Type 0 where
@@ -58,7 +58,7 @@ pub record IsUnopened (db : Trees) : Type 0 where
 -- the one row of `second` tells the phase of a second round, and the first is published
 pub record IsOpened (db : Trees) : Type 0 where
   pub phase : Phase
-  pub is : db second_tree ≡ second_row (pos (number_of phase)) ∷ []
+  pub is : db second_tree ≡ second_row (pos (number_of_phase phase)) ∷ []
   pub opened : is_setup phase ≡ false
   pub first : phase_in First db ≡ Published
 
@@ -72,62 +72,62 @@ AreWhole First db = Whole First db
 AreWhole Second db = Whole First db × Whole Second db
 
 -- the tables of the first round are of this version and stand for a good world
-pub record StandsAs (of : ℕ) (db : Trees) : Type 0 where
+pub record HasGoodFirst (of : ℕ) (db : Trees) : Type 0 where
   pub office : HasOffice of (db portal_tree)
   pub whole : Whole First db
   pub good : Good (world_in First db)
 
 -- the tables stand for a good world of the round
-pub record StandsIn (round : Round) (db : Trees) : Type 0 where
+pub record HasGoodWorldIn (round : Round) (db : Trees) : Type 0 where
   pub office : HasOffice version (db portal_tree)
   pub second : HasSecond round db
   pub whole : AreWhole round db
   pub good : Good (world_in round db)
 
 -- of either round
-abbrev pub Stands : Trees → Type 0
-Stands db = (round : Round) × StandsIn round db
+abbrev pub HasGoodWorld : Trees → Type 0
+HasGoodWorld db = (round : Round) × HasGoodWorldIn round db
 
 -- what every change of a round may rely on
-pub record HoldsIn (round : Round) (db : Database) : Type 0 where
-  pub current : IsCurrent db.schema
-  pub own : IsOwn db.schema
+pub record IsConsistentIn (round : Round) (db : Database) : Type 0 where
+  pub current : IsCurrentSchema db.schema
+  pub own : HasFirstSchema db.schema
   pub sound : IsDatabase db
-  pub apart : AllApart own_trees db.trees
+  pub apart : AllNumbersDiffer own_trees db.trees
   pub office : HasOffice version (db.trees portal_tree)
   pub second : HasSecond round db.trees
   pub whole : AreWhole round db.trees
 
 -- what every change may rely on, and leaves
-abbrev pub Holds : Database → Type 0
-Holds db = (round : Round) × HoldsIn round db
+abbrev pub IsConsistent : Database → Type 0
+IsConsistent db = (round : Round) × IsConsistentIn round db
 
 -- the tables have turned to the changed world
-pub record Turned (change : Change) (old new : Database) : Type 0 where
-  pub holds : Holds new
+pub record HasChanged (change : Change) (old new : Database) : Type 0 where
+  pub holds : IsConsistent new
   pub world : world_of new.trees ≡ changed (world_of old.trees) change
 
 -- the change that is made of the tables, where they stand for a good world and the changed one is good
-abbrev pub Turns : Change → Database → Database → Type 0
-Turns change old new = Holds old → Good (world_of old.trees) → Good (changed (world_of old.trees) change) → Turned change old new
+abbrev pub IsTransition : Change → Database → Database → Type 0
+IsTransition change old new = IsConsistent old → Good (world_of old.trees) → Good (changed (world_of old.trees) change) → HasChanged change old new
 
 -- the same of tables that stay in their round
-pub record TurnedIn (round : Round) (change : Change) (old new : Database) : Type 0 where
-  pub holds : HoldsIn round new
+pub record HasChangedIn (round : Round) (change : Change) (old new : Database) : Type 0 where
+  pub holds : IsConsistentIn round new
   pub world : world_in round new.trees ≡ changed (world_in round old.trees) change
 
-abbrev pub TurnsIn : Round → Change → Database → Database → Type 0
-TurnsIn round change old new =
-    HoldsIn round old → Good (world_in round old.trees) → Good (changed (world_in round old.trees) change) → TurnedIn round change old new
+abbrev pub IsTransitionIn : Round → Change → Database → Database → Type 0
+IsTransitionIn round change old new =
+    IsConsistentIn round old → Good (world_in round old.trees) → Good (changed (world_in round old.trees) change) → HasChangedIn round change old new
 
 -- a change of tables of this round, whatever round it leaves
-pub record TurnedFrom (round : Round) (change : Change) (old new : Database) : Type 0 where
-  pub holds : Holds new
+pub record HasChangedFrom (round : Round) (change : Change) (old new : Database) : Type 0 where
+  pub holds : IsConsistent new
   pub world : world_of new.trees ≡ changed (world_in round old.trees) change
 
-abbrev pub TurnsFrom : Round → Change → Database → Database → Type 0
-TurnsFrom round change old new =
-    HoldsIn round old → Good (world_in round old.trees) → Good (changed (world_in round old.trees) change) → TurnedFrom round change old new
+abbrev pub IsTransitionFrom : Round → Change → Database → Database → Type 0
+IsTransitionFrom round change old new =
+    IsConsistentIn round old → Good (world_in round old.trees) → Good (changed (world_in round old.trees) change) → HasChangedFrom round change old new
 
 -- what can be seen of a store: its connection, whether the tables are those that the portal makes, and how many calls were answered with its fault
 pub record Seen (S : Type 0) : Type 0 where
@@ -144,7 +144,7 @@ seen_code {S} store =
 -- all is committed
 pub record IsReady (s : State) : Type 0 where
   pub settled : s.committed ≡ s.now
-  pub holds : Holds s.now
+  pub holds : IsConsistent s.now
 
 pub record IsKept {S : Type 0} (g : Ghosts S) (conn : Held S) (own : Bool) : Type 0 where
   pub idle : conn.in_transaction ≡ false
@@ -170,9 +170,9 @@ abbrev pub AreEntries : Option AllEntries → World → Type 0
 AreEntries entries w = IfSome entries (λ e. HasEntries e w)
 
 -- a store between two calls; what it remembers is of its world
-pub record IsAtRest {S : Type 0} (g : Ghosts S) (conn : Held S) (own : Bool) (mind : Remembered) (entries : Option AllEntries) : Type 0 where
+pub record IsAtRest {S : Type 0} (g : Ghosts S) (conn : Held S) (own : Bool) (cache : ViewCache) (entries : Option AllEntries) : Type 0 where
   pub kept : IsKept g conn own
-  pub shown : IsTrue own × IsTrue (state g conn).is_open → Remembers mind (world_of (state g conn).now.trees)
+  pub shown : IsTrue own × IsTrue (state g conn).is_open → IsCacheOf cache (world_of (state g conn).now.trees)
   pub entered : IsTrue own × IsTrue (state g conn).is_open → AreEntries entries (world_of (state g conn).now.trees)
 
 -- a clean store in memory stays clean: there is no disk that could fail

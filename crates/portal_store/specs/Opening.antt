@@ -5,11 +5,11 @@ use Rattle.portal_core.specs.declared.phase.Phase.TheVariants.{Published}
 use Rattle.portal_core.specs.declared.phase.Round.TheVariants.{First}
 use Rattle.portal_core.specs.Change.{Change, SecondRound}
 use Rattle.portal_store.specs.World.{phase_in}
-use Rattle.portal_store.specs.Kept.{HoldsIn, TurnedFrom}
+use Rattle.portal_store.specs.Kept.{IsConsistentIn, HasChangedFrom}
 
 -- where the first round is published, the tables turn to the world in which the second is open
-abbrev pub Opens : Database → Database → Type 0
-Opens old new = HoldsIn First old → phase_in First old.trees ≡ Published → TurnedFrom First SecondRound old new
+abbrev pub OpensSecondRound : Database → Database → Type 0
+OpensSecondRound old new = IsConsistentIn First old → phase_in First old.trees ≡ Published → HasChangedFrom First SecondRound old new
 
 abbrev pub is_opening : Change → Bool
 is_opening SecondRound = true

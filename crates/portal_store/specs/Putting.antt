@@ -9,25 +9,25 @@ use Rattle.portal_tables.specs.Tables.{lecturer_tree}
 use Rattle.portal_core.specs.declared.phase.Round.{Round}
 use Rattle.portal_store.specs.World.{world_in}
 use Rattle.portal_tables.specs.Rolls.{row_key}
-use Rattle.portal_store.specs.Kept.{HoldsIn, TurnedIn}
+use Rattle.portal_store.specs.Kept.{IsConsistentIn, HasChangedIn}
 
 -- where the lecturer is on the roll, whose keys rise, the tables of the round turn to the world with this ranking
 abbrev pub TurnsThere : Round → Key → List Key → Database → Database → Type 0
 TurnsThere round k list old new =
-    has (map row_key (old.trees lecturer_tree)) k ≡ true → HoldsIn round old → Rise (map lecturer_key (world_in round old.trees).lecturers)
-    → TurnedIn round (Ranks k list) old new
+    has (map row_key (old.trees lecturer_tree)) k ≡ true → IsConsistentIn round old → Rise (map lecturer_key (world_in round old.trees).lecturers)
+    → HasChangedIn round (Ranks k list) old new
 
 -- the world with these rankings, one after the other
-abbrev pub ranked : World → List (Key × List Key) → World
-ranked w [] = w
-ranked w (f ∷ fs) = ranked (changed w (Ranks f.0 f.1)) fs
+abbrev pub with_rankings : World → List (Key × List Key) → World
+with_rankings w [] = w
+with_rankings w (f ∷ fs) = with_rankings (changed w (Ranks f.0 f.1)) fs
 
 -- where these lecturers are on the roll, whose keys rise, the tables turn to the world with these rankings
 pub record RanksAll (round : Round) (fills : List (Key × List Key)) (old new : Database) : Type 0 where
-  pub holds : HoldsIn round new
-  pub world : world_in round new.trees ≡ ranked (world_in round old.trees) fills
+  pub holds : IsConsistentIn round new
+  pub world : world_in round new.trees ≡ with_rankings (world_in round old.trees) fills
 
 abbrev pub TurnsAll : Round → List (Key × List Key) → Database → Database → Type 0
 TurnsAll round fills old new =
-    HoldsIn round old → Rise (map lecturer_key (world_in round old.trees).lecturers)
+    IsConsistentIn round old → Rise (map lecturer_key (world_in round old.trees).lecturers)
     → AllByRecursion (λ f. has (map lecturer_key (world_in round old.trees).lecturers) f.0 ≡ true) fills → RanksAll round fills old new

@@ -12,10 +12,10 @@ use Rattle.portal_core.specs.Sight.{OfficeSees}
 use Rattle.portal_core.specs.Words.{Key, is_empty}
 use Rattle.portal_core.specs.World.{Lecturer, Student, is_from_ranking}
 use Rattle.portal_list.specs.Shown.{is_wanted}
-use Rattle.portal_tables.specs.ListTables.{rankings_of}
+use Rattle.portal_tables.specs.ListTables.{ranking_table}
 use Rattle.portal_tables.specs.Owners.{has_list, choice_shown, ranking_shown}
-use Rattle.portal_tables.specs.Places.{pair_shown, place_shown, place_before}
-use Rattle.portal_tables.specs.Shown.{first, shown_lecturer, shown_project, shown_student}
+use Rattle.portal_tables.specs.Placements.{pair_shown, placement_shown, placement_before}
+use Rattle.portal_tables.specs.Shown.{first_cell, shown_lecturer, shown_project, shown_student}
 use Rattle.portal_store.specs.World.{world_in}
 
 -- the ranking and the list of the round before
@@ -33,16 +33,16 @@ lecturer_from round db c = record { row = shown_lecturer c; ranking = ranking_sh
 
 abbrev pub student_from : Round → Trees → Row → Student
 student_from round db c =
-    record { row = shown_student c; choice = choice_shown round db c; placed = place_shown round db c; earlier_choice = choice_before round db c; earlier_place = place_before round c }
+    record { row = shown_student c; choice = choice_shown round db c; placed = placement_shown round db c; earlier_choice = choice_before round db c; earlier_placement = placement_before round c }
 
 -- the keys of the students whose rows are shown, who take part and have no list in the tables
 abbrev pub unlisted : Round → Trees → List Row → List Key
-unlisted round db students = map first (filter (λ c. is_none (place_before round c) && is_empty (choice_shown round db c)) students)
+unlisted round db students = map first_cell (filter (λ c. is_none (placement_before round c) && is_empty (choice_shown round db c)) students)
 
 -- the key of the lecturer whose row is shown, where there is an applicant and no ranking
 abbrev pub waiting_key : Round → Trees → List ProjectRow → Row → Option Key
 waiting_key round db projects c =
-    if has_list (rankings_of round) db c then None else (if is_wanted (world_in round db).students projects (first c) then Some (first c) else None)
+    if has_list (ranking_table round) db c then None else (if is_wanted (world_in round db).students projects (first_cell c) then Some (first_cell c) else None)
 
 -- what the office sees, of shown rolls, the catalogue and the lists and places in the tables
 abbrev pub office_from : Round → Trees → Phase → Key → List Listing → List Row → List Row → List Row → OfficeSees

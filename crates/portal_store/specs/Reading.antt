@@ -8,16 +8,16 @@ use Rattle.sqlite.specs.Store.{Ghosts}
 use Rattle.sqlite.specs.Tree.{Trees}
 use Rattle.portal_core.specs.declared.phase.Round.{Round}
 use Rattle.portal_core.specs.World.{World}
-use Rattle.portal_core.specs.Remembered.{Remembers}
-use Rattle.portal_core.specs.declared.remembered.Remembered.{Remembered}
+use Rattle.portal_core.specs.ViewCache.{IsCacheOf}
+use Rattle.portal_core.specs.declared.view_cache.ViewCache.{ViewCache}
 use Rattle.portal_core.specs.Good.{Good}
 use Rattle.portal_list.specs.Entries.{AllEntries}
-use Rattle.portal_tables.specs.Own.{HasRound, IsOwn, IsCurrent}
+use Rattle.portal_tables.specs.Schema.{HasRound, HasFirstSchema, IsCurrentSchema}
 use Rattle.portal_tables.specs.Changes.{every}
 use Rattle.portal_tables.specs.Queries.{selection}
 use Rattle.portal_tables.specs.declared.office.Office.{Office}
 use Rattle.portal_tables.specs.declared.select.Query.{Query}
-use Rattle.portal_store.specs.Kept.{AreEntries, Holds, HoldsIn}
+use Rattle.portal_store.specs.Kept.{AreEntries, IsConsistent, IsConsistentIn}
 use Rattle.portal_store.specs.World.{world_in, world_of}
 
 -- what the connection shows
@@ -28,16 +28,16 @@ shown g conn = (state g conn).now.trees
 abbrev pub ReadsAll : Query → Type 0
 ReadsAll query = (selection query).passes ≡ every
 
-abbrev pub table_of : Query → Trees → List Row
-table_of query db = db (selection query).tree
+abbrev pub queried_rows : Query → Trees → List Row
+queried_rows query db = db (selection query).tree
 
 -- this holds where the first round's tables are the portal's own in a sound database, and the disk is clean
 abbrev pub OverOwn : {S : Type 0} → Ghosts S → Held S → Held S → Type 0 → Type 0
-OverOwn g old new So = IsOwn old.schema → IsDatabase (state g old).now → HasCleanDisk (state g new) → So
+OverOwn g old new So = HasFirstSchema old.schema → IsDatabase (state g old).now → HasCleanDisk (state g new) → So
 
 -- the same of the tables of both rounds
 abbrev pub OverBoth : {S : Type 0} → Ghosts S → Held S → Held S → Type 0 → Type 0
-OverBoth g old new So = IsCurrent old.schema → IsDatabase (state g old).now → HasCleanDisk (state g new) → So
+OverBoth g old new So = IsCurrentSchema old.schema → IsDatabase (state g old).now → HasCleanDisk (state g new) → So
 
 -- the same of the tables of a round, where the database is sound if it is open
 abbrev pub OverLive : Round → {S : Type 0} → Ghosts S → Held S → Held S → Type 0 → Type 0
@@ -45,7 +45,7 @@ OverLive round g old new So = HasRound round old.schema → IsLive (state g old)
 
 -- this holds where the tables of a round are what a store keeps, and the disk is clean
 abbrev pub OverRound : Round → {S : Type 0} → Ghosts S → Held S → Held S → Type 0 → Type 0
-OverRound round g old new So = HoldsIn round (state g old).now → HasCleanDisk (state g new) → So
+OverRound round g old new So = IsConsistentIn round (state g old).now → HasCleanDisk (state g new) → So
 
 -- the round, its phase and the code of the office are the world's
 pub record IsNow (w : World) (round : Round) (office : Office) : Type 0 where
@@ -54,15 +54,15 @@ pub record IsNow (w : World) (round : Round) (office : Office) : Type 0 where
   pub code_is : w.office ≡ office.code
 
 -- what was remembered before was right, so what is remembered after is
-abbrev pub KeepsInMind : Remembered → Remembered → State → State → Type 0
-KeepsInMind before after old new = Holds old.now → HasCleanDisk new → IsTrue old.is_open → Remembers before (world_of old.now.trees) → Remembers after (world_of old.now.trees)
+abbrev pub KeepsCache : ViewCache → ViewCache → State → State → Type 0
+KeepsCache before after old new = IsConsistent old.now → HasCleanDisk new → IsTrue old.is_open → IsCacheOf before (world_of old.now.trees) → IsCacheOf after (world_of old.now.trees)
 
 -- the same of tables of a round
-abbrev pub KeepsInRound : Round → Remembered → Remembered → State → State → Type 0
-KeepsInRound round before after old new =
-    HoldsIn round old.now → HasCleanDisk new → Remembers before (world_in round old.now.trees) → Remembers after (world_in round old.now.trees)
+abbrev pub KeepsCacheIn : Round → ViewCache → ViewCache → State → State → Type 0
+KeepsCacheIn round before after old new =
+    IsConsistentIn round old.now → HasCleanDisk new → IsCacheOf before (world_in round old.now.trees) → IsCacheOf after (world_in round old.now.trees)
 
 -- the entries before were those of the world, so those after are
 abbrev pub KeepsEntries : Option AllEntries → Option AllEntries → State → State → Type 0
 KeepsEntries before after old new =
-    Holds old.now → Good (world_of old.now.trees) → HasCleanDisk new → AreEntries before (world_of old.now.trees) → AreEntries after (world_of old.now.trees)
+    IsConsistent old.now → Good (world_of old.now.trees) → HasCleanDisk new → AreEntries before (world_of old.now.trees) → AreEntries after (world_of old.now.trees)

@@ -12,16 +12,16 @@ use Rattle.portal_core.specs.declared.rows.ProjectRow.{ProjectRow}
 use Rattle.portal_core.specs.declared.rows.StudentRow.{StudentRow}
 use Rattle.portal_core.specs.Words.{Key, has, put_all}
 use Rattle.portal_core.specs.World.{World, Lecturer, Student, lecturer_key, project_key, student_key}
-pub use Rattle.portal_tables.specs.ListTables.{choices_of, rankings_of}
+pub use Rattle.portal_tables.specs.ListTables.{choice_table, ranking_table}
 use Rattle.portal_tables.specs.ListTables.{tree_of}
-use Rattle.portal_tables.specs.Places.{second_place}
+use Rattle.portal_tables.specs.Placements.{second_placement}
 use Rattle.portal_tables.specs.Tables.{portal_tree, lecturer_tree, project_tree, student_tree, second_tree, ranked2_tree}
 use Rattle.portal_tables.specs.Lists.{chosen}
 use Rattle.portal_tables.specs.Rolls.{row_key}
 use Rattle.portal_tables.specs.Shown.{text_or_none}
 
-abbrev pub phase_of : ℕ → Phase
-phase_of n = if n == 1 then Choosing else (if n == 2 then Ranking else (if n == 3 then Published else Setup))
+abbrev pub phase_numbered : ℕ → Phase
+phase_numbered n = if n == 1 then Choosing else (if n == 2 then Ranking else (if n == 3 then Published else Setup))
 
 abbrev pub lecturer_row : Row → LecturerRow
 lecturer_row r = record { key = row_key r; name = bytes (column r 2); code = bytes (column r 3); capacity = number_in (column r 4) }
@@ -49,8 +49,8 @@ round_in db = round_by (second_phase db)
 -- what the tables hold of one round
 
 abbrev pub phase_in : Round → Trees → Phase
-phase_in First db = phase_of (number_in (column (office_row db) 3))
-phase_in Second db = phase_of (second_phase db)
+phase_in First db = phase_numbered (number_in (column (office_row db) 3))
+phase_in Second db = phase_numbered (second_phase db)
 
 -- a ranking is there
 abbrev pub is_ranked : Round → Trees → Row → Bool
@@ -58,14 +58,14 @@ is_ranked First db r = number_in (column r 5) == 1
 is_ranked Second db r = has (map row_key (db ranked2_tree)) (row_key r)
 
 abbrev pub ranking_in : Round → Trees → Row → Option (List Key)
-ranking_in round db r = if is_ranked round db r then Some (chosen (db (tree_of (rankings_of round))) (row_key r)) else None
+ranking_in round db r = if is_ranked round db r then Some (chosen (db (tree_of (ranking_table round))) (row_key r)) else None
 
 abbrev pub choice_in : Round → Trees → Row → List Key
-choice_in round db r = chosen (db (tree_of (choices_of round))) (row_key r)
+choice_in round db r = chosen (db (tree_of (choice_table round))) (row_key r)
 
-abbrev pub place_in : Round → Trees → Row → Option Key
-place_in First db r = text_or_none (column r 4)
-place_in Second db r = second_place db (row_key r)
+abbrev pub placement_in_round : Round → Trees → Row → Option Key
+placement_in_round First db r = text_or_none (column r 4)
+placement_in_round Second db r = second_placement db (row_key r)
 
 -- what the tables hold of the round before: nothing in the first
 
@@ -77,23 +77,23 @@ abbrev pub earlier_choice : Round → Trees → Row → List Key
 earlier_choice First db r = []
 earlier_choice Second db r = choice_in First db r
 
-abbrev pub earlier_place : Round → Trees → Row → Option Key
-earlier_place First db r = None
-earlier_place Second db r = place_in First db r
+abbrev pub earlier_placement : Round → Trees → Row → Option Key
+earlier_placement First db r = None
+earlier_placement Second db r = placement_in_round First db r
 
 -- the world in a round
 
-abbrev pub lecturer_in : Round → Trees → Row → Lecturer
-lecturer_in round db r = record { row = lecturer_row r; ranking = ranking_in round db r; earlier_ranking = earlier_ranking round db r }
+abbrev pub lecturer_stored : Round → Trees → Row → Lecturer
+lecturer_stored round db r = record { row = lecturer_row r; ranking = ranking_in round db r; earlier_ranking = earlier_ranking round db r }
 
-abbrev pub student_in : Round → Trees → Row → Student
-student_in round db r =
+abbrev pub student_stored : Round → Trees → Row → Student
+student_stored round db r =
     record {
       row = student_row r;
       choice = choice_in round db r;
-      placed = place_in round db r;
+      placed = placement_in_round round db r;
       earlier_choice = earlier_choice round db r;
-      earlier_place = earlier_place round db r;
+      earlier_placement = earlier_placement round db r;
     }
 
 unfoldable pub world_in : Round → Trees → World
@@ -102,9 +102,9 @@ world_in round db =
       round = round;
       phase = phase_in round db;
       office = bytes (column (office_row db) 4);
-      lecturers = put_all lecturer_key (map (lecturer_in round db) (db lecturer_tree)) [];
+      lecturers = put_all lecturer_key (map (lecturer_stored round db) (db lecturer_tree)) [];
       projects = put_all project_key (map project_row (db project_tree)) [];
-      students = put_all student_key (map (student_in round db) (db student_tree)) [];
+      students = put_all student_key (map (student_stored round db) (db student_tree)) [];
     }
 
 unfoldable pub world_of : Trees → World

@@ -4,11 +4,11 @@ ghost use Rattle.std.specs.Prelude.{◌≡◌, false};
 ghost use Rattle.sqlite.specs.Held.{state};
 ghost use Rattle.portal_core.specs.Counting.{CountsFaults};
 ghost use Rattle.portal_core.specs.Change.{SecondRound};
-ghost use Rattle.portal_core.specs.Meaning.{meant};
+ghost use Rattle.portal_core.specs.Meaning.{change_model};
 ghost use Rattle.portal_store.specs.Opening.{is_opening};
-ghost use Rattle.portal_tables.specs.Own.{IsCurrent};
-ghost use Rattle.portal_store.specs.Kept.{Turns, TurnsFrom, TurnsIn};
-ghost use Rattle.portal_store.specs.Ending.{Ends};
+ghost use Rattle.portal_tables.specs.Schema.{IsCurrentSchema};
+ghost use Rattle.portal_store.specs.Kept.{IsTransition, IsTransitionFrom, IsTransitionIn};
+ghost use Rattle.portal_store.specs.Ending.{CommitsChange};
 ghost use Rattle.portal_store.specs.Reading.{KeepsEntries};
 
 use crate::fault::told;
@@ -36,13 +36,13 @@ fn take_in<S: Alter>(
 ) -> Result<(), TableFault>
     requires idle { conn.old.in_transaction ≡ false }
     ensures idle { conn.new.in_transaction ≡ false }
-    ensures ends { is_opening (meant change.now) ≡ false
-        → Ends (TurnsIn round (meant change.now)) result (state S.Store conn.old)
+    ensures ends { is_opening (change_model change.now) ≡ false
+        → CommitsChange (IsTransitionIn round (change_model change.now)) result (state S.Store conn.old)
         (state S.Store conn.new) }
-    ensures opens { meant change.now ≡ SecondRound
-        → Ends (TurnsFrom round SecondRound) result (state S.Store conn.old)
+    ensures opens { change_model change.now ≡ SecondRound
+        → CommitsChange (IsTransitionFrom round SecondRound) result (state S.Store conn.old)
         (state S.Store conn.new) }
-    ensures entries { IsCurrent conn.old.schema
+    ensures entries { IsCurrentSchema conn.old.schema
         → KeepsEntries entries.old entries.new (state S.Store conn.old) (state S.Store conn.new) }
 {
     match change {
@@ -78,9 +78,9 @@ fn take<S: Alter>(
 ) -> Result<(), TableFault>
     requires idle { conn.old.in_transaction ≡ false }
     ensures idle { conn.new.in_transaction ≡ false }
-    ensures ends { Ends (Turns (meant change.now)) result (state S.Store conn.old)
+    ensures ends { CommitsChange (IsTransition (change_model change.now)) result (state S.Store conn.old)
         (state S.Store conn.new) }
-    ensures entries { IsCurrent conn.old.schema
+    ensures entries { IsCurrentSchema conn.old.schema
         → KeepsEntries entries.old entries.new (state S.Store conn.old) (state S.Store conn.new) }
 {
     let _idle = conn.is_autocommit();
@@ -99,9 +99,9 @@ pub(crate) fn make<S: Alter>(
 ) -> Result<(), KeepFault>
     requires idle { conn.old.in_transaction ≡ false }
     ensures idle { conn.new.in_transaction ≡ false }
-    ensures ends { Ends (Turns (meant change.now)) result (state S.Store conn.old)
+    ensures ends { CommitsChange (IsTransition (change_model change.now)) result (state S.Store conn.old)
         (state S.Store conn.new) }
-    ensures entries { IsCurrent conn.old.schema
+    ensures entries { IsCurrentSchema conn.old.schema
         → KeepsEntries entries.old entries.new (state S.Store conn.old) (state S.Store conn.new) }
     ensures counts { CountsFaults result faults.old faults.new }
 {

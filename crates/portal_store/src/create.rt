@@ -15,9 +15,9 @@ ghost use Rattle.portal_store.specs.Made.{first_world};
 
 use crate::fault::create_fault_of;
 use crate::store::{CreateFault, NotOpened, Store};
-use portal_core::{Code, Remembered};
+use portal_core::{Code, ViewCache};
 use portal_tables::names::{Names, is_empty, is_there};
-use portal_tables::{Pattern, TableFault, create_portal};
+use portal_tables::{PortalSchema, TableFault, create_portal};
 use sqlite::{Alter, Connection, MemStore};
 use std::alloc::Global;
 
@@ -59,7 +59,7 @@ impl<S: Alter> Store<S> {
                 connection: conn,
             });
         }
-        let pattern = match Pattern::new(alloc) {
+        let pattern = match PortalSchema::new(alloc) {
             Ok(pattern) => pattern,
             Err(error) => {
                 return Err(NotOpened {
@@ -78,7 +78,7 @@ impl<S: Alter> Store<S> {
             conn,
             own,
             pattern,
-            mind: Remembered::nothing(),
+            cache: ViewCache::nothing(),
             entries: None,
             faults: 0,
         })

@@ -6,8 +6,8 @@ ghost use Rattle.sqlite.specs.State.{store_error};
 ghost use Rattle.sqlite_trees.specs.declared.error.StoreError.{StoreError};
 ghost use Rattle.sqlite_resolve.specs.declared.error.CompileError.{CompileError};
 ghost use Rattle.portal_tables.specs.Tables.{first_version};
-ghost use Rattle.portal_store.specs.Kept.{StandsAs};
-ghost use Rattle.portal_store.specs.Asked.{SaysNothing, Blames, Bars};
+ghost use Rattle.portal_store.specs.Kept.{HasGoodFirst};
+ghost use Rattle.portal_store.specs.Asked.{SaysNothing, RefusalSays, Bars};
 
 use crate::store::{CreateFault, OpenFault, UpgradeFault};
 use portal_core::KeepFault;
@@ -91,7 +91,7 @@ pub(crate) fn load_open_fault_of(fault: TableFault) -> OpenFault
 
 /// What it means to an upgrade that the tables of version 1 are not opened.
 pub(crate) fn upgrade_fault_of(fault: OpenFault) -> UpgradeFault
-    ensures bars { (db : Trees) → Blames fault first_version (StandsAs first_version db) db
+    ensures bars { (db : Trees) → RefusalSays fault first_version (HasGoodFirst first_version db) db
         → Bars result db }
     ensures exists { result ≢ UpgradeFault.Exists }
     ensures damaged { (result ≡ UpgradeFault.Damaged) ↔ (fault ≡ OpenFault.Damaged) }

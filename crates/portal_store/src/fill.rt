@@ -4,9 +4,9 @@ ghost use Rattle.std.specs.Prelude.{◌≡◌, false, List, map};
 ghost use Rattle.sqlite.specs.Held.{state};
 ghost use Rattle.portal_core.specs.Words as words;
 ghost use Rattle.portal_core.specs.Change.{Fill};
-ghost use Rattle.portal_tables.specs.Own.{IsCurrent};
-ghost use Rattle.portal_store.specs.Kept.{TurnsIn};
-ghost use Rattle.portal_store.specs.Ending.{Ends};
+ghost use Rattle.portal_tables.specs.Schema.{IsCurrentSchema};
+ghost use Rattle.portal_store.specs.Kept.{IsTransitionIn};
+ghost use Rattle.portal_store.specs.Ending.{CommitsChange};
 ghost use Rattle.portal_store.specs.Putting.{TurnsAll};
 ghost use Rattle.portal_store.specs.Reading.{KeepsEntries};
 
@@ -53,9 +53,9 @@ pub(crate) fn fill_rankings<S: Alter>(
 ) -> Result<(), TableFault>
     requires idle { conn.old.in_transaction ≡ false }
     ensures idle { conn.new.in_transaction ≡ false }
-    ensures ends { Ends (TurnsIn round Fill) result (state S.Store conn.old)
+    ensures ends { CommitsChange (IsTransitionIn round Fill) result (state S.Store conn.old)
         (state S.Store conn.new) }
-    ensures entries { IsCurrent conn.old.schema
+    ensures entries { IsCurrentSchema conn.old.schema
         → KeepsEntries entries.old entries.new (state S.Store conn.old) (state S.Store conn.new) }
 {
     let _idle = conn.is_autocommit();

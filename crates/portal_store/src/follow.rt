@@ -3,7 +3,7 @@
 ghost use Rattle.std.specs.Prelude.{◌≡◌, OnOk, OnErr};
 ghost use Rattle.portal_core.specs.Change.{changed};
 ghost use Rattle.portal_core.specs.Good.{Sound};
-ghost use Rattle.portal_core.specs.Meaning.{meant};
+ghost use Rattle.portal_core.specs.Meaning.{change_model};
 ghost use Rattle.portal_core.specs.World.{World};
 ghost use Rattle.portal_list.specs.Entries.{HasEntries};
 ghost use Rattle.portal_store.specs.Kept.{AreEntries};
@@ -15,7 +15,7 @@ use std::alloc::Global;
 /// The entries after the change, where they follow it.
 fn after(alloc: Global, mut entries: Entries, change: &Change) -> Option<Entries>
     ensures { (w : World) → Sound w → HasEntries entries w
-        → AreEntries result (changed w (meant change.now)) }
+        → AreEntries result (changed w (change_model change.now)) }
 {
     match entries.follow(alloc, change) {
         Ok(true) => Some(entries),
@@ -33,7 +33,7 @@ pub(crate) fn follow(
 )
     ensures made { OnOk made.now
         ((w : World) → Sound w → AreEntries entries.old w
-        → AreEntries entries.new (changed w (meant change.now))) }
+        → AreEntries entries.new (changed w (change_model change.now))) }
     ensures not_made { OnErr made.now (entries.new ≡ entries.old) }
 {
     if made.is_ok() {

@@ -8,7 +8,7 @@ ghost use Rattle.portal_core.specs.Good.{Sound};
 ghost use Rattle.portal_core.specs.declared.phase.Round.TheVariants.{Second};
 ghost use Rattle.portal_core.specs.Instance as meant_by;
 ghost use Rattle.portal_list.specs.Entries.{HasEntries};
-ghost use Rattle.portal_tables.specs.Reading.{AsksIn};
+ghost use Rattle.portal_tables.specs.Reading.{RunsQueryIn};
 ghost use Rattle.portal_store.specs.World.{world_of};
 ghost use Rattle.portal_store.specs.Reading.{shown, OverBoth};
 
@@ -48,7 +48,7 @@ pub(crate) fn instance_in<S: Alter>(
     ensures instance { OverBoth S.Store conn.old conn.new
         (IfOk result (λ i. Sound (world_of (shown S.Store conn.old))
         → i ≡ meant_by.instance (world_of (shown S.Store conn.old)))) }
-    ensures asks { AsksIn Second result (state S.Store conn.old) (state S.Store conn.new) }
+    ensures asks { RunsQueryIn Second result (state S.Store conn.old) (state S.Store conn.new) }
     ensures counts { CountsFaults result faults.old faults.new }
 {
     match load_entries(alloc, conn) {

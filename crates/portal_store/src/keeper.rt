@@ -7,12 +7,12 @@ ghost use Rattle.sqlite.specs.Held.{state};
 ghost use Rattle.portal_core.specs.Change.{changed};
 ghost use Rattle.portal_core.specs.Counting.{CountsFaults};
 ghost use Rattle.portal_core.specs.Good.{Good};
-ghost use Rattle.portal_core.specs.Meaning.{meant};
+ghost use Rattle.portal_core.specs.Meaning.{change_model};
 ghost use Rattle.portal_core.specs.View as seen;
 ghost use Rattle.portal_core.specs.Instance as meant_by;
-ghost use Rattle.portal_tables.specs.Own.{IsCurrent};
+ghost use Rattle.portal_tables.specs.Schema.{IsCurrentSchema};
 ghost use Rattle.portal_tables.specs.Steps.{Commits, IsAfter, LeavesOnly};
-ghost use Rattle.portal_store.specs.Kept.{IsCleanStore, Lasts, kept_world, Turns};
+ghost use Rattle.portal_store.specs.Kept.{IsCleanStore, Lasts, kept_world, IsTransition};
 ghost use Rattle.portal_store.specs.Crash.{IsLeft};
 
 use crate::change::make;
@@ -31,7 +31,7 @@ use std::alloc::Global;
 impl<S: Alter> Store<S> {
     /// Sees that tables which were the portal's own still are.
     fn check_own(&self) -> Result<(), TableFault>
-        ensures { IsTrue self.now.own → OnOk result (IsCurrent self.now.conn.schema) }
+        ensures { IsTrue self.now.own → OnOk result (IsCurrentSchema self.now.conn.schema) }
     {
         if !self.own || self.pattern.fits(&self.conn) {
             return Ok(());
@@ -82,7 +82,7 @@ impl<S: Alter> Keeper for Store<S> {
         view_with(
             alloc,
             &mut self.conn,
-            &mut self.mind,
+            &mut self.cache,
             &mut self.faults,
             code,
         )
@@ -114,27 +114,27 @@ impl<S: Alter> Keeper for Store<S> {
     fn apply(&mut self, alloc: Global, change: &Change) -> Result<(), KeepFault>
         requires good { IsCleanStore S.Store self.old → Good (kept_world S.Store self.old) }
         requires leaves_good { IsCleanStore S.Store self.old
-            → Good (changed (kept_world S.Store self.old) (meant change.now)) }
+            → Good (changed (kept_world S.Store self.old) (change_model change.now)) }
         ensures clean { IsCleanStore S.Store self.new → IsCleanStore S.Store self.old }
         ensures made { OnOk result (IsCleanStore S.Store self.new
             → kept_world S.Store self.new
-            ≡ changed (kept_world S.Store self.old) (meant change.now)) }
+            ≡ changed (kept_world S.Store self.old) (change_model change.now)) }
         ensures same { OnErr result (IsCleanStore S.Store self.new
             → kept_world S.Store self.new ≡ kept_world S.Store self.old) }
         ensures own { self.new.own ≡ self.old.own }
         ensures lasts { Lasts S.Store self.old self.new }
         ensures counts { CountsFaults result self.old.faults self.new.faults }
         ensures commits { IsTrue self.old.own → HasCleanDisk (state S.Store self.new.conn)
-            → OnOk result (Commits (Turns (meant change.now)) (state S.Store self.old.conn)
+            → OnOk result (Commits (IsTransition (change_model change.now)) (state S.Store self.old.conn)
             (state S.Store self.new.conn)) }
         ensures durable { IsTrue self.old.own → HasCleanDisk (state S.Store self.new.conn)
             → OnOk result (LeavesOnly (state S.Store self.new.conn)) }
         ensures crash { IsTrue self.old.own
             → Survives (state S.Store self.old.conn) (state S.Store self.new.conn)
-            (IsAfter (Turns (meant change.now)) (state S.Store self.old.conn)) }
+            (IsAfter (IsTransition (change_model change.now)) (state S.Store self.old.conn)) }
         ensures left { IsCleanStore S.Store self.old → HasCleanDisk (state S.Store self.new.conn)
             → (db : Trees) → (state S.Store self.new.conn).may_leave db
-            → IsLeft (meant change.now) (state S.Store self.old.conn).now db }
+            → IsLeft (change_model change.now) (state S.Store self.old.conn).now db }
     {
         if let Err(fault) = self.check_own() {
             return Err(told(&mut self.faults, fault));
@@ -146,7 +146,7 @@ impl<S: Alter> Keeper for Store<S> {
             &mut self.faults,
             change,
         );
-        self.mind.follow(change, &made);
+        self.cache.follow(change, &made);
         follow(alloc, &mut self.entries, change, &made);
         made
     }

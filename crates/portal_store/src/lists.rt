@@ -3,8 +3,8 @@
 ghost use Rattle.std.specs.Prelude.{◌≡◌, false};
 ghost use Rattle.sqlite.specs.Held.{state};
 ghost use Rattle.portal_core.specs.Change.{Choices, Ranks};
-ghost use Rattle.portal_store.specs.Kept.{TurnsIn};
-ghost use Rattle.portal_store.specs.Ending.{Ends};
+ghost use Rattle.portal_store.specs.Kept.{IsTransitionIn};
+ghost use Rattle.portal_store.specs.Ending.{CommitsChange};
 ghost use Rattle.portal_store.specs.Putting.{TurnsThere};
 ghost use Rattle.portal_store.specs.World as world;
 
@@ -19,7 +19,7 @@ use std::alloc::Global;
 
 /// The table of the students' lists of a round.
 fn choices_of(round: Round) -> Lists
-    ensures { result ≡ world.choices_of round }
+    ensures { result ≡ world.choice_table round }
 {
     match round {
         Round::First => Lists::Choices,
@@ -29,7 +29,7 @@ fn choices_of(round: Round) -> Lists
 
 /// The table of the rankings of a round.
 fn rankings_of(round: Round) -> Lists
-    ensures { result ≡ world.rankings_of round }
+    ensures { result ≡ world.ranking_table round }
 {
     match round {
         Round::First => Lists::Rankings,
@@ -45,7 +45,7 @@ pub(crate) struct PutChoices<'a> {
 }
 
 impl Step for PutChoices<'_> {
-    ghost makes = { λ s. TurnsIn s.round (Choices s.student.now s.projects.now) };
+    ghost makes = { λ s. IsTransitionIn s.round (Choices s.student.now s.projects.now) };
 
     fn take<S: Alter>(self, alloc: Global, tx: &mut Transaction<'_, S>) -> Result<(), Error> {
         let PutChoices {
@@ -92,7 +92,7 @@ pub(crate) fn replace_ranking<S: Alter>(
 ) -> Result<(), TableFault>
     requires idle { conn.old.in_transaction ≡ false }
     ensures idle { conn.new.in_transaction ≡ false }
-    ensures ends { Ends (TurnsIn round (Ranks lecturer.now students.now)) result
+    ensures ends { CommitsChange (IsTransitionIn round (Ranks lecturer.now students.now)) result
         (state S.Store conn.old) (state S.Store conn.new) }
 {
     let _idle = conn.is_autocommit();

@@ -6,9 +6,9 @@ ghost use Rattle.portal_core.specs.Good.{Sound};
 ghost use Rattle.portal_core.specs.declared.phase.Round.TheVariants.{Second};
 ghost use Rattle.portal_list.specs.Entries.{HasEntries};
 ghost use Rattle.portal_views.specs.Contents.{rows_held};
-ghost use Rattle.portal_tables.specs.Reading.{Asks, AsksIn};
-ghost use Rattle.portal_store.specs.Asked.{AreApart};
-ghost use Rattle.portal_store.specs.Kept.{Stands, StandsAs, StandsIn};
+ghost use Rattle.portal_tables.specs.Reading.{RunsQuery, RunsQueryIn};
+ghost use Rattle.portal_store.specs.Asked.{NumbersDiffer};
+ghost use Rattle.portal_store.specs.Kept.{HasGoodWorld, HasGoodFirst, HasGoodWorldIn};
 ghost use Rattle.portal_store.specs.Loads as meant_by;
 ghost use Rattle.portal_store.specs.Loads.{Loads, LoadsIn};
 ghost use Rattle.portal_store.specs.World.{round_in, world_of};
@@ -34,8 +34,8 @@ pub(crate) fn load_first<S: Alter>(
     ensures rows { OverOwn S.Store conn.old conn.new
         (IfOk result (λ rows. Loads version (shown S.Store conn.old) rows)) }
     ensures damaged { OverOwn S.Store conn.old conn.new
-        (result ≡ Err TableFault.Damaged → StandsAs version (shown S.Store conn.old) → ⊥) }
-    ensures asks { Asks result (state S.Store conn.old) (state S.Store conn.new) }
+        (result ≡ Err TableFault.Damaged → HasGoodFirst version (shown S.Store conn.old) → ⊥) }
+    ensures asks { RunsQuery result (state S.Store conn.old) (state S.Store conn.new) }
 {
     let office = office_in(alloc, conn, version)?;
     let contents = contents_in(alloc, conn, Round::First)?;
@@ -82,9 +82,9 @@ fn load_second<S: Alter>(alloc: Global, conn: &mut Connection<S>) -> Result<Worl
     ensures rows { OverBoth S.Store conn.old conn.new
         (IfOk result (λ rows. LoadsIn Second (shown S.Store conn.old) rows)) }
     ensures damaged { OverBoth S.Store conn.old conn.new
-        (result ≡ Err TableFault.Damaged → AreApart (shown S.Store conn.old)
-        → StandsIn Second (shown S.Store conn.old) → ⊥) }
-    ensures asks { AsksIn Second result (state S.Store conn.old) (state S.Store conn.new) }
+        (result ≡ Err TableFault.Damaged → NumbersDiffer (shown S.Store conn.old)
+        → HasGoodWorldIn Second (shown S.Store conn.old) → ⊥) }
+    ensures asks { RunsQueryIn Second result (state S.Store conn.old) (state S.Store conn.new) }
 {
     let phase = second_in(alloc, conn)?;
     let first = load_first(alloc, conn, VERSION)?;
@@ -103,9 +103,9 @@ pub(crate) fn load<S: Alter>(
         (IfOk result (λ rows. LoadsIn (round_in (shown S.Store conn.old))
         (shown S.Store conn.old) rows)) }
     ensures damaged { OverBoth S.Store conn.old conn.new
-        (result ≡ Err TableFault.Damaged → AreApart (shown S.Store conn.old)
-        → Stands (shown S.Store conn.old) → ⊥) }
-    ensures asks { AsksIn Second result (state S.Store conn.old) (state S.Store conn.new) }
+        (result ≡ Err TableFault.Damaged → NumbersDiffer (shown S.Store conn.old)
+        → HasGoodWorld (shown S.Store conn.old) → ⊥) }
+    ensures asks { RunsQueryIn Second result (state S.Store conn.old) (state S.Store conn.new) }
 {
     match round_in(alloc, conn)? {
         Round::First => load_first(alloc, conn, VERSION),
@@ -124,7 +124,7 @@ pub(crate) fn load_entries<S: Alter>(
     ensures entries { OverBoth S.Store conn.old conn.new
         (IfOk result (λ e. Sound (world_of (shown S.Store conn.old))
         → HasEntries e (world_of (shown S.Store conn.old)))) }
-    ensures asks { AsksIn Second result (state S.Store conn.old) (state S.Store conn.new) }
+    ensures asks { RunsQueryIn Second result (state S.Store conn.old) (state S.Store conn.new) }
 {
     let rows = load(alloc, conn)?;
     match Entries::from_rows(alloc, rows) {

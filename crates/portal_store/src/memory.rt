@@ -3,7 +3,7 @@
 ghost use Rattle.std.specs.Prelude.{◌≡◌, IfSome};
 ghost use Rattle.portal_core.specs.Change.{changed};
 ghost use Rattle.portal_core.specs.Good.{Good};
-ghost use Rattle.portal_core.specs.Meaning.{meant};
+ghost use Rattle.portal_core.specs.Meaning.{change_model};
 ghost use Rattle.portal_core.specs.View as seen;
 ghost use Rattle.portal_store.specs.Made.{first_world};
 
@@ -20,10 +20,10 @@ pub fn seen_around(
     change: &Change,
     code: &[u8],
 ) -> Option<(View, View)>
-    requires good { Good (changed (first_world office) (meant change.now)) }
+    requires good { Good (changed (first_world office) (change_model change.now)) }
     ensures before { IfSome result (λ views. views.0 ≡ seen.view (first_world office) code.now) }
     ensures after { IfSome result
-        (λ views. views.1 ≡ seen.view (changed (first_world office) (meant change.now)) code.now) }
+        (λ views. views.1 ≡ seen.view (changed (first_world office) (change_model change.now)) code.now) }
 {
     lasts_in_memory();
     let Ok(mut store) = Store::create_memory(alloc, office) else {

@@ -3,7 +3,7 @@
 ghost use Rattle.std.specs.Prelude.{◌≡◌, false, IfOk};
 ghost use Rattle.portal_core.specs.Counting.{CountsFaults};
 ghost use Rattle.sqlite.specs.Held.{state};
-ghost use Rattle.portal_tables.specs.Reading.{Asks};
+ghost use Rattle.portal_tables.specs.Reading.{RunsQuery};
 ghost use Rattle.portal_store.specs.World.{world_of};
 ghost use Rattle.portal_store.specs.Reading.{shown, OverOwn};
 
@@ -23,7 +23,7 @@ pub(crate) fn office_of<S: Alter>(
     ensures idle { conn.new.in_transaction ≡ false }
     ensures code { OverOwn S.Store conn.old conn.new
         (IfOk result (λ code. code ≡ (world_of (shown S.Store conn.old)).office)) }
-    ensures asks { Asks result (state S.Store conn.old) (state S.Store conn.new) }
+    ensures asks { RunsQuery result (state S.Store conn.old) (state S.Store conn.new) }
     ensures counts { CountsFaults result faults.old faults.new }
 {
     match office_in(alloc, conn, VERSION) {

@@ -7,26 +7,26 @@ ghost use Rattle.portal_core.specs.Good.{Good};
 ghost use Rattle.portal_core.specs.World.{is_setup};
 ghost use Rattle.portal_core.specs.declared.phase.Round.TheVariants.{First, Second};
 ghost use Rattle.portal_core.specs.declared.phase.Phase.TheVariants.{Published};
-ghost use Rattle.portal_tables.specs.Own.{HasRound, IsCurrent};
+ghost use Rattle.portal_tables.specs.Schema.{HasRound, IsCurrentSchema};
 ghost use Rattle.portal_tables.specs.Queries.{round_asked};
-ghost use Rattle.portal_tables.specs.Reading.{Asks, AsksIn};
+ghost use Rattle.portal_tables.specs.Reading.{RunsQuery, RunsQueryIn};
 ghost use Rattle.portal_tables.specs.Steps.{Stays};
 ghost use Rattle.portal_list.specs.Entries.{HasEntries};
-ghost use Rattle.portal_store.specs.Kept.{AllApart, AreEmpty, HasSecond, Stands, StandsIn, IsCleanStore, kept_world, later_trees};
+ghost use Rattle.portal_store.specs.Kept.{AllNumbersDiffer, AreEmpty, HasSecond, HasGoodWorld, HasGoodWorldIn, IsCleanStore, kept_world, later_trees};
 ghost use Rattle.portal_store.specs.World.{phase_in, round_in, world_of};
-ghost use Rattle.portal_store.specs.Asked.{AreApart, Denies, IsJudged, SaysNothing, Refutes, Admits};
-ghost use Rattle.portal_store.specs.Reading.{ReadsAll, OverBoth, OverLive, OverOwn, shown, table_of};
+ghost use Rattle.portal_store.specs.Asked.{NumbersDiffer, Denies, IsJudged, SaysNothing, Refutes, Admits};
+ghost use Rattle.portal_store.specs.Reading.{ReadsAll, OverBoth, OverLive, OverOwn, shown, queried_rows};
 
 use crate::fault::{load_open_fault_of, open_fault_of};
 use crate::round::first_phase;
 use crate::seeing::{apart, judge_world, see_first, see_first_apart, seen};
 use crate::sound::load_keeper;
 use crate::store::{NotOpened, OpenFault, Store};
-use portal_core::{Phase, Remembered};
+use portal_core::{Phase, ViewCache};
 use portal_list::Entries;
 use portal_tables::list_table::Lists;
 use portal_tables::select::{Query, Table, finds_any, read};
-use portal_tables::{Pattern, VERSION, are_apart, second_in};
+use portal_tables::{PortalSchema, VERSION, row_numbers_differ, second_in};
 use sqlite::{Alter, Connection};
 use std::alloc::Global;
 
@@ -46,22 +46,22 @@ fn see_second_tables<S: Alter>(conn: &mut Connection<S>, own: bool) -> Result<()
     seen(read(conn, Query::AllLists(Lists::SecondChoices)))?;
     seen(read(conn, Query::SecondRanked))?;
     seen(read(conn, Query::AllLists(Lists::SecondRankings)))?;
-    seen(read(conn, Query::SecondPlaces))
+    seen(read(conn, Query::SecondPlacements))
 }
 
 /// Whether a query of a whole table shows no row.
 fn see_none<S: Alter>(conn: &mut Connection<S>, query: Query<'_>) -> Result<(), OpenFault>
     requires idle { conn.old.in_transaction ≡ false }
     ensures idle { conn.new.in_transaction ≡ false }
-    ensures asks { AsksIn (round_asked query.entry) result (state S.Store conn.old)
+    ensures asks { RunsQueryIn (round_asked query.entry) result (state S.Store conn.old)
         (state S.Store conn.new) }
     ensures refused { HasRound (round_asked query.entry) conn.old.schema
         → HasCleanDisk (state S.Store conn.new) → ReadsAll query.entry
         → IfErr result (λ fault. Denies fault
-        (table_of query.entry (shown S.Store conn.old) ≡ [])) }
+        (queried_rows query.entry (shown S.Store conn.old) ≡ [])) }
     ensures none { HasRound (round_asked query.entry) conn.old.schema
         → HasCleanDisk (state S.Store conn.new) → ReadsAll query.entry
-        → OnOk result (table_of query.entry (shown S.Store conn.old) ≡ []) }
+        → OnOk result (queried_rows query.entry (shown S.Store conn.old) ≡ []) }
 {
     match finds_any(conn, query) {
         Ok(false) => Ok(()),
@@ -74,25 +74,25 @@ fn see_none<S: Alter>(conn: &mut Connection<S>, query: Query<'_>) -> Result<(), 
 fn see_nothing<S: Alter>(conn: &mut Connection<S>) -> Result<(), OpenFault>
     requires idle { conn.old.in_transaction ≡ false }
     ensures idle { conn.new.in_transaction ≡ false }
-    ensures asks { AsksIn Second result (state S.Store conn.old) (state S.Store conn.new) }
-    ensures refused { IsCurrent conn.old.schema → HasCleanDisk (state S.Store conn.new)
+    ensures asks { RunsQueryIn Second result (state S.Store conn.old) (state S.Store conn.new) }
+    ensures refused { IsCurrentSchema conn.old.schema → HasCleanDisk (state S.Store conn.new)
         → IfErr result (λ fault. Denies fault (AreEmpty (shown S.Store conn.old))) }
-    ensures none { IsCurrent conn.old.schema → HasCleanDisk (state S.Store conn.new)
+    ensures none { IsCurrentSchema conn.old.schema → HasCleanDisk (state S.Store conn.new)
         → OnOk result (AreEmpty (shown S.Store conn.old)) }
 {
     see_none(conn, Query::AllLists(Lists::SecondChoices))?;
     see_none(conn, Query::SecondRanked)?;
     see_none(conn, Query::AllLists(Lists::SecondRankings))?;
-    see_none(conn, Query::SecondPlaces)
+    see_none(conn, Query::SecondPlacements)
 }
 
 /// Whether the first round is published.
 fn see_published<S: Alter>(alloc: Global, conn: &mut Connection<S>) -> Result<(), OpenFault>
     requires idle { conn.old.in_transaction ≡ false }
     ensures idle { conn.new.in_transaction ≡ false }
-    ensures asks { Asks result (state S.Store conn.old) (state S.Store conn.new) }
+    ensures asks { RunsQuery result (state S.Store conn.old) (state S.Store conn.new) }
     ensures refused { OverOwn S.Store conn.old conn.new
-        (IfErr result (λ fault. Denies fault (StandsIn Second (shown S.Store conn.old)))) }
+        (IfErr result (λ fault. Denies fault (HasGoodWorldIn Second (shown S.Store conn.old)))) }
     ensures published { OverOwn S.Store conn.old conn.new
         (OnOk result (phase_in First (shown S.Store conn.old) ≡ Published)) }
 {
@@ -117,9 +117,9 @@ fn tells_none(phase: Phase) -> bool
 fn see_second<S: Alter>(alloc: Global, conn: &mut Connection<S>) -> Result<(), OpenFault>
     requires idle { conn.old.in_transaction ≡ false }
     ensures idle { conn.new.in_transaction ≡ false }
-    ensures asks { AsksIn Second result (state S.Store conn.old) (state S.Store conn.new) }
+    ensures asks { RunsQueryIn Second result (state S.Store conn.old) (state S.Store conn.new) }
     ensures refused { OverBoth S.Store conn.old conn.new
-        (IfErr result (λ fault. Denies fault (Stands (shown S.Store conn.old)))) }
+        (IfErr result (λ fault. Denies fault (HasGoodWorld (shown S.Store conn.old)))) }
     ensures second { OverBoth S.Store conn.old conn.new
         (OnOk result (HasSecond (round_in (shown S.Store conn.old)) (shown S.Store conn.old))) }
 {
@@ -138,25 +138,25 @@ fn see_second<S: Alter>(alloc: Global, conn: &mut Connection<S>) -> Result<(), O
 fn see_second_apart<S: Alter>(conn: &mut Connection<S>) -> Result<(), OpenFault>
     requires idle { conn.old.in_transaction ≡ false }
     ensures idle { conn.new.in_transaction ≡ false }
-    ensures asks { AsksIn Second result (state S.Store conn.old) (state S.Store conn.new) }
+    ensures asks { RunsQueryIn Second result (state S.Store conn.old) (state S.Store conn.new) }
     ensures refused { IfErr result SaysNothing }
-    ensures apart { IsCurrent conn.old.schema → HasCleanDisk (state S.Store conn.new)
-        → OnOk result (AllApart later_trees (shown S.Store conn.old)) }
+    ensures apart { IsCurrentSchema conn.old.schema → HasCleanDisk (state S.Store conn.new)
+        → OnOk result (AllNumbersDiffer later_trees (shown S.Store conn.old)) }
 {
-    apart(are_apart(conn, Table::OfLists(Lists::SecondChoices)))?;
-    apart(are_apart(conn, Table::OfRanked))?;
-    apart(are_apart(conn, Table::OfLists(Lists::SecondRankings)))?;
-    apart(are_apart(conn, Table::OfPlaces))
+    apart(row_numbers_differ(conn, Table::OfLists(Lists::SecondChoices)))?;
+    apart(row_numbers_differ(conn, Table::OfRanked))?;
+    apart(row_numbers_differ(conn, Table::OfLists(Lists::SecondRankings)))?;
+    apart(row_numbers_differ(conn, Table::OfPlaces))
 }
 
 /// Whether the rows of all tables have numbers of their own.
 fn see_apart<S: Alter>(conn: &mut Connection<S>) -> Result<(), OpenFault>
     requires idle { conn.old.in_transaction ≡ false }
     ensures idle { conn.new.in_transaction ≡ false }
-    ensures asks { AsksIn Second result (state S.Store conn.old) (state S.Store conn.new) }
+    ensures asks { RunsQueryIn Second result (state S.Store conn.old) (state S.Store conn.new) }
     ensures refused { IfErr result SaysNothing }
-    ensures apart { IsCurrent conn.old.schema → HasCleanDisk (state S.Store conn.new)
-        → OnOk result (AreApart (shown S.Store conn.old)) }
+    ensures apart { IsCurrentSchema conn.old.schema → HasCleanDisk (state S.Store conn.new)
+        → OnOk result (NumbersDiffer (shown S.Store conn.old)) }
 {
     see_first_apart(conn)?;
     see_second_apart(conn)
@@ -166,10 +166,10 @@ fn see_apart<S: Alter>(conn: &mut Connection<S>) -> Result<(), OpenFault>
 fn see_world<S: Alter>(alloc: Global, conn: &mut Connection<S>) -> Result<Entries, OpenFault>
     requires idle { conn.old.in_transaction ≡ false }
     ensures idle { conn.new.in_transaction ≡ false }
-    ensures asks { AsksIn Second result (state S.Store conn.old) (state S.Store conn.new) }
+    ensures asks { RunsQueryIn Second result (state S.Store conn.old) (state S.Store conn.new) }
     ensures refused { OverBoth S.Store conn.old conn.new
-        (AreApart (shown S.Store conn.old)
-        → IfErr result (λ fault. Denies fault (Stands (shown S.Store conn.old)))) }
+        (NumbersDiffer (shown S.Store conn.old)
+        → IfErr result (λ fault. Denies fault (HasGoodWorld (shown S.Store conn.old)))) }
     ensures judged { OverBoth S.Store conn.old conn.new
         (OnOk result (IsJudged (shown S.Store conn.old))) }
     ensures entries { OverBoth S.Store conn.old conn.new
@@ -188,9 +188,9 @@ fn see_world<S: Alter>(alloc: Global, conn: &mut Connection<S>) -> Result<Entrie
 fn judge_both<S: Alter>(alloc: Global, conn: &mut Connection<S>) -> Result<Entries, OpenFault>
     requires idle { conn.old.in_transaction ≡ false }
     ensures idle { conn.new.in_transaction ≡ false }
-    ensures asks { AsksIn Second result (state S.Store conn.old) (state S.Store conn.new) }
+    ensures asks { RunsQueryIn Second result (state S.Store conn.old) (state S.Store conn.new) }
     ensures refused { OverLive Second S.Store conn.old conn.new
-        (IfErr result (λ fault. Denies fault (Stands (shown S.Store conn.old)))) }
+        (IfErr result (λ fault. Denies fault (HasGoodWorld (shown S.Store conn.old)))) }
     ensures admits { OverLive Second S.Store conn.old conn.new
         (OnOk result (Admits (shown S.Store conn.old))) }
     ensures entries { OverLive Second S.Store conn.old conn.new
@@ -211,7 +211,7 @@ fn examine<S: Alter>(
     requires idle { conn.old.in_transaction ≡ false }
     ensures idle { conn.new.in_transaction ≡ false }
     ensures asks { IsTrue own
-        → AsksIn Second result (state S.Store conn.old) (state S.Store conn.new) }
+        → RunsQueryIn Second result (state S.Store conn.old) (state S.Store conn.new) }
     ensures refused { IsTrue own → OverLive Second S.Store conn.old conn.new
         (IfErr result (λ fault. Refutes fault (shown S.Store conn.old))) }
     ensures admits { IsTrue own → OverLive Second S.Store conn.old conn.new
@@ -232,29 +232,29 @@ impl<S: Alter> Store<S> {
     /// memory. The version is looked at before the tables of the second round.
     pub fn open(alloc: Global, mut conn: Connection<S>) -> Result<Store<S>, NotOpened<OpenFault, S>>
         requires idle { conn.in_transaction ≡ false }
-        ensures own { IfOk result (λ s. IsTrue s.own ↔ IsCurrent conn.schema) }
-        ensures same { IfOk result (λ s. IsCurrent conn.schema → HasCleanDisk (state S.Store s.conn)
+        ensures own { IfOk result (λ s. IsTrue s.own ↔ IsCurrentSchema conn.schema) }
+        ensures same { IfOk result (λ s. IsCurrentSchema conn.schema → HasCleanDisk (state S.Store s.conn)
             → IsUnchanged (state S.Store conn) (state S.Store s.conn)) }
-        ensures stands { IfOk result (λ s. IsCurrent conn.schema
+        ensures stands { IfOk result (λ s. IsCurrentSchema conn.schema
             → HasCleanDisk (state S.Store s.conn)
-            → Stands (state S.Store s.conn).now.trees) }
+            → HasGoodWorld (state S.Store s.conn).now.trees) }
         ensures good { IfOk result (λ s. IsCleanStore S.Store s → Good (kept_world S.Store s)) }
-        ensures refused { IfErr result (λ e. IsCurrent conn.schema
+        ensures refused { IfErr result (λ e. IsCurrentSchema conn.schema
             → HasCleanDisk (state S.Store e.connection)
             → Refutes e.fault (state S.Store conn).now.trees) }
-        ensures err { IfErr result (λ e. IsCurrent conn.schema
+        ensures err { IfErr result (λ e. IsCurrentSchema conn.schema
             → HasCleanDisk (state S.Store e.connection)
             → IsTrue (state S.Store e.connection).is_open
             → Stays (state S.Store conn) (state S.Store e.connection)) }
         ensures idle { IfErr result (λ e. e.connection.in_transaction ≡ false) }
-        ensures crash_ok { IfOk result (λ s. IsCurrent conn.schema
+        ensures crash_ok { IfOk result (λ s. IsCurrentSchema conn.schema
             → Survives (state S.Store conn) (state S.Store s.conn) (λ _. ⊥)) }
-        ensures crash_err { IfErr result (λ e. IsCurrent conn.schema
+        ensures crash_err { IfErr result (λ e. IsCurrentSchema conn.schema
             → Survives (state S.Store conn) (state S.Store e.connection) (λ _. ⊥)) }
     {
         let _idle = conn.is_autocommit();
         let _live = conn.schema();
-        let pattern = match Pattern::new(alloc) {
+        let pattern = match PortalSchema::new(alloc) {
             Ok(pattern) => pattern,
             Err(error) => {
                 return Err(NotOpened {
@@ -277,7 +277,7 @@ impl<S: Alter> Store<S> {
             conn,
             own,
             pattern,
-            mind: Remembered::nothing(),
+            cache: ViewCache::nothing(),
             entries: Some(entries),
             faults: 0,
         })

@@ -4,9 +4,9 @@ ghost use Rattle.std.specs.Prelude.{◌≡◌, ◌&&◌, false, not};
 ghost use Rattle.sqlite.specs.Held.{state};
 ghost use Rattle.portal_core.specs.Change.{SecondRound};
 ghost use Rattle.portal_core.specs.World.{is_published, is_second};
-ghost use Rattle.portal_store.specs.Kept.{TurnsFrom};
-ghost use Rattle.portal_store.specs.Ending.{Ends};
-ghost use Rattle.portal_store.specs.Opening.{Opens};
+ghost use Rattle.portal_store.specs.Kept.{IsTransitionFrom};
+ghost use Rattle.portal_store.specs.Ending.{CommitsChange};
+ghost use Rattle.portal_store.specs.Opening.{OpensSecondRound};
 
 use crate::round::first_phase;
 use portal_core::{Phase, Round};
@@ -19,7 +19,7 @@ use std::alloc::Global;
 struct OpenSecond;
 
 impl Step for OpenSecond {
-    ghost makes = { λ _. Opens };
+    ghost makes = { λ _. OpensSecondRound };
 
     fn take<S: Alter>(self, _alloc: Global, tx: &mut Transaction<'_, S>) -> Result<(), Error> {
         set_second(tx, 1)
@@ -44,7 +44,7 @@ pub(crate) fn open_second<S: Alter>(
 ) -> Result<(), TableFault>
     requires idle { conn.old.in_transaction ≡ false }
     ensures idle { conn.new.in_transaction ≡ false }
-    ensures ends { Ends (TurnsFrom round SecondRound) result (state S.Store conn.old)
+    ensures ends { CommitsChange (IsTransitionFrom round SecondRound) result (state S.Store conn.old)
         (state S.Store conn.new) }
 {
     let _idle = conn.is_autocommit();

@@ -3,10 +3,10 @@
 ghost use Rattle.std.specs.Prelude.{◌≡◌, false};
 ghost use Rattle.sqlite.specs.Held.{state};
 ghost use Rattle.portal_core.specs.Change.{To};
-ghost use Rattle.portal_tables.specs.Office.{number_of};
-ghost use Rattle.portal_tables.specs.Own.{IsCurrent};
-ghost use Rattle.portal_store.specs.Kept.{TurnsIn};
-ghost use Rattle.portal_store.specs.Ending.{Ends};
+ghost use Rattle.portal_tables.specs.Office.{number_of_phase};
+ghost use Rattle.portal_tables.specs.Schema.{IsCurrentSchema};
+ghost use Rattle.portal_store.specs.Kept.{IsTransitionIn};
+ghost use Rattle.portal_store.specs.Ending.{CommitsChange};
 ghost use Rattle.portal_store.specs.Reading.{KeepsEntries};
 
 use crate::load::load_entries;
@@ -19,7 +19,7 @@ use std::alloc::Global;
 
 /// The number that stands for a phase in the table.
 fn phase_number(phase: Phase) -> u32
-    ensures { result ≡ number_of phase }
+    ensures { result ≡ number_of_phase phase }
 {
     match phase {
         Phase::Setup => 0,
@@ -36,7 +36,7 @@ struct SetPhase {
 }
 
 impl Step for SetPhase {
-    ghost makes = { λ s. TurnsIn s.round (To s.phase) };
+    ghost makes = { λ s. IsTransitionIn s.round (To s.phase) };
 
     fn take<S: Alter>(self, _alloc: Global, tx: &mut Transaction<'_, S>) -> Result<(), Error> {
         let SetPhase { round, phase } = self;
@@ -58,9 +58,9 @@ pub(crate) fn set_phase<S: Alter>(
 ) -> Result<(), TableFault>
     requires idle { conn.old.in_transaction ≡ false }
     ensures idle { conn.new.in_transaction ≡ false }
-    ensures ends { Ends (TurnsIn round (To phase)) result (state S.Store conn.old)
+    ensures ends { CommitsChange (IsTransitionIn round (To phase)) result (state S.Store conn.old)
         (state S.Store conn.new) }
-    ensures entries { IsCurrent conn.old.schema
+    ensures entries { IsCurrentSchema conn.old.schema
         → KeepsEntries entries.old entries.new (state S.Store conn.old) (state S.Store conn.new) }
 {
     let _idle = conn.is_autocommit();

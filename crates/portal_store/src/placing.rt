@@ -3,9 +3,9 @@
 ghost use Rattle.std.specs.Prelude.{◌≡◌, false, map, IfOk, is_none, option_map};
 ghost use Rattle.std.specs.List.{filter_map};
 ghost use Rattle.sqlite.specs.Held.{state};
-ghost use Rattle.portal_core.specs.Change.{Places, place_in};
-ghost use Rattle.portal_store.specs.Kept.{TurnsIn};
-ghost use Rattle.portal_store.specs.Ending.{Ends};
+ghost use Rattle.portal_core.specs.Change.{Placements, placement_in};
+ghost use Rattle.portal_store.specs.Kept.{IsTransitionIn};
+ghost use Rattle.portal_store.specs.Ending.{CommitsChange};
 ghost use Rattle.portal_store.specs.Placing.{TurnsShown, TurnsLeft, assigned_of, pair_left};
 ghost use Rattle.sqlite.specs.Order.{column};
 ghost use Rattle.portal_tables.specs.Shown.{text_or_none};
@@ -15,7 +15,7 @@ use portal_core::{Pairs, Round};
 use portal_tables::cells::{bytes_at, key_at};
 use portal_tables::select::{Query, Roll, read};
 use portal_tables::{
-    Assignment, Step, TableFault, assign_all, commit, put_places, set_second, update,
+    Assignment, Step, TableFault, assign_all, commit, put_placements, set_second, update,
 };
 use spa_rows::Key;
 use sqlite::types::ValueRef;
@@ -24,7 +24,7 @@ use std::alloc::{AllocError, Global};
 
 /// The project that the pairs give to the student with this key.
 fn project_in<'a>(pairs: &Pairs<'a>, student: &[u8]) -> Option<&'a [u8]>
-    ensures { option_map (λ p. p.now) result ≡ place_in pairs.now student.now }
+    ensures { option_map (λ p. p.now) result ≡ placement_in pairs.now student.now }
 {
     let project = pairs.project_of(student)?;
     Some(project.as_bytes())
@@ -118,7 +118,7 @@ impl Step for PutSecond<'_> {
 
     fn take<S: Alter>(self, alloc: Global, tx: &mut Transaction<'_, S>) -> Result<(), Error> {
         let PutSecond { left } = self;
-        put_places(alloc, tx, left)?;
+        put_placements(alloc, tx, left)?;
         set_second(tx, 3)
     }
 }
@@ -133,7 +133,7 @@ pub(crate) fn publish<S: Alter>(
 ) -> Result<(), TableFault>
     requires idle { conn.old.in_transaction ≡ false }
     ensures idle { conn.new.in_transaction ≡ false }
-    ensures ends { Ends (TurnsIn round (Places pairs.now)) result (state S.Store conn.old)
+    ensures ends { CommitsChange (IsTransitionIn round (Placements pairs.now)) result (state S.Store conn.old)
         (state S.Store conn.new) }
 {
     let _idle = conn.is_autocommit();

@@ -6,26 +6,26 @@ ghost use Rattle.sqlite.specs.Held.{state};
 ghost use Rattle.portal_core.specs.Counting.{CountsFaults};
 ghost use Rattle.portal_core.specs.Good.{Good};
 ghost use Rattle.portal_core.specs.View as seen;
-ghost use Rattle.portal_core.specs.Remembered.{Remembers};
-ghost use Rattle.portal_core.specs.Words.{is};
+ghost use Rattle.portal_core.specs.ViewCache.{IsCacheOf};
+ghost use Rattle.portal_core.specs.Words.{equals};
 ghost use Rattle.portal_core.specs.declared.phase.Round.TheVariants.{Second};
 ghost use Rattle.portal_core.specs.View.{sight_of, caller_among, student_with, OfficeCaller};
-ghost use Rattle.portal_tables.specs.Own.{IsCurrent};
+ghost use Rattle.portal_tables.specs.Schema.{IsCurrentSchema};
 ghost use Rattle.portal_store.specs.World.{world_in, world_of};
-ghost use Rattle.portal_store.specs.Kept.{Holds};
-ghost use Rattle.portal_tables.specs.Reading.{AsksIn, ReadsIn};
-ghost use Rattle.portal_store.specs.Reading.{KeepsInMind, KeepsInRound, IsNow, OverRound, shown};
+ghost use Rattle.portal_store.specs.Kept.{IsConsistent};
+ghost use Rattle.portal_tables.specs.Reading.{RunsQueryIn, RunsQueriesIn};
+ghost use Rattle.portal_store.specs.Reading.{KeepsCache, KeepsCacheIn, IsNow, OverRound, shown};
 
 mod caller;
-mod offers;
+mod catalogue;
 mod office;
 
 use crate::fault::told;
 use crate::round::round_now;
 use caller::{lecturer_in, student_in};
-use offers::shared_catalogue;
+use catalogue::shared_catalogue;
 use office::office_view;
-use portal_core::{KeepFault, OfficeView, Phase, Remembered, Round, View};
+use portal_core::{KeepFault, OfficeView, Phase, ViewCache, Round, View};
 use portal_tables::{Office, TableFault};
 use portal_views::{lecturer_view, student_view};
 use sqlite::{Alter, Connection};
@@ -36,20 +36,20 @@ fn office_read<S: Alter>(
     alloc: Global,
     conn: &mut Connection<S>,
     round: Round,
-    remembered: &mut Remembered,
+    cache: &mut ViewCache,
     office: Office,
 ) -> Result<OfficeView, TableFault>
     requires idle { conn.old.in_transaction ≡ false }
     ensures idle { conn.new.in_transaction ≡ false }
     ensures shows { OverRound round S.Store conn.old conn.new
         (IsNow (world_in round (shown S.Store conn.old)) round office
-        → Remembers remembered.old (world_in round (shown S.Store conn.old))
+        → IsCacheOf cache.old (world_in round (shown S.Store conn.old))
         → IfOk result (λ view. view ≡ seen.office_sees (world_in round (shown S.Store conn.old)))) }
-    ensures mind { KeepsInRound round remembered.old remembered.new (state S.Store conn.old)
+    ensures cached { KeepsCacheIn round cache.old cache.new (state S.Store conn.old)
         (state S.Store conn.new) }
-    ensures reads { ReadsIn round result (state S.Store conn.old) (state S.Store conn.new) }
+    ensures reads { RunsQueriesIn round result (state S.Store conn.old) (state S.Store conn.new) }
 {
-    let catalogue = shared_catalogue(alloc, conn, round, remembered)?;
+    let catalogue = shared_catalogue(alloc, conn, round, cache)?;
     office_view(alloc, conn, round, office, catalogue)
 }
 
@@ -58,26 +58,26 @@ fn office_sight<S: Alter>(
     alloc: Global,
     conn: &mut Connection<S>,
     round: Round,
-    remembered: &mut Remembered,
+    cache: &mut ViewCache,
     office: Office,
 ) -> Result<View, TableFault>
     requires idle { conn.old.in_transaction ≡ false }
     ensures idle { conn.new.in_transaction ≡ false }
     ensures shows { OverRound round S.Store conn.old conn.new
         (IsNow (world_in round (shown S.Store conn.old)) round office
-        → Remembers remembered.old (world_in round (shown S.Store conn.old))
+        → IsCacheOf cache.old (world_in round (shown S.Store conn.old))
         → IfOk result (λ view. view
         ≡ sight_of (world_in round (shown S.Store conn.old)) OfficeCaller)) }
-    ensures mind { IsNow (world_in round (shown S.Store conn.old)) round office
-        → KeepsInRound round remembered.old remembered.new (state S.Store conn.old)
+    ensures cached { IsNow (world_in round (shown S.Store conn.old)) round office
+        → KeepsCacheIn round cache.old cache.new (state S.Store conn.old)
         (state S.Store conn.new) }
-    ensures reads { ReadsIn round result (state S.Store conn.old) (state S.Store conn.new) }
+    ensures reads { RunsQueriesIn round result (state S.Store conn.old) (state S.Store conn.new) }
 {
-    if let Some(view) = &remembered.office {
+    if let Some(view) = &cache.office {
         return Ok(View::Office(view.copy(alloc)?));
     }
-    let view = office_read(alloc, conn, round, remembered, office)?;
-    remembered.office = Some(view.copy(alloc)?);
+    let view = office_read(alloc, conn, round, cache, office)?;
+    cache.office = Some(view.copy(alloc)?);
     Ok(View::Office(view))
 }
 
@@ -86,7 +86,7 @@ fn student_sight<S: Alter>(
     alloc: Global,
     conn: &mut Connection<S>,
     round: Round,
-    remembered: &mut Remembered,
+    cache: &mut ViewCache,
     phase: Phase,
     code: &[u8],
 ) -> Result<View, TableFault>
@@ -94,18 +94,18 @@ fn student_sight<S: Alter>(
     ensures idle { conn.new.in_transaction ≡ false }
     ensures shows { OverRound round S.Store conn.old conn.new
         (phase ≡ (world_in round (shown S.Store conn.old)).phase
-        → Remembers remembered.old (world_in round (shown S.Store conn.old))
+        → IsCacheOf cache.old (world_in round (shown S.Store conn.old))
         → IfOk result (λ view. view
         ≡ sight_of (world_in round (shown S.Store conn.old))
         (caller_among None (student_with (world_in round (shown S.Store conn.old)) code.now)))) }
-    ensures mind { KeepsInRound round remembered.old remembered.new (state S.Store conn.old)
+    ensures cached { KeepsCacheIn round cache.old cache.new (state S.Store conn.old)
         (state S.Store conn.new) }
-    ensures reads { ReadsIn round result (state S.Store conn.old) (state S.Store conn.new) }
+    ensures reads { RunsQueriesIn round result (state S.Store conn.old) (state S.Store conn.new) }
 {
     let Some(row) = student_in(alloc, conn, code)? else {
         return Ok(View::Nobody);
     };
-    let catalogue = shared_catalogue(alloc, conn, round, remembered)?;
+    let catalogue = shared_catalogue(alloc, conn, round, cache)?;
     Ok(View::Student(student_view(alloc, conn, round, phase, &row, catalogue)?))
 }
 
@@ -114,7 +114,7 @@ fn person_sight<S: Alter>(
     alloc: Global,
     conn: &mut Connection<S>,
     round: Round,
-    remembered: &mut Remembered,
+    cache: &mut ViewCache,
     phase: Phase,
     code: &[u8],
 ) -> Result<View, TableFault>
@@ -122,19 +122,19 @@ fn person_sight<S: Alter>(
     ensures idle { conn.new.in_transaction ≡ false }
     ensures shows { OverRound round S.Store conn.old conn.new
         (phase ≡ (world_in round (shown S.Store conn.old)).phase
-        → is (world_in round (shown S.Store conn.old)).office code.now ≡ false
+        → equals (world_in round (shown S.Store conn.old)).office code.now ≡ false
         → Good (world_in round (shown S.Store conn.old))
-        → Remembers remembered.old (world_in round (shown S.Store conn.old))
+        → IsCacheOf cache.old (world_in round (shown S.Store conn.old))
         → IfOk result (λ view. view
         ≡ seen.view (world_in round (shown S.Store conn.old)) code.now)) }
-    ensures mind { KeepsInRound round remembered.old remembered.new (state S.Store conn.old)
+    ensures cached { KeepsCacheIn round cache.old cache.new (state S.Store conn.old)
         (state S.Store conn.new) }
-    ensures reads { ReadsIn round result (state S.Store conn.old) (state S.Store conn.new) }
+    ensures reads { RunsQueriesIn round result (state S.Store conn.old) (state S.Store conn.new) }
 {
     let Some(row) = lecturer_in(alloc, conn, code)? else {
-        return student_sight(alloc, conn, round, remembered, phase, code);
+        return student_sight(alloc, conn, round, cache, phase, code);
     };
-    let catalogue = shared_catalogue(alloc, conn, round, remembered)?;
+    let catalogue = shared_catalogue(alloc, conn, round, cache)?;
     Ok(View::Lecturer(lecturer_view(alloc, conn, round, phase, &row, catalogue)?))
 }
 
@@ -142,47 +142,47 @@ fn person_sight<S: Alter>(
 fn sight<S: Alter>(
     alloc: Global,
     conn: &mut Connection<S>,
-    remembered: &mut Remembered,
+    cache: &mut ViewCache,
     code: &[u8],
 ) -> Result<View, TableFault>
     requires idle { conn.old.in_transaction ≡ false }
     ensures idle { conn.new.in_transaction ≡ false }
-    ensures shows { Holds (state S.Store conn.old).now → HasCleanDisk (state S.Store conn.new)
+    ensures shows { IsConsistent (state S.Store conn.old).now → HasCleanDisk (state S.Store conn.new)
         → Good (world_of (shown S.Store conn.old))
-        → Remembers remembered.old (world_of (shown S.Store conn.old))
+        → IsCacheOf cache.old (world_of (shown S.Store conn.old))
         → IfOk result (λ view. view ≡ seen.view (world_of (shown S.Store conn.old)) code.now) }
-    ensures mind { KeepsInMind remembered.old remembered.new (state S.Store conn.old)
+    ensures cached { KeepsCache cache.old cache.new (state S.Store conn.old)
         (state S.Store conn.new) }
-    ensures asks { AsksIn Second result (state S.Store conn.old) (state S.Store conn.new) }
+    ensures asks { RunsQueryIn Second result (state S.Store conn.old) (state S.Store conn.new) }
 {
     let (round, office) = round_now(alloc, conn)?;
     if office.code.as_bytes() == code {
-        return office_sight(alloc, conn, round, remembered, office);
+        return office_sight(alloc, conn, round, cache, office);
     }
-    person_sight(alloc, conn, round, remembered, office.phase, code)
+    person_sight(alloc, conn, round, cache, office.phase, code)
 }
 
 /// What the caller with the code sees, with what is remembered, or is from now on. A fault of the store is counted.
 pub(crate) fn view_with<S: Alter>(
     alloc: Global,
     conn: &mut Connection<S>,
-    remembered: &mut Remembered,
+    cache: &mut ViewCache,
     faults: &mut u64,
     code: &[u8],
 ) -> Result<View, KeepFault>
     requires idle { conn.old.in_transaction ≡ false }
     ensures idle { conn.new.in_transaction ≡ false }
-    ensures shows { IsCurrent conn.old.schema → HasCleanDisk (state S.Store conn.new)
-        → IfOk result (λ view. Holds (state S.Store conn.old).now
+    ensures shows { IsCurrentSchema conn.old.schema → HasCleanDisk (state S.Store conn.new)
+        → IfOk result (λ view. IsConsistent (state S.Store conn.old).now
         → Good (world_of (shown S.Store conn.old))
-        → Remembers remembered.old (world_of (shown S.Store conn.old))
+        → IsCacheOf cache.old (world_of (shown S.Store conn.old))
         → view ≡ seen.view (world_of (shown S.Store conn.old)) code.now) }
-    ensures mind { KeepsInMind remembered.old remembered.new (state S.Store conn.old)
+    ensures cached { KeepsCache cache.old cache.new (state S.Store conn.old)
         (state S.Store conn.new) }
-    ensures asks { AsksIn Second result (state S.Store conn.old) (state S.Store conn.new) }
+    ensures asks { RunsQueryIn Second result (state S.Store conn.old) (state S.Store conn.new) }
     ensures counts { CountsFaults result faults.old faults.new }
 {
-    match sight(alloc, conn, remembered, code) {
+    match sight(alloc, conn, cache, code) {
         Ok(view) => Ok(view),
         Err(fault) => Err(told(faults, fault)),
     }
@@ -201,13 +201,13 @@ pub fn view<S: Alter>(
 ) -> Result<View, KeepFault>
     requires idle { conn.old.in_transaction ≡ false }
     ensures idle { conn.new.in_transaction ≡ false }
-    ensures shows { IsCurrent conn.old.schema → HasCleanDisk (state S.Store conn.new)
-        → IfOk result (λ view. Holds (state S.Store conn.old).now
+    ensures shows { IsCurrentSchema conn.old.schema → HasCleanDisk (state S.Store conn.new)
+        → IfOk result (λ view. IsConsistent (state S.Store conn.old).now
         → Good (world_of (shown S.Store conn.old))
         → view ≡ seen.view (world_of (shown S.Store conn.old)) code.now) }
-    ensures asks { AsksIn Second result (state S.Store conn.old) (state S.Store conn.new) }
+    ensures asks { RunsQueryIn Second result (state S.Store conn.old) (state S.Store conn.new) }
 {
-    let mut remembered = Remembered::nothing();
+    let mut cache = ViewCache::nothing();
     let mut faults = 0u64;
-    view_with(alloc, conn, &mut remembered, &mut faults, code)
+    view_with(alloc, conn, &mut cache, &mut faults, code)
 }

@@ -2,9 +2,9 @@
 
 ghost use Rattle.std.specs.Prelude.{◌≡◌, false};
 ghost use Rattle.sqlite.specs.Held.{state};
-ghost use Rattle.portal_store.specs.Adding.{added};
-ghost use Rattle.portal_store.specs.Ending.{Ends};
-ghost use Rattle.portal_store.specs.Kept.{TurnsIn};
+ghost use Rattle.portal_store.specs.Adding.{with_rows_added};
+ghost use Rattle.portal_store.specs.Ending.{CommitsChange};
+ghost use Rattle.portal_store.specs.Kept.{IsTransitionIn};
 
 use portal_core::{LecturerRow, ProjectRow, Round, StudentRow};
 use portal_tables::insert::{Lecturers, Projects, Students, add_all};
@@ -27,7 +27,7 @@ struct AddRows<'a> {
 }
 
 impl Step for AddRows<'_> {
-    ghost makes = { λ s. TurnsIn s.round (added s.rows) };
+    ghost makes = { λ s. IsTransitionIn s.round (with_rows_added s.rows) };
 
     fn take<S: Alter>(self, alloc: Global, tx: &mut Transaction<'_, S>) -> Result<(), Error> {
         let AddRows { round, rows } = self;
@@ -51,7 +51,7 @@ pub(crate) fn add_rows<S: Alter>(
 ) -> Result<(), TableFault>
     requires idle { conn.old.in_transaction ≡ false }
     ensures idle { conn.new.in_transaction ≡ false }
-    ensures ends { Ends (TurnsIn round (added rows.entry)) result (state S.Store conn.old)
+    ensures ends { CommitsChange (IsTransitionIn round (with_rows_added rows.entry)) result (state S.Store conn.old)
         (state S.Store conn.new) }
 {
     let _idle = conn.is_autocommit();

@@ -5,10 +5,10 @@ ghost use Rattle.sqlite.specs.Held.{state};
 ghost use Rattle.portal_core.specs.declared.phase.Round.{Round as ThatRound};
 ghost use Rattle.portal_core.specs.declared.phase.Round.TheVariants.{First, Second};
 ghost use Rattle.portal_core.specs.World.{is_setup};
-ghost use Rattle.portal_tables.specs.Reading.{Asks, AsksIn};
+ghost use Rattle.portal_tables.specs.Reading.{RunsQuery, RunsQueryIn};
 ghost use Rattle.portal_store.specs.World as meant_by;
 ghost use Rattle.portal_store.specs.Reading.{shown, IsNow, OverBoth, OverOwn};
-ghost use Rattle.portal_store.specs.Kept.{HasSecond, StandsIn};
+ghost use Rattle.portal_store.specs.Kept.{HasSecond, HasGoodWorldIn};
 
 use portal_core::{Phase, Round};
 use portal_tables::{Office, TableFault, VERSION, office_in, second_in};
@@ -27,7 +27,7 @@ pub(crate) fn round_in<S: Alter>(
     ensures damaged { OverBoth S.Store conn.old conn.new
         (result ≡ Err TableFault.Damaged → (round : ThatRound)
         → HasSecond round (shown S.Store conn.old) → ⊥) }
-    ensures asks { AsksIn Second result (state S.Store conn.old) (state S.Store conn.new) }
+    ensures asks { RunsQueryIn Second result (state S.Store conn.old) (state S.Store conn.new) }
 {
     match second_in(alloc, conn)? {
         Phase::Setup => Ok(Round::First),
@@ -62,7 +62,7 @@ pub(crate) fn round_now<S: Alter>(
     ensures idle { conn.new.in_transaction ≡ false }
     ensures now { OverBoth S.Store conn.old conn.new
         (IfOk result (λ now. IsNow (meant_by.world_of (shown S.Store conn.old)) now.0 now.1)) }
-    ensures asks { AsksIn Second result (state S.Store conn.old) (state S.Store conn.new) }
+    ensures asks { RunsQueryIn Second result (state S.Store conn.old) (state S.Store conn.new) }
 {
     let second = second_in(alloc, conn)?;
     let office = office_in(alloc, conn, VERSION)?;
@@ -80,8 +80,8 @@ pub(crate) fn first_phase<S: Alter>(
         (IfOk result (λ phase. meant_by.phase_in First (shown S.Store conn.old) ≡ phase)) }
     ensures damaged { OverOwn S.Store conn.old conn.new
         (result ≡ Err TableFault.Damaged → (round : ThatRound)
-        → StandsIn round (shown S.Store conn.old) → ⊥) }
-    ensures asks { Asks result (state S.Store conn.old) (state S.Store conn.new) }
+        → HasGoodWorldIn round (shown S.Store conn.old) → ⊥) }
+    ensures asks { RunsQuery result (state S.Store conn.old) (state S.Store conn.new) }
 {
     let office = office_in(alloc, conn, VERSION)?;
     Ok(office.phase)

@@ -8,19 +8,19 @@ ghost use Rattle.sqlite.specs.Held.{state};
 ghost use Rattle.portal_core.specs.Good.{Good, Sound};
 ghost use Rattle.portal_core.specs.declared.phase.Round.TheVariants.{First};
 ghost use Rattle.portal_tables.specs.Tables.{lecturer_tree, project_tree, student_tree, choice_tree, ranking_tree};
-ghost use Rattle.portal_tables.specs.Own.{IsOwn};
-ghost use Rattle.portal_tables.specs.Reading.{Asks};
+ghost use Rattle.portal_tables.specs.Schema.{HasFirstSchema};
+ghost use Rattle.portal_tables.specs.Reading.{RunsQuery};
 ghost use Rattle.portal_list.specs.Entries.{HasEntries};
-ghost use Rattle.portal_store.specs.Kept.{AllApart, StandsAs, early_trees};
+ghost use Rattle.portal_store.specs.Kept.{AllNumbersDiffer, HasGoodFirst, early_trees};
 ghost use Rattle.portal_store.specs.World.{world_in};
-ghost use Rattle.portal_store.specs.Asked.{HasVersion, Denies, SaysNothing, Blames, AdmitsAs};
+ghost use Rattle.portal_store.specs.Asked.{HasVersion, Denies, SaysNothing, RefusalSays, AdmitsAs};
 ghost use Rattle.portal_store.specs.Reading.{shown, OverOwn, OverLive};
 
 use crate::fault::{load_open_fault_of, open_fault_of, table_fault_of};
 use crate::sound::first_keeper;
 use crate::store::OpenFault;
 use portal_list::{Entries, ListKeeper};
-use portal_tables::are_apart;
+use portal_tables::row_numbers_differ;
 use portal_tables::list_table::Lists;
 use portal_tables::select::{Query, Roll, Table, read};
 use sqlite::types::ValueRef;
@@ -94,10 +94,10 @@ fn judge_office(rows: &[Row], version: u32) -> Result<(), OpenFault>
 fn see_office<S: Alter>(conn: &mut Connection<S>, version: u32) -> Result<(), OpenFault>
     requires idle { conn.old.in_transaction ≡ false }
     ensures idle { conn.new.in_transaction ≡ false }
-    ensures asks { Asks result (state S.Store conn.old) (state S.Store conn.new) }
-    ensures refused { IsOwn conn.old.schema → HasCleanDisk (state S.Store conn.new)
-        → IfErr result (λ fault. Blames fault version (Unit {0}) (shown S.Store conn.old)) }
-    ensures version { IsOwn conn.old.schema → HasCleanDisk (state S.Store conn.new)
+    ensures asks { RunsQuery result (state S.Store conn.old) (state S.Store conn.new) }
+    ensures refused { HasFirstSchema conn.old.schema → HasCleanDisk (state S.Store conn.new)
+        → IfErr result (λ fault. RefusalSays fault version (Unit {0}) (shown S.Store conn.old)) }
+    ensures version { HasFirstSchema conn.old.schema → HasCleanDisk (state S.Store conn.new)
         → OnOk result (HasVersion version (shown S.Store conn.old)) }
 {
     match read(conn, Query::Office) {
@@ -114,10 +114,10 @@ pub(crate) fn see_first<S: Alter>(
 ) -> Result<(), OpenFault>
     requires idle { conn.old.in_transaction ≡ false }
     ensures idle { conn.new.in_transaction ≡ false }
-    ensures asks { IsTrue own → Asks result (state S.Store conn.old) (state S.Store conn.new) }
-    ensures refused { IsTrue own → IsOwn conn.old.schema → HasCleanDisk (state S.Store conn.new)
-        → IfErr result (λ fault. Blames fault version (Unit {0}) (shown S.Store conn.old)) }
-    ensures version { IsTrue own → IsOwn conn.old.schema → HasCleanDisk (state S.Store conn.new)
+    ensures asks { IsTrue own → RunsQuery result (state S.Store conn.old) (state S.Store conn.new) }
+    ensures refused { IsTrue own → HasFirstSchema conn.old.schema → HasCleanDisk (state S.Store conn.new)
+        → IfErr result (λ fault. RefusalSays fault version (Unit {0}) (shown S.Store conn.old)) }
+    ensures version { IsTrue own → HasFirstSchema conn.old.schema → HasCleanDisk (state S.Store conn.new)
         → OnOk result (HasVersion version (shown S.Store conn.old)) }
 {
     see_tables(conn, own)?;
@@ -140,28 +140,28 @@ pub(crate) fn apart(answer: Result<bool, Error>) -> Result<(), OpenFault>
 fn see_rolls_apart<S: Alter>(conn: &mut Connection<S>) -> Result<(), OpenFault>
     requires idle { conn.old.in_transaction ≡ false }
     ensures idle { conn.new.in_transaction ≡ false }
-    ensures asks { Asks result (state S.Store conn.old) (state S.Store conn.new) }
+    ensures asks { RunsQuery result (state S.Store conn.old) (state S.Store conn.new) }
     ensures refused { IfErr result SaysNothing }
-    ensures apart { IsOwn conn.old.schema → HasCleanDisk (state S.Store conn.new)
-        → OnOk result (AllApart (lecturer_tree ∷ project_tree ∷ student_tree ∷ [])
+    ensures apart { HasFirstSchema conn.old.schema → HasCleanDisk (state S.Store conn.new)
+        → OnOk result (AllNumbersDiffer (lecturer_tree ∷ project_tree ∷ student_tree ∷ [])
         (shown S.Store conn.old)) }
 {
-    apart(are_apart(conn, Table::OfRoll(Roll::Lecturers)))?;
-    apart(are_apart(conn, Table::OfRoll(Roll::Projects)))?;
-    apart(are_apart(conn, Table::OfRoll(Roll::Students)))
+    apart(row_numbers_differ(conn, Table::OfRoll(Roll::Lecturers)))?;
+    apart(row_numbers_differ(conn, Table::OfRoll(Roll::Projects)))?;
+    apart(row_numbers_differ(conn, Table::OfRoll(Roll::Students)))
 }
 
 /// Whether the rows of the lists of the first round have numbers of their own.
 fn see_lists_apart<S: Alter>(conn: &mut Connection<S>) -> Result<(), OpenFault>
     requires idle { conn.old.in_transaction ≡ false }
     ensures idle { conn.new.in_transaction ≡ false }
-    ensures asks { Asks result (state S.Store conn.old) (state S.Store conn.new) }
+    ensures asks { RunsQuery result (state S.Store conn.old) (state S.Store conn.new) }
     ensures refused { IfErr result SaysNothing }
-    ensures apart { IsOwn conn.old.schema → HasCleanDisk (state S.Store conn.new)
-        → OnOk result (AllApart (choice_tree ∷ ranking_tree ∷ []) (shown S.Store conn.old)) }
+    ensures apart { HasFirstSchema conn.old.schema → HasCleanDisk (state S.Store conn.new)
+        → OnOk result (AllNumbersDiffer (choice_tree ∷ ranking_tree ∷ []) (shown S.Store conn.old)) }
 {
-    apart(are_apart(conn, Table::OfLists(Lists::Choices)))?;
-    apart(are_apart(conn, Table::OfLists(Lists::Rankings)))
+    apart(row_numbers_differ(conn, Table::OfLists(Lists::Choices)))?;
+    apart(row_numbers_differ(conn, Table::OfLists(Lists::Rankings)))
 }
 
 /// Whether the keeper's world is good.
@@ -187,11 +187,11 @@ fn see_world<S: Alter>(
 ) -> Result<Entries, OpenFault>
     requires idle { conn.old.in_transaction ≡ false }
     ensures idle { conn.new.in_transaction ≡ false }
-    ensures asks { Asks result (state S.Store conn.old) (state S.Store conn.new) }
+    ensures asks { RunsQuery result (state S.Store conn.old) (state S.Store conn.new) }
     ensures refused { OverOwn S.Store conn.old conn.new
-        (IfErr result (λ fault. Denies fault (StandsAs version (shown S.Store conn.old)))) }
+        (IfErr result (λ fault. Denies fault (HasGoodFirst version (shown S.Store conn.old)))) }
     ensures stands { OverOwn S.Store conn.old conn.new
-        (OnOk result (StandsAs version (shown S.Store conn.old))) }
+        (OnOk result (HasGoodFirst version (shown S.Store conn.old))) }
     ensures entries { OverOwn S.Store conn.old conn.new
         (IfOk result (λ e. HasEntries e (world_in First (shown S.Store conn.old)))) }
 {
@@ -208,10 +208,10 @@ fn see_world<S: Alter>(
 pub(crate) fn see_first_apart<S: Alter>(conn: &mut Connection<S>) -> Result<(), OpenFault>
     requires idle { conn.old.in_transaction ≡ false }
     ensures idle { conn.new.in_transaction ≡ false }
-    ensures asks { Asks result (state S.Store conn.old) (state S.Store conn.new) }
+    ensures asks { RunsQuery result (state S.Store conn.old) (state S.Store conn.new) }
     ensures refused { IfErr result SaysNothing }
-    ensures apart { IsOwn conn.old.schema → HasCleanDisk (state S.Store conn.new)
-        → OnOk result (AllApart early_trees (shown S.Store conn.old)) }
+    ensures apart { HasFirstSchema conn.old.schema → HasCleanDisk (state S.Store conn.new)
+        → OnOk result (AllNumbersDiffer early_trees (shown S.Store conn.old)) }
 {
     see_rolls_apart(conn)?;
     see_lists_apart(conn)
@@ -225,9 +225,9 @@ pub(crate) fn judge<S: Alter>(
 ) -> Result<Entries, OpenFault>
     requires idle { conn.old.in_transaction ≡ false }
     ensures idle { conn.new.in_transaction ≡ false }
-    ensures asks { Asks result (state S.Store conn.old) (state S.Store conn.new) }
+    ensures asks { RunsQuery result (state S.Store conn.old) (state S.Store conn.new) }
     ensures refused { OverLive First S.Store conn.old conn.new
-        (IfErr result (λ fault. Denies fault (StandsAs version (shown S.Store conn.old)))) }
+        (IfErr result (λ fault. Denies fault (HasGoodFirst version (shown S.Store conn.old)))) }
     ensures admits { OverLive First S.Store conn.old conn.new
         (OnOk result (AdmitsAs version (shown S.Store conn.old))) }
     ensures entries { OverLive First S.Store conn.old conn.new

@@ -4,11 +4,11 @@ ghost use Rattle.std.specs.Prelude.{◌≡◌, false, Err, IfOk};
 ghost use Rattle.sqlite.specs.Held.{state};
 ghost use Rattle.portal_core.specs.Good.{Sound};
 ghost use Rattle.portal_core.specs.declared.phase.Round.TheVariants.{Second};
-ghost use Rattle.portal_tables.specs.Reading.{Asks, AsksIn};
-ghost use Rattle.portal_store.specs.Asked.{AreApart};
-ghost use Rattle.portal_store.specs.Kept.{Stands, StandsAs};
+ghost use Rattle.portal_tables.specs.Reading.{RunsQuery, RunsQueryIn};
+ghost use Rattle.portal_store.specs.Asked.{NumbersDiffer};
+ghost use Rattle.portal_store.specs.Kept.{HasGoodWorld, HasGoodFirst};
 ghost use Rattle.portal_store.specs.World.{round_in};
-ghost use Rattle.portal_store.specs.Found.{Finds, FindsIn};
+ghost use Rattle.portal_store.specs.Found.{ShowsWorld, FindsIn};
 ghost use Rattle.portal_store.specs.Reading.{shown, OverBoth, OverOwn};
 
 use crate::fault::rows_fault_of;
@@ -28,10 +28,10 @@ pub(crate) fn first_keeper<S: Alter>(
     ensures idle { conn.new.in_transaction ≡ false }
     ensures sound { IfOk result (λ keeper. Sound keeper) }
     ensures found { OverOwn S.Store conn.old conn.new
-        (IfOk result (λ keeper. Finds version (shown S.Store conn.old) keeper)) }
+        (IfOk result (λ keeper. ShowsWorld version (shown S.Store conn.old) keeper)) }
     ensures damaged { OverOwn S.Store conn.old conn.new
-        (result ≡ Err TableFault.Damaged → StandsAs version (shown S.Store conn.old) → ⊥) }
-    ensures asks { Asks result (state S.Store conn.old) (state S.Store conn.new) }
+        (result ≡ Err TableFault.Damaged → HasGoodFirst version (shown S.Store conn.old) → ⊥) }
+    ensures asks { RunsQuery result (state S.Store conn.old) (state S.Store conn.new) }
 {
     let rows = load_first(alloc, conn, version)?;
     match ListKeeper::from_rows(alloc, rows) {
@@ -52,9 +52,9 @@ pub(crate) fn load_keeper<S: Alter>(
         (IfOk result (λ keeper. FindsIn (round_in (shown S.Store conn.old))
         (shown S.Store conn.old) keeper)) }
     ensures damaged { OverBoth S.Store conn.old conn.new
-        (result ≡ Err TableFault.Damaged → AreApart (shown S.Store conn.old)
-        → Stands (shown S.Store conn.old) → ⊥) }
-    ensures asks { AsksIn Second result (state S.Store conn.old) (state S.Store conn.new) }
+        (result ≡ Err TableFault.Damaged → NumbersDiffer (shown S.Store conn.old)
+        → HasGoodWorld (shown S.Store conn.old) → ⊥) }
+    ensures asks { RunsQueryIn Second result (state S.Store conn.old) (state S.Store conn.new) }
 {
     let rows = load(alloc, conn)?;
     match ListKeeper::from_rows(alloc, rows) {

@@ -2,9 +2,9 @@
 
 ghost use Rattle.std.specs.Prelude.{◌≡◌, false};
 
-use portal_core::Remembered;
+use portal_core::ViewCache;
 use portal_list::Entries;
-use portal_tables::Pattern;
+use portal_tables::PortalSchema;
 use sqlite::{Alter, Connection};
 use std::marker::Model;
 
@@ -15,9 +15,9 @@ pub struct Store<S: Alter> {
     /// Whether the tables are those that `create` makes, and no other is there.
     pub(crate) own: bool,
     /// What the portal's own tables are.
-    pub(crate) pattern: Pattern,
+    pub(crate) pattern: PortalSchema,
     /// What was shown of the world, until that is changed.
-    pub(crate) mind: Remembered,
+    pub(crate) cache: ViewCache,
     /// The entries of the world, once they were read and as long as they follow its changes.
     pub(crate) entries: Option<Entries>,
     /// How many calls were answered with a fault of the store.
@@ -33,7 +33,7 @@ impl<S: Alter> Model for Store<S> {
 
     ghost view = { λ s. record { conn = s.conn; own = s.own; faults = s.faults } };
 
-    ghost invariant = { λ s. IsAtRest S.Store s.conn s.own s.mind s.entries };
+    ghost invariant = { λ s. IsAtRest S.Store s.conn s.own s.cache s.entries };
 }
 
 /// Why there is no store, and the connection that was handed in.
@@ -95,7 +95,7 @@ impl<S: Alter> Store<S> {
             conn,
             own: _,
             pattern: _,
-            mind: _,
+            cache: _,
             entries: _,
             faults: _,
         } = self;

@@ -6,25 +6,25 @@ ghost use Rattle.sqlite.specs.Held.{state};
 ghost use Rattle.portal_core.specs.Good.{Good};
 ghost use Rattle.portal_core.specs.declared.phase.Round.TheVariants.{First};
 ghost use Rattle.portal_tables.specs.Tables.{first_version};
-ghost use Rattle.portal_tables.specs.Own.{IsFirst, IsOwn};
+ghost use Rattle.portal_tables.specs.Schema.{IsFirstSchema, HasFirstSchema};
 ghost use Rattle.portal_tables.specs.Making.{Upgrades};
 ghost use Rattle.portal_tables.specs.Names.{has_names};
 ghost use Rattle.portal_tables.specs.declared.names.Names.TheVariants.{OfSecond};
-ghost use Rattle.portal_tables.specs.Reading.{Asks};
+ghost use Rattle.portal_tables.specs.Reading.{RunsQuery};
 ghost use Rattle.portal_tables.specs.Steps.{Commits, IsAfter, LeavesOnly, Stays};
 ghost use Rattle.portal_list.specs.Entries.{HasEntries};
-ghost use Rattle.portal_store.specs.Kept.{StandsAs, IsCleanStore, kept_world};
+ghost use Rattle.portal_store.specs.Kept.{HasGoodFirst, IsCleanStore, kept_world};
 ghost use Rattle.portal_store.specs.World.{world_in};
-ghost use Rattle.portal_store.specs.Asked.{Blames, Bars, AdmitsAs};
+ghost use Rattle.portal_store.specs.Asked.{RefusalSays, Bars, AdmitsAs};
 ghost use Rattle.portal_store.specs.Reading.{shown, OverLive};
 
 use crate::fault::{open_fault_of, upgrade_fault_of, upgrading_fault_of};
 use crate::seeing::{judge, see_first};
 use crate::store::{NotOpened, OpenFault, Store, UpgradeFault};
-use portal_core::Remembered;
+use portal_core::ViewCache;
 use portal_list::Entries;
 use portal_tables::names::{Names, is_there};
-use portal_tables::{FIRST_VERSION, Pattern, upgrade_tables};
+use portal_tables::{FIRST_VERSION, PortalSchema, upgrade_tables};
 use sqlite::{Alter, Connection};
 use std::alloc::Global;
 
@@ -37,10 +37,10 @@ fn examine_first<S: Alter>(
 ) -> Result<Entries, OpenFault>
     requires idle { conn.old.in_transaction ≡ false }
     ensures idle { conn.new.in_transaction ≡ false }
-    ensures asks { IsTrue own → Asks result (state S.Store conn.old) (state S.Store conn.new) }
+    ensures asks { IsTrue own → RunsQuery result (state S.Store conn.old) (state S.Store conn.new) }
     ensures refused { IsTrue own → OverLive First S.Store conn.old conn.new
-        (IfErr result (λ fault. Blames fault first_version
-        (StandsAs first_version (shown S.Store conn.old)) (shown S.Store conn.old))) }
+        (IfErr result (λ fault. RefusalSays fault first_version
+        (HasGoodFirst first_version (shown S.Store conn.old)) (shown S.Store conn.old))) }
     ensures admits { IsTrue own → OverLive First S.Store conn.old conn.new
         (OnOk result (AdmitsAs first_version (shown S.Store conn.old))) }
     ensures entries { IsTrue own → OverLive First S.Store conn.old conn.new
@@ -59,7 +59,7 @@ fn upgraded<S: Alter>(
 ) -> Result<Entries, UpgradeFault>
     requires idle { conn.old.in_transaction ≡ false }
     ensures idle { conn.new.in_transaction ≡ false }
-    ensures made { IsTrue own → IsOwn conn.old.schema → HasCleanDisk (state S.Store conn.new)
+    ensures made { IsTrue own → HasFirstSchema conn.old.schema → HasCleanDisk (state S.Store conn.new)
         → OnOk result (Commits Upgrades (state S.Store conn.old) (state S.Store conn.new)) }
     ensures admits { IsTrue own → OverLive First S.Store conn.old conn.new
         (OnOk result (AdmitsAs first_version (shown S.Store conn.old))) }
@@ -70,12 +70,12 @@ fn upgraded<S: Alter>(
         ⊎ Bars fault (shown S.Store conn.old))) }
     ensures exists { result ≡ Err UpgradeFault.Exists → IsTrue is_taken }
     ensures free { OnOk result (is_taken ≡ false) }
-    ensures err { IsTrue own → IsOwn conn.old.schema → HasCleanDisk (state S.Store conn.new)
+    ensures err { IsTrue own → HasFirstSchema conn.old.schema → HasCleanDisk (state S.Store conn.new)
         → IsTrue (state S.Store conn.new).is_open
         → OnErr result (Stays (state S.Store conn.old) (state S.Store conn.new)) }
     ensures durable { HasCleanDisk (state S.Store conn.new)
         → OnOk result (LeavesOnly (state S.Store conn.new)) }
-    ensures crash { IsTrue own → IsOwn conn.old.schema
+    ensures crash { IsTrue own → HasFirstSchema conn.old.schema
         → Survives (state S.Store conn.old) (state S.Store conn.new)
         (IsAfter Upgrades (state S.Store conn.old)) }
 {
@@ -105,38 +105,38 @@ impl<S: Alter> Store<S> {
         mut conn: Connection<S>,
     ) -> Result<Store<S>, NotOpened<UpgradeFault, S>>
         requires idle { conn.in_transaction ≡ false }
-        ensures own { IfOk result (λ s. IsTrue s.own ↔ IsFirst conn.schema) }
-        ensures made { IfOk result (λ s. IsFirst conn.schema → HasCleanDisk (state S.Store s.conn)
+        ensures own { IfOk result (λ s. IsTrue s.own ↔ IsFirstSchema conn.schema) }
+        ensures made { IfOk result (λ s. IsFirstSchema conn.schema → HasCleanDisk (state S.Store s.conn)
             → Commits Upgrades (state S.Store conn) (state S.Store s.conn)) }
-        ensures stands { IfOk result (λ s. IsFirst conn.schema
+        ensures stands { IfOk result (λ s. IsFirstSchema conn.schema
             → HasCleanDisk (state S.Store s.conn)
-            → StandsAs first_version (state S.Store conn).now.trees) }
+            → HasGoodFirst first_version (state S.Store conn).now.trees) }
         ensures world { IfOk result (λ s. IsCleanStore S.Store s
             → kept_world S.Store s ≡ world_in First (state S.Store conn).now.trees) }
         ensures good { IfOk result (λ s. IsCleanStore S.Store s → Good (kept_world S.Store s)) }
         ensures durable { IfOk result (λ s. HasCleanDisk (state S.Store s.conn)
             → LeavesOnly (state S.Store s.conn)) }
-        ensures refused { IfErr result (λ e. IsFirst conn.schema
+        ensures refused { IfErr result (λ e. IsFirstSchema conn.schema
             → HasCleanDisk (state S.Store e.connection)
             → Bars e.fault (state S.Store conn).now.trees) }
         ensures exists { IfErr result (λ e. e.fault ≡ UpgradeFault.Exists
             → IsTrue (has_names OfSecond conn.schema)) }
         ensures free { IfOk result (λ _. has_names OfSecond conn.schema ≡ false) }
-        ensures err { IfErr result (λ e. IsFirst conn.schema
+        ensures err { IfErr result (λ e. IsFirstSchema conn.schema
             → HasCleanDisk (state S.Store e.connection)
             → IsTrue (state S.Store e.connection).is_open
             → Stays (state S.Store conn) (state S.Store e.connection)) }
         ensures idle { IfErr result (λ e. e.connection.in_transaction ≡ false) }
-        ensures crash_ok { IfOk result (λ s. IsFirst conn.schema
+        ensures crash_ok { IfOk result (λ s. IsFirstSchema conn.schema
             → Survives (state S.Store conn) (state S.Store s.conn)
             (IsAfter Upgrades (state S.Store conn))) }
-        ensures crash_err { IfErr result (λ e. IsFirst conn.schema
+        ensures crash_err { IfErr result (λ e. IsFirstSchema conn.schema
             → Survives (state S.Store conn) (state S.Store e.connection)
             (IsAfter Upgrades (state S.Store conn))) }
     {
         let _idle = conn.is_autocommit();
         let _live = conn.schema();
-        let pattern = match Pattern::new(alloc) {
+        let pattern = match PortalSchema::new(alloc) {
             Ok(pattern) => pattern,
             Err(error) => {
                 return Err(NotOpened {
@@ -160,7 +160,7 @@ impl<S: Alter> Store<S> {
             conn,
             own,
             pattern,
-            mind: Remembered::nothing(),
+            cache: ViewCache::nothing(),
             entries: Some(entries),
             faults: 0,
         })

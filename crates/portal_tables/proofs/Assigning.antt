@@ -1,6 +1,6 @@
 -- The UPDATEs of the projects of students.
 use Rattle.std.specs.Prelude.{◌≡◌, ◌+◌, ◌∷◌, ◌++◌, ◌<◌, ◌==◌}
-use Rattle.portal_tables.proofs.Base.{ℕ, ℤ, Bool, true, false, not, cond, List, [], map, filter, length, take, get_or, codes, Option, Some, None, refl, sym, ap, ap₂, subst, subst₂, ◌∙◌, AllByRecursion, flat_map, filter_map, IsPermutation, map-append, take_more, IsPermutation-refl, IsPermutation-trans, IsPermutation-map, IsPermutation-filter_both, Value, Int, Text, Row, column, cast_row, Table, Term, col, State, Database, everything, understood, works, work_by, deed_for, pairs, parent_key, Enforced, bound_value, all-filter, all_map, all_weaker, student, student_tree, has_text, Second, IsCurrent, Assigned, text_or_null, student_shown, assigned_by, with_assigned, Assigns, Ran, Made}
+use Rattle.portal_tables.proofs.Base.{ℕ, ℤ, Bool, true, false, not, cond, List, [], map, filter, length, take, get_or, codes, Option, Some, None, refl, sym, ap, ap₂, subst, subst₂, ◌∙◌, AllByRecursion, flat_map, filter_map, IsPermutation, map-append, take_more, IsPermutation-refl, IsPermutation-trans, IsPermutation-map, IsPermutation-filter_both, Value, Int, Text, Row, column, cast_row, Table, Term, col, State, Database, everything, understood, works, work_by, deed_for, pairs, parent_key, Enforced, bound_value, all-filter, all_map, all_weaker, student_schema, student_tree, has_text, Second, IsCurrentSchema, Assigned, text_cell, student_columns, assigned_by, with_assigned, Assigns, Ran, Made}
 use Rattle.portal_tables.proofs.Keeping.{keeps_then, keeps_all}
 use Rattle.portal_tables.proofs.Listed.{all_map_on}
 use Rattle.portal_tables.proofs.Lists.{not_true}
@@ -21,7 +21,7 @@ no_acts checks terms olds news =
     [ true ↦ refl | false ↦ refl ]
 
 abbrev pub update_one : List ℕ
-update_one = codes "UPDATE student SET assigned = ?2 WHERE key = ?1"
+update_one = codes "UPDATE student_schema SET assigned = ?2 WHERE key = ?1"
 
 abbrev with_last : List Term
 with_last = col 1 0 ∷ col 1 1 ∷ col 1 2 ∷ col 1 3 ∷ param 1 ∷ []
@@ -31,7 +31,7 @@ unfolding understood everything
 update_one_is = record { command = λ checks more. refl; plain = λ checks more. (refl, refl) }
 
 -- as it is bound
-pub assigned_bound : (project : Option (List ℕ)) → bound_value (text_or_null project) ≡ text_or_null project
+pub assigned_bound : (project : Option (List ℕ)) → bound_value (text_cell project) ≡ text_cell project
 assigned_bound None = refl
 assigned_bound (Some t) = refl
 
@@ -46,7 +46,7 @@ sifted P p (x ∷ xs) all =
 
 module _ (key : List ℕ) (project : Option (List ℕ)) where
   abbrev params : Row
-  params = Text key ∷ text_or_null project ∷ []
+  params = Text key ∷ text_cell project ∷ []
 
   abbrev is_hit : Row → Bool
   is_hit = has_text 1 key
@@ -55,7 +55,7 @@ module _ (key : List ℕ) (project : Option (List ℕ)) where
   is_missed r = not (is_hit r)
 
   abbrev written : Row → Row
-  written r = cast_row (student 6) (shown_as with_last params r)
+  written r = cast_row (student_schema 6) (shown_as with_last params r)
 
   abbrev made : Row → Row
   made = with_assigned ((key, project) ∷ [])
@@ -64,32 +64,32 @@ module _ (key : List ℕ) (project : Option (List ℕ)) where
   abbrev but : Row → Value → Row
   but r v = column r 0 ∷ column r 1 ∷ column r 2 ∷ column r 3 ∷ v ∷ []
 
-  row_cast : (o : Option (List ℕ)) (n : ℤ) (k name code : List ℕ) → cast_row (student 6) (Int n ∷ Text k ∷ Text name ∷ Text code ∷ text_or_null o ∷ []) ≡ Int n ∷ Text k ∷ Text name ∷ Text code ∷ text_or_null o ∷ []
+  row_cast : (o : Option (List ℕ)) (n : ℤ) (k name code : List ℕ) → cast_row (student_schema 6) (Int n ∷ Text k ∷ Text name ∷ Text code ∷ text_cell o ∷ []) ≡ Int n ∷ Text k ∷ Text name ∷ Text code ∷ text_cell o ∷ []
   row_cast None n k name code = rw (cast_int n) refl
   row_cast (Some t) n k name code = rw (cast_int n) refl
 
-  row_is : (r : Row) → IsStudentRow r → written r ≡ but r (text_or_null project)
-  row_is r f = subst (λ y. cast_row (student 6) (but y (text_or_null project)) ≡ but y (text_or_null project)) (sym f.is) (row_cast project f.number f.key f.name f.code)
+  row_is : (r : Row) → IsStudentRow r → written r ≡ but r (text_cell project)
+  row_is r f = subst (λ y. cast_row (student_schema 6) (but y (text_cell project)) ≡ but y (text_cell project)) (sym f.is) (row_cast project f.number f.key f.name f.code)
 
   numbered : (r : Row) → IsStudentRow r → HasNumber (written r)
   numbered r f = subst HasNumber (sym (row_is r f)) (subst (λ y. HasNumber (column y 0 ∷ [])) (sym f.is) refl)
 
   -- what is made of a row is what is written in its place, or what it was
-  hit : (r : Row) → IsStudentRow r × (is_hit r ≡ true) → made r ≡ student_shown (written r)
-  hit r f = ap (λ b. but r (cond b (text_or_null project) (column r 4))) f.1 ∙ sym (ap student_shown (row_is r f.0))
+  hit : (r : Row) → IsStudentRow r × (is_hit r ≡ true) → made r ≡ student_columns (written r)
+  hit r f = ap (λ b. but r (cond b (text_cell project) (column r 4))) f.1 ∙ sym (ap student_columns (row_is r f.0))
 
-  missed : (r : Row) → IsStudentRow r × (is_missed r ≡ true) → made r ≡ student_shown r
-  missed r f = ap (λ b. but r (cond b (text_or_null project) (column r 4))) (not_true (is_hit r) f.1)
+  missed : (r : Row) → IsStudentRow r × (is_missed r ≡ true) → made r ≡ student_columns r
+  missed r f = ap (λ b. but r (cond b (text_cell project) (column r 4))) (not_true (is_hit r) f.1)
 
   halves : (rows : List Row) → AllByRecursion IsStudentRow rows
-      → map made (filter is_hit rows ++ filter is_missed rows) ≡ map student_shown (map written (filter is_hit rows) ++ filter is_missed rows)
+      → map made (filter is_hit rows ++ filter is_missed rows) ≡ map student_columns (map written (filter is_hit rows) ++ filter is_missed rows)
   halves rows formed =
       let hits = filter is_hit rows in
       let others = filter is_missed rows in
-      let those : map made hits ≡ map student_shown (map written hits) =
-      all_map_on _ made (λ r. student_shown (written r)) hits (sifted IsStudentRow is_hit rows formed) hit ∙ map_twice student_shown written hits in
-      map-append made hits others ∙ ap₂ (λ a b. a ++ b) those (all_map_on _ made student_shown others (sifted IsStudentRow is_missed rows formed) missed)
-      ∙ sym (map-append student_shown (map written hits) others)
+      let those : map made hits ≡ map student_columns (map written hits) =
+      all_map_on _ made (λ r. student_columns (written r)) hits (sifted IsStudentRow is_hit rows formed) hit ∙ map_twice student_columns written hits in
+      map-append made hits others ∙ ap₂ (λ a b. a ++ b) those (all_map_on _ made student_columns others (sifted IsStudentRow is_missed rows formed) missed)
+      ∙ sym (map-append student_columns (map written hits) others)
 
   pub one_assigned : (old new : State) → Ran update_one params old new → Made (Assigns ((key, project) ∷ [])) old new
   one_assigned old new h = record {
@@ -101,7 +101,7 @@ module _ (key : List ℕ) (project : Option (List ℕ)) where
         let formed = student_rows_formed old.now (current_own old.now.schema own) sound apart in
         let p = passes (has_key 1) params in
         let numbers = all_map HasNumber written (filter p rows) (all_weaker IsStudentRow (λ r. HasNumber (written r)) numbered (filter p rows) (all-filter IsStudentRow p rows formed)) in
-        let a = subst (λ q. AltersIn s 6 q written old.now new.now) (same_key_of 1 key (text_or_null project ∷ []))
+        let a = subst (λ q. AltersIn s 6 q written old.now new.now) (same_key_of 1 key (text_cell project ∷ []))
         (altered s update_one 3 _ 6 _ _ _ _ _ _ _ _ refl (has_key 1) with_last (update_one_is.command w.o.checks w.o.terms) (update_one_is.plain w.o.checks w.o.terms) (no_acts w.o.checks w.o.terms)
         params old new h.count w.is apart numbers h.runs) in
         record {
@@ -109,7 +109,7 @@ module _ (key : List ℕ) (project : Option (List ℕ)) where
           apart = a.apart;
           rows = IsPermutation-trans _ _ _
               (subst (IsPermutation (map made rows)) (halves rows formed) (IsPermutation-map made rows (filter is_hit rows ++ filter is_missed rows) (IsPermutation-filter_both is_hit is_missed (λ r. refl) rows)))
-              (IsPermutation-map student_shown (map written (filter is_hit rows) ++ filter is_missed rows) (new.now.trees 6) a.rows);
+              (IsPermutation-map student_columns (map written (filter is_hit rows) ++ filter is_missed rows) (new.now.trees 6) a.rows);
           others = a.others;
           sound = a.sound;
         };
@@ -122,12 +122,12 @@ one_more [] x key value = refl
 one_more (a ∷ all) x key value = one_more all x key _
 
 pub assigns_none : (db : Database) → Assigns [] db db
-assigns_none db own sound apart = record { schema_is = refl; apart = apart; rows = IsPermutation-refl (map student_shown (db.trees student_tree)); others = keeps_all db; sound = sound }
+assigns_none db own sound apart = record { schema_is = refl; apart = apart; rows = IsPermutation-refl (map student_columns (db.trees student_tree)); others = keeps_all db; sound = sound }
 
 assigns_then : (all : List Assigned) (x : Assigned) (a b c : Database) → Assigns all a b → Assigns (x ∷ []) b c → Assigns (all ++ x ∷ []) a c
 assigns_then all x a b c first later own sound apart =
     let p = first own sound apart in
-    let q = later (subst IsCurrent (sym p.schema_is) own) p.sound p.apart in
+    let q = later (subst IsCurrentSchema (sym p.schema_is) own) p.sound p.apart in
     let last : Row → Row = with_assigned (x ∷ []) in
     let old = a.trees student_tree in
     let both : map last (map (with_assigned all) old) ≡ map (with_assigned (all ++ x ∷ [])) old =
@@ -137,12 +137,12 @@ assigns_then all x a b c first later own sound apart =
     record {
       schema_is = q.schema_is ∙ p.schema_is;
       apart = q.apart;
-      rows = IsPermutation-trans _ _ _ (subst₂ IsPermutation both (sym (map_twice last student_shown (b.trees student_tree))) (IsPermutation-map last _ _ p.rows)) q.rows;
+      rows = IsPermutation-trans _ _ _ (subst₂ IsPermutation both (sym (map_twice last student_columns (b.trees student_tree))) (IsPermutation-map last _ _ p.rows)) q.rows;
       others = keeps_then student_tree a b c p.others q.others;
       sound = q.sound;
     }
 
--- a loop's turn: the student at i
+-- a loop's turn: the student_schema at i
 pub assigns_next : (all : List Assigned) (i : ℕ) (x : Assigned) (a b c : Database) → i < length all → x ≡ get_or all i x → Assigns (take i all) a b → Assigns (x ∷ []) b c → Assigns (take (i + 1) all) a c
 assigns_next all i x a b c within is was more =
     subst (λ l. Assigns l a c) (ap (λ z. take i all ++ z ∷ []) is ∙ sym (take_more all i x within)) (assigns_then (take i all) x a b c was more)

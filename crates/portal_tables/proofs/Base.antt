@@ -1,29 +1,29 @@
 -- Names from below that the proofs use.
-pub use Rattle.portal_tables.specs.Base.{Person, put, Key, Rise, has, is, is_before, Phase, Round, First, Second, LecturerRow, Listing, ProjectRow, StudentRow, is_key, created, Binary, id_in, is_taken, next_rowid, Database, IsDatabase, Held, state, Integer, Cells, Row, bytes, column, Schema, Begins, HasCleanDisk, IsRolledBack, IsUnchanged, KeepsCommit, Shows, State, Survives, Ghosts, Table, Term, col, lit, op2, Trees, put_row, rowid, bound, Error, Transaction, Value, Blob, Int, Null, Real, Words, Column, Index, Reference, key_cmp, Compare, Eq, number_in, ascending, Order, Bool, Err, IfOk, IsTrue, List, None, Ok, OnErr, OnOk, Option, Result, Some, Vec, [], codes, false, filter, length, map, not, option_map, pos, slice_index_or, take, true, ℕ, ℤ, slice_cmp, AllByRecursion, AllZip, filter_map, find, flat_map, list_any, IsPermutation, IsSorted, is_eq, is_lt, nat_cmp, ⊤, Global}
+pub use Rattle.portal_tables.specs.Base.{Person, put, Key, Rise, has, equals, is_before, Phase, Round, First, Second, LecturerRow, Listing, ProjectRow, StudentRow, is_key, created, Binary, id_in, is_taken, next_rowid, Database, IsDatabase, Held, state, Integer, Cells, Row, bytes, column, Schema, Begins, HasCleanDisk, IsRolledBack, IsUnchanged, KeepsCommit, Shows, State, Survives, Ghosts, Table, Term, col, lit, op2, Trees, put_row, rowid, bound, Error, Transaction, Value, Blob, Int, Null, Real, Words, Column, Index, Reference, key_cmp, Compare, Eq, number_in, ascending, Order, Bool, Err, IfOk, IsTrue, List, None, Ok, OnErr, OnOk, Option, Result, Some, Vec, [], codes, false, filter, length, map, not, option_map, pos, slice_index_or, take, true, ℕ, ℤ, slice_cmp, AllByRecursion, AllZip, filter_map, find, flat_map, list_any, IsPermutation, IsSorted, is_eq, is_lt, nat_cmp, ⊤, Global}
 pub use Rattle.portal_core.proofs.Adjacent.{adjacent_rise, rows_sorted}
 pub use Rattle.portal_core.proofs.AllLaws.{all_append, all_map, all_weaker, any_map, filtered_any, is_sym}
 pub use Rattle.portal_core.proofs.Fills.{before_other}
 pub use Rattle.portal_core.proofs.Keys.{all_unmap, is_own, is_same, not_before_itself}
 pub use Rattle.portal_core.proofs.Puts.{after_other, before_trans}
-pub use Rattle.portal_tables.specs.Changes.{AreNew, Becomes, Drops, IsApart, ListsBy, Puts, Sets, columns, every, has_number, has_text, with_rows}
+pub use Rattle.portal_tables.specs.Changes.{AreNew, Becomes, Drops, RowNumbersDiffer, ListsBy, InsertsRows, Sets, columns, every, has_number, has_text, with_rows}
 pub use Rattle.portal_tables.specs.Decoding.{FindsAny, ShowsAs}
 pub use Rattle.portal_tables.specs.ListTables.{add_eight_text, add_text, clear_text, names, place_among, round_of, tree_of}
-pub use Rattle.portal_tables.specs.Lists.{CountUp, IsWhole, by_place, chosen, list_of, named_by, of_key, place_key, place_of}
+pub use Rattle.portal_tables.specs.Lists.{CountUp, IsWhole, by_place, chosen, list_in_order, named_by, of_key, place_key, place_of}
 pub use Rattle.portal_tables.specs.Making.{Creates, Grown, Grows, IsFresh, Makes, MakesFirst, MakesSecond, Upgrades, with_second}
 pub use Rattle.portal_tables.specs.Names.{is_named_table, is_named_view}
-pub use Rattle.portal_tables.specs.Office.{HasOffice, IsOffice, IsSecond, number_of}
-pub use Rattle.portal_tables.specs.Own.{HasRound, IsCurrent, IsFirst, IsOwn, SameTable}
+pub use Rattle.portal_tables.specs.Office.{HasOffice, IsOffice, IsSecond, number_of_phase}
+pub use Rattle.portal_tables.specs.Schema.{HasRound, IsCurrentSchema, IsFirstSchema, HasFirstSchema, SameTable}
 pub use Rattle.portal_tables.specs.Owners.{IsRead, choice_shown, entry, has_list, with_list}
-pub use Rattle.portal_tables.specs.Places.{pair_shown, place_asked, place_shown, project_in, result_shown, second_place}
-pub use Rattle.portal_tables.specs.Putting.{PutsList, PutsPlaces, RanksSecond, list_cells, numbered, placed}
-pub use Rattle.portal_tables.specs.Queries.{columns_of, given, roll_tree, round_asked, selection, table_round, table_tree, text_of}
-pub use Rattle.portal_tables.specs.Reading.{AsksIn, Reads, ReadsIn}
+pub use Rattle.portal_tables.specs.Placements.{pair_shown, placement_asked, placement_shown, placed_project, result_shown, second_placement}
+pub use Rattle.portal_tables.specs.Putting.{PutsList, PutsPlacements, RanksSecond, list_cells, numbered, placed}
+pub use Rattle.portal_tables.specs.Queries.{columns_of, given, roll_tree, round_asked, selection, table_round, table_tree, query_text}
+pub use Rattle.portal_tables.specs.Reading.{RunsQueryIn, RunsQueries, RunsQueriesIn}
 pub use Rattle.portal_tables.specs.Rising.{is_above, rises}
 pub use Rattle.portal_tables.specs.Rolls.{by_key, row_key}
-pub use Rattle.portal_tables.specs.Rows.{Adds, AddsBy, Assigned, Assigns, Clears, IsOfVersion, MovesSecond, MovesTo, Ranks, assigned_by, lecturer_cells, lecturer_new, lecturer_values, pair_new, place_cells, place_new, portal_cells, portal_row, project_new, second_cells, second_row, student_new, student_shown, student_values, text_or_null, with_assigned}
-pub use Rattle.portal_tables.specs.Shown.{as_list, first, shown_name, shown_place}
-pub use Rattle.portal_tables.specs.Steps.{Commits, Does, GoesOn, IsAfter, Leaves, Made, Ran, Stays}
-pub use Rattle.portal_tables.specs.Tables.{assigned2, assigned2_text, assigned2_tree, choice, choice2, choice2_names, choice2_tree, choice_names, choice_tree, column_of, first_schema, first_trees, first_version, lecturer, lecturer_text, lecturer_tree, list_table, list_table_text, no_schema, own_trees, portal, portal_schema, portal_text, portal_tree, project, project_text, project_tree, ranked2, ranked2_text, ranked2_tree, ranking, ranking2, ranking2_names, ranking2_tree, ranking_names, ranking_tree, second, second_text, second_tree, second_trees, student, student_text, student_tree, table_of, version}
+pub use Rattle.portal_tables.specs.Rows.{Adds, AddsBy, Assigned, Assigns, Clears, IsOfVersion, MovesSecond, MovesTo, Ranks, assigned_by, lecturer_cells, lecturer_new, lecturer_values, pair_new, place_cells, place_new, portal_cells, portal_row, project_new, second_cells, second_row, student_new, student_columns, student_values, text_cell, with_assigned}
+pub use Rattle.portal_tables.specs.Shown.{as_list, first_cell, shown_name, shown_rank}
+pub use Rattle.portal_tables.specs.Steps.{Commits, Does, GoesOn, IsAfter, IsUnchangedOrUndone, Made, Ran, Stays}
+pub use Rattle.portal_tables.specs.Tables.{assigned2, assigned2_text, assigned2_tree, choice, choice2, choice2_names, choice2_tree, choice_names, choice_tree, column_of, first_schema, first_trees, first_version, lecturer_schema, lecturer_text, lecturer_tree, list_table, list_table_text, no_schema, own_trees, portal, portal_schema, portal_text, portal_tree, project_schema, project_text, project_tree, ranked2, ranked2_text, ranked2_tree, ranking, ranking2, ranking2_names, ranking2_tree, ranking_names, ranking_tree, second, second_text, second_tree, second_trees, student_schema, student_text, student_tree, schema_of, version}
 pub use Rattle.portal_tables.specs.declared.fault.TableFault.{TableFault}
 pub use Rattle.portal_tables.specs.declared.insert.lists.NewPlace.{NewPlace}
 pub use Rattle.portal_tables.specs.declared.list_table.Lists.{Lists}

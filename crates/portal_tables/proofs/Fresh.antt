@@ -1,6 +1,6 @@
 -- The tables as they are made, with the row of the office and that of no second round, and the upgrade of the six.
 use Rattle.std.specs.Prelude.{◌≡◌, ◌≢◌, ◌∷◌}
-use Rattle.portal_tables.proofs.Base.{ℕ, pos, true, not, eqb, List, [], Result, Ok, refl, sym, ap, subst, ◌∙◌, AllByRecursion, list_all, Database, Ghosts, state, Error, Transaction, portal_tree, lecturer_tree, project_tree, student_tree, choice_tree, ranking_tree, second_tree, choice2_tree, ranked2_tree, ranking2_tree, assigned2_tree, first_trees, second_trees, own_trees, version, first_version, IsCurrent, IsApart, with_rows, Adds, IsOfVersion, portal_cells, portal_row, second_cells, second_row, Makes, MakesSecond, Creates, IsFresh, Upgrades, Made, GoesOn, Does, all_weaker, all-append}
+use Rattle.portal_tables.proofs.Base.{ℕ, pos, true, not, eqb, List, [], Result, Ok, refl, sym, ap, subst, ◌∙◌, AllByRecursion, list_all, Database, Ghosts, state, Error, Transaction, portal_tree, lecturer_tree, project_tree, student_tree, choice_tree, ranking_tree, second_tree, choice2_tree, ranked2_tree, ranking2_tree, assigned2_tree, first_trees, second_trees, own_trees, version, first_version, IsCurrentSchema, RowNumbersDiffer, with_rows, Adds, IsOfVersion, portal_cells, portal_row, second_cells, second_row, Makes, MakesSecond, Creates, IsFresh, Upgrades, Made, GoesOn, Does, all_weaker, all-append}
 use Rattle.portal_tables.proofs.Keeping.{apart_one, apart_none, others_are}
 use Rattle.portal_tables.proofs.Making.{second_current, parts_of}
 use Rattle.portal_tables.proofs.Owned.{own_made}
@@ -42,16 +42,16 @@ module _ {S A : Type 0} (g : Ghosts S) (r : Result A Error) (a b c d : Transacti
       → Does g (GoesOn Upgrades) r a d
   upgraded p q s = does_three g _ _ _ Upgrades _ _ r a b c d p q s (λ make say set own phase office row.
       let has = make own in
-      let current : IsCurrent (now b).schema = subst IsCurrent (sym has.schema_is) (second_current (now a).schema own) in
+      let current : IsCurrentSchema (now b).schema = subst IsCurrentSchema (sym has.schema_is) (second_current (now a).schema own) in
       let says = say current in
-      let there : IsCurrent (now c).schema = subst IsCurrent (sym says.schema_is) current in
+      let there : IsCurrentSchema (now c).schema = subst IsCurrentSchema (sym says.schema_is) current in
       let done = set there (pos first_version) phase office (says.others.0 (λ e. absurd (cc)) ∙ has.same.0 ∙ row) in
       let said = parts_of (λ t. t ≢ second_tree → (now c).trees t ≡ (now b).trees t) first_trees second_trees says.others in
       let told = parts_of (λ t. t ≢ portal_tree → (now d).trees t ≡ (now c).trees t) first_trees second_trees done.others in
       let joined : (x y z : Database) (trees : List ℕ) → AllByRecursion (λ t. z.trees t ≡ y.trees t) trees → AllByRecursion (λ t. y.trees t ≡ x.trees t) trees → AllByRecursion (λ t. z.trees t ≡ x.trees t) trees =
       λ x y z. all_two (λ t. z.trees t ≡ y.trees t) (λ t. y.trees t ≡ x.trees t) (λ t. z.trees t ≡ x.trees t) (λ t e f. e ∙ f) in
       record {
-        current = subst IsCurrent (sym done.schema_is) there;
+        current = subst IsCurrentSchema (sym done.schema_is) there;
         portal = done.rows;
         others = all_two (λ t. t ≢ portal_tree → (now d).trees t ≡ (now c).trees t) (λ t. (now c).trees t ≡ (now a).trees t) (λ t. t ≢ portal_tree → (now d).trees t ≡ (now a).trees t) (λ t e f other. e other ∙ f) first_trees told.0
             (joined (now a) (now b) (now c) first_trees (others_are (λ t. (now c).trees t ≡ (now b).trees t) second_tree first_trees refl said.0) has.same);
@@ -62,13 +62,13 @@ module _ {S A : Type 0} (g : Ghosts S) (r : Result A Error) (a b c d : Transacti
       })
 
 -- there each row has a number of its own
-pub fresh_apart : (office : List ℕ) (db : Database) → IsFresh office db → AllByRecursion (λ t. IsApart (db.trees t)) own_trees
+pub fresh_apart : (office : List ℕ) (db : Database) → IsFresh office db → AllByRecursion (λ t. RowNumbersDiffer (db.trees t)) own_trees
 fresh_apart office db f =
     let parts = parts_of (λ t. t ≢ portal_tree → t ≢ second_tree → db.trees t ≡ []) middle (second_tree ∷ last) f.others.1 in
-    let none : (trees : List ℕ) → AllByRecursion (λ t. db.trees t ≡ []) trees → AllByRecursion (λ t. IsApart (db.trees t)) trees = all_weaker (λ t. db.trees t ≡ []) (λ t. IsApart (db.trees t)) (λ t. apart_none (db.trees t)) in
+    let none : (trees : List ℕ) → AllByRecursion (λ t. db.trees t ≡ []) trees → AllByRecursion (λ t. RowNumbersDiffer (db.trees t)) trees = all_weaker (λ t. db.trees t ≡ []) (λ t. RowNumbersDiffer (db.trees t)) (λ t. apart_none (db.trees t)) in
     let those : (trees : List ℕ) → list_all (λ t. not (eqb t portal_tree)) trees ≡ true → list_all (λ t. not (eqb t second_tree)) trees ≡ true
-    → AllByRecursion (λ t. t ≢ portal_tree → t ≢ second_tree → db.trees t ≡ []) trees → AllByRecursion (λ t. IsApart (db.trees t)) trees =
+    → AllByRecursion (λ t. t ≢ portal_tree → t ≢ second_tree → db.trees t ≡ []) trees → AllByRecursion (λ t. RowNumbersDiffer (db.trees t)) trees =
     λ trees p s all. none trees (others_are (λ t. db.trees t ≡ []) second_tree trees s (others_are (λ t. t ≢ second_tree → db.trees t ≡ []) portal_tree trees p all)) in (
       apart_one (db.trees portal_tree) (portal_row (pos version) (pos 0) office) (pos 1) refl f.row,
-      all-append (λ t. IsApart (db.trees t)) middle (second_tree ∷ last) (those middle refl refl parts.0) (apart_one (db.trees second_tree) (second_row (pos 0)) (pos 1) refl f.second, those last refl refl parts.1.1),
+      all-append (λ t. RowNumbersDiffer (db.trees t)) middle (second_tree ∷ last) (those middle refl refl parts.0) (apart_one (db.trees second_tree) (second_row (pos 0)) (pos 1) refl f.second, those last refl refl parts.1.1),
     )

@@ -1,6 +1,6 @@
 -- Several readings in turn.
 use Rattle.std.specs.Prelude.{◌≡◌}
-use Rattle.portal_tables.proofs.Base.{IsErr, List, Lists, subst₂, IfOk, inl, inr, IsTrue, Ok, Err, Result, OnOk, refl, sym, subst, ◌∙◌, Database, State, HasCleanDisk, IsUnchanged, Survives, survives_then, survives_weaker, Round, IsOwn, HasRound, Leaves, on_ok_weaker, on_err_weaker, AsksIn, Reads, ReadsIn}
+use Rattle.portal_tables.proofs.Base.{IsErr, List, Lists, subst₂, IfOk, inl, inr, IsTrue, Ok, Err, Result, OnOk, refl, sym, subst, ◌∙◌, Database, State, HasCleanDisk, IsUnchanged, Survives, survives_then, survives_weaker, Round, HasFirstSchema, HasRound, IsUnchangedOrUndone, on_ok_weaker, on_err_weaker, RunsQueryIn, RunsQueries, RunsQueriesIn}
 use Rattle.portal_tables.proofs.Owned.{round_own}
 use Rattle.std.proofs.Common.{arith}
 
@@ -14,7 +14,7 @@ unchanged_then a b c p q = (
 pub unchanged_self : (s : State) → IsTrue s.is_open → IsUnchanged s s
 unchanged_self s on = (record { was_open = on; is_open = on; now_is = refl; committed_is = refl; mode = refl }, record { changes = refl; last_rowid = refl }, refl)
 
-pub then_leaves : (a b c : State) → IsUnchanged a b → Leaves b c → Leaves a c
+pub then_leaves : (a b c : State) → IsUnchanged a b → IsUnchangedOrUndone b c → IsUnchangedOrUndone a c
 then_leaves a b c p (inl q) = inl (unchanged_then a b c p q)
 then_leaves a b c p (inr q) = inr (record {
   was_open = λ _. p.0.was_open;
@@ -24,13 +24,13 @@ then_leaves a b c p (inr q) = inr (record {
   counts = record { changes = q.counts.changes ∙ p.1.changes; last_rowid = q.counts.last_rowid ∙ p.1.last_rowid };
 })
 
-pub still_own : (a b : State) → IsUnchanged a b → IsOwn a.now.schema → IsOwn b.now.schema
-still_own a b h own = subst (λ (d : Database). IsOwn d.schema) (sym h.0.now_is) own
+pub still_own : (a b : State) → IsUnchanged a b → HasFirstSchema a.now.schema → HasFirstSchema b.now.schema
+still_own a b h own = subst (λ (d : Database). HasFirstSchema d.schema) (sym h.0.now_is) own
 
 pub clean_before : (b c : State) (P : _) → Survives b c P → HasCleanDisk c → HasCleanDisk b
 clean_before b c P h clean = omega (arith, h.clean, clean)
 
-pub reads_self : {round : Round} {V E : Type 0} (v : V) (s : State) → ReadsIn round {V = V} {E = E} (Ok v) s s
+pub reads_self : {round : Round} {V E : Type 0} (v : V) (s : State) → RunsQueriesIn round {V = V} {E = E} (Ok v) s s
 reads_self v s = record {
   same = λ own clean on. unchanged_self s on;
   err = λ own clean on. tt;
@@ -40,7 +40,7 @@ reads_self v s = record {
 }
 
 -- another reading after one that answered
-pub reads_then : {round : Round} {U V D E : Type 0} (u : U) (r : Result V E) (a b c : State) → ReadsIn round {V = U} {E = D} (Ok u) a b → ReadsIn round r b c → ReadsIn round r a c
+pub reads_then : {round : Round} {U V D E : Type 0} (u : U) (r : Result V E) (a b c : State) → RunsQueriesIn round {V = U} {E = D} (Ok u) a b → RunsQueriesIn round r b c → RunsQueriesIn round r a c
 reads_then {round} u r a b c p q =
     let still : (a b : State) → IsUnchanged a b → HasRound round a.now.schema → HasRound round b.now.schema = λ a b h own. subst (λ (d : Database). HasRound round d.schema) (sym h.0.now_is) own in
     let before : HasCleanDisk c → HasCleanDisk b = clean_before b c _ q.crash in
@@ -56,15 +56,15 @@ reads_then {round} u r a b c p q =
     }
 
 -- the same reading, whatever is answered then
-pub reads_more : {round : Round} {U V D E : Type 0} (u : U) (r : Result V E) (a b : State) → ReadsIn round {V = U} {E = D} (Ok u) a b → ReadsIn round r a b
+pub reads_more : {round : Round} {U V D E : Type 0} (u : U) (r : Result V E) (a b : State) → RunsQueriesIn round {V = U} {E = D} (Ok u) a b → RunsQueriesIn round r a b
 reads_more u (Ok v) a b h = record { same = h.same; err = λ own clean on. tt; now = h.now; mode = h.mode; crash = h.crash }
 reads_more u (Err e) a b h = record { same = λ own clean on. tt; err = λ own clean on. inl (h.same own clean on); now = λ own clean. tt; mode = h.mode; crash = h.crash }
 
-pub reads_fail : {round : Round} {U V D E : Type 0} (d : D) (e : E) (a b : State) → ReadsIn round {V = U} {E = D} (Err d) a b → ReadsIn round {V = V} {E = E} (Err e) a b
+pub reads_fail : {round : Round} {U V D E : Type 0} (d : D) (e : E) (a b : State) → RunsQueriesIn round {V = U} {E = D} (Err d) a b → RunsQueriesIn round {V = V} {E = E} (Err e) a b
 reads_fail d e a b h = record { same = λ own clean on. tt; err = h.err; now = λ own clean. tt; mode = h.mode; crash = h.crash }
 
 -- one query
-pub reads_of : {round : Round} {V E : Type 0} (r : Result V E) (a b : State) → AsksIn round r a b → ReadsIn round r a b
+pub reads_of : {round : Round} {V E : Type 0} (r : Result V E) (a b : State) → RunsQueryIn round r a b → RunsQueriesIn round r a b
 reads_of r a b h = record {
   same = λ own clean on. h.same own clean;
   err = λ own clean on. h.err own clean;
@@ -93,7 +93,7 @@ on_ok (Ok v) h = h
 on_ok (Err e) h = tt
 
 -- what reads the first round's tables reads tables of either round
-pub reads_in : {V E : Type 0} (round : Round) (r : Result V E) (a b : State) → Reads r a b → ReadsIn round r a b
+pub reads_in : {V E : Type 0} (round : Round) (r : Result V E) (a b : State) → RunsQueries r a b → RunsQueriesIn round r a b
 reads_in round r a b h = record {
   same = λ own. h.same (round_own round a.now.schema own);
   err = λ own. h.err (round_own round a.now.schema own);
@@ -103,11 +103,11 @@ reads_in round r a b h = record {
 }
 
 -- an error that is handed on
-pub reads_handed : {round : Round} {V E : Type 0} {U : Type 0} (e : E) (r : Result V E) (a b : State) → IsErr r → ReadsIn round {V = U} {E = E} (Err e) a b → ReadsIn round r a b
+pub reads_handed : {round : Round} {V E : Type 0} {U : Type 0} (e : E) (r : Result V E) (a b : State) → IsErr r → RunsQueriesIn round {V = U} {E = E} (Err e) a b → RunsQueriesIn round r a b
 reads_handed e (Ok v) a b is h = absurd (cc)
 reads_handed e (Err f) a b is h = reads_fail e f a b h
 
-pub reads_failed : {round : Round} {V U D E : Type 0} (d : D) (r : Result V E) (a b : State) → IsErr r → ReadsIn round {V = U} {E = D} (Err d) a b → ReadsIn round r a b
+pub reads_failed : {round : Round} {V U D E : Type 0} (d : D) (r : Result V E) (a b : State) → IsErr r → RunsQueriesIn round {V = U} {E = D} (Err d) a b → RunsQueriesIn round r a b
 reads_failed d (Ok v) a b is h = absurd (cc)
 reads_failed d (Err f) a b is h = reads_fail d f a b h
 
@@ -116,5 +116,5 @@ pub shifted : {round there : Round} {lists which : Lists} {now db : Database} {X
     → P there lists now rows → P round which db owners
 shifted {round} {there} {lists} {which} {now} {db} {X} {rows} {owners} P a b c d h = subst₂ (λ x y. P round which x y) c d (subst₂ (λ x y. P x y now rows) a b h)
 
-pub reads_shifted : {round there : Round} {V E : Type 0} (r : Result V E) (a b : State) → there ≡ round → ReadsIn there r a b → ReadsIn round r a b
-reads_shifted r a b same h = subst (λ x. ReadsIn x r a b) same h
+pub reads_shifted : {round there : Round} {V E : Type 0} (r : Result V E) (a b : State) → there ≡ round → RunsQueriesIn there r a b → RunsQueriesIn round r a b
+reads_shifted r a b same h = subst (λ x. RunsQueriesIn x r a b) same h

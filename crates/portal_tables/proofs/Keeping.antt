@@ -1,11 +1,11 @@
 -- What each change leaves of what a store knows between two calls: the tables are its own, and rows have numbers of their own.
 use Rattle.std.specs.Prelude.{◌≡◌, ◌≢◌, ◌∷◌, ◌++◌}
-use Rattle.portal_tables.proofs.Base.{ℕ, ℤ, List, [], map, length, Result, Ok, Bool, true, false, not, eqb, refl, sym, ap, ap₂, subst, subst₂, ◌∙◌, AllByRecursion, flat_map, list_all, is_eq, match_ordering, Ordering, Less, Equal, Greater, and_parts, or_parts, eqb-false, IsPermutation, IsPermutation-refl, IsPermutation-trans, IsPermutation-sym, IsPermutation-middle, IsPermutation-append_right, map-append, Int, Row, value_cmp, next_rowid, is_taken, id_in, are_fresh, put_all, put_row, rowid, Database, Ghosts, state, Error, Transaction, all-put_row, Puts, Drops, Sets, IsApart, with_rows, AreNew, own_trees, IsCurrent, Adds, AddsBy, Ran, GoesOn, Does}
+use Rattle.portal_tables.proofs.Base.{ℕ, ℤ, List, [], map, length, Result, Ok, Bool, true, false, not, eqb, refl, sym, ap, ap₂, subst, subst₂, ◌∙◌, AllByRecursion, flat_map, list_all, is_eq, match_ordering, Ordering, Less, Equal, Greater, and_parts, or_parts, eqb-false, IsPermutation, IsPermutation-refl, IsPermutation-trans, IsPermutation-sym, IsPermutation-middle, IsPermutation-append_right, map-append, Int, Row, value_cmp, next_rowid, is_taken, id_in, are_fresh, put_all, put_row, rowid, Database, Ghosts, state, Error, Transaction, all-put_row, InsertsRows, Drops, Sets, RowNumbersDiffer, with_rows, AreNew, own_trees, IsCurrentSchema, Adds, AddsBy, Ran, GoesOn, Does}
 use Rattle.portal_tables.specs.Changes.{Keeps}
 use Rattle.portal_tables.proofs.Runs.{does_then, goes_then}
 use Rattle.portal_tables.proofs.Lists.{apart_filter, eq_flips, put_splits, not_true}
 
-pub apart_put : (new : Row) (rows : List Row) (n : _) → rowid new ≡ Int n → IsApart rows → is_taken rows new ≡ false → IsApart (put_row new rows)
+pub apart_put : (new : Row) (rows : List Row) (n : _) → rowid new ≡ Int n → RowNumbersDiffer rows → is_taken rows new ≡ false → RowNumbersDiffer (put_row new rows)
 apart_put new [] n is apart free = (is ∙ ap Int (sym (ap id_in is)), tt, tt)
 apart_put new (r ∷ rows) n is apart free = go (apart_put new rows n is apart.2 both.1) (value_cmp (rowid r) (rowid new)) refl
   where
@@ -16,18 +16,18 @@ apart_put new (r ∷ rows) n is apart free = go (apart_put new rows n is apart.2
     none [] free = tt
     none (s ∷ rows) free = let two = or_parts (is_eq (value_cmp (rowid s) (rowid new))) (is_taken rows new) free in (eq_flips (rowid new) (rowid s) ∙ two.0, none rows two.1)
 
-    go : IsApart (put_row new rows) → (o : Ordering) → value_cmp (rowid r) (rowid new) ≡ o → IsApart (match_ordering o (r ∷ put_row new rows) (new ∷ rows) (new ∷ r ∷ rows))
+    go : RowNumbersDiffer (put_row new rows) → (o : Ordering) → value_cmp (rowid r) (rowid new) ≡ o → RowNumbersDiffer (match_ordering o (r ∷ put_row new rows) (new ∷ rows) (new ∷ r ∷ rows))
     go rest Less e = (apart.0, all-put_row _ new rows both.0 apart.1, rest)
     go rest Equal e = absurd (let e : is_eq Equal ≡ false = ap is_eq (sym e) ∙ both.0 in cc)
     go rest Greater e = (is ∙ ap Int (sym (ap id_in is)), none (r ∷ rows) free, apart)
 
-rows_apart : (table cells : List Row) → AreNew table cells → IsApart table → IsApart (with_rows table cells)
+rows_apart : (table cells : List Row) → AreNew table cells → RowNumbersDiffer table → RowNumbersDiffer (with_rows table cells)
 rows_apart table [] new apart = apart
 rows_apart table (c ∷ cells) new apart =
     rows_apart (put_row (Int (next_rowid table) ∷ c) table) cells new.1 (apart_put _ table (next_rowid table) refl apart new.0)
 
-pub puts_apart : (tree : ℕ) (cells : List Row) (old new : Database) → Puts tree cells old new → IsApart (old.trees tree) → IsApart (new.trees tree)
-puts_apart tree cells old new h apart = subst IsApart (sym h.rows) (rows_apart (old.trees tree) cells h.free apart)
+pub puts_apart : (tree : ℕ) (cells : List Row) (old new : Database) → InsertsRows tree cells old new → RowNumbersDiffer (old.trees tree) → RowNumbersDiffer (new.trees tree)
+puts_apart tree cells old new h apart = subst RowNumbersDiffer (sym h.rows) (rows_apart (old.trees tree) cells h.free apart)
 
 pub put_permutes : (x : Row) (rows : List Row) → is_taken rows x ≡ false → IsPermutation (x ∷ rows) (put_row x rows)
 put_permutes x rows free =
@@ -35,8 +35,8 @@ put_permutes x rows free =
     subst₂ IsPermutation (ap (λ l. x ∷ l) (sym split.2)) (sym split.3) (IsPermutation-sym _ _ (IsPermutation-middle split.0 x split.1))
 
 -- rows are put, each with a number that no other row has
-pub rows_put : (rows news : List Row) → are_fresh rows news ≡ true → AllByRecursion (λ r. rowid r ≡ Int (id_in (rowid r))) news → IsApart rows
-    → IsPermutation (news ++ rows) (put_all rows news) × IsApart (put_all rows news)
+pub rows_put : (rows news : List Row) → are_fresh rows news ≡ true → AllByRecursion (λ r. rowid r ≡ Int (id_in (rowid r))) news → RowNumbersDiffer rows
+    → IsPermutation (news ++ rows) (put_all rows news) × RowNumbersDiffer (put_all rows news)
 rows_put rows [] fresh numbers apart = (IsPermutation-refl rows, apart)
 rows_put rows (x ∷ news) fresh numbers apart =
     let two = and_parts (not (is_taken rows x)) (are_fresh (put_row x rows) news) fresh in
@@ -71,7 +71,7 @@ keeps_all {tree} db = each own_trees
     each (t ∷ trees) = (λ _. refl, each trees)
 
 -- no row comes
-puts_none : (tree : ℕ) (db : Database) → Puts tree [] db db
+puts_none : (tree : ℕ) (db : Database) → InsertsRows tree [] db db
 puts_none tree db = record { schema_is = refl; free = tt; rows = refl; others = keeps_all db; sound = λ h. h refl }
 
 pub adds_none : (tree : ℕ) (db : Database) → Adds tree [] db db
@@ -89,7 +89,7 @@ new_then table (c ∷ cells) more p q = (p.0, new_then (put_row (Int (next_rowid
 pub adds_then : (tree : ℕ) (cells more : List Row) (a b c : Database) → Adds tree cells a b → Adds tree more b c → Adds tree (cells ++ more) a c
 adds_then tree cells more a b c adds later own =
     let p = adds own in
-    let q = later (subst IsCurrent (sym p.schema_is) own) in
+    let q = later (subst IsCurrentSchema (sym p.schema_is) own) in
     record {
       schema_is = q.schema_is ∙ p.schema_is;
       free = new_then (a.trees tree) cells more p.free (subst (λ t. AreNew t more) p.rows q.free);
@@ -106,15 +106,15 @@ rows_run g tree values cells text count adds rows run are a r old mid new before
     does_then g _ _ _ a r old mid new before after (λ was ran. goes_then (Adds tree (map cells rows)) (Adds tree (map cells run)) (Adds tree (map cells (rows ++ run))) _ _ _ was (adds run are mid.conn.now new.conn.now ran)
     (λ p q. subst (λ l. Adds tree l (state g old.conn.now).now (state g new.conn.now).now) (sym (map-append cells rows run)) (adds_then tree (map cells rows) (map cells run) _ (state g mid.conn.now).now _ p q)))
 
-pub drops_apart : (tree : ℕ) (p : Row → Bool) (old new : Database) → Drops tree p old new → IsApart (old.trees tree) → IsApart (new.trees tree)
-drops_apart tree p old new h apart = subst IsApart (sym h.rows) (apart_filter _ _ apart)
+pub drops_apart : (tree : ℕ) (p : Row → Bool) (old new : Database) → Drops tree p old new → RowNumbersDiffer (old.trees tree) → RowNumbersDiffer (new.trees tree)
+drops_apart tree p old new h apart = subst RowNumbersDiffer (sym h.rows) (apart_filter _ _ apart)
 
-pub sets_apart : (tree : ℕ) (p : Row → Bool) (row : Row) (n : ℤ) (old new : Database) → rowid row ≡ Int n → Sets tree p row old new → IsApart (old.trees tree) → IsApart (new.trees tree)
-sets_apart tree p row n old new is h apart = subst IsApart (sym h.rows) (apart_put row _ n is (apart_filter _ _ apart) h.free)
+pub sets_apart : (tree : ℕ) (p : Row → Bool) (row : Row) (n : ℤ) (old new : Database) → rowid row ≡ Int n → Sets tree p row old new → RowNumbersDiffer (old.trees tree) → RowNumbersDiffer (new.trees tree)
+sets_apart tree p row n old new is h apart = subst RowNumbersDiffer (sym h.rows) (apart_put row _ n is (apart_filter _ _ apart) h.free)
 
 -- one row is apart, and none is
-pub apart_one : (rows : List Row) (r : Row) (n : ℤ) → rowid r ≡ Int n → rows ≡ r ∷ [] → IsApart rows
-apart_one rows r n is one = subst IsApart (sym one) (is ∙ ap Int (sym (ap id_in is)), tt, tt)
+pub apart_one : (rows : List Row) (r : Row) (n : ℤ) → rowid r ≡ Int n → rows ≡ r ∷ [] → RowNumbersDiffer rows
+apart_one rows r n is one = subst RowNumbersDiffer (sym one) (is ∙ ap Int (sym (ap id_in is)), tt, tt)
 
-pub apart_none : (rows : List Row) → rows ≡ [] → IsApart rows
-apart_none rows none = subst IsApart (sym none) tt
+pub apart_none : (rows : List Row) → rows ≡ [] → RowNumbersDiffer rows
+apart_none rows none = subst RowNumbersDiffer (sym none) tt

@@ -1,7 +1,7 @@
 -- What a query of one table shows, and the one order of its rows.
 use Rattle.std.specs.Prelude.{◌≡◌, ◌+◌, ◌<◌, ◌≤◌, ◌∷◌}
 use Rattle.std.specs.Prelude.{◌<ℤ◌}
-use Rattle.portal_tables.proofs.Base.{inl, inr, ℕ, pos, negsuc, Bool, true, false, List, [], length, map, filter, refl, sym, ap, subst, subst₂, ◌∙◌, AllByRecursion, IsPermutation, IsSorted, nil_from_length, length-map, IsPermutation-map, IsPermutation-sym, length_permutation, Ordering, Less, Equal, Greater, is_lt, is_gt, nat_cmp, ordering_then, ordering_reverse, lt→ltb, nat_cmp_is, int_cmp_is, cases_lt, slice_cmp, Value, Null, Int, Real, Blob, Words, Row, column, bytes, value_cmp, number_in, IsAscending, map-map, all_of, value_cmp_total, value_cmp-Int, value_cmp-Text, then-Equal, ascending_from_sorted, IsSorted-map, Key, is_before, Rise, all_weaker, all_map, all_unmap, ListsBy, every, columns, has_text, row_key, by_key, of_key, place_of, place_key, by_place, named_by, chosen, CountUp, IsWhole, first, shown_place, shown_name}
+use Rattle.portal_tables.proofs.Base.{inl, inr, ℕ, pos, negsuc, Bool, true, false, List, [], length, map, filter, refl, sym, ap, subst, subst₂, ◌∙◌, AllByRecursion, IsPermutation, IsSorted, nil_from_length, length-map, IsPermutation-map, IsPermutation-sym, length_permutation, Ordering, Less, Equal, Greater, is_lt, is_gt, nat_cmp, ordering_then, ordering_reverse, lt→ltb, nat_cmp_is, int_cmp_is, cases_lt, slice_cmp, Value, Null, Int, Real, Blob, Words, Row, column, bytes, value_cmp, number_in, IsAscending, map-map, all_of, value_cmp_total, value_cmp-Int, value_cmp-Text, then-Equal, ascending_from_sorted, IsSorted-map, Key, is_before, Rise, all_weaker, all_map, all_unmap, ListsBy, every, columns, has_text, row_key, by_key, of_key, place_of, place_key, by_place, named_by, chosen, CountUp, IsWhole, first_cell, shown_rank, shown_name}
 use Rattle.std.proofs.Common.{arith}
 use Rattle.std.specs.Ordering.{int_cmp}
 use Rattle.std.specs.Cmp.Lexicographic.{nat_list_cmp_total}
@@ -81,21 +81,21 @@ module _ (rest : List ℕ) (table shown : List Row) (h : ListsBy (1 ∷ []) ever
   whole_roll : IsPermutation (map (columns (1 ∷ rest)) table) shown
   whole_roll = subst (λ rows. IsPermutation (map (columns (1 ∷ rest)) rows) shown) (filter_all table) (permuted _ _ _ table shown h)
 
-  in_place : put_all first (map (columns (1 ∷ rest)) table) [] ≡ map (columns (1 ∷ rest)) (by_key table)
-  in_place = put_all_map row_key first (columns (1 ∷ rest)) (λ r. refl) table []
+  in_place : put_all first_cell (map (columns (1 ∷ rest)) table) [] ≡ map (columns (1 ∷ rest)) (by_key table)
+  in_place = put_all_map row_key first_cell (columns (1 ∷ rest)) (λ r. refl) table []
 
   -- where the keys rise, the rows are those of the world's order
-  pub roll_shown : Rise (map first shown) → shown ≡ map (columns (1 ∷ rest)) (by_key table)
-  roll_shown up = in_order first (map (columns (1 ∷ rest)) table) shown whole_roll up ∙ in_place
+  pub roll_shown : Rise (map first_cell shown) → shown ≡ map (columns (1 ∷ rest)) (by_key table)
+  roll_shown up = in_order first_cell (map (columns (1 ∷ rest)) table) shown whole_roll up ∙ in_place
 
   -- and they do where those of the world's order rise
-  pub roll_rises : AllByRecursion (λ r. IsText (column r 1)) table → Rise (map row_key (by_key table)) → Rise (map first shown)
+  pub roll_rises : AllByRecursion (λ r. IsText (column r 1)) table → Rise (map row_key (by_key table)) → Rise (map first_cell shown)
   roll_rises texts up =
       let good : AllByRecursion IsText (map (λ c. column c 0) shown) = all_map IsText (λ c. column c 0) shown (all_permuted (λ c. IsText (column c 0)) (map (columns (1 ∷ rest)) table) shown whole_roll (all_map (λ c. IsText (column c 0)) (columns (1 ∷ rest)) table texts)) in
-      let never : NeverFall (map first shown) = subst NeverFall (map-map bytes (λ c. column c 0) shown) (falls AtMost bytes IsText texts_agree _ (ascends 1 rest every table shown h) good) in
-      let there : map first (put_all first (map (columns (1 ∷ rest)) table) []) ≡ map row_key (by_key table) = ap (map first) in_place ∙ map-map first (columns (1 ∷ rest)) (by_key table) in
-      let found = sorted_order first (map (columns (1 ∷ rest)) table) shown whole_roll never (subst Rise (sym there) up) in
-      subst Rise (sym (ap (map first) found ∙ there)) up
+      let never : NeverFall (map first_cell shown) = subst NeverFall (map-map bytes (λ c. column c 0) shown) (falls AtMost bytes IsText texts_agree _ (ascends 1 rest every table shown h) good) in
+      let there : map first_cell (put_all first_cell (map (columns (1 ∷ rest)) table) []) ≡ map row_key (by_key table) = ap (map first_cell) in_place ∙ map-map first_cell (columns (1 ∷ rest)) (by_key table) in
+      let found = sorted_order first_cell (map (columns (1 ∷ rest)) table) shown whole_roll never (subst Rise (sym there) up) in
+      subst Rise (sym (ap (map first_cell) found ∙ there)) up
 
 -- the list of one owner by its places
 
@@ -129,7 +129,7 @@ abbrev list_columns : Row → Row
 list_columns = columns (2 ∷ 3 ∷ [])
 
 abbrev shown_key : Row → Key
-shown_key c = one (shown_place c)
+shown_key c = one (shown_rank c)
 
 module _ (key : Key) (table shown : List Row) (h : ListsBy (2 ∷ []) (has_text 1 key) list_columns table shown) where
   abbrev mine : List Row
@@ -141,19 +141,19 @@ module _ (key : Key) (table shown : List Row) (h : ListsBy (2 ∷ []) (has_text 
   list_place : put_all shown_key (map list_columns mine) [] ≡ map list_columns (by_place mine)
   list_place = put_all_map place_key shown_key list_columns (λ r. refl) mine []
 
-  list_shown : CountUp 1 (map shown_place shown) → shown ≡ map list_columns (by_place mine)
-  list_shown up = in_order shown_key (map list_columns mine) shown same (subst Rise (map-map one shown_place shown) (counts_rise 1 _ up)) ∙ list_place
+  list_shown : CountUp 1 (map shown_rank shown) → shown ≡ map list_columns (by_place mine)
+  list_shown up = in_order shown_key (map list_columns mine) shown same (subst Rise (map-map one shown_rank shown) (counts_rise 1 _ up)) ∙ list_place
 
-  places_are : map shown_place (map list_columns (by_place mine)) ≡ map place_of (by_place mine)
-  places_are = map-map shown_place list_columns (by_place mine)
+  places_are : map shown_rank (map list_columns (by_place mine)) ≡ map place_of (by_place mine)
+  places_are = map-map shown_rank list_columns (by_place mine)
 
-  pub list_whole : CountUp 1 (map shown_place shown) → IsWhole mine
-  list_whole up = subst (CountUp 1) (ap (map shown_place) (list_shown up) ∙ places_are) up
+  pub list_whole : CountUp 1 (map shown_rank shown) → IsWhole mine
+  list_whole up = subst (CountUp 1) (ap (map shown_rank) (list_shown up) ∙ places_are) up
 
-  pub list_names : CountUp 1 (map shown_place shown) → map shown_name shown ≡ chosen table key
+  pub list_names : CountUp 1 (map shown_rank shown) → map shown_name shown ≡ chosen table key
   list_names up = ap (map shown_name) (list_shown up) ∙ map-map shown_name list_columns (by_place mine)
 
-  pub list_counts : IsWhole mine → CountUp 1 (map shown_place shown)
+  pub list_counts : IsWhole mine → CountUp 1 (map shown_rank shown)
   list_counts whole =
       let high : AllByRecursion (λ r. 1 ≤ place_of r) (by_place mine) = all_unmap (λ m. 1 ≤ m) place_of (by_place mine) (counts_high 1 _ (omega arith) whole) in
       let low : AllByRecursion (λ r. IsCount (column r 2)) mine = all_weaker _ _ (λ r. is_count (column r 2)) mine (all_permuted _ (by_place mine) mine (IsPermutation-sym _ _ (permutes place_key mine)) high) in
@@ -163,7 +163,7 @@ module _ (key : Key) (table shown : List Row) (h : ListsBy (2 ∷ []) (has_text 
       let rises : Rise (map shown_key (put_all shown_key (map list_columns mine) [])) =
       subst Rise (map-map one place_of (by_place mine) ∙ sym (ap (map shown_key) list_place ∙ map-map shown_key list_columns (by_place mine))) (counts_rise 1 _ whole) in
       let found = sorted_order shown_key (map list_columns mine) shown same never rises in
-      subst (CountUp 1) (sym (ap (map shown_place) (found ∙ list_place) ∙ places_are)) whole
+      subst (CountUp 1) (sym (ap (map shown_rank) (found ∙ list_place) ∙ places_are)) whole
 
 -- a list that is empty has no row
 pub none_chosen : (key : Key) (table : List Row) → chosen table key ≡ [] → of_key key table ≡ []

@@ -1,6 +1,6 @@
 -- Lists of rows.
 use Rattle.std.specs.Prelude.{◌≡◌, ◌∷◌, ◌++◌, ◌&&◌, ◌||◌}
-use Rattle.portal_tables.proofs.Base.{inl, inr, ℤ, List, [], map, filter, Bool, true, false, not, cond, refl, sym, ap, ap₂, subst, ◌∙◌, AllByRecursion, list_any, flat_map, is_eq, ordering_reverse, match_ordering, Ordering, Less, Equal, Greater, or_parts, Value, Int, Row, value_cmp, put_row, rowid, has_rowid, without_rowid, id_in, is_taken, without_all, Has, all_has, all-filter, value_cmp_total, IsApart}
+use Rattle.portal_tables.proofs.Base.{inl, inr, ℤ, List, [], map, filter, Bool, true, false, not, cond, refl, sym, ap, ap₂, subst, ◌∙◌, AllByRecursion, list_any, flat_map, is_eq, ordering_reverse, match_ordering, Ordering, Less, Equal, Greater, or_parts, Value, Int, Row, value_cmp, put_row, rowid, has_rowid, without_rowid, id_in, is_taken, without_all, Has, all_has, all-filter, value_cmp_total, RowNumbersDiffer}
 
 -- a loop that shows each element which passes
 pub looped : {X Y : Type 0} (p : X → Bool) (f : X → Y) (xs : List X) → flat_map (λ x. cond (p x) (f x ∷ []) []) xs ≡ map f (filter p xs)
@@ -72,7 +72,7 @@ found_head false p x rows r n e = refl
 numbered_as : (s r : Row) → rowid s ≡ Int (id_in (rowid s)) → has_rowid (id_in (rowid s)) r ≡ is_eq (value_cmp (rowid r) (rowid s))
 numbered_as s r is = ap (λ v. is_eq (value_cmp (rowid r) v)) (sym is)
 
-found_not : (p : Row → Bool) (rows : List Row) (r : Row) → AllByRecursion (λ s. is_eq (value_cmp (rowid r) (rowid s)) ≡ false) rows → IsApart rows → found p rows r ≡ false
+found_not : (p : Row → Bool) (rows : List Row) (r : Row) → AllByRecursion (λ s. is_eq (value_cmp (rowid r) (rowid s)) ≡ false) rows → RowNumbersDiffer rows → found p rows r ≡ false
 found_not p [] r none apart = refl
 found_not p (x ∷ rows) r none apart =
     found_head (p x) p x rows r false (numbered_as x r apart.0 ∙ none.0) ∙ nothing (p x) (found_not p rows r none.1 apart.2)
@@ -81,7 +81,7 @@ found_not p (x ∷ rows) r none apart =
     nothing true h = h
     nothing false h = h
 
-pub found_once : (p : Row → Bool) (rows : List Row) (r : Row) → IsApart rows → Has rows r → found p rows r ≡ p r
+pub found_once : (p : Row → Bool) (rows : List Row) (r : Row) → RowNumbersDiffer rows → Has rows r → found p rows r ≡ p r
 found_once p [] r apart none = absurd none
 found_once p (x ∷ rows) r apart (inl same) =
     subst (λ y. list_any (λ s. has_rowid (id_in (rowid s)) y) (filter p (x ∷ rows)) ≡ p y) (sym same)
@@ -99,10 +99,10 @@ found_once p (x ∷ rows) r apart (inr has) =
     other false h = h
 
 -- the rows stay apart where some go, and where one comes whose number is free
-pub apart_filter : (p : Row → Bool) (rows : List Row) → IsApart rows → IsApart (filter p rows)
+pub apart_filter : (p : Row → Bool) (rows : List Row) → RowNumbersDiffer rows → RowNumbersDiffer (filter p rows)
 apart_filter p [] h = tt
 apart_filter p (x ∷ rows) h =
-    elim (p x) as (λ b. IsApart (cond b (x ∷ filter p rows) (filter p rows))) [ true ↦ (h.0, all-filter _ p rows h.1, apart_filter p rows h.2) | false ↦ apart_filter p rows h.2 ]
+    elim (p x) as (λ b. RowNumbersDiffer (cond b (x ∷ filter p rows) (filter p rows))) [ true ↦ (h.0, all-filter _ p rows h.1, apart_filter p rows h.2) | false ↦ apart_filter p rows h.2 ]
 
 -- where its number is free, a row is put somewhere between the others
 pub put_splits : (new : Row) (rows : List Row) → is_taken rows new ≡ false → (front : List Row) × (back : List Row) × (rows ≡ front ++ back) × (put_row new rows ≡ front ++ new ∷ back)

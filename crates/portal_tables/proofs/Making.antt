@@ -1,6 +1,6 @@
 -- The tables made, one after another.
 use Rattle.std.specs.Prelude.{◌≡◌, ◌∷◌, ◌++◌}
-use Rattle.portal_tables.proofs.Base.{drop, ℕ, List, [], map, false, None, Result, Ok, refl, sym, ap, subst, subst₂, ◌∙◌, ⊤, AllByRecursion, AllZip, Table, Term, Schema, created, next_tree, table_defined_by, CreateTable, Tally, lacks_sequence, Ghosts, state, Error, Transaction, Database, understood, State, Writes, IsPlain, command_of, statement_of, runs_as, everything, zip-append, all-append, all-map, no_schema, first_schema, portal_schema, portal, portal_text, lecturer, lecturer_text, project, project_text, student, student_text, choice, ranking, choice_names, ranking_names, list_table_text, second, second_text, choice2, choice2_names, ranked2, ranked2_text, ranking2, ranking2_names, assigned2, assigned2_text, first_trees, second_trees, SameTable, IsCurrent, IsFirst, Grows, Grown, MakesFirst, MakesSecond, Makes, with_second, Ran, Made, Does}
+use Rattle.portal_tables.proofs.Base.{drop, ℕ, List, [], map, false, None, Result, Ok, refl, sym, ap, subst, subst₂, ◌∙◌, ⊤, AllByRecursion, AllZip, Table, Term, Schema, created, next_tree, table_defined_by, CreateTable, Tally, lacks_sequence, Ghosts, state, Error, Transaction, Database, understood, State, Writes, IsPlain, command_of, statement_of, runs_as, everything, zip-append, all-append, all-map, no_schema, first_schema, portal_schema, portal, portal_text, lecturer_schema, lecturer_text, project_schema, project_text, student_schema, student_text, choice, ranking, choice_names, ranking_names, list_table_text, second, second_text, choice2, choice2_names, ranked2, ranked2_text, ranking2, ranking2_names, assigned2, assigned2_text, first_trees, second_trees, SameTable, IsCurrentSchema, IsFirstSchema, Grows, Grown, MakesFirst, MakesSecond, Makes, with_second, Ran, Made, Does}
 use Rattle.portal_tables.proofs.Owned.{same_tables, first_self}
 use Rattle.portal_tables.proofs.Runs.{made_then, does_more, does_then}
 use Rattle.portal_tables.proofs.Sorted.{all_two}
@@ -77,13 +77,13 @@ abbrev one : Schema
 one = created no_schema (portal 0)
 
 abbrev two : Schema
-two = created one (lecturer 0)
+two = created one (lecturer_schema 0)
 
 abbrev three : Schema
-three = created two (project 0)
+three = created two (project_schema 0)
 
 abbrev four : Schema
-four = created three (student 0)
+four = created three (student_schema 0)
 
 abbrev five : Schema
 five = created four (choice 0)
@@ -92,15 +92,15 @@ pub portal_made : Defines no_schema portal_text (portal 0) [] 0
 unfolding understood everything
 portal_made = record { defined = refl; command = refl; statement = refl; plain = (refl, refl); uncounted = refl; trees = refl; tree = refl }
 
-pub lecturer_made : Defines one lecturer_text (lecturer 0) (0 ∷ []) 1
+pub lecturer_made : Defines one lecturer_text (lecturer_schema 0) (0 ∷ []) 1
 unfolding understood everything
 lecturer_made = record { defined = refl; command = refl; statement = refl; plain = (refl, refl); uncounted = refl; trees = refl; tree = refl }
 
-pub project_made : Defines two project_text (project 0) (0 ∷ 1 ∷ []) 4
+pub project_made : Defines two project_text (project_schema 0) (0 ∷ 1 ∷ []) 4
 unfolding understood everything
 project_made = record { defined = refl; command = refl; statement = refl; plain = (refl, refl); uncounted = refl; trees = refl; tree = refl }
 
-pub student_made : Defines three student_text (student 0) (0 ∷ 1 ∷ 4 ∷ []) 6
+pub student_made : Defines three student_text (student_schema 0) (0 ∷ 1 ∷ 4 ∷ []) 6
 unfolding understood everything
 student_made = record { defined = refl; command = refl; statement = refl; plain = (refl, refl); uncounted = refl; trees = refl; tree = refl }
 
@@ -176,13 +176,13 @@ module _ (terms : Terms) where
     same_with ts,
   )
 
-  is_current : IsCurrent (with_second six)
+  is_current : IsCurrentSchema (with_second six)
   unfolding understood everything
   is_current = record { tables = zip-append SameTable (map (with_checks terms.0 terms.1) first_schema.tables) (drop 6 portal_schema.tables) first_schema.tables (drop 6 portal_schema.tables) (same_with first_schema.tables) (same_tables (drop 6 portal_schema.tables)); indexes = refl; no_views = refl; no_views_there = refl }
 
 -- beside the six of version 1 they make all
-pub second_current : (s : Schema) → IsFirst s → IsCurrent (with_second s)
-second_current s own = let w = first_is s own in subst (λ x. IsCurrent (with_second x)) (sym w.is) (is_current (w.checks, w.terms))
+pub second_current : (s : Schema) → IsFirstSchema s → IsCurrentSchema (with_second s)
+second_current s own = let w = first_is s own in subst (λ x. IsCurrentSchema (with_second x)) (sym w.is) (is_current (w.checks, w.terms))
 
 pub five_made : {S A : Type 0} (g : Ghosts S) (r : Result A Error) (old new : Transaction S)
     → Does g (Made (GrowsBy six (λ terms. with_second (six terms)) first_trees second_trees)) r old new → Does g (Made MakesSecond) r old new
@@ -202,5 +202,5 @@ pub all_made : {S A : Type 0} (g : Ghosts S) (r : Result A Error) (old mid new :
     → Does g (Made Makes) r old new
 all_made g r old mid new first second = does_then g _ _ _ _ r old mid new first second (λ p q. made_then MakesFirst MakesSecond Makes _ _ _ p q (λ first second has.
     let was = first has in
-    let is = second (subst IsFirst (sym was.schema_is) first_self) in
+    let is = second (subst IsFirstSchema (sym was.schema_is) first_self) in
     grows_then no_schema first_schema portal_schema [] first_trees second_trees _ _ _ first (λ _. record { schema_is = is.schema_is ∙ ap with_second was.schema_is ∙ full_is; same = is.same; empty = is.empty; sound = is.sound }) has))

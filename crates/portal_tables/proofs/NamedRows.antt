@@ -1,27 +1,27 @@
--- A key that is looked for among rows whose keys rise.
+-- A key that equals looked for among rows whose keys rise.
 use Rattle.std.specs.Prelude.{◌≡◌, ◌<◌, ◌≤◌, ◌||◌, ◌∷◌}
-use Rattle.portal_tables.proofs.Base.{inl, inr, zero, suc, ℕ, true, false, List, [], map, length, get_or, refl, sym, subst, ◌∙◌, ap, nat_cmp, slice_cmp, or-true, cases_Bool, cases_lt, nat_list_cmp_total, tied_itself, exact_bytes, Row, Key, is, has, is_same, is_own, first}
+use Rattle.portal_tables.proofs.Base.{inl, inr, zero, suc, ℕ, true, false, List, [], map, length, get_or, refl, sym, subst, ◌∙◌, ap, nat_cmp, slice_cmp, or-true, cases_Bool, cases_lt, nat_list_cmp_total, tied_itself, exact_bytes, Row, Key, equals, has, is_same, is_own, first_cell}
 use Rattle.std.proofs.Common.{Less, Equal, Greater, arith}
 
--- a key that is found at a place is there
-there : (rows : List Row) (k : Key) (n : ℕ) (d : Row) → n < length rows → slice_cmp nat_cmp (first (get_or rows n d)) k ≡ Equal → has (map first rows) k ≡ true
+-- a key that equals found at a place equals there
+there : (rows : List Row) (k : Key) (n : ℕ) (d : Row) → n < length rows → slice_cmp nat_cmp (first_cell (get_or rows n d)) k ≡ Equal → has (map first_cell rows) k ≡ true
 there [] k n d low equal = absurd (omega (arith, low))
-there (r ∷ rows) k zero d low equal = ap (λ b. b || has (map first rows) k) (subst (λ x. is k x ≡ true) (sym (exact_bytes (first r) k equal)) (is_own k))
-there (r ∷ rows) k (suc n) d low equal = ap (λ b. is k (first r) || b) (there rows k n d (omega (arith, low)) equal) ∙ or-true (is k (first r))
+there (r ∷ rows) k zero d low equal = ap (λ b. b || has (map first_cell rows) k) (subst (λ x. equals k x ≡ true) (sym (exact_bytes (first_cell r) k equal)) (is_own k))
+there (r ∷ rows) k (suc n) d low equal = ap (λ b. equals k (first_cell r) || b) (there rows k n d (omega (arith, low)) equal) ∙ or-true (equals k (first_cell r))
 
--- one that is at no place is not
-nowhere : (rows : List Row) (k : Key) → ((i : ℕ) (d : Row) → i < length rows → slice_cmp nat_cmp (first (get_or rows i d)) k ≡ Equal → ⊥) → has (map first rows) k ≡ false
+-- one that equals at no place equals not
+nowhere : (rows : List Row) (k : Key) → ((i : ℕ) (d : Row) → i < length rows → slice_cmp nat_cmp (first_cell (get_or rows i d)) k ≡ Equal → ⊥) → has (map first_cell rows) k ≡ false
 nowhere [] k other = refl
-nowhere (r ∷ rows) k other = elim (cases_Bool (is k (first r))) [
-  | inl same ↦ absurd (other 0 r (omega arith) (subst (λ x. slice_cmp nat_cmp x k ≡ Equal) (is_same k (first r) same) (tied_itself nat_list_cmp_total k)))
-  | inr apart ↦ ap (λ b. b || has (map first rows) k) apart ∙ nowhere rows k (λ i d low equal. other (suc i) d (omega (arith, low)) equal)
+nowhere (r ∷ rows) k other = elim (cases_Bool (equals k (first_cell r))) [
+  | inl same ↦ absurd (other 0 r (omega arith) (subst (λ x. slice_cmp nat_cmp x k ≡ Equal) (is_same k (first_cell r) same) (tied_itself nat_list_cmp_total k)))
+  | inr apart ↦ ap (λ b. b || has (map first_cell rows) k) apart ∙ nowhere rows k (λ i d low equal. other (suc i) d (omega (arith, low)) equal)
 ]
 
-pub known_at : (rows : List Row) (k : Key) (n : ℕ) → n < length rows → ((d : Row) → slice_cmp nat_cmp (first (get_or rows n d)) k ≡ Equal) → true ≡ has (map first rows) k
+pub known_at : (rows : List Row) (k : Key) (n : ℕ) → n < length rows → ((d : Row) → slice_cmp nat_cmp (first_cell (get_or rows n d)) k ≡ Equal) → true ≡ has (map first_cell rows) k
 known_at rows k n low equal = sym (there rows k n [] low (equal []))
 
-pub known_nowhere : (rows : List Row) (k : Key) (n : ℕ) → ((i : ℕ) (d : Row) → i < n → slice_cmp nat_cmp (first (get_or rows i d)) k ≡ Less)
-    → ((i : ℕ) (d : Row) → n ≤ i → i < length rows → slice_cmp nat_cmp (first (get_or rows i d)) k ≡ Greater) → false ≡ has (map first rows) k
+pub known_nowhere : (rows : List Row) (k : Key) (n : ℕ) → ((i : ℕ) (d : Row) → i < n → slice_cmp nat_cmp (first_cell (get_or rows i d)) k ≡ Less)
+    → ((i : ℕ) (d : Row) → n ≤ i → i < length rows → slice_cmp nat_cmp (first_cell (get_or rows i d)) k ≡ Greater) → false ≡ has (map first_cell rows) k
 known_nowhere rows k n below above =
     sym (nowhere rows k (λ i d low equal. elim (cases_lt i n) [
       | inl before ↦ let wrong = below i d before in absurd (cc)

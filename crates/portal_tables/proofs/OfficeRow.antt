@@ -1,6 +1,6 @@
 -- The rows of the office and of the second round, as their queries show them.
 use Rattle.std.specs.Prelude.{◌≡◌, ◌&&◌, ◌∷◌}
-use Rattle.portal_tables.proofs.Base.{ℕ, ℤ, pos, true, false, drop, Some, List, [], map, refl, sym, ap, subst, ◌∙◌, AllByRecursion, IsPermutation, length_permutation, and_parts, Value, Null, Int, Real, Blob, Words, Row, column, Database, IsDatabase, Datatype, are_typed, is_of, Integer, is_null, Phase, Key, First, Second, portal_tree, portal, second_tree, second, IsOwn, IsCurrent, portal_row, second_row, ListsBy, every, columns, number_of, HasOffice, IsOffice, IsSecond}
+use Rattle.portal_tables.proofs.Base.{ℕ, ℤ, pos, true, false, drop, Some, List, [], map, refl, sym, ap, subst, ◌∙◌, AllByRecursion, IsPermutation, length_permutation, and_parts, Value, Null, Int, Real, Blob, Words, Row, column, Database, IsDatabase, Datatype, are_typed, is_of, Integer, is_null, Phase, Key, First, Second, portal_tree, portal, second_tree, second, HasFirstSchema, IsCurrentSchema, portal_row, second_row, ListsBy, every, columns, number_of_phase, HasOffice, IsOffice, IsSecond}
 use Rattle.std.proofs.Common.{arith}
 use Rattle.sqlite.specs.Kind.TheVariants.{Text}
 use Rattle.portal_tables.proofs.Lists.{filter_all}
@@ -61,28 +61,28 @@ shown_one cs table shown r lists is = single (columns cs r) shown (subst (λ row
 abbrev Found : ℕ → Phase → Key → List Row → Type 0
 Found version phase code shown = (row : Row) × (shown ≡ row ∷ []) × IsOffice version phase code row
 
-pub office_found : (db : Database) → IsOwn db.schema → IsDatabase db → (shown : List Row) → ListsBy (0 ∷ []) every office_columns (db.trees portal_tree) shown
-    → (version : ℕ) (phase : Phase) (code : Key) → Found version phase code shown → db.trees portal_tree ≡ portal_row (pos version) (pos (number_of phase)) code ∷ []
+pub office_found : (db : Database) → HasFirstSchema db.schema → IsDatabase db → (shown : List Row) → ListsBy (0 ∷ []) every office_columns (db.trees portal_tree) shown
+    → (version : ℕ) (phase : Phase) (code : Key) → Found version phase code shown → db.trees portal_tree ≡ portal_row (pos version) (pos (number_of_phase phase)) code ∷ []
 office_found db own sound shown h version phase code found =
     let one = one_shown (0 ∷ 2 ∷ 3 ∷ 4 ∷ []) (db.trees portal_tree) shown found.0 h found.1 in
     let at = found.2 in
     let cell : (n : ℕ) → column found.0 n ≡ column (office_columns one.0) n = λ n. ap (λ x. column x n) one.2 in
     let typed = subst (AllByRecursion (λ r. (are_typed (Some 0) 0 (portal 0).columns (drop 1 r) && true) ≡ true)) one.1 (kept First db sound Datatype (own_is First db.schema own)).0 in
-    one.1 ∙ ap (λ x. x ∷ []) (office_form (pos version) (pos (number_of phase)) code one.0 (sym (cell 0) ∙ at.id) (sym (cell 1) ∙ at.version_is) (sym (cell 2) ∙ at.phase_is) (sym (cell 3) ∙ at.code_is) (and_parts _ true typed.0).0)
+    one.1 ∙ ap (λ x. x ∷ []) (office_form (pos version) (pos (number_of_phase phase)) code one.0 (sym (cell 0) ∙ at.id) (sym (cell 1) ∙ at.version_is) (sym (cell 2) ∙ at.phase_is) (sym (cell 3) ∙ at.code_is) (and_parts _ true typed.0).0)
 
 -- what is shown of the row that is meant
 pub office_there : (version : ℕ) (table shown : List Row) → ListsBy (0 ∷ []) every office_columns table shown → (h : HasOffice version table) → Found version h.phase h.office shown
 office_there version table shown lists h =
-    (office_columns (portal_row (pos version) (pos (number_of h.phase)) h.office), shown_one (0 ∷ 2 ∷ 3 ∷ 4 ∷ []) table shown (portal_row (pos version) (pos (number_of h.phase)) h.office) lists h.is, record { id = refl; version_is = refl; phase_is = refl; code_is = refl })
+    (office_columns (portal_row (pos version) (pos (number_of_phase h.phase)) h.office), shown_one (0 ∷ 2 ∷ 3 ∷ 4 ∷ []) table shown (portal_row (pos version) (pos (number_of_phase h.phase)) h.office) lists h.is, record { id = refl; version_is = refl; phase_is = refl; code_is = refl })
 
 -- the same of the row of `second`
-pub second_found : (db : Database) → IsCurrent db.schema → IsDatabase db → (shown : List Row) → ListsBy (0 ∷ []) every (columns (0 ∷ 2 ∷ [])) (db.trees second_tree) shown
-    → (phase : Phase) → IsSecond phase shown → db.trees second_tree ≡ second_row (pos (number_of phase)) ∷ []
+pub second_found : (db : Database) → IsCurrentSchema db.schema → IsDatabase db → (shown : List Row) → ListsBy (0 ∷ []) every (columns (0 ∷ 2 ∷ [])) (db.trees second_tree) shown
+    → (phase : Phase) → IsSecond phase shown → db.trees second_tree ≡ second_row (pos (number_of_phase phase)) ∷ []
 second_found db own sound shown h phase at =
     let one = one_shown (0 ∷ 2 ∷ []) (db.trees second_tree) shown at.row h at.is in
     let cell : (n : ℕ) → column at.row n ≡ column (columns (0 ∷ 2 ∷ []) one.0) n = λ n. ap (λ x. column x n) one.2 in
     let typed = subst (AllByRecursion (λ r. (are_typed (Some 0) 0 (second 0).columns (drop 1 r) && true) ≡ true)) one.1 (kept Second db sound Datatype (own_is Second db.schema own)).1.1.1.1.1.1.0 in
-    one.1 ∙ ap (λ x. x ∷ []) (second_form (pos (number_of phase)) one.0 (sym (cell 0) ∙ at.id) (sym (cell 1) ∙ at.phase_is) (and_parts _ true typed.0).0)
+    one.1 ∙ ap (λ x. x ∷ []) (second_form (pos (number_of_phase phase)) one.0 (sym (cell 0) ∙ at.id) (sym (cell 1) ∙ at.phase_is) (and_parts _ true typed.0).0)
 
-pub second_there : (table shown : List Row) → ListsBy (0 ∷ []) every (columns (0 ∷ 2 ∷ [])) table shown → (phase : Phase) → table ≡ second_row (pos (number_of phase)) ∷ [] → IsSecond phase shown
-second_there table shown lists phase is = record { row = columns (0 ∷ 2 ∷ []) (second_row (pos (number_of phase))); is = shown_one (0 ∷ 2 ∷ []) table shown (second_row (pos (number_of phase))) lists is; id = refl; phase_is = refl }
+pub second_there : (table shown : List Row) → ListsBy (0 ∷ []) every (columns (0 ∷ 2 ∷ [])) table shown → (phase : Phase) → table ≡ second_row (pos (number_of_phase phase)) ∷ [] → IsSecond phase shown
+second_there table shown lists phase is = record { row = columns (0 ∷ 2 ∷ []) (second_row (pos (number_of_phase phase))); is = shown_one (0 ∷ 2 ∷ []) table shown (second_row (pos (number_of_phase phase))) lists is; id = refl; phase_is = refl }

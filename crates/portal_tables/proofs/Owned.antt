@@ -1,6 +1,6 @@
 -- Which schema is the portal's own: those of the tables as they are made, and any over the same trees.
 use Rattle.std.specs.Prelude.{◌≡◌, ◌∷◌, ◌++◌}
-use Rattle.portal_tables.proofs.Base.{List, [], take, length, subst, sym, refl, AllZip, Database, IsDatabase, Trees, Schema, Table, IsSound, lists_once, zip_itself, Round, First, Second, first_schema, portal_schema, SameTable, IsOwn, IsCurrent, IsFirst, HasRound}
+use Rattle.portal_tables.proofs.Base.{List, [], take, length, subst, sym, refl, AllZip, Database, IsDatabase, Trees, Schema, Table, IsSound, lists_once, zip_itself, Round, First, Second, first_schema, portal_schema, SameTable, HasFirstSchema, IsCurrentSchema, IsFirstSchema, HasRound}
 
 same_table : (t : Table) → SameTable t t
 same_table t = record {
@@ -16,10 +16,10 @@ same_table t = record {
 pub same_tables : (ts : List Table) → AllZip SameTable ts ts
 same_tables = zip_itself SameTable same_table
 
-pub own_made : (s : Schema) → s ≡ portal_schema → IsCurrent s
-own_made s is = subst IsCurrent (sym is) (record { tables = same_tables portal_schema.tables; indexes = refl; no_views = refl; no_views_there = refl })
+pub own_made : (s : Schema) → s ≡ portal_schema → IsCurrentSchema s
+own_made s is = subst IsCurrentSchema (sym is) (record { tables = same_tables portal_schema.tables; indexes = refl; no_views = refl; no_views_there = refl })
 
-pub first_self : IsFirst first_schema
+pub first_self : IsFirstSchema first_schema
 first_self = record { tables = same_tables first_schema.tables; indexes = refl; no_views = refl; no_views_there = refl }
 
 -- what is like all tables of a list, and perhaps more, is like the first of them
@@ -29,14 +29,14 @@ first_of [] (u ∷ us) vs h = absurd h
 first_of (t ∷ ts) (u ∷ us) vs h = (h.0, first_of ts us vs h.1)
 
 -- all tables are read as those of the first round
-pub current_own : (s : Schema) → IsCurrent s → IsOwn s
+pub current_own : (s : Schema) → IsCurrentSchema s → HasFirstSchema s
 current_own s h = record { tables = first_of s.tables first_schema.tables _ h.tables; no_views = h.no_views }
 
-pub has_round : (round : Round) (s : Schema) → IsCurrent s → HasRound round s
+pub has_round : (round : Round) (s : Schema) → IsCurrentSchema s → HasRound round s
 has_round First s h = current_own s h
 has_round Second s h = h
 
-pub round_own : (round : Round) (s : Schema) → HasRound round s → IsOwn s
+pub round_own : (round : Round) (s : Schema) → HasRound round s → HasFirstSchema s
 round_own First s h = h
 round_own Second s h = current_own s h
 

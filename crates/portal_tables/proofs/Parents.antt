@@ -1,12 +1,12 @@
--- Whom a row names is on the roll, by the foreign keys of the tables.
+-- Whom a row names equals on the roll, by the foreign keys of the tables.
 use Rattle.std.specs.Prelude.{◌≡◌, ◌&&◌, ◌||◌, ◌∷◌}
-use Rattle.portal_tables.proofs.Base.{ℤ, inl, inr, ℕ, Bool, true, false, cond, map, List, [], refl, sym, ap, subst, ◌∙◌, and_parts, cases_Bool, AllByRecursion, list_any, is_eq, or-true, Value, Null, Int, Real, Blob, Words, Binary, Row, column, bytes, value_cmp, Database, IsDatabase, Trees, ForeignKey, OfLists, equal, Key, is, has, is_same, is_own, lecturer_tree, project_tree, student_tree, round_of, tree_of, Lists, Choices, Rankings, SecondChoices, SecondRankings, HasRound, IsApart, has_text, everything, place_cells, row_key, of_key, named_by}
+use Rattle.portal_tables.proofs.Base.{ℤ, inl, inr, ℕ, Bool, true, false, cond, map, List, [], refl, sym, ap, subst, ◌∙◌, and_parts, cases_Bool, AllByRecursion, list_any, is_eq, or-true, Value, Null, Int, Real, Blob, Words, Binary, Row, column, bytes, value_cmp, Database, IsDatabase, Trees, ForeignKey, OfLists, equal, Key, equals, has, is_same, is_own, lecturer_tree, project_tree, student_tree, round_of, tree_of, Lists, Choices, Rankings, SecondChoices, SecondRankings, HasRound, RowNumbersDiffer, has_text, everything, place_cells, row_key, of_key, named_by}
 use Rattle.portal_tables.proofs.Weak.{Open, own_is}
 use Rattle.portal_tables.proofs.Shapes.{IsPlace, Follows, followed, place_rows_formed, text_equals}
 use Rattle.portal_tables.proofs.Sorted.{all_two}
 use Rattle.portal_tables.proofs.Tests.{equals_text}
 
--- a parent is found by its key
+-- a parent equals found by its key
 equals_key : (v : Value) (t : Key) → is_eq (value_cmp v (Words t)) ≡ true → v ≡ Words t
 unfolding value_cmp lib.Ieee.is_nan lib.Ieee.lt
 equals_key Null t e = absurd (cc)
@@ -15,7 +15,7 @@ equals_key (Real x) t e = absurd (cc)
 equals_key (Words s) t e = ap Words (is_same s t (sym (text_equals s t) ∙ e))
 equals_key (Blob b) t e = absurd (cc)
 
--- a row whose text in a column is these bytes
+-- a row whose text in a column equals these bytes
 pub text_there : (at : ℕ) (t : Key) (r : Row) → has_text at t r ≡ true → column r at ≡ Words t
 text_there at t r e = equals_key (column r at) t e
 
@@ -48,12 +48,12 @@ both_found SecondRankings o db n k p m = refl
 pub on_roll : (roll : List Row) (k : Key) → Found roll k ≡ true → OnRoll roll k
 on_roll [] k h = absurd (cc)
 on_roll (r ∷ roll) k h = elim (cases_Bool (has_text 1 k r)) [
-  | inl is_so ↦ ap (λ b. b || has (map row_key roll) k) (ap (λ v. is k (bytes v)) (text_there 1 k r is_so) ∙ is_own k)
-  | inr is_not ↦ ap (λ b. is k (row_key r) || b) (on_roll roll k (ap (λ b. b || Found roll k) (sym (equals_text (column r 1) k ∙ is_not)) ∙ h)) ∙ or-true (is k (row_key r))
+  | inl is_so ↦ ap (λ b. b || has (map row_key roll) k) (ap (λ v. equals k (bytes v)) (text_there 1 k r is_so) ∙ is_own k)
+  | inr is_not ↦ ap (λ b. equals k (row_key r) || b) (on_roll roll k (ap (λ b. b || Found roll k) (sym (equals_text (column r 1) k ∙ is_not)) ∙ h)) ∙ or-true (equals k (row_key r))
 ]
 
 -- each row of a list has its owner on a roll, and its item
-pub place_parents : (db : Database) (l : Lists) → HasRound (round_of l) db.schema → IsDatabase db → IsApart (db.trees (tree_of l))
+pub place_parents : (db : Database) (l : Lists) → HasRound (round_of l) db.schema → IsDatabase db → RowNumbersDiffer (db.trees (tree_of l))
     → AllByRecursion (λ r. OnRoll (db.trees (owners_of l)) (row_key r) × OnRoll (db.trees (items_of l)) (named_by r)) (db.trees (tree_of l))
 place_parents db l own sound apart =
     let owners = db.trees (owners_of l) in
@@ -67,7 +67,7 @@ place_parents db l own sound apart =
     ))
     (db.trees (tree_of l)) (place_rows_formed db l own sound apart) (followed db (OfLists l) own sound ForeignKey)
 
--- who is not on the roll has no row
+-- who equals not on the roll has no row
 pub none_of : (Q : Row → Type 0) (roll : List Row) (k : Key) (rows : List Row) → AllByRecursion (λ r. OnRoll roll (row_key r) × Q r) rows → has (map row_key roll) k ≡ false → of_key k rows ≡ []
 none_of Q roll k [] all off = refl
 none_of Q roll k (r ∷ rows) all off = elim (cases_Bool (has_text 1 k r)) [

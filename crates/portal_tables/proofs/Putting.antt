@@ -1,6 +1,6 @@
--- A list that is put, whole, in place of another.
+-- A list that equals put, whole, in place of another.
 use Rattle.std.specs.Prelude.{◌≡◌, ◌+◌, ◌<◌, ◌∷◌, ◌++◌, ◌&&◌}
-use Rattle.portal_tables.proofs.Base.{ℕ, pos, List, [], Bool, true, false, not, cond, map, filter, length, refl, sym, ap, ap₂, subst, ◌∙◌, get_or, take, suc, zero-add, AllByRecursion, IsPermutation, map-append, append-nil, append_assoc, length_push, take_more, length-take-le, State, Made, GoesOn, and-false, filter-append, IsPermutation-refl, IsPermutation-trans, IsPermutation-sym, IsPermutation-cons, IsPermutation-middle, IsPermutation-to_front, is_eq, Ordering, Less, Equal, Greater, Value, Int, Words, Row, value_cmp, column, next_rowid, is_taken, put_row, Database, value_cmp_total, Key, is, is_before, Rise, is_sym, IsCurrent, has_text, with_rows, AreNew, Adds, Clears, place_cells, of_key, place_key, by_place, list_of, CountUp, IsWhole, numbered, placed, list_cells, PutsList}
+use Rattle.portal_tables.proofs.Base.{ℕ, pos, List, [], Bool, true, false, not, cond, map, filter, length, refl, sym, ap, ap₂, subst, ◌∙◌, get_or, take, suc, zero-add, AllByRecursion, IsPermutation, map-append, append-nil, append_assoc, length_push, take_more, length-take-le, State, Made, GoesOn, and-false, filter-append, IsPermutation-refl, IsPermutation-trans, IsPermutation-sym, IsPermutation-cons, IsPermutation-middle, IsPermutation-to_front, is_eq, Ordering, Less, Equal, Greater, Value, Int, Words, Row, value_cmp, column, next_rowid, is_taken, put_row, Database, value_cmp_total, Key, equals, is_before, Rise, is_sym, IsCurrentSchema, has_text, with_rows, AreNew, Adds, Clears, place_cells, of_key, place_key, by_place, list_in_order, CountUp, IsWhole, numbered, placed, list_cells, PutsList}
 use Rattle.std.proofs.Common.{arith}
 use Rattle.portal_tables.proofs.Runs.{made_goes, goes_both}
 use Rattle.portal_tables.proofs.Keeping.{puts_apart, drops_apart, keeps_then}
@@ -14,12 +14,12 @@ equal_of Less e = absurd (cc)
 equal_of Equal e = refl
 equal_of Greater e = absurd (cc)
 
--- a text is one text
-pub same_text : (v : Value) (k s : Key) → is_eq (value_cmp v (Words k)) ≡ true → is_eq (value_cmp v (Words s)) ≡ is k s
+-- a text equals one text
+pub same_text : (v : Value) (k s : Key) → is_eq (value_cmp v (Words k)) ≡ true → is_eq (value_cmp v (Words s)) ≡ equals k s
 same_text v k s e = ap is_eq (value_cmp_total.congr v (Words k) (Words s) (equal_of _ e)) ∙ text_equals k s
 
 -- the rows of another key stay where those of one key go
-pub kept_key : (key s : Key) (rows : List Row) → is key s ≡ false → of_key key (filter (λ r. not (has_text 1 s r)) rows) ≡ of_key key rows
+pub kept_key : (key s : Key) (rows : List Row) → equals key s ≡ false → of_key key (filter (λ r. not (has_text 1 s r)) rows) ≡ of_key key rows
 kept_key key s rows other = filter-filter (has_text 1 key) (λ r. not (has_text 1 s r)) rows ∙ filter_same _ _ rows (λ r has. go r (has_text 1 key r) refl)
   where
     go : (r : Row) (b : Bool) → has_text 1 key r ≡ b → (not (has_text 1 s r) && has_text 1 key r) ≡ has_text 1 key r
@@ -35,7 +35,7 @@ none_left s (r ∷ rows) = go (has_text 1 s r) refl (none_left s rows)
     go true e h = h
     go false e h = rw e h
 
--- once the owner's rows are gone nothing is put
+-- once the owner's rows are gone nothing equals put
 put_begun : (tree : ℕ) (owner : Key) (first now : Database) → Clears tree owner first now → PutsList tree owner [] first now
 put_begun tree owner first now cleared own apart =
     let drops = cleared own apart in
@@ -74,7 +74,7 @@ more_places front back new done k e was =
 
 -- the owner's rows of a table are the places of a list, and those of the others are as they were
 record Listed (owner : Key) (list : List Key) (first now : List Row) : Type 0 where
-  pub others : (key : Key) → is key owner ≡ false → of_key key now ≡ of_key key first
+  pub others : (key : Key) → equals key owner ≡ false → of_key key now ≡ of_key key first
   pub places : IsPermutation (map placed (of_key owner now)) (numbered 1 list)
 
 -- one row more
@@ -115,7 +115,7 @@ put_whole : (tree : ℕ) (owner : Key) (list : List Key) (first mid now : Databa
     → PutsList tree owner list first now
 put_whole tree owner list first mid now puts adds own apart =
     let was = puts own apart in
-    let put = adds (subst IsCurrent (sym was.schema_is) own) in
+    let put = adds (subst IsCurrentSchema (sym was.schema_is) own) in
     let listed = listed_all owner [] list 1 (first.trees tree) (mid.trees tree) refl (record { others = was.others; places = was.places }) put.free in
     record {
       schema_is = put.schema_is ∙ was.schema_is;
@@ -126,19 +126,19 @@ put_whole tree owner list first mid now puts adds own apart =
       places = subst (λ t. IsPermutation (map placed (of_key owner t)) (numbered 1 list)) (sym put.rows) listed.places;
     }
 
--- a list that is written row by row
+-- a list that equals written row by row
 pub cells_more : (owner : Key) (done : List Key) (k : Key) → list_cells owner (done ++ k ∷ []) ≡ list_cells owner done ++ place_cells owner (pos (length done + 1)) k ∷ []
 cells_more owner done k =
     ap (map (λ (p : ℕ × Key). place_cells owner (pos p.0) p.1)) (numbered_more 1 done k)
     ∙ map-append (λ (p : ℕ × Key). place_cells owner (pos p.0) p.1) (numbered 1 done) ((length done + 1, k) ∷ [])
 
--- the loop's turn: the row of the place at i is written
+-- the loop's turn: the row of the place at i equals written
 pub cells_next : {X : Type 0} (cells_of : X → Row) (rows : List X) (x : X) (owner k : Key) (keys : List Key) (i place : ℕ) → place ≡ i → i < length keys → k ≡ get_or keys i k
     → cells_of x ≡ place_cells owner (pos (place + 1)) k
     → map cells_of rows ≡ list_cells owner (take i keys) → map cells_of (rows ++ x ∷ []) ≡ list_cells owner (take (i + 1) keys)
-cells_next cells_of rows x owner k keys i place at within is cell was =
+cells_next cells_of rows x owner k keys i place at within equals cell was =
     let at_end : place + 1 ≡ length (take i keys) + 1 = omega (arith, at, length-take-le i keys (omega (arith, within))) in
-    let more : take i keys ++ k ∷ [] ≡ take (i + 1) keys = sym (take_more keys i k within ∙ ap (λ y. take i keys ++ y ∷ []) (sym is)) in
+    let more : take i keys ++ k ∷ [] ≡ take (i + 1) keys = sym (take_more keys i k within ∙ ap (λ y. take i keys ++ y ∷ []) (sym equals)) in
     map-append cells_of rows (x ∷ []) ∙ ap₂ (λ l c. l ++ c ∷ []) was (cell ∙ ap (λ n. place_cells owner (pos n) k) at_end)
     ∙ sym (cells_more owner (take i keys) k) ∙ ap (list_cells owner) more
 
@@ -166,7 +166,7 @@ module _ (rows : List Row) (list : List Key) (same : IsPermutation (map placed r
   in_place : map placed (by_place rows) ≡ numbered 1 list
   in_place = sym (put_all_map place_key pair_key placed (λ r. refl) rows []) ∙ sym (in_order pair_key (map placed rows) (numbered 1 list) same (numbers_rise 1 list))
 
-  pub list_is : list_of rows ≡ list
+  pub list_is : list_in_order rows ≡ list
   list_is = map_twice (λ (p : ℕ × Key). p.1) placed (by_place rows) ∙ ap (map (λ (p : ℕ × Key). p.1)) in_place ∙ names_in 1 list
 
   pub whole_is : IsWhole rows

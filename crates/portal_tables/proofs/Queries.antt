@@ -1,6 +1,6 @@
 -- What a query of one table shows, in the order of a column.
 use Rattle.std.specs.Prelude.{◌≡◌, ◌∷◌}
-use Rattle.portal_tables.proofs.Base.{inl, inr, Ok, Err, Result, IfOk, IfErr, OnOk, OnErr, ℕ, List, [], map, filter, refl, ap, subst, ◌∙◌, IsPermutation, IsSorted, Null, Binary, ascending, Row, column, Term, col, eval_all, Trees, Query, IsAnswer, output, Output, IsProgramAnswer, answer_alone, State, Shown, ShowsRows, IsUnchanged, FailsToQuery, FailsToShow, IsNotRun, Error, Leaves, timed, understood, IsPlain, ListsBy, columns, key_cmp, map-map}
+use Rattle.portal_tables.proofs.Base.{inl, inr, Ok, Err, Result, IfOk, IfErr, OnOk, OnErr, ℕ, List, [], map, filter, refl, ap, subst, ◌∙◌, IsPermutation, IsSorted, Null, Binary, ascending, Row, column, Term, col, eval_all, Trees, Query, IsAnswer, output, Output, IsProgramAnswer, answer_alone, State, Shown, ShowsRows, IsUnchanged, FailsToQuery, FailsToShow, IsNotRun, Error, IsUnchangedOrUndone, timed, understood, IsPlain, ListsBy, columns, key_cmp, map-map}
 use Rattle.sqlite_value.specs.declared.keys.Key.{Key}
 use Rattle.portal_tables.proofs.Query.{one_table, passes, shown_as}
 use Rattle.portal_tables.proofs.Lists.{looped}
@@ -37,7 +37,7 @@ shown_same sql params old new rows plain h =
     let none = (subst IsPlain h.1.is plain).0 in
     (subst (ShowsRows old new sql h.0 (timed params h.0.formats h.1.now) rows) none h.2).3
 
-pub failed_leaves : (sql : List ℕ) (params : Row) (old new : State) (e : Error) → IsPlain (understood old.now.schema sql) → FailsToQuery sql params old new e → Leaves old new
+pub failed_leaves : (sql : List ℕ) (params : Row) (old new : State) (e : Error) → IsPlain (understood old.now.schema sql) → FailsToQuery sql params old new e → IsUnchangedOrUndone old new
 unfolding FailsToQuery IsNotRun
 failed_leaves sql params old new e plain (inl (inl none)) = inl none.1
 failed_leaves sql params old new e plain (inl (inr fails)) = inr fails.3
@@ -51,7 +51,7 @@ pub read_same : {V : Type 0} (items : V → List Row) (sql : List ℕ) (params :
 read_same items sql params old new (Ok v) plain h = shown_same sql params old new (items v) plain h
 read_same items sql params old new (Err e) plain h = tt
 
-pub read_fails : {V : Type 0} (sql : List ℕ) (params : Row) (old new : State) (r : Result V Error) → IsPlain (understood old.now.schema sql) → IfErr r (FailsToQuery sql params old new) → OnErr r (Leaves old new)
+pub read_fails : {V : Type 0} (sql : List ℕ) (params : Row) (old new : State) (r : Result V Error) → IsPlain (understood old.now.schema sql) → IfErr r (FailsToQuery sql params old new) → OnErr r (IsUnchangedOrUndone old new)
 read_fails sql params old new (Ok v) plain h = tt
 read_fails sql params old new (Err e) plain h = failed_leaves sql params old new e plain h
 

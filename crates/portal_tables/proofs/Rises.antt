@@ -1,6 +1,6 @@
 -- Rows whose numbers rise in some order have numbers of their own.
 use Rattle.std.specs.Prelude.{◌≡◌, ◌∷◌, ◌||◌}
-use Rattle.portal_tables.proofs.Base.{ℤ, List, [], map, filter, Bool, true, false, Option, Some, None, int_cmp, refl, sym, ap, subst, subst₂, ◌∙◌, Ordering, Less, Equal, Greater, is_lt, is_eq, AllByRecursion, IsDistinct, list_any, IsPermutation, IsPermutation-map, IsPermutation-sym, list_any-IsPermutation, IsDistinct-IsPermutation, and_parts, or_parts, Value, Null, Int, Real, Blob, Text, Row, column, value_cmp, id_in, rowid, value_cmp_total, value_cmp-Int, IsApart, ListsBy, every, columns, is_above, rises, map-map}
+use Rattle.portal_tables.proofs.Base.{ℤ, List, [], map, filter, Bool, true, false, Option, Some, None, int_cmp, refl, sym, ap, subst, subst₂, ◌∙◌, Ordering, Less, Equal, Greater, is_lt, is_eq, AllByRecursion, IsDistinct, list_any, IsPermutation, IsPermutation-map, IsPermutation-sym, list_any-IsPermutation, IsDistinct-IsPermutation, and_parts, or_parts, Value, Null, Int, Real, Blob, Text, Row, column, value_cmp, id_in, rowid, value_cmp_total, value_cmp-Int, RowNumbersDiffer, ListsBy, every, columns, is_above, rises, map-map}
 use Rattle.portal_tables.proofs.Lists.{eq_flips}
 
 abbrev same : Value → Value → Bool
@@ -77,7 +77,7 @@ unmap : (v : Value) (rows : List Row) → AllByRecursion (λ w. same v w ≡ fal
 unmap v [] h = tt
 unmap v (r ∷ rs) h = (h.0, unmap v rs h.1)
 
-build : (rows : List Row) → IsDistinct same (ids rows) → list_any is_bad (ids rows) ≡ false → IsApart rows
+build : (rows : List Row) → IsDistinct same (ids rows) → list_any is_bad (ids rows) ≡ false → RowNumbersDiffer rows
 unfolding IsDistinct
 build [] d b = tt
 build (r ∷ rs) d b = let p = or_parts _ _ b in (good (column r 0) p.0, unmap (column r 0) rs d.0, build rs d.1 p.1)
@@ -86,7 +86,7 @@ all_pass : (rows : List Row) → filter every rows ≡ rows
 all_pass [] = refl
 all_pass (r ∷ rs) = ap (λ l. r ∷ l) (all_pass rs)
 
-pub apart_of : (table shown : List Row) → ListsBy (0 ∷ []) every (columns (0 ∷ [])) table shown → rises None shown ≡ true → IsApart table
+pub apart_of : (table shown : List Row) → ListsBy (0 ∷ []) every (columns (0 ∷ [])) table shown → rises None shown ≡ true → RowNumbersDiffer table
 apart_of table shown h up =
     let first = λ (k : Row × Row). column k.1 0 in
     let there : map first (map (λ r. (columns (0 ∷ []) r, columns (0 ∷ []) r)) (filter every table)) ≡ ids table =

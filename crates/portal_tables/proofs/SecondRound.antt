@@ -1,19 +1,19 @@
 -- The tables of the second round's rankings and result.
 use Rattle.std.specs.Prelude.{◌≡◌, ◌||◌, ◌∷◌}
-use Rattle.portal_tables.proofs.Base.{inl, inr, Bool, false, not, cond, List, [], map, filter, refl, sym, ap, subst, ◌∙◌, list_any, cases_Bool, list_any-IsPermutation, Int, Words, Row, bytes, next_rowid, put_row, Database, Key, is, has, any_map, ranked2_tree, assigned2_tree, IsCurrent, IsApart, Drops, every, has_text, with_rows, PutsPlaces, RanksSecond, row_key, Adds, Clears, pair_new}
+use Rattle.portal_tables.proofs.Base.{inl, inr, Bool, false, not, cond, List, [], map, filter, refl, sym, ap, subst, ◌∙◌, list_any, cases_Bool, list_any-IsPermutation, Int, Words, Row, bytes, next_rowid, put_row, Database, Key, equals, has, any_map, ranked2_tree, assigned2_tree, IsCurrentSchema, RowNumbersDiffer, Drops, every, has_text, with_rows, PutsPlacements, RanksSecond, row_key, Adds, Clears, pair_new}
 use Rattle.portal_tables.proofs.Keeping.{drops_apart, keeps_then, put_permutes, puts_apart}
 use Rattle.portal_tables.proofs.Parents.{text_there}
 
 -- whether a key stands in rows
 abbrev stands : Key → List Row → Bool
-stands k = list_any (λ r. is k (row_key r))
+stands k = list_any (λ r. equals k (row_key r))
 
 -- the rows without those of one key have every other
-stands_without : (key k : Key) (rows : List Row) → is k key ≡ false → stands k (filter (λ r. not (has_text 1 key r)) rows) ≡ stands k rows
+stands_without : (key k : Key) (rows : List Row) → equals k key ≡ false → stands k (filter (λ r. not (has_text 1 key r)) rows) ≡ stands k rows
 stands_without key k [] other = refl
 stands_without key k (r ∷ rows) other = elim (cases_Bool (has_text 1 key r)) [
-  | inl hit ↦ ap (λ b. stands k (cond (not b) (r ∷ left) left)) hit ∙ stands_without key k rows other ∙ ap (λ b. b || stands k rows) (sym (ap (λ v. is k (bytes v)) (text_there 1 key r hit) ∙ other))
-  | inr missed ↦ ap (λ b. stands k (cond (not b) (r ∷ left) left)) missed ∙ ap (λ b. is k (row_key r) || b) (stands_without key k rows other)
+  | inl hit ↦ ap (λ b. stands k (cond (not b) (r ∷ left) left)) hit ∙ stands_without key k rows other ∙ ap (λ b. b || stands k rows) (sym (ap (λ v. equals k (bytes v)) (text_there 1 key r hit) ∙ other))
+  | inr missed ↦ ap (λ b. stands k (cond (not b) (r ∷ left) left)) missed ∙ ap (λ b. equals k (row_key r) || b) (stands_without key k rows other)
 ]
   where
     left : List Row
@@ -23,14 +23,14 @@ stands_without key k (r ∷ rows) other = elim (cases_Bool (has_text 1 key r)) [
 pub rank_put : (key : Key) (first mid now : Database) → Clears ranked2_tree key first mid → Adds ranked2_tree ((Words key ∷ []) ∷ []) mid now → RanksSecond key first now
 rank_put key first mid now cleared adds own apart =
     let drops = cleared own apart in
-    let put = adds (subst IsCurrent (sym drops.schema_is) own) in
+    let put = adds (subst IsCurrentSchema (sym drops.schema_is) own) in
     let old = first.trees ranked2_tree in
     let left = filter (λ r. not (has_text 1 key r)) old in
     let rows = mid.trees ranked2_tree in
     let row : Row = Int (next_rowid rows) ∷ Words key ∷ [] in
-    let both : (k : Key) → (is k key || stands k left) ≡ (is k key || stands k old) = λ k. elim (cases_Bool (is k key)) [
+    let both : (k : Key) → (equals k key || stands k left) ≡ (equals k key || stands k old) = λ k. elim (cases_Bool (equals k key)) [
       | inl same ↦ ap (λ b. b || stands k left) same ∙ sym (ap (λ b. b || stands k old) same)
-      | inr other ↦ ap (λ b. is k key || b) (stands_without key k old other)
+      | inr other ↦ ap (λ b. equals k key || b) (stands_without key k old other)
     ] in
     record {
       schema_is = put.schema_is ∙ drops.schema_is;
@@ -38,8 +38,8 @@ rank_put key first mid now cleared adds own apart =
       apart = puts_apart ranked2_tree _ mid now put (drops_apart ranked2_tree _ first mid drops apart);
       tables = keeps_then ranked2_tree first mid now drops.others put.others;
       known = λ k.
-          ap (λ l. has (map row_key l) k) put.rows ∙ any_map (is k) row_key (put_row row rows) ∙ sym (list_any-IsPermutation (λ r. is k (row_key r)) (row ∷ rows) (put_row row rows) (put_permutes row rows put.free.0))
-          ∙ ap (λ l. is k key || stands k l) drops.rows ∙ both k ∙ sym (ap (λ b. is k key || b) (any_map (is k) row_key old));
+          ap (λ l. has (map row_key l) k) put.rows ∙ any_map (equals k) row_key (put_row row rows) ∙ sym (list_any-IsPermutation (λ r. equals k (row_key r)) (row ∷ rows) (put_row row rows) (put_permutes row rows put.free.0))
+          ∙ ap (λ l. equals k key || stands k l) drops.rows ∙ both k ∙ sym (ap (λ b. equals k key || b) (any_map (equals k) row_key old));
     }
 
 none_pass : (rows : List Row) → filter (λ r. not (every r)) rows ≡ []
@@ -47,11 +47,11 @@ none_pass [] = refl
 none_pass (r ∷ rows) = none_pass rows
 
 -- the pairs in place of all rows
-pub places_put : (pairs : List (Key × Key)) (first mid now : Database) → (IsCurrent first.schema → IsApart (first.trees assigned2_tree) → Drops assigned2_tree every first mid) → Adds assigned2_tree (map pair_new pairs) mid now
-    → PutsPlaces pairs first now
+pub places_put : (pairs : List (Key × Key)) (first mid now : Database) → (IsCurrentSchema first.schema → RowNumbersDiffer (first.trees assigned2_tree) → Drops assigned2_tree every first mid) → Adds assigned2_tree (map pair_new pairs) mid now
+    → PutsPlacements pairs first now
 places_put pairs first mid now dropped adds own apart =
     let drops = dropped own apart in
-    let put = adds (subst IsCurrent (sym drops.schema_is) own) in
+    let put = adds (subst IsCurrentSchema (sym drops.schema_is) own) in
     record {
       schema_is = put.schema_is ∙ drops.schema_is;
       sound = put.sound (λ _. drops.sound);

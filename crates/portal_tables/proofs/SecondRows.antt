@@ -1,6 +1,6 @@
 -- What a row of the second round tells of a lecturer or a student, found by the key.
 use Rattle.std.specs.Prelude.{◌≡◌, ◌≤◌, ◌&&◌, ◌∷◌}
-use Rattle.portal_tables.proofs.Base.{true, not, Option, option_map, IfSome, List, [], map, filter, length, refl, sym, ap, subst, subst₂, ◌∙◌, AllByRecursion, list_any, list_any-IsPermutation, IsPermutation, IsPermutation-map, IsPermutation-sym, length_permutation, length-map, and-true, map-map, Row, column, bytes, Database, IsDatabase, Key, is, is_sym, has, any_map, filtered_any, all_map, all_weaker, IsCurrent, OfRanked, OfPlaces, ranked2_tree, assigned2_tree, ListsBy, columns, has_text, of_key, row_key, as_list, shown_name, is_key, project_in, second_place}
+use Rattle.portal_tables.proofs.Base.{true, not, Option, option_map, IfSome, List, [], map, filter, length, refl, sym, ap, subst, subst₂, ◌∙◌, AllByRecursion, list_any, list_any-IsPermutation, IsPermutation, IsPermutation-map, IsPermutation-sym, length_permutation, length-map, and-true, map-map, Row, column, bytes, Database, IsDatabase, Key, equals, is_sym, has, any_map, filtered_any, all_map, all_weaker, IsCurrentSchema, OfRanked, OfPlaces, ranked2_tree, assigned2_tree, ListsBy, columns, has_text, of_key, row_key, as_list, shown_name, is_key, placed_project, second_placement}
 use Rattle.portal_core.specs.Words.{is_empty}
 use Rattle.std.proofs.Common.{arith}
 use Rattle.portal_tables.proofs.Lists.{any_alike}
@@ -11,8 +11,8 @@ use Rattle.portal_tables.proofs.Sorted.{all_permuted}
 use Rattle.portal_tables.proofs.Texts.{key_texts}
 
 -- a row with a text for its key has this key or not
-key_test : (k : Key) (r : Row) → IsText (column r 1) → has_text 1 k r ≡ is (row_key r) k
-key_test k r text = has_text_of 1 k r text.0 text.1 ∙ ap (λ v. is (bytes v) k) (sym text.1)
+key_test : (k : Key) (r : Row) → IsText (column r 1) → has_text 1 k r ≡ equals (row_key r) k
+key_test k r text = has_text_of 1 k r text.0 text.1 ∙ ap (λ v. equals (bytes v) k) (sym text.1)
 
 -- whether a lecturer has a ranking in the second round
 
@@ -20,7 +20,7 @@ any_there : (rows : List Row) → not (is_empty rows) ≡ list_any (λ _. true) 
 any_there [] = refl
 any_there (r ∷ rows) = refl
 
-pub ranked_found : (db : Database) → IsCurrent db.schema → IsDatabase db → (k : Key) (shown : List Row) → ListsBy (1 ∷ []) (has_text 1 k) (columns (1 ∷ [])) (db.trees ranked2_tree) shown
+pub ranked_found : (db : Database) → IsCurrentSchema db.schema → IsDatabase db → (k : Key) (shown : List Row) → ListsBy (1 ∷ []) (has_text 1 k) (columns (1 ∷ [])) (db.trees ranked2_tree) shown
     → not (is_empty shown) ≡ has (map row_key (db.trees ranked2_tree)) k
 ranked_found db own sound k shown lists =
     let table = db.trees ranked2_tree in
@@ -28,9 +28,9 @@ ranked_found db own sound k shown lists =
     ∙ sym (list_any-IsPermutation (λ _. true) (map (columns (1 ∷ [])) (filter (has_text 1 k) table)) shown (permuted _ _ _ table shown lists))
     ∙ any_map (λ _. true) (columns (1 ∷ [])) (filter (has_text 1 k) table)
     ∙ filtered_any (λ _. true) (has_text 1 k) table
-    ∙ any_alike (λ r. has_text 1 k r && true) (λ r. is k (row_key r)) table
+    ∙ any_alike (λ r. has_text 1 k r && true) (λ r. equals k (row_key r)) table
     (all_weaker (λ r. IsText (column r 1)) _ (λ r text. and-true (has_text 1 k r) ∙ key_test k r text ∙ is_sym (row_key r) k) table (key_texts db OfRanked own sound))
-    ∙ sym (any_map (is k) row_key table)
+    ∙ sym (any_map (equals k) row_key table)
 
 -- the place of a student in the second round
 
@@ -38,32 +38,32 @@ first_map : {X Y : Type 0} (f : X → Y) (xs : List X) → first_of (map f xs) �
 first_map f [] = refl
 first_map f (x ∷ xs) = refl
 
-alone : (P : Key → Type 0) (rows : List Row) → length rows ≤ 1 → IfSome (option_map project_in (first_of rows)) P → AllByRecursion (λ a. P (project_in a)) rows
+alone : (P : Key → Type 0) (rows : List Row) → length rows ≤ 1 → IfSome (option_map placed_project (first_of rows)) P → AllByRecursion (λ a. P (placed_project a)) rows
 alone P [] few h = tt
 alone P (a ∷ []) few h = (h, tt)
 alone P (a ∷ b ∷ rows) few h = absurd (omega (arith, few))
 
-module _ (db : Database) (own : IsCurrent db.schema) (sound : IsDatabase db) (k : Key) (shown : List Row) (lists : ListsBy (1 ∷ []) (has_text 1 k) (columns (1 ∷ 2 ∷ [])) (db.trees assigned2_tree) shown) where
+module _ (db : Database) (own : IsCurrentSchema db.schema) (sound : IsDatabase db) (k : Key) (shown : List Row) (lists : ListsBy (1 ∷ []) (has_text 1 k) (columns (1 ∷ 2 ∷ [])) (db.trees assigned2_tree) shown) where
   abbrev mine : List Row
   mine = of_key k (db.trees assigned2_tree)
 
   same : IsPermutation (map (columns (1 ∷ 2 ∷ [])) mine) shown
   same = permuted _ _ _ (db.trees assigned2_tree) shown lists
 
-  first_mine : option_map project_in (first_of mine) ≡ second_place db.trees k
+  first_mine : option_map placed_project (first_of mine) ≡ second_placement db.trees k
   first_mine =
       let table = db.trees assigned2_tree in
-      ap (λ rows. option_map project_in (first_of rows)) (filter_alike (has_text 1 k) (λ a. is (row_key a) k) table (all_weaker (λ r. IsText (column r 1)) _ (key_test k) table (key_texts db OfPlaces own sound)))
-      ∙ ap (option_map project_in) (sym (find_is (λ a. is (row_key a) k) table))
+      ap (λ rows. option_map placed_project (first_of rows)) (filter_alike (has_text 1 k) (λ a. equals (row_key a) k) table (all_weaker (λ r. IsText (column r 1)) _ (key_test k) table (key_texts db OfPlaces own sound)))
+      ∙ ap (option_map placed_project) (sym (find_is (λ a. equals (row_key a) k) table))
 
-  pub place_found : (o : Option Key) → as_list o ≡ map shown_name shown → o ≡ second_place db.trees k
+  pub place_found : (o : Option Key) → as_list o ≡ map shown_name shown → o ≡ second_placement db.trees k
   place_found o only =
-      let named : IsPermutation (as_list o) (map project_in mine) =
+      let named : IsPermutation (as_list o) (map placed_project mine) =
       IsPermutation-sym _ _ (subst₂ IsPermutation (map-map shown_name (columns (1 ∷ 2 ∷ [])) mine) (sym only) (IsPermutation-map shown_name _ shown same)) in
-      sym (first_back o) ∙ ap first_of (sym (only_one o (map project_in mine) named)) ∙ first_map project_in mine ∙ first_mine
+      sym (first_back o) ∙ ap first_of (sym (only_one o (map placed_project mine) named)) ∙ first_map placed_project mine ∙ first_mine
 
-  -- where there is no more than one row, and it names a key
-  pub place_fine : IfSome (second_place db.trees k) (λ p. is_key p ≡ true) → length mine ≤ 1 → (length shown ≤ 1) × AllByRecursion (λ c. is_key (shown_name c) ≡ true) shown
+  -- where there equals no more than one row, and it names a key
+  pub place_fine : IfSome (second_placement db.trees k) (λ p. is_key p ≡ true) → length mine ≤ 1 → (length shown ≤ 1) × AllByRecursion (λ c. is_key (shown_name c) ≡ true) shown
   place_fine key once = (
     subst (λ n. n ≤ 1) (sym (length_permutation _ shown same ∙ length-map mine (columns (1 ∷ 2 ∷ [])))) once,
     all_permuted (λ c. is_key (shown_name c) ≡ true) _ shown same

@@ -1,17 +1,17 @@
 -- The shapes of the rows of the portal's own tables, by the rules that a database obeys.
 use Rattle.std.specs.Prelude.{◌≡◌, ◌⊎◌, ◌&&◌, ◌∷◌, ◌+◌}
-use Rattle.portal_tables.proofs.Base.{inl, inr, ℕ, ℤ, Bool, true, false, not, codes, drop, None, List, [], refl, sym, ap, subst, ◌∙◌, AllByRecursion, and_parts, is_eq, texts_ties, Value, Null, Int, Real, Blob, Words, Row, column, value_cmp, Trees, rowid, id_in, Database, IsDatabase, Column, Constraint, Datatype, NotNull, Keeps, passes, are_typed, are_present, is_of, is_null, Integer, Key, is, column_of, list_table, lecturer_tree, project_tree, student_tree, ranked2_tree, assigned2_tree, lecturer, project, student, ranked2, assigned2, round_of, names, tree_of, table_round, table_tree, Lists, Choices, Rankings, SecondChoices, SecondRankings, OfRoll, OfLists, OfRanked, OfPlaces, Lecturers, Projects, Students, Table, Round, IsOwn, HasRound, IsApart, has_text, lecturer_cells, place_cells, row_key}
+use Rattle.portal_tables.proofs.Base.{inl, inr, ℕ, ℤ, Bool, true, false, not, codes, drop, None, List, [], refl, sym, ap, subst, ◌∙◌, AllByRecursion, and_parts, is_eq, texts_ties, Value, Null, Int, Real, Blob, Words, Row, column, value_cmp, Trees, rowid, id_in, Database, IsDatabase, Column, Constraint, Datatype, NotNull, Keeps, passes, are_typed, are_present, is_of, is_null, Integer, Key, equals, column_of, list_table, lecturer_tree, project_tree, student_tree, ranked2_tree, assigned2_tree, lecturer_schema, project_schema, student_schema, ranked2, assigned2, round_of, names, tree_of, table_round, table_tree, Lists, Choices, Rankings, SecondChoices, SecondRankings, OfRoll, OfLists, OfRanked, OfPlaces, Lecturers, Projects, Students, Table, Round, HasFirstSchema, HasRound, RowNumbersDiffer, has_text, lecturer_cells, place_cells, row_key}
 use Rattle.sqlite.specs.Kind.TheVariants.{Text}
 use Rattle.portal_tables.specs.declared.select.Table.{Table as Named}
 use Rattle.portal_tables.proofs.Listed.{IsText}
 use Rattle.portal_tables.proofs.Weak.{Open, schema_with, with_checks, IsWith, own_is}
 
 -- a test of a text
-pub text_equals : (s t : Key) → is_eq (value_cmp (Words s) (Words t)) ≡ is s t
+pub text_equals : (s t : Key) → is_eq (value_cmp (Words s) (Words t)) ≡ equals s t
 unfolding value_cmp lib.Ieee.is_nan lib.Ieee.lt
 text_equals s t = sym (texts_ties s t)
 
-pub has_text_of : (at : ℕ) (t : Key) (r : Row) (s : Key) → column r at ≡ Words s → has_text at t r ≡ is s t
+pub has_text_of : (at : ℕ) (t : Key) (r : Row) (s : Key) → column r at ≡ Words s → has_text at t r ≡ equals s t
 has_text_of at t r s e = ap (λ v. is_eq (value_cmp v (Words t))) e ∙ text_equals s t
 
 pub text_cell : (v : Value) → is_of Text v ≡ true → not (is_null v) ≡ true → (t : List ℕ) × (v ≡ Words t)
@@ -60,8 +60,8 @@ pub record IsStudentRow (r : Row) : Type 0 where
   pub assigned : IsNullOrText (column r 4)
 
 -- the test of a student's key
-pub student_test : (k : Key) (r : Row) → IsStudentRow r → has_text 1 k r ≡ is (row_key r) k
-student_test k r f = has_text_of 1 k r f.key (ap (λ x. column x 1) f.is) ∙ ap (λ x. is (row_key x) k) (sym f.is)
+pub student_test : (k : Key) (r : Row) → IsStudentRow r → has_text 1 k r ≡ equals (row_key r) k
+student_test k r f = has_text_of 1 k r f.key (ap (λ x. column x 1) f.is) ∙ ap (λ x. equals (row_key x) k) (sym f.is)
 
 -- a place of a list, in whichever table
 pub record IsPlace (r : Row) : Type 0 where
@@ -71,7 +71,7 @@ pub record IsPlace (r : Row) : Type 0 where
   pub item : List ℕ
   pub is : r ≡ Int number ∷ place_cells owner place item
 
--- A row whose first cell is a text, or a number: what is so at each such cell, and whatever columns follow it, is so of the cells.
+-- A row whose first cell equals a text, or a number: what equals so at each such cell, and whatever columns follow it, equals so of the cells.
 text_first : (P : Row → Type 0) (name : List ℕ) (at : ℕ) (cs : List Column) (cells : Row) → are_typed None at (column_of name Text true ∷ cs) cells ≡ true → not (is_null (column cells 0)) ≡ true
     → ((t : List ℕ) (rest : Row) → are_typed None (at + 1) cs rest ≡ true → P (Words t ∷ rest)) → P cells
 text_first P name at cs [] typed there go = absurd (cc)
@@ -95,7 +95,7 @@ none_more at (v ∷ vs) t = absurd (cc)
 abbrev Present : ℕ → Row → Type 0
 Present at r = not (is_null (column r at)) ≡ true
 
-lecturer_form : (n : ℤ) (cells : Row) → are_typed None 0 (lecturer 1).columns cells ≡ true → are_present None 0 (lecturer 1).columns (Int n ∷ cells) ≡ true → IsLecturerRow (Int n ∷ cells)
+lecturer_form : (n : ℤ) (cells : Row) → are_typed None 0 (lecturer_schema 1).columns cells ≡ true → are_present None 0 (lecturer_schema 1).columns (Int n ∷ cells) ≡ true → IsLecturerRow (Int n ∷ cells)
 lecturer_form n cells typed present =
     let p1 = and_parts _ _ present in
     let p2 = and_parts _ _ p1.1 in
@@ -109,13 +109,13 @@ lecturer_form n cells typed present =
     number_first (λ x. IsLecturerRow (Int n ∷ Words key ∷ Words name ∷ Words code ∷ Int capacity ∷ x)) (codes "ranked") 4 [] rest3 typed3 d5 (λ ranked rest4 typed4.
     record { number = n; key = key; name = name; code = code; capacity = capacity; ranked = ranked; is = ap (λ x. Int n ∷ Words key ∷ Words name ∷ Words code ∷ Int capacity ∷ Int ranked ∷ x) (none_more 5 rest4 typed4) })) c5) b4 b5) a3 a4 a5) p2.0 p3.0 p4.0 p5.0
 
--- what may stand where the last column of a student is
+-- what may stand where the last column of a student_schema equals
 last_cell : (name : List ℕ) (at : ℕ) (cells : Row) → are_typed None at (column_of name Text false ∷ []) cells ≡ true → ((cells ≡ []) ⊎ ((v : Value) × (cells ≡ v ∷ []))) × IsNullOrText (column cells 0)
 last_cell name at [] t = (inl refl, inl refl)
 last_cell name at (v ∷ []) t = (inr (v, refl), null_or_text v (and_parts (is_of Text v) true t).0)
 last_cell name at (v ∷ w ∷ vs) t = let e = (and_parts (is_of Text v) false t).1 in absurd (cc)
 
-student_form : (n : ℤ) (cells : Row) → are_typed None 0 (student 6).columns cells ≡ true → are_present None 0 (student 6).columns (Int n ∷ cells) ≡ true → IsStudentRow (Int n ∷ cells)
+student_form : (n : ℤ) (cells : Row) → are_typed None 0 (student_schema 6).columns cells ≡ true → are_present None 0 (student_schema 6).columns (Int n ∷ cells) ≡ true → IsStudentRow (Int n ∷ cells)
 student_form n cells typed present =
     let p1 = and_parts _ _ present in
     let p2 = and_parts _ _ p1.1 in
@@ -126,13 +126,13 @@ student_form n cells typed present =
     let end = last_cell (codes "assigned") 3 rest2 typed2 in
     record { number = n; key = key; name = name; code = code; last = rest2; is = refl; few = end.0; assigned = end.1 })) a3) p2.0 p3.0
 
--- the lecturer of a project is a text
-project_form : (n : ℤ) (cells : Row) → are_typed None 0 (project 4).columns cells ≡ true → are_present None 0 (project 4).columns (Int n ∷ cells) ≡ true → IsText (column (Int n ∷ cells) 2)
+-- the lecturer_schema of a project_schema equals a text
+project_form : (n : ℤ) (cells : Row) → are_typed None 0 (project_schema 4).columns cells ≡ true → are_present None 0 (project_schema 4).columns (Int n ∷ cells) ≡ true → IsText (column (Int n ∷ cells) 2)
 project_form n cells typed present =
     let p1 = and_parts _ _ present in
     let p2 = and_parts _ _ p1.1 in
-    text_first (λ x. Present 2 (Int n ∷ x) → IsText (column (Int n ∷ x) 2)) (codes "key") 0 (column_of (codes "lecturer") Text true ∷ column_of (codes "title") Text true ∷ column_of (codes "capacity") Integer true ∷ []) cells typed p1.0 (λ key rest0 typed0 a2.
-    text_first (λ x. IsText (column (Int n ∷ Words key ∷ x) 2)) (codes "lecturer") 1 (column_of (codes "title") Text true ∷ column_of (codes "capacity") Integer true ∷ []) rest0 typed0 a2 (λ lecturer rest1 typed1. (lecturer, refl))) p2.0
+    text_first (λ x. Present 2 (Int n ∷ x) → IsText (column (Int n ∷ x) 2)) (codes "key") 0 (column_of (codes "lecturer_schema") Text true ∷ column_of (codes "title") Text true ∷ column_of (codes "capacity") Integer true ∷ []) cells typed p1.0 (λ key rest0 typed0 a2.
+    text_first (λ x. IsText (column (Int n ∷ Words key ∷ x) 2)) (codes "lecturer_schema") 1 (column_of (codes "title") Text true ∷ column_of (codes "capacity") Integer true ∷ []) rest0 typed0 a2 (λ lecturer_schema rest1 typed1. (lecturer_schema, refl))) p2.0
 
 place_form : (n : ℤ) (k l m : List ℕ) (cells : Row) → are_typed None 0 (column_of k Text true ∷ column_of l Integer true ∷ column_of m Text true ∷ []) cells ≡ true
     → are_present None 0 (column_of k Text true ∷ column_of l Integer true ∷ column_of m Text true ∷ []) (Int n ∷ cells) ≡ true → IsPlace (Int n ∷ cells)
@@ -153,16 +153,16 @@ with_number P typed present form (v ∷ cells) e t p = subst (λ x. P (x ∷ cel
 
 -- the rows of a table, by what its rules say of them
 formed : (P : Row → Type 0) (typed present : Row → Bool) → ((n : ℤ) (cells : Row) → typed cells ≡ true → present (Int n ∷ cells) ≡ true → P (Int n ∷ cells))
-    → (rows : List Row) → IsApart rows → AllByRecursion (λ r. (typed (drop 1 r) && true) ≡ true) rows → AllByRecursion (λ r. present r ≡ true) rows → AllByRecursion P rows
+    → (rows : List Row) → RowNumbersDiffer rows → AllByRecursion (λ r. (typed (drop 1 r) && true) ≡ true) rows → AllByRecursion (λ r. present r ≡ true) rows → AllByRecursion P rows
 formed P typed present form [] apart t p = tt
 formed P typed present form (r ∷ rows) apart t p =
     (with_number P typed present form r apart.0 (and_parts _ _ t.0).0 p.0, formed P typed present form rows apart.2 t.1 p.1)
 
--- what is understood of a table
+-- what equals understood of a table
 abbrev pub form_of : Named → Table
-form_of (OfRoll Lecturers) = lecturer lecturer_tree
-form_of (OfRoll Projects) = project project_tree
-form_of (OfRoll Students) = student student_tree
+form_of (OfRoll Lecturers) = lecturer_schema lecturer_tree
+form_of (OfRoll Projects) = project_schema project_tree
+form_of (OfRoll Students) = student_schema student_tree
 form_of (OfLists l) = list_table (names l) (tree_of l)
 form_of OfRanked = ranked2 ranked2_tree
 form_of OfPlaces = assigned2 assigned2_tree
@@ -171,7 +171,7 @@ form_of OfPlaces = assigned2 assigned2_tree
 abbrev pub Follows : Constraint → (t : Named) → Open → Trees → Row → Bool
 Follows rule t o db row = passes rule (schema_with (table_round t) o) db (with_checks o.checks o.terms (form_of t)) row
 
--- a rule of all tables is one of each
+-- a rule of all tables equals one of each
 at_table : (t : Named) (o : Open) (rule : Constraint) (db : Trees) → Keeps rule (schema_with (table_round t) o) db → AllByRecursion (λ row. Follows rule t o db row ≡ true) (db (table_tree t))
 at_table (OfRoll Lecturers) o rule db all = all.1.0
 at_table (OfRoll Projects) o rule db all = all.1.1.0
@@ -193,22 +193,22 @@ followed db t own sound rule =
     let w = own_is (table_round t) db.schema own in
     at_table t w.o rule db.trees (kept (table_round t) db sound rule w)
 
-pub lecturer_rows_formed : (db : Database) → IsOwn db.schema → IsDatabase db → IsApart (db.trees lecturer_tree) → AllByRecursion IsLecturerRow (db.trees lecturer_tree)
+pub lecturer_rows_formed : (db : Database) → HasFirstSchema db.schema → IsDatabase db → RowNumbersDiffer (db.trees lecturer_tree) → AllByRecursion IsLecturerRow (db.trees lecturer_tree)
 lecturer_rows_formed db own sound apart =
-    formed IsLecturerRow (are_typed None 0 (lecturer 1).columns) (are_present None 0 (lecturer 1).columns) lecturer_form (db.trees lecturer_tree) apart
+    formed IsLecturerRow (are_typed None 0 (lecturer_schema 1).columns) (are_present None 0 (lecturer_schema 1).columns) lecturer_form (db.trees lecturer_tree) apart
     (followed db (OfRoll Lecturers) own sound Datatype) (followed db (OfRoll Lecturers) own sound NotNull)
 
-pub student_rows_formed : (db : Database) → IsOwn db.schema → IsDatabase db → IsApart (db.trees student_tree) → AllByRecursion IsStudentRow (db.trees student_tree)
+pub student_rows_formed : (db : Database) → HasFirstSchema db.schema → IsDatabase db → RowNumbersDiffer (db.trees student_tree) → AllByRecursion IsStudentRow (db.trees student_tree)
 student_rows_formed db own sound apart =
-    formed IsStudentRow (are_typed None 0 (student 6).columns) (are_present None 0 (student 6).columns) student_form (db.trees student_tree) apart
+    formed IsStudentRow (are_typed None 0 (student_schema 6).columns) (are_present None 0 (student_schema 6).columns) student_form (db.trees student_tree) apart
     (followed db (OfRoll Students) own sound Datatype) (followed db (OfRoll Students) own sound NotNull)
 
-pub project_rows_formed : (db : Database) → IsOwn db.schema → IsDatabase db → IsApart (db.trees project_tree) → AllByRecursion (λ r. IsText (column r 2)) (db.trees project_tree)
+pub project_rows_formed : (db : Database) → HasFirstSchema db.schema → IsDatabase db → RowNumbersDiffer (db.trees project_tree) → AllByRecursion (λ r. IsText (column r 2)) (db.trees project_tree)
 project_rows_formed db own sound apart =
-    formed (λ r. IsText (column r 2)) (are_typed None 0 (project 4).columns) (are_present None 0 (project 4).columns) project_form (db.trees project_tree) apart
+    formed (λ r. IsText (column r 2)) (are_typed None 0 (project_schema 4).columns) (are_present None 0 (project_schema 4).columns) project_form (db.trees project_tree) apart
     (followed db (OfRoll Projects) own sound Datatype) (followed db (OfRoll Projects) own sound NotNull)
 
-pub place_rows_formed : (db : Database) (l : Lists) → HasRound (round_of l) db.schema → IsDatabase db → IsApart (db.trees (tree_of l)) → AllByRecursion IsPlace (db.trees (tree_of l))
+pub place_rows_formed : (db : Database) (l : Lists) → HasRound (round_of l) db.schema → IsDatabase db → RowNumbersDiffer (db.trees (tree_of l)) → AllByRecursion IsPlace (db.trees (tree_of l))
 place_rows_formed db l own sound apart =
     let cs = (list_table (names l) (tree_of l)).columns in
     formed IsPlace (are_typed None 0 cs) (are_present None 0 cs) (λ n cells t p. place_form n (names l).owner (codes "place") (names l).item cells t p) (db.trees (tree_of l)) apart

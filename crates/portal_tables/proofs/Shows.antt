@@ -1,6 +1,6 @@
 -- What each query's text is understood as, whatever the checks are, and so what the query shows and leaves.
 use Rattle.std.specs.Prelude.{◌≡◌, ◌∷◌}
-use Rattle.portal_tables.proofs.Base.{ℕ, List, [], false, map, Option, Some, None, refl, sym, ap, subst, subst₂, ◌∙◌, Ok, Result, OnOk, OnErr, Row, column, Term, col, Schema, Database, Answers, Command, Program, Compiled, State, Shown, HasCleanDisk, IsUnchanged, Survives, Select, everything, understood, reads_listing, lets_of, Ends, IsPlain, EndsIn, command_of, reads_as, survives_weaker, Choices, Whole, LecturerByCode, StudentByCode, LecturerByKey, StudentTold, AllLists, ListOf, Choosers, Listed, ProjectsOf, First, SecondRankedBy, SecondPlaceOf, Numbers, Lecturers, OfRoll, OfLists, ListsBy, columns, HasRound, selection, round_asked, text_of, given, AsksIn, Leaves}
+use Rattle.portal_tables.proofs.Base.{ℕ, List, [], false, map, Option, Some, None, refl, sym, ap, subst, subst₂, ◌∙◌, Ok, Result, OnOk, OnErr, Row, column, Term, col, Schema, Database, Answers, Command, Program, Compiled, State, Shown, HasCleanDisk, IsUnchanged, Survives, Select, everything, understood, reads_listing, lets_of, Ends, IsPlain, EndsIn, command_of, reads_as, survives_weaker, Choices, Whole, LecturerByCode, StudentByCode, LecturerByKey, StudentTold, AllLists, ListOf, Choosers, Listed, ProjectsOf, First, SecondRankedBy, SecondPlaceOf, Numbers, Lecturers, OfRoll, OfLists, ListsBy, columns, HasRound, selection, round_asked, query_text, given, RunsQueryIn, IsUnchangedOrUndone}
 use Rattle.sqlite.specs.Effect.{Reads}
 use Rattle.portal_tables.specs.declared.select.Query.{Query}
 use Rattle.portal_tables.specs.Queries.{Shows}
@@ -49,7 +49,7 @@ asked q = record { lets = []; body = by_columns (selection q).tree (tests q) (ma
 
 -- the text is such a query, which changes nothing and reads no list of the tables
 abbrev IsUnderstood : Query → Schema → Type 0
-IsUnderstood q s = (program_of (command_of (understood s (text_of q))) ≡ Some (asked q)) × IsPlain (understood s (text_of q)) × (reads_listing s (text_of q) ≡ false)
+IsUnderstood q s = (program_of (command_of (understood s (query_text q))) ≡ Some (asked q)) × IsPlain (understood s (query_text q)) × (reads_listing s (query_text q) ≡ false)
 
 -- each case computes; the last clause is checked for every query that has none of its own
 is : (q : Query) (o : Open) → IsUnderstood q (schema_with (round_asked q) o)
@@ -77,7 +77,7 @@ program_ends (Select p names) q db params is h = let same : q ≡ p = cc in subs
 program_ends _ q db params is h = tt
 
 -- what a query comes to that was asked with this text and these values
-module _ (q : Query) (sql : List ℕ) (params : Row) (text : sql ≡ text_of q) (values : params ≡ given q) where
+module _ (q : Query) (sql : List ℕ) (params : Row) (text : sql ≡ query_text q) (values : params ≡ given q) where
   pub plain : (s : Schema) → HasRound (round_asked q) s → IsPlain (understood s sql)
   plain s own = subst (λ t. IsPlain (understood s t)) (sym text) (own_is_understood q s own).1
 
@@ -88,14 +88,14 @@ module _ (q : Query) (sql : List ℕ) (params : Row) (text : sql ≡ text_of q) 
   pub shows : (old new : State) (rows : List Row) → HasRound (round_asked q) old.now.schema → Shown sql params old new rows → Shows q old.now.trees rows
   shows old new rows own h =
       let it = own_is_understood q old.now.schema own in
-      let here : Shown (text_of q) (given q) old new rows = subst₂ (λ t v. Shown t v old new rows) text values h in
-      let read = reads_as (text_of q) (given q) old new old.now.schema refl _ refl it.1 it.2 rows here in
+      let here : Shown (query_text q) (given q) old new rows = subst₂ (λ t v. Shown t v old new rows) text values h in
+      let read = reads_as (query_text q) (given q) old new old.now.schema refl _ refl it.1 it.2 rows here in
       let lists = listed (selection q).tree (selection q).by (tests q) (map (λ at. col 1 at) (selection q).shown) old.now.trees (given q) rows (program_is _ (asked q) old.now (given q) rows it.0 read).answer in
       subst₂ (λ p show. ListsBy (selection q).by p show (old.now.trees (selection q).tree) rows) (tested q) (λ i r. columns_are (selection q).shown (given q) r i) lists
 
   pub asks : {V E : Type 0} (r : Result V E) (old new : State) → (IsPlain (understood old.now.schema sql) → HasCleanDisk new → OnOk r (IsUnchanged old new))
-      → (IsPlain (understood old.now.schema sql) → HasCleanDisk new → OnErr r (Leaves old new)) → (old.in_transaction ≡ false → new.in_transaction ≡ false)
-      → Survives old new (λ _. IsPlain (understood old.now.schema sql) → ⊥) → AsksIn (round_asked q) r old new
+      → (IsPlain (understood old.now.schema sql) → HasCleanDisk new → OnErr r (IsUnchangedOrUndone old new)) → (old.in_transaction ≡ false → new.in_transaction ≡ false)
+      → Survives old new (λ _. IsPlain (understood old.now.schema sql) → ⊥) → RunsQueryIn (round_asked q) r old new
   asks r old new same err mode survives = record {
     same = λ own. same (plain old.now.schema own);
     err = λ own. err (plain old.now.schema own);

@@ -1,15 +1,15 @@
 -- Rows put by their keys are the one order of them in which the keys rise.
 use Rattle.std.specs.Prelude.{◌≡◌, ◌||◌, ◌∷◌, ◌++◌}
-use Rattle.portal_tables.proofs.Base.{inl, inr, true, false, cond, List, [], map, refl, sym, ap, ap₂, subst, ◌∙◌, append-nil, AllByRecursion, IsDistinct, IsPermutation, IsPermutation-refl, IsPermutation-trans, IsPermutation-sym, IsPermutation-cons, IsPermutation-middle, IsPermutation-map, IsPermutation-append_right, IsDistinct-IsPermutation, Has, Key, is, has, is_before, Rise, put, is_own, not_before_itself, is_sym, before_trans, after_other, before_other}
+use Rattle.portal_tables.proofs.Base.{inl, inr, true, false, cond, List, [], map, refl, sym, ap, ap₂, subst, ◌∙◌, append-nil, AllByRecursion, IsDistinct, IsPermutation, IsPermutation-refl, IsPermutation-trans, IsPermutation-sym, IsPermutation-cons, IsPermutation-middle, IsPermutation-map, IsPermutation-append_right, IsDistinct-IsPermutation, Has, Key, equals, has, is_before, Rise, put, is_own, not_before_itself, is_sym, before_trans, after_other, before_other}
 pub use Rattle.sqlite_rules.proofs.ListLemmas.{all_has as at, all_from as all_has}
 pub use Rattle.sqlite_trees.proofs.ListLemmas.{all-permutation as all_permuted, all_both as all_two}
 use Rattle.portal_core.specs.Words.{put_all}
 
-all_apart : (k : Key) (ks : List Key) → AllByRecursion (λ l. is_before k l ≡ true) ks → AllByRecursion (λ l. is k l ≡ false) ks
+all_apart : (k : Key) (ks : List Key) → AllByRecursion (λ l. is_before k l ≡ true) ks → AllByRecursion (λ l. equals k l ≡ false) ks
 all_apart k [] h = tt
 all_apart k (l ∷ ks) h = (before_other k l h.0, all_apart k ks h.1)
 
-pub rise_distinct : (ks : List Key) → Rise ks → IsDistinct is ks
+pub rise_distinct : (ks : List Key) → Rise ks → IsDistinct equals ks
 unfolding IsDistinct
 rise_distinct [] h = tt
 rise_distinct (k ∷ ks) h = (all_apart k ks h.0, rise_distinct ks h.1)
@@ -19,12 +19,12 @@ abbrev pub NeverFall : List Key → Type 0
 NeverFall [] = Unit {0}
 NeverFall (k ∷ ks) = AllByRecursion (λ l. is_before l k ≡ false) ks × NeverFall ks
 
-above_others : (k : Key) (ks : List Key) → AllByRecursion (λ l. is_before l k ≡ false) ks → AllByRecursion (λ l. is k l ≡ false) ks → AllByRecursion (λ l. is_before k l ≡ true) ks
+above_others : (k : Key) (ks : List Key) → AllByRecursion (λ l. is_before l k ≡ false) ks → AllByRecursion (λ l. equals k l ≡ false) ks → AllByRecursion (λ l. is_before k l ≡ true) ks
 above_others k [] h d = tt
 above_others k (l ∷ ks) h d = (after_other l k h.0 (is_sym l k ∙ d.0), above_others k ks h.1 d.1)
 
 -- distinct keys that never fall rise
-pub rise_from_distinct : (ks : List Key) → NeverFall ks → IsDistinct is ks → Rise ks
+pub rise_from_distinct : (ks : List Key) → NeverFall ks → IsDistinct equals ks → Rise ks
 unfolding IsDistinct
 rise_from_distinct [] h d = tt
 rise_from_distinct (k ∷ ks) h d = (above_others k ks h.0 d.0, rise_from_distinct ks h.1 d.1)
@@ -32,14 +32,14 @@ rise_from_distinct (k ∷ ks) h d = (above_others k ks h.0 d.0, rise_from_distin
 pub has_permuted : {X : Type 0} (xs ys : List X) → IsPermutation xs ys → (x : X) → Has xs x → Has ys x
 has_permuted xs ys same x h = at (λ z. Has ys z) xs x (all_permuted (λ z. Has ys z) ys xs (IsPermutation-sym xs ys same) (all_has (λ z. Has ys z) ys (λ z k. k))) h
 
--- a key that is a member passes the test of it
+-- a key that equals a member passes the test of it
 pub has_of : (ks : List Key) (k : Key) → Has ks k → has ks k ≡ true
 has_of [] k h = absurd h
-has_of (l ∷ ks) k (inl e) = ap (λ b. b || has ks k) (subst (λ m. is k m ≡ true) e (is_own k))
-has_of (l ∷ ks) k (inr h) = elim (is k l) as (λ b. (b || has ks k) ≡ true) [ true ↦ refl | false ↦ has_of ks k h ]
+has_of (l ∷ ks) k (inl e) = ap (λ b. b || has ks k) (subst (λ m. equals k m ≡ true) e (is_own k))
+has_of (l ∷ ks) k (inr h) = elim (equals k l) as (λ b. (b || has ks k) ≡ true) [ true ↦ refl | false ↦ has_of ks k h ]
 
 module _ {X : Type 0} (key : X → Key) where
-  -- one more is put last
+  -- one more equals put last
   pub put_all_more : (xs : List X) (x : X) (ys : List X) → put_all key (xs ++ x ∷ []) ys ≡ put key x (put_all key xs ys)
   put_all_more [] x ys = refl
   put_all_more (z ∷ zs) x ys = put_all_more zs x (put key z ys)
@@ -93,14 +93,14 @@ module _ {X : Type 0} (key : X → Key) where
   pub one_rise : (xs ys : List X) → IsPermutation xs ys → Rise (map key xs) → Rise (map key ys) → xs ≡ ys
   one_rise xs ys same p q = one_order xs ys p q (has_permuted xs ys same) (has_permuted ys xs (IsPermutation-sym xs ys same))
 
-  -- where the rows rise once put, no key is of two rows
-  pub distinct_permuted : (xs ys : List X) → IsPermutation xs ys → IsDistinct is (map key xs) → IsDistinct is (map key ys)
-  distinct_permuted xs ys same d = IsDistinct-IsPermutation is is_sym (map key xs) (map key ys) (IsPermutation-map key xs ys same) d
+  -- where the rows rise once put, no key equals of two rows
+  pub distinct_permuted : (xs ys : List X) → IsPermutation xs ys → IsDistinct equals (map key xs) → IsDistinct equals (map key ys)
+  distinct_permuted xs ys same d = IsDistinct-IsPermutation equals is_sym (map key xs) (map key ys) (IsPermutation-map key xs ys same) d
 
-  pub distinct_if_rise : (xs : List X) → Rise (map key (put_all key xs [])) → IsDistinct is (map key xs)
+  pub distinct_if_rise : (xs : List X) → Rise (map key (put_all key xs [])) → IsDistinct equals (map key xs)
   distinct_if_rise xs up = distinct_permuted (put_all key xs []) xs (IsPermutation-sym _ _ (permutes xs)) (rise_distinct _ up)
 
-  rise_one : (x : X) (ys : List X) → Rise (map key ys) → AllByRecursion (λ l. is (key x) l ≡ false) (map key ys) → Rise (map key (put key x ys))
+  rise_one : (x : X) (ys : List X) → Rise (map key ys) → AllByRecursion (λ l. equals (key x) l ≡ false) (map key ys) → Rise (map key (put key x ys))
   rise_one x [] up d = (tt, tt)
   rise_one x (y ∷ ys) up d =
       (elim (is_before (key x) (key y)) as (λ b. is_before (key x) (key y) ≡ b → Rise (map key (cond b (x ∷ y ∷ ys) (y ∷ put key x ys)))) [
@@ -115,27 +115,27 @@ module _ {X : Type 0} (key : X → Key) where
       lower : (k : Key) (us vs : List X) → IsPermutation us vs → AllByRecursion (λ l. is_before k l ≡ true) (map key us) → AllByRecursion (λ l. is_before k l ≡ true) (map key vs)
       lower k us vs same h = all_permuted (λ l. is_before k l ≡ true) (map key us) (map key vs) (IsPermutation-map key us vs same) h
 
-  behind : (k : Key) (us ys : List X) → AllByRecursion (λ l. is k l ≡ false) (map key (us ++ ys)) → AllByRecursion (λ l. is k l ≡ false) (map key ys)
+  behind : (k : Key) (us ys : List X) → AllByRecursion (λ l. equals k l ≡ false) (map key (us ++ ys)) → AllByRecursion (λ l. equals k l ≡ false) (map key ys)
   behind k [] ys h = h
   behind k (u ∷ us) ys h = behind k us ys h.1
 
-  apart_from : (x : X) (us ys : List X) → IsDistinct is (map key (x ∷ (us ++ ys))) → AllByRecursion (λ l. is (key x) l ≡ false) (map key ys)
+  apart_from : (x : X) (us ys : List X) → IsDistinct equals (map key (x ∷ (us ++ ys))) → AllByRecursion (λ l. equals (key x) l ≡ false) (map key ys)
   unfolding IsDistinct
   apart_from x us ys h = behind (key x) us ys h.0
 
   -- rows with distinct keys rise once they are put
-  pub rise_put_all : (xs ys : List X) → IsDistinct is (map key (xs ++ ys)) → Rise (map key ys) → Rise (map key (put_all key xs ys))
+  pub rise_put_all : (xs ys : List X) → IsDistinct equals (map key (xs ++ ys)) → Rise (map key ys) → Rise (map key (put_all key xs ys))
   rise_put_all [] ys d up = up
   rise_put_all (x ∷ xs) ys d up =
-      let front : IsDistinct is (map key (x ∷ (xs ++ ys))) = d in
-      let swapped : IsDistinct is (map key (xs ++ put key x ys)) =
+      let front : IsDistinct equals (map key (x ∷ (xs ++ ys))) = d in
+      let swapped : IsDistinct equals (map key (xs ++ put key x ys)) =
       distinct_permuted (x ∷ (xs ++ ys)) (xs ++ put key x ys) (IsPermutation-trans _ _ _ (IsPermutation-sym _ _ (IsPermutation-middle xs x ys)) (IsPermutation-append_right xs _ _ (permutes_one x ys))) front in
       rise_put_all xs (put key x ys) swapped (rise_one x ys up (apart_from x xs ys front))
 
   -- the rows with rising keys, in whatever order they were
   pub in_order : (xs ys : List X) → IsPermutation xs ys → Rise (map key ys) → ys ≡ put_all key xs []
   in_order xs ys same up =
-      let d : IsDistinct is (map key (xs ++ [])) = subst (λ l. IsDistinct is (map key l)) (sym (append-nil xs)) (distinct_permuted ys xs (IsPermutation-sym xs ys same) (rise_distinct (map key ys) up)) in
+      let d : IsDistinct equals (map key (xs ++ [])) = subst (λ l. IsDistinct equals (map key l)) (sym (append-nil xs)) (distinct_permuted ys xs (IsPermutation-sym xs ys same) (rise_distinct (map key ys) up)) in
       one_rise ys (put_all key xs []) (IsPermutation-trans _ _ _ (IsPermutation-sym xs ys same) (permutes xs)) up (rise_put_all xs [] d tt)
 
   -- the same rows, in two orders, are one list once they are put, if that rises

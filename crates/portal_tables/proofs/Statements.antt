@@ -1,7 +1,7 @@
 -- The texts that write, and what each does to its table, whatever the checks are.
 use Rattle.std.specs.Prelude.{◌≡◌, ◌+◌, ◌∷◌, ◌++◌, ◌==◌}
 use Rattle.std.proofs.Common.{◌/◌}
-use Rattle.portal_tables.proofs.Base.{ℕ, pos, Option, Some, slice_get, List, [], map, filter, codes, length, true, false, not, refl, sym, ap, subst, subst₂, ◌∙◌, ⊤, AllByRecursion, flat_map, filter_map, is_eq, Null, Int, Text, Binary, Row, column, value_cmp, Table, put_row, rowid, id_in, value_rows, cast_row, Term, lit, col, op2, Compare, Eq, State, Ghosts, state, Insert, Delete, Update, Values, everything, understood, IsPlain, command_of, works, work_by, deed_for, pairs, parent_key, Enforced, Column, Reference, Order, LecturerRow, ProjectRow, StudentRow, Lists, Second, Choices, Rankings, SecondChoices, SecondRankings, NewPlace, table_of, list_table, lecturer, project, student, portal_tree, second_tree, ranked2_tree, assigned2_tree, lecturer_tree, project_tree, student_tree, names, place_among, tree_of, clear_text, add_text, add_eight_text, IsApart, Drops, Sets, Becomes, every, IsCurrent, Ran, Made, portal_cells, lecturer_cells, lecturer_new, lecturer_values, project_new, student_new, student_values, place_new, pair_new, AddsBy, Clears, MovesTo, IsOfVersion, MovesSecond, Ranks, portal_row, second_cells, second_row}
+use Rattle.portal_tables.proofs.Base.{ℕ, pos, Option, Some, slice_get, List, [], map, filter, codes, length, true, false, not, refl, sym, ap, subst, subst₂, ◌∙◌, ⊤, AllByRecursion, flat_map, filter_map, is_eq, Null, Int, Text, Binary, Row, column, value_cmp, Table, put_row, rowid, id_in, value_rows, cast_row, Term, lit, col, op2, Compare, Eq, State, Ghosts, state, Insert, Delete, Update, Values, everything, understood, IsPlain, command_of, works, work_by, deed_for, pairs, parent_key, Enforced, Column, Reference, Order, LecturerRow, ProjectRow, StudentRow, Lists, Second, Choices, Rankings, SecondChoices, SecondRankings, NewPlace, schema_of, list_table, lecturer_schema, project_schema, student_schema, portal_tree, second_tree, ranked2_tree, assigned2_tree, lecturer_tree, project_tree, student_tree, names, place_among, tree_of, clear_text, add_text, add_eight_text, RowNumbersDiffer, Drops, Sets, Becomes, every, IsCurrentSchema, Ran, Made, portal_cells, lecturer_cells, lecturer_new, lecturer_values, project_new, student_new, student_values, place_new, pair_new, AddsBy, Clears, MovesTo, IsOfVersion, MovesSecond, Ranks, portal_row, second_cells, second_row}
 use Rattle.portal_tables.proofs.Weak.{portal_with, with_checks, own_is}
 use Rattle.portal_tables.proofs.Query.{one_table, passes, shown_as}
 use Rattle.portal_tables.proofs.Tests.{param, has_key, same_key, equals_int}
@@ -19,8 +19,8 @@ pub record Deletes (sql : List ℕ) (at tree : ℕ) (tests : List Term) : Type 0
   pub plain : (checks more : ℕ → List Term) → IsPlain (understood (portal_with checks more) sql)
 
 -- a text that changes rows of a table
-pub record Updates (sql : List ℕ) (at tree : ℕ) (tests project : List Term) : Type 0 where
-  pub command : (checks more : ℕ → List Term) → command_of (understood (portal_with checks more) sql) ≡ Update at (record { lets = []; body = one_table tree tests (col 1 0 ∷ project) })
+pub record Updates (sql : List ℕ) (at tree : ℕ) (tests project_schema : List Term) : Type 0 where
+  pub command : (checks more : ℕ → List Term) → command_of (understood (portal_with checks more) sql) ≡ Update at (record { lets = []; body = one_table tree tests (col 1 0 ∷ project_schema) })
   pub plain : (checks more : ℕ → List Term) → IsPlain (understood (portal_with checks more) sql)
 
 -- no table's foreign keys act where rows come
@@ -65,10 +65,10 @@ by_eight {R} {values} {cells} {width} {terms} given = record { is = go }
     go (a ∷ b ∷ c ∷ d ∷ e ∷ f ∷ g ∷ h ∷ i ∷ rows) are = absurd (cc)
 
 module _ (at : ℕ) (name : List ℕ) (tree : ℕ) (columns : List Column) (key : Option ℕ) (primary : List ℕ) (uniques : List (List ℕ)) (orders : List Order) (references : List Reference)
-    (stands : StandsAt at (table_of name tree columns key primary uniques orders [] references)) where
+    (stands : StandsAt at (schema_of name tree columns key primary uniques orders [] references)) where
   -- the row is of the table's kinds
   abbrev Fits : (checks more : ℕ → List Term) → Row → Row → Type 0
-  Fits checks more row fit = cast_row (with_checks checks more (table_of name tree columns key primary uniques orders [] references)) row ≡ fit
+  Fits checks more row fit = cast_row (with_checks checks more (schema_of name tree columns key primary uniques orders [] references)) row ≡ fit
 
   all_fit : {R : Type 0} (checks more : ℕ → List Term) (cells : R → Row) → ((r : R) → Fits checks more (unnumbered (cells r)) (unnumbered (cells r))) → (rows : List R)
       → AllByRecursion (λ c. Fits checks more (unnumbered c) (unnumbered c)) (map cells rows)
@@ -105,15 +105,15 @@ second_added g = rows_added 6 _ 15 _ _ _ _ _ _ (λ checks more. refl) g (λ _. [
 abbrev lecturer_terms : ℕ → List Term
 lecturer_terms n = lit Null ∷ param n ∷ param (n + 1) ∷ param (n + 2) ∷ param (n + 3) ∷ lit (Int (pos 0)) ∷ []
 
-pub lecturer_one : Inserts (codes "INSERT INTO lecturer (key, name, code, capacity, ranked) VALUES (?1, ?2, ?3, ?4, 0)") 1 (lecturer_terms 0) 6
+pub lecturer_one : Inserts (codes "INSERT INTO lecturer_schema (key, name, code, capacity, ranked) VALUES (?1, ?2, ?3, ?4, 0)") 1 (lecturer_terms 0) 6
 unfolding understood everything
 lecturer_one = record { command = λ checks more. refl; plain = λ checks more. (refl, refl) }
 
-pub lecturer_eight : Inserts (codes "INSERT INTO lecturer (key, name, code, capacity, ranked) VALUES (?1, ?2, ?3, ?4, 0), (?5, ?6, ?7, ?8, 0), (?9, ?10, ?11, ?12, 0), (?13, ?14, ?15, ?16, 0), (?17, ?18, ?19, ?20, 0), (?21, ?22, ?23, ?24, 0), (?25, ?26, ?27, ?28, 0), (?29, ?30, ?31, ?32, 0)") 1 (flat_map lecturer_terms (0 ∷ 4 ∷ 8 ∷ 12 ∷ 16 ∷ 20 ∷ 24 ∷ 28 ∷ [])) 6
+pub lecturer_eight : Inserts (codes "INSERT INTO lecturer_schema (key, name, code, capacity, ranked) VALUES (?1, ?2, ?3, ?4, 0), (?5, ?6, ?7, ?8, 0), (?9, ?10, ?11, ?12, 0), (?13, ?14, ?15, ?16, 0), (?17, ?18, ?19, ?20, 0), (?21, ?22, ?23, ?24, 0), (?25, ?26, ?27, ?28, 0), (?29, ?30, ?31, ?32, 0)") 1 (flat_map lecturer_terms (0 ∷ 4 ∷ 8 ∷ 12 ∷ 16 ∷ 20 ∷ 24 ∷ 28 ∷ [])) 6
 unfolding understood everything
 lecturer_eight = record { command = λ checks more. refl; plain = λ checks more. (refl, refl) }
 
-lecturer_fits : (checks more : ℕ → List Term) (r : LecturerRow) → cast_row (with_checks checks more (lecturer 1)) (unnumbered (lecturer_new r)) ≡ unnumbered (lecturer_new r)
+lecturer_fits : (checks more : ℕ → List Term) (r : LecturerRow) → cast_row (with_checks checks more (lecturer_schema 1)) (unnumbered (lecturer_new r)) ≡ unnumbered (lecturer_new r)
 lecturer_fits checks more r = rw (cast_null, cast_int (pos r.capacity), cast_int (pos 0)) refl
 
 pub lecturers_added : {S : Type 0} (g : Ghosts S) (count : ℕ) (sql : List ℕ) (terms : List Term) → Inserts sql 1 terms 6 → Gives lecturer_values lecturer_new count 6 terms → AddsBy g sql count lecturer_tree lecturer_values lecturer_new
@@ -122,15 +122,15 @@ lecturers_added g count sql terms = rows_added 1 _ 1 _ _ _ _ _ _ (λ checks more
 abbrev project_terms : ℕ → List Term
 project_terms n = lit Null ∷ param n ∷ param (n + 1) ∷ param (n + 2) ∷ param (n + 3) ∷ []
 
-pub project_one : Inserts (codes "INSERT INTO project (key, lecturer, title, capacity) VALUES (?1, ?2, ?3, ?4)") 2 (project_terms 0) 5
+pub project_one : Inserts (codes "INSERT INTO project_schema (key, lecturer_schema, title, capacity) VALUES (?1, ?2, ?3, ?4)") 2 (project_terms 0) 5
 unfolding understood everything
 project_one = record { command = λ checks more. refl; plain = λ checks more. (refl, refl) }
 
-pub project_eight : Inserts (codes "INSERT INTO project (key, lecturer, title, capacity) VALUES (?1, ?2, ?3, ?4), (?5, ?6, ?7, ?8), (?9, ?10, ?11, ?12), (?13, ?14, ?15, ?16), (?17, ?18, ?19, ?20), (?21, ?22, ?23, ?24), (?25, ?26, ?27, ?28), (?29, ?30, ?31, ?32)") 2 (flat_map project_terms (0 ∷ 4 ∷ 8 ∷ 12 ∷ 16 ∷ 20 ∷ 24 ∷ 28 ∷ [])) 5
+pub project_eight : Inserts (codes "INSERT INTO project_schema (key, lecturer_schema, title, capacity) VALUES (?1, ?2, ?3, ?4), (?5, ?6, ?7, ?8), (?9, ?10, ?11, ?12), (?13, ?14, ?15, ?16), (?17, ?18, ?19, ?20), (?21, ?22, ?23, ?24), (?25, ?26, ?27, ?28), (?29, ?30, ?31, ?32)") 2 (flat_map project_terms (0 ∷ 4 ∷ 8 ∷ 12 ∷ 16 ∷ 20 ∷ 24 ∷ 28 ∷ [])) 5
 unfolding understood everything
 project_eight = record { command = λ checks more. refl; plain = λ checks more. (refl, refl) }
 
-project_fits : (checks more : ℕ → List Term) (r : ProjectRow) → cast_row (with_checks checks more (project 4)) (unnumbered (project_new r)) ≡ unnumbered (project_new r)
+project_fits : (checks more : ℕ → List Term) (r : ProjectRow) → cast_row (with_checks checks more (project_schema 4)) (unnumbered (project_new r)) ≡ unnumbered (project_new r)
 project_fits checks more r = rw (cast_null, cast_int (pos r.capacity)) refl
 
 pub projects_added : {S : Type 0} (g : Ghosts S) (count : ℕ) (sql : List ℕ) (terms : List Term) → Inserts sql 2 terms 5 → Gives project_new project_new count 5 terms → AddsBy g sql count project_tree project_new project_new
@@ -139,15 +139,15 @@ projects_added g count sql terms = rows_added 2 _ 4 _ _ _ _ _ _ (λ checks more.
 abbrev student_terms : ℕ → List Term
 student_terms n = lit Null ∷ param n ∷ param (n + 1) ∷ param (n + 2) ∷ lit Null ∷ []
 
-pub student_one : Inserts (codes "INSERT INTO student (key, name, code) VALUES (?1, ?2, ?3)") 3 (student_terms 0) 5
+pub student_one : Inserts (codes "INSERT INTO student_schema (key, name, code) VALUES (?1, ?2, ?3)") 3 (student_terms 0) 5
 unfolding understood everything
 student_one = record { command = λ checks more. refl; plain = λ checks more. (refl, refl) }
 
-pub student_eight : Inserts (codes "INSERT INTO student (key, name, code) VALUES (?1, ?2, ?3), (?4, ?5, ?6), (?7, ?8, ?9), (?10, ?11, ?12), (?13, ?14, ?15), (?16, ?17, ?18), (?19, ?20, ?21), (?22, ?23, ?24)") 3 (flat_map student_terms (0 ∷ 3 ∷ 6 ∷ 9 ∷ 12 ∷ 15 ∷ 18 ∷ 21 ∷ [])) 5
+pub student_eight : Inserts (codes "INSERT INTO student_schema (key, name, code) VALUES (?1, ?2, ?3), (?4, ?5, ?6), (?7, ?8, ?9), (?10, ?11, ?12), (?13, ?14, ?15), (?16, ?17, ?18), (?19, ?20, ?21), (?22, ?23, ?24)") 3 (flat_map student_terms (0 ∷ 3 ∷ 6 ∷ 9 ∷ 12 ∷ 15 ∷ 18 ∷ 21 ∷ [])) 5
 unfolding understood everything
 student_eight = record { command = λ checks more. refl; plain = λ checks more. (refl, refl) }
 
-student_fits : (checks more : ℕ → List Term) (r : StudentRow) → cast_row (with_checks checks more (student 6)) (unnumbered (student_new r)) ≡ unnumbered (student_new r)
+student_fits : (checks more : ℕ → List Term) (r : StudentRow) → cast_row (with_checks checks more (student_schema 6)) (unnumbered (student_new r)) ≡ unnumbered (student_new r)
 student_fits checks more r = rw (cast_null) refl
 
 pub students_added : {S : Type 0} (g : Ghosts S) (count : ℕ) (sql : List ℕ) (terms : List Term) → Inserts sql 3 terms 5 → Gives student_values student_new count 5 terms → AddsBy g sql count student_tree student_values student_new
@@ -192,9 +192,9 @@ clear_is SecondChoices = record { command = λ checks more. refl; plain = λ che
 clear_is SecondRankings = record { command = λ checks more. refl; plain = λ checks more. (refl, refl) }
 
 module _ (at : ℕ) (name : List ℕ) (tree : ℕ) (columns : List Column) (key : Option ℕ) (primary : List ℕ) (uniques : List (List ℕ)) (orders : List Order) (references : List Reference)
-    (stands : StandsAt at (table_of name tree columns key primary uniques orders [] references)) where
+    (stands : StandsAt at (schema_of name tree columns key primary uniques orders [] references)) where
   dropped : (sql : List ℕ) (tests : List Term) → Deletes sql at tree tests → ((checks terms : ℕ → List Term) (olds : List Row) → works (portal_with checks terms) Enforced 0 tree olds [] ≡ [])
-      → (params : Row) (old new : State) → Ran sql params old new → IsCurrent old.now.schema → IsApart (old.now.trees tree) → Drops tree (passes tests params) old.now new.now
+      → (params : Row) (old new : State) → Ran sql params old new → IsCurrentSchema old.now.schema → RowNumbersDiffer (old.now.trees tree) → Drops tree (passes tests params) old.now new.now
   dropped sql tests deletes idle params old new ran own apart =
       let w = own_is Second old.now.schema own in
       deleted (portal_with w.o.checks w.o.terms) sql at name tree columns key primary uniques orders (w.o.checks tree) references (w.o.terms tree) (stands w.o.checks w.o.terms) (λ P all. all) tests
@@ -211,18 +211,18 @@ pub list_cleared : (l : Lists) (old new : State) (owner : List ℕ) → Ran (cle
 list_cleared l = cleared (place_among l) _ (tree_of l) _ _ _ _ _ _ (stands l) (clear_text (names l)) (clear_is l) (λ checks terms olds. refl)
 
 -- who has a ranking in the second round
-unrank_is : Deletes (codes "DELETE FROM ranked2 WHERE lecturer = ?1") 8 19 (has_key 1)
+unrank_is : Deletes (codes "DELETE FROM ranked2 WHERE lecturer_schema = ?1") 8 19 (has_key 1)
 unfolding understood everything
 unrank_is = record { command = λ checks more. refl; plain = λ checks more. (refl, refl) }
 
-pub rank_cleared : (old new : State) (owner : List ℕ) → Ran (codes "DELETE FROM ranked2 WHERE lecturer = ?1") (Text owner ∷ []) old new → Made (Clears ranked2_tree owner) old new
-rank_cleared = cleared 8 _ 19 _ _ _ _ _ _ (λ checks more. refl) (codes "DELETE FROM ranked2 WHERE lecturer = ?1") unrank_is (λ checks terms olds. refl)
+pub rank_cleared : (old new : State) (owner : List ℕ) → Ran (codes "DELETE FROM ranked2 WHERE lecturer_schema = ?1") (Text owner ∷ []) old new → Made (Clears ranked2_tree owner) old new
+rank_cleared = cleared 8 _ 19 _ _ _ _ _ _ (λ checks more. refl) (codes "DELETE FROM ranked2 WHERE lecturer_schema = ?1") unrank_is (λ checks terms olds. refl)
 
-rank_one : Inserts (codes "INSERT INTO ranked2 (lecturer) VALUES (?1)") 8 (lit Null ∷ param 0 ∷ []) 2
+rank_one : Inserts (codes "INSERT INTO ranked2 (lecturer_schema) VALUES (?1)") 8 (lit Null ∷ param 0 ∷ []) 2
 unfolding understood everything
 rank_one = record { command = λ checks more. refl; plain = λ checks more. (refl, refl) }
 
-pub rank_added : {S : Type 0} (g : Ghosts S) → AddsBy g (codes "INSERT INTO ranked2 (lecturer) VALUES (?1)") 1 ranked2_tree (λ k. Text k ∷ []) (λ k. Text k ∷ [])
+pub rank_added : {S : Type 0} (g : Ghosts S) → AddsBy g (codes "INSERT INTO ranked2 (lecturer_schema) VALUES (?1)") 1 ranked2_tree (λ k. Text k ∷ []) (λ k. Text k ∷ [])
 rank_added g = rows_added 8 _ 19 _ _ _ _ _ _ (λ checks more. refl) g (λ k. Text k ∷ []) (λ k. Text k ∷ []) (λ checks more k. rw (cast_null) refl) 1 _ _ 2 rank_one (by_one (λ k more. refl))
 
 -- the result of the second round
@@ -230,17 +230,17 @@ empty_is : Deletes (codes "DELETE FROM assigned2") 10 24 []
 unfolding understood everything
 empty_is = record { command = λ checks more. refl; plain = λ checks more. (refl, refl) }
 
-pub places_dropped : (old new : State) → Ran (codes "DELETE FROM assigned2") [] old new → IsCurrent old.now.schema → IsApart (old.now.trees assigned2_tree) → Drops assigned2_tree every old.now new.now
+pub places_dropped : (old new : State) → Ran (codes "DELETE FROM assigned2") [] old new → IsCurrentSchema old.now.schema → RowNumbersDiffer (old.now.trees assigned2_tree) → Drops assigned2_tree every old.now new.now
 places_dropped = dropped 10 _ 24 _ _ _ _ _ _ (λ checks more. refl) (codes "DELETE FROM assigned2") [] empty_is (λ checks terms olds. refl) []
 
 abbrev pair_terms : ℕ → List Term
 pair_terms n = lit Null ∷ param n ∷ param (n + 1) ∷ []
 
-pub pair_one : Inserts (codes "INSERT INTO assigned2 (student, project) VALUES (?1, ?2)") 10 (pair_terms 0) 3
+pub pair_one : Inserts (codes "INSERT INTO assigned2 (student_schema, project_schema) VALUES (?1, ?2)") 10 (pair_terms 0) 3
 unfolding understood everything
 pair_one = record { command = λ checks more. refl; plain = λ checks more. (refl, refl) }
 
-pub pair_eight : Inserts (codes "INSERT INTO assigned2 (student, project) VALUES (?1, ?2), (?3, ?4), (?5, ?6), (?7, ?8), (?9, ?10), (?11, ?12), (?13, ?14), (?15, ?16)") 10 (flat_map pair_terms (0 ∷ 2 ∷ 4 ∷ 6 ∷ 8 ∷ 10 ∷ 12 ∷ 14 ∷ [])) 3
+pub pair_eight : Inserts (codes "INSERT INTO assigned2 (student_schema, project_schema) VALUES (?1, ?2), (?3, ?4), (?5, ?6), (?7, ?8), (?9, ?10), (?11, ?12), (?13, ?14), (?15, ?16)") 10 (flat_map pair_terms (0 ∷ 2 ∷ 4 ∷ 6 ∷ 8 ∷ 10 ∷ 12 ∷ 14 ∷ [])) 3
 unfolding understood everything
 pair_eight = record { command = λ checks more. refl; plain = λ checks more. (refl, refl) }
 
@@ -248,7 +248,7 @@ pub pairs_added : {S : Type 0} (g : Ghosts S) (count : ℕ) (sql : List ℕ) (te
 pairs_added g count sql terms = rows_added 10 _ 24 _ _ _ _ _ _ (λ checks more. refl) g pair_new pair_new (λ checks more p. rw (cast_null) refl) count sql terms 3
 
 abbrev pub update_ranked : List ℕ
-update_ranked = codes "UPDATE lecturer SET ranked = 1 WHERE key = ?1"
+update_ranked = codes "UPDATE lecturer_schema SET ranked = 1 WHERE key = ?1"
 
 abbrev update_ranked_row : List Term
 update_ranked_row = col 1 0 ∷ col 1 1 ∷ col 1 2 ∷ col 1 3 ∷ col 1 4 ∷ lit (Int (pos 1)) ∷ []
@@ -277,20 +277,20 @@ passed : (params r : Row) → column r 0 ≡ Int (pos 1) → passes the_one para
 passed params r is = equals_int (column r 0) (pos 1) ∙ ap (λ v. is_eq (value_cmp v (Int (pos 1)))) is ∙ eq_self (Int (pos 1))
 
 module _ (at : ℕ) (name : List ℕ) (tree : ℕ) (columns : List Column) (key : Option ℕ) (primary : List ℕ) (uniques : List (List ℕ)) (orders : List Order) (references : List Reference)
-    (stands : StandsAt at (table_of name tree columns key primary uniques orders [] references)) where
-  one_changed : (sql : List ℕ) (project : List Term) → Updates sql at tree the_one project → ((checks terms : ℕ → List Term) (r new : Row) → works (portal_with checks terms) Enforced 0 tree (r ∷ []) (new ∷ []) ≡ [])
+    (stands : StandsAt at (schema_of name tree columns key primary uniques orders [] references)) where
+  one_changed : (sql : List ℕ) (project_schema : List Term) → Updates sql at tree the_one project_schema → ((checks terms : ℕ → List Term) (r new : Row) → works (portal_with checks terms) Enforced 0 tree (r ∷ []) (new ∷ []) ≡ [])
       → (params r made : Row) → column r 0 ≡ Int (pos 1) → rowid r ≡ Int (pos 1)
-      → ((checks more : ℕ → List Term) → cast_row (with_checks checks more (table_of name tree columns key primary uniques orders [] references)) (shown_as project params r) ≡ made)
-      → (old new : State) → Ran sql params old new → IsCurrent old.now.schema → old.now.trees tree ≡ r ∷ [] → Becomes tree made old.now new.now
-  one_changed sql project updates idle params r made id number cast old new h own one =
+      → ((checks more : ℕ → List Term) → cast_row (with_checks checks more (schema_of name tree columns key primary uniques orders [] references)) (shown_as project_schema params r) ≡ made)
+      → (old new : State) → Ran sql params old new → IsCurrentSchema old.now.schema → old.now.trees tree ≡ r ∷ [] → Becomes tree made old.now new.now
+  one_changed sql project_schema updates idle params r made id number cast old new h own one =
       let w = own_is Second old.now.schema own in
       let p = passes the_one params in
       let hit : p r ≡ true = passed params r id in
       let meets : filter p (old.now.trees tree) ≡ r ∷ [] = ap (filter p) one ∙ rw hit refl in
       let left : filter (λ x. not (p x)) (old.now.trees tree) ≡ [] = ap (filter (λ x. not (p x))) one ∙ rw hit refl in
-      let apart : IsApart (old.now.trees tree) = subst IsApart (sym one) (number ∙ ap Int (sym (ap id_in number)), tt, tt) in
+      let apart : RowNumbersDiffer (old.now.trees tree) = subst RowNumbersDiffer (sym one) (number ∙ ap Int (sym (ap id_in number)), tt, tt) in
       let set = updated (portal_with w.o.checks w.o.terms) sql at name tree columns key primary uniques orders (w.o.checks tree) references (w.o.terms tree) (stands w.o.checks w.o.terms) (λ P all. all)
-      the_one project (updates.command w.o.checks w.o.terms) (updates.plain w.o.checks w.o.terms) (idle w.o.checks w.o.terms) params r old new h.count w.is apart meets h.runs in
+      the_one project_schema (updates.command w.o.checks w.o.terms) (updates.plain w.o.checks w.o.terms) (idle w.o.checks w.o.terms) params r old new h.count w.is apart meets h.runs in
       let done = subst (λ row. Sets tree p row old.now new.now) (cast w.o.checks w.o.terms) set in
       record { schema_is = done.schema_is; rows = done.rows ∙ ap (put_row made) left; others = done.others; sound = done.sound }
 

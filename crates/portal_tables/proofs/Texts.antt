@@ -1,6 +1,6 @@
 -- The key that a row begins with is a text: that of a roll, and the owner's in a row of a list or of the second round.
 use Rattle.std.specs.Prelude.{◌≡◌, ◌&&◌, ◌∷◌}
-use Rattle.portal_tables.proofs.Base.{lecturer, project, student, true, false, drop, codes, None, List, [], ℕ, AllByRecursion, and_parts, Row, column, Database, IsDatabase, Column, Datatype, NotNull, are_typed, are_present, is_of, Integer, column_of, lecturer_tree, project_tree, student_tree, ranked2_tree, assigned2_tree, names, tree_of, table_round, table_tree, HasRound, OfRoll, OfLists, OfRanked, OfPlaces, Lecturers, Projects, Students}
+use Rattle.portal_tables.proofs.Base.{lecturer_schema, project_schema, student_schema, true, false, drop, codes, None, List, [], ℕ, AllByRecursion, and_parts, Row, column, Database, IsDatabase, Column, Datatype, NotNull, are_typed, are_present, is_of, Integer, column_of, lecturer_tree, project_tree, student_tree, ranked2_tree, assigned2_tree, names, tree_of, table_round, table_tree, HasRound, OfRoll, OfLists, OfRanked, OfPlaces, Lecturers, Projects, Students}
 use Rattle.sqlite.specs.Kind.TheVariants.{Text}
 use Rattle.portal_tables.specs.declared.select.Table.{Table as Named}
 use Rattle.portal_tables.proofs.Weak.{Open, own_is}
@@ -22,9 +22,9 @@ key_texts db t own sound = go t (own_is (table_round t) db.schema own).o (follow
   where
     go : (t : Named) (o : Open) → AllByRecursion (λ r. Follows Datatype t o db.trees r ≡ true) (db.trees (table_tree t))
         → AllByRecursion (λ r. Follows NotNull t o db.trees r ≡ true) (db.trees (table_tree t)) → AllByRecursion (λ r. IsText (column r 1)) (db.trees (table_tree t))
-    go (OfRoll Lecturers) o = texts (codes "key") (drop 1 (lecturer 1).columns) (db.trees lecturer_tree)
-    go (OfRoll Projects) o = texts (codes "key") (drop 1 (project 4).columns) (db.trees project_tree)
-    go (OfRoll Students) o = texts (codes "key") (drop 1 (student 6).columns) (db.trees student_tree)
+    go (OfRoll Lecturers) o = texts (codes "key") (drop 1 (lecturer_schema 1).columns) (db.trees lecturer_tree)
+    go (OfRoll Projects) o = texts (codes "key") (drop 1 (project_schema 4).columns) (db.trees project_tree)
+    go (OfRoll Students) o = texts (codes "key") (drop 1 (student_schema 6).columns) (db.trees student_tree)
     go (OfLists l) o = texts (names l).owner (column_of (codes "place") Integer true ∷ column_of (names l).item Text true ∷ []) (db.trees (tree_of l))
-    go OfRanked o = texts (codes "lecturer") [] (db.trees ranked2_tree)
-    go OfPlaces o = texts (codes "student") (column_of (codes "project") Text true ∷ []) (db.trees assigned2_tree)
+    go OfRanked o = texts (codes "lecturer_schema") [] (db.trees ranked2_tree)
+    go OfPlaces o = texts (codes "student_schema") (column_of (codes "project_schema") Text true ∷ []) (db.trees assigned2_tree)

@@ -1,6 +1,6 @@
 -- Schemas that are the portal's own but for their checks and the terms of their defaults.
 use Rattle.std.specs.Prelude.{◌≡◌, ◌&&◌, ◌∷◌, ◌++◌}
-use Rattle.portal_tables.proofs.Base.{ℕ, Bool, true, false, not, cond, eqb, take, drop, List, [], map, refl, sym, ap, ap₂, ◌∙◌, AllZip, list_all, and_parts, eq-eqb, take-append-drop, Term, Table, Schema, Index, Round, First, Second, first_schema, portal_schema, SameTable, IsFirst, HasRound}
+use Rattle.portal_tables.proofs.Base.{ℕ, Bool, true, false, not, cond, eqb, take, drop, List, [], map, refl, sym, ap, ap₂, ◌∙◌, AllZip, list_all, and_parts, eq-eqb, take-append-drop, Term, Table, Schema, Index, Round, First, Second, first_schema, portal_schema, SameTable, IsFirstSchema, HasRound}
 
 abbrev with_terms : List Term → List Term → Table → Table
 with_terms checks terms t = record t { checks = checks; stamps = record t.stamps { terms = terms } }
@@ -55,9 +55,9 @@ table_is t u s = λ i. record {
 abbrev with_one : ℕ → List Term → (ℕ → List Term) → ℕ → List Term
 with_one tree one others n = cond (eqb n tree) one (others n)
 
-abbrev are_apart : List Table → Bool
-are_apart [] = true
-are_apart (u ∷ us) = list_all (λ v. not (eqb v.tree u.tree)) us && are_apart us
+abbrev row_numbers_differ : List Table → Bool
+row_numbers_differ [] = true
+row_numbers_differ (u ∷ us) = list_all (λ v. not (eqb v.tree u.tree)) us && row_numbers_differ us
 
 others_have : (tree : ℕ) (c d : List Term) (checks terms : ℕ → List Term) (us : List Table) → list_all (λ v. not (eqb v.tree tree)) us ≡ true
     → map (with_checks checks terms) us ≡ map (with_checks (with_one tree c checks) (with_one tree d terms)) us
@@ -75,12 +75,12 @@ record AreWith (ts us : List Table) : Type 0 where
   terms : ℕ → List Term
   is : ts ≡ map (with_checks checks terms) us
 
-zipped : (ts us : List Table) → AllZip SameTable ts us → are_apart us ≡ true → AreWith ts us
+zipped : (ts us : List Table) → AllZip SameTable ts us → row_numbers_differ us ≡ true → AreWith ts us
 zipped [] [] h apart = record { checks = λ _. []; terms = λ _. []; is = refl }
 zipped [] (u ∷ us) h apart = absurd h
 zipped (t ∷ ts) [] h apart = absurd h
 zipped (t ∷ ts) (u ∷ us) h apart =
-    let two = and_parts (list_all (λ v. not (eqb v.tree u.tree)) us) (are_apart us) apart in
+    let two = and_parts (list_all (λ v. not (eqb v.tree u.tree)) us) (row_numbers_differ us) apart in
     let rest = zipped ts us h.1 two.1 in
     let own : (x : List Term) (others : ℕ → List Term) → x ≡ with_one u.tree x others u.tree = λ x others. sym (ap (λ b. cond b x (others u.tree)) (eq-eqb u.tree u.tree refl)) in
     record {
@@ -104,7 +104,7 @@ own_is Second s h =
       is = λ i. record { tables = z.is i; indexes = h.indexes i; views = h.no_views i };
     }
 
-pub first_is : (s : Schema) → IsFirst s → IsFirstWith s
+pub first_is : (s : Schema) → IsFirstSchema s → IsFirstWith s
 first_is s h =
     let z = zipped s.tables first_schema.tables h.tables refl in
     record { checks = z.checks; terms = z.terms; is = λ i. record { tables = z.is i; indexes = h.indexes i; views = h.no_views i } }

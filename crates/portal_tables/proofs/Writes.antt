@@ -1,7 +1,7 @@
 -- What a statement on one table does to its rows.
 use Rattle.std.specs.Prelude.{◌≡◌, ◌⊎◌, ◌∷◌, ◌++◌, ◌&&◌, ◌≢◌, ◌||◌}
 use Rattle.std.proofs.Common.{◌/◌}
-use Rattle.portal_tables.proofs.Base.{inl, inr, ℕ, ℤ, List, [], map, slice_get, Bool, true, false, not, cond, Option, Some, None, Ok, Err, Result, refl, sym, ap, ap₂, subst, subst₂, ◌∙◌, filter, length, drop, AllByRecursion, list_any, and_parts, Null, Int, Row, Term, col, unary, Table, Schema, Values, Insert, Delete, Update, Edit, edit_of, put_all, next_rowid, is_taken, are_fresh, without_all, id_in, taken_by, cast, cast_row, Chosen, Given, Tally, Written, Edited, Trees, put_row, rowid, has_rowid, understood, Database, IsDatabase, value_rows, State, mode_of, Executes, IsPlain, command_of, statement_of, runs_as, one_step, one_permutation, works, Enforced, Column, Reference, Order, own_trees, Puts, Drops, Sets, IsApart, with_rows, AreNew, IsPermutation, IsPermutation-map, IsPermutation-trans, IsPermutation-append_left, list_any-IsPermutation, IsProgramAnswer, IsAnswer, output, Output, answer_alone, ids_of, Program, map-map}
+use Rattle.portal_tables.proofs.Base.{inl, inr, ℕ, ℤ, List, [], map, slice_get, Bool, true, false, not, cond, Option, Some, None, Ok, Err, Result, refl, sym, ap, ap₂, subst, subst₂, ◌∙◌, filter, length, drop, AllByRecursion, list_any, and_parts, Null, Int, Row, Term, col, unary, Table, Schema, Values, Insert, Delete, Update, Edit, edit_of, put_all, next_rowid, is_taken, are_fresh, without_all, id_in, taken_by, cast, cast_row, Chosen, Given, Tally, Written, Edited, Trees, put_row, rowid, has_rowid, understood, Database, IsDatabase, value_rows, State, mode_of, Executes, IsPlain, command_of, statement_of, runs_as, one_step, one_permutation, works, Enforced, Column, Reference, Order, own_trees, InsertsRows, Drops, Sets, RowNumbersDiffer, with_rows, AreNew, IsPermutation, IsPermutation-map, IsPermutation-trans, IsPermutation-append_left, list_any-IsPermutation, IsProgramAnswer, IsAnswer, output, Output, answer_alone, ids_of, Program, map-map}
 use Rattle.sqlite.specs.Kind.TheVariants as kind
 use Rattle.sqlite.specs.Edit.{numbered}
 use Rattle.sqlite.specs.Does.{Does}
@@ -17,7 +17,7 @@ KeepsIn schema tree old new = AllByRecursion (λ t. t.tree ≢ tree → new.tree
 -- in place of each row that passes stands what is made of it
 pub record AltersIn (schema : Schema) (tree : ℕ) (p : Row → Bool) (made : Row → Row) (old new : Database) : Type 0 where
   pub schema_is : new.schema ≡ schema
-  pub apart : IsApart (new.trees tree)
+  pub apart : RowNumbersDiffer (new.trees tree)
   pub rows : IsPermutation (map made (filter p (old.trees tree)) ++ filter (λ r. not (p r)) (old.trees tree)) (new.trees tree)
   pub others : KeepsIn schema tree old new
   pub sound : IsDatabase new
@@ -74,7 +74,7 @@ answered tree tests project db params rows h =
     subst₂ IsPermutation kept (sym a.shown) (IsPermutation-map (λ (o : Output). o.1) a.kept a.ordered a.same)
 
 -- the rows that are left where those that pass go by their numbers
-pub left_is : (p : Row → Bool) (rest : Row → Row) (rows shown : List Row) → IsApart rows → IsPermutation (map (λ r. rowid r ∷ rest r) (filter p rows)) shown
+pub left_is : (p : Row → Bool) (rest : Row → Row) (rows shown : List Row) → RowNumbersDiffer rows → IsPermutation (map (λ r. rowid r ∷ rest r) (filter p rows)) shown
     → without_all rows (ids_of shown) ≡ filter (λ r. not (p r)) rows
 left_is p rest rows shown apart same =
     let ids : IsPermutation (map (λ r. id_in (rowid r)) (filter p rows)) (ids_of shown) =
@@ -119,7 +119,7 @@ module _ (schema : Schema) (sql : List ℕ) (at : ℕ) (name : List ℕ) (tree :
         → (params : Row) (cells : List Row) → ((more : Row) → value_rows (params ++ more) width (length terms / width) terms ≡ map unnumbered cells)
         → AllByRecursion (λ c. cast_row table (unnumbered c) ≡ unnumbered c) cells
         → (old new : State) (count : ℕ) → old.now.schema ≡ schema → Executes sql params old new (Ok count)
-        → Puts tree cells old.now new.now
+        → InsertsRows tree cells old.now new.now
     inserted terms width command plain idle params cells given casts old new count has h =
         let db = old.now.trees in
         let w = runs_as sql params old new schema has _ command plain count h in
@@ -153,7 +153,7 @@ module _ (schema : Schema) (sql : List ℕ) (at : ℕ) (name : List ℕ) (tree :
 
     pub deleted : (tests : List Term) (command : command_of (understood schema sql) ≡ Delete at (record { lets = []; body = one_table tree tests (col 1 0 ∷ []) })) (plain : IsPlain (understood schema sql))
         → ((olds : List Row) → works schema Enforced 0 tree olds [] ≡ [])
-        → (params : Row) (old new : State) (count : ℕ) → old.now.schema ≡ schema → IsApart (old.now.trees tree) → Executes sql params old new (Ok count)
+        → (params : Row) (old new : State) (count : ℕ) → old.now.schema ≡ schema → RowNumbersDiffer (old.now.trees tree) → Executes sql params old new (Ok count)
         → Drops tree (passes tests params) old.now new.now
     deleted tests command plain idle params old new count has apart h =
         let db = old.now.trees in
@@ -180,7 +180,7 @@ module _ (schema : Schema) (sql : List ℕ) (at : ℕ) (name : List ℕ) (tree :
     -- an UPDATE of the one row that passes
     pub updated : (tests project : List Term) (command : command_of (understood schema sql) ≡ Update at (record { lets = []; body = one_table tree tests (col 1 0 ∷ project) })) (plain : IsPlain (understood schema sql))
         → ((r new : Row) → works schema Enforced 0 tree (r ∷ []) (new ∷ []) ≡ [])
-        → (params : Row) (r : Row) (old new : State) (count : ℕ) → old.now.schema ≡ schema → IsApart (old.now.trees tree) → filter (passes tests params) (old.now.trees tree) ≡ r ∷ [] → Executes sql params old new (Ok count)
+        → (params : Row) (r : Row) (old new : State) (count : ℕ) → old.now.schema ≡ schema → RowNumbersDiffer (old.now.trees tree) → filter (passes tests params) (old.now.trees tree) ≡ r ∷ [] → Executes sql params old new (Ok count)
         → Sets tree (passes tests params) (cast_row table (shown_as project params r)) old.now new.now
     updated tests project command plain idle params r old new count has apart one h =
         let db = old.now.trees in
@@ -214,7 +214,7 @@ module _ (schema : Schema) (sql : List ℕ) (at : ℕ) (name : List ℕ) (tree :
     -- an UPDATE of all rows that pass
     pub altered : (tests project : List Term) (command : command_of (understood schema sql) ≡ Update at (record { lets = []; body = one_table tree tests (col 1 0 ∷ project) })) (plain : IsPlain (understood schema sql))
         → ((olds news : List Row) → works schema Enforced 0 tree olds news ≡ [])
-        → (params : Row) (old new : State) (count : ℕ) → old.now.schema ≡ schema → IsApart (old.now.trees tree)
+        → (params : Row) (old new : State) (count : ℕ) → old.now.schema ≡ schema → RowNumbersDiffer (old.now.trees tree)
         → AllByRecursion HasNumber (map (λ r. cast_row table (shown_as project params r)) (filter (passes tests params) (old.now.trees tree))) → Executes sql params old new (Ok count)
         → AltersIn schema tree (passes tests params) (λ r. cast_row table (shown_as project params r)) old.now new.now
     altered tests project command plain idle params old new count has apart numbers h =
@@ -244,7 +244,7 @@ module _ (schema : Schema) (sql : List ℕ) (at : ℕ) (name : List ℕ) (tree :
         let tree_is : put_all left news ≡ new.now.trees tree = sym (ap (λ (t : Trees). t tree) after ∙ wrote.rows ∙ ap (λ l. put_all l news) left_is_so) in
         record {
           schema_is = ap (λ (d : Database). d.schema) now;
-          apart = subst IsApart tree_is put.1;
+          apart = subst RowNumbersDiffer tree_is put.1;
           rows = subst (IsPermutation (map (λ r. cast_row table (shown_as project params r)) (filter p (db tree)) ++ left)) tree_is
               (IsPermutation-trans _ _ _ (IsPermutation-append_left left _ _ made) put.0);
           others = subst (λ (t : Trees). AllByRecursion (λ s. s.tree ≢ tree → t s.tree ≡ db s.tree) schema.tables) (sym after) wrote.tables;

@@ -1,7 +1,7 @@
 -- Names from below that the definitions and the contracts use.
 pub use Rattle.portal_core.specs.Form.{is_code, is_name}
 pub use Rattle.portal_core.specs.Good.{IsLecturer, IsProject, IsStudent}
-pub use Rattle.portal_core.specs.Words.{Key, Rise, has, is, is_before, is_empty, put, put_all}
+pub use Rattle.portal_core.specs.Words.{Key, Rise, has, equals, is_before, is_empty, put, put_all}
 pub use Rattle.portal_core.specs.World.{is_published}
 pub use Rattle.portal_core.specs.declared.phase.Phase.{Phase, Phase as ThePhase}
 pub use Rattle.portal_core.specs.declared.phase.Phase.TheVariants.{Choosing, Published, Ranking, Setup}

@@ -18,7 +18,7 @@ AreNew table [] = ⊤
 AreNew table (c ∷ cells) = (is_taken table (Int (next_rowid table) ∷ c) ≡ false) × AreNew (put_row (Int (next_rowid table) ∷ c) table) cells
 
 -- more rows, with these cells after their numbers, and nothing else; a row that came leaves a sound database, and none leaves it as it was
-pub record Puts (tree : ℕ) (cells : List Row) (old new : Database) : Type 0 where
+pub record InsertsRows (tree : ℕ) (cells : List Row) (old new : Database) : Type 0 where
   pub schema_is : new.schema ≡ old.schema
   pub free : AreNew (old.trees tree) cells
   pub rows : new.trees tree ≡ with_rows (old.trees tree) cells
@@ -41,14 +41,14 @@ pub record Sets (tree : ℕ) (p : Row → Bool) (row : Row) (old new : Database)
   pub sound : IsDatabase new
 
 -- each row has a number, and no two have one number
-abbrev pub IsApart : List Row → Type 0
-IsApart [] = ⊤
-IsApart (r ∷ rs) = (rowid r ≡ Int (id_in (rowid r))) × AllByRecursion (λ s. is_eq (value_cmp (rowid r) (rowid s)) ≡ false) rs × IsApart rs
+abbrev pub RowNumbersDiffer : List Row → Type 0
+RowNumbersDiffer [] = ⊤
+RowNumbersDiffer (r ∷ rs) = (rowid r ≡ Int (id_in (rowid r))) × AllByRecursion (λ s. is_eq (value_cmp (rowid r) (rowid s)) ≡ false) rs × RowNumbersDiffer rs
 
 -- each row of the table shows what is made of a row that was there, one for one, and nothing else has changed
 pub record Alters (tree : ℕ) (show made : Row → Row) (old new : Database) : Type 0 where
   pub schema_is : new.schema ≡ old.schema
-  pub apart : IsApart (new.trees tree)
+  pub apart : RowNumbersDiffer (new.trees tree)
   pub rows : IsPermutation (map made (old.trees tree)) (map show (new.trees tree))
   pub others : Keeps tree old new
   pub sound : IsDatabase new

@@ -1,7 +1,7 @@
 pub mod Base
 pub mod Tables
 pub mod ListTables
-pub mod Own
+pub mod Schema
 pub mod Changes
 pub mod Steps
 pub mod Making
@@ -14,7 +14,7 @@ pub mod Queries
 pub mod Decoding
 pub mod Rolls
 pub mod Shown
-pub mod Places
+pub mod Placements
 pub mod Owners
 pub mod Names
 pub mod Putting

@@ -31,13 +31,13 @@ tree_of SecondChoices = choice2_tree
 tree_of SecondRankings = ranking2_tree
 
 -- those of a round
-abbrev pub choices_of : Round → Lists
-choices_of First = Choices
-choices_of Second = SecondChoices
+abbrev pub choice_table : Round → Lists
+choice_table First = Choices
+choice_table Second = SecondChoices
 
-abbrev pub rankings_of : Round → Lists
-rankings_of First = Rankings
-rankings_of Second = SecondRankings
+abbrev pub ranking_table : Round → Lists
+ranking_table First = Rankings
+ranking_table Second = SecondRankings
 
 -- the text that takes the rows of one owner away
 abbrev pub clear_text : ListTable → List ℕ

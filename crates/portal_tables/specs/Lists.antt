@@ -21,12 +21,12 @@ place_key r = place_of r ∷ []
 abbrev pub by_place : List Row → List Row
 by_place rows = put_all place_key rows []
 
-abbrev pub list_of : List Row → List Key
-list_of rows = map named_by (by_place rows)
+abbrev pub list_in_order : List Row → List Key
+list_in_order rows = map named_by (by_place rows)
 
 -- the list of one owner, among those of all
 abbrev pub chosen : List Row → Key → List Key
-chosen rows key = list_of (of_key key rows)
+chosen rows key = list_in_order (of_key key rows)
 
 -- these are n, n + 1 and so on
 abbrev pub CountUp : ℕ → List ℕ → Type 0

@@ -2,7 +2,7 @@
 use Rattle.std.specs.Prelude.{◌≡◌, ◌≢◌, ◌∷◌}
 use Rattle.portal_tables.specs.Base.{ℕ, ℤ, pos, List, [], AllByRecursion, Schema, created, Database, IsDatabase}
 use Rattle.portal_tables.specs.Tables.{no_schema, first_schema, portal_schema, portal_tree, second_tree, choice2_tree, ranked2_tree, ranking2_tree, assigned2_tree, first_trees, second_trees, own_trees, second, choice2, ranked2, ranking2, assigned2, version, first_version}
-use Rattle.portal_tables.specs.Own.{IsFirst, IsCurrent}
+use Rattle.portal_tables.specs.Schema.{IsFirstSchema, IsCurrentSchema}
 use Rattle.portal_tables.specs.Rows.{portal_row, second_row}
 
 -- tables of a schema are there: some as they were, and more that are empty
@@ -28,7 +28,7 @@ abbrev pub with_second : Schema → Schema
 with_second s = created (created (created (created (created s (second 0)) (choice2 0)) (ranked2 0)) (ranking2 0)) (assigned2 0)
 
 abbrev pub MakesSecond : Database → Database → Type 0
-MakesSecond old new = IsFirst old.schema → Grown (with_second old.schema) first_trees second_trees old new
+MakesSecond old new = IsFirstSchema old.schema → Grown (with_second old.schema) first_trees second_trees old new
 
 -- the portal's tables with the row of the office, the row of a second round that is not there, and nothing else: in setup
 pub record IsFresh (office : List ℕ) (db : Database) : Type 0 where
@@ -45,7 +45,7 @@ Creates office old new = old.schema ≡ no_schema → IsFresh office new
 -- beside the six tables are the five, with the one row of `second`, which tells no second round; `portal` tells the version of all tables, and
 -- nothing else in the six has changed
 pub record Upgraded (phase : ℤ) (office : List ℕ) (old new : Database) : Type 0 where
-  pub current : IsCurrent new.schema
+  pub current : IsCurrentSchema new.schema
   pub portal : new.trees portal_tree ≡ portal_row (pos version) phase office ∷ []
   pub others : AllByRecursion (λ t. t ≢ portal_tree → new.trees t ≡ old.trees t) first_trees
   pub second : new.trees second_tree ≡ second_row (pos 0) ∷ []
@@ -54,5 +54,5 @@ pub record Upgraded (phase : ℤ) (office : List ℕ) (old new : Database) : Typ
 
 -- of the six tables of version 1 all are made
 abbrev pub Upgrades : Database → Database → Type 0
-Upgrades old new = IsFirst old.schema → (phase : ℤ) (office : List ℕ) → old.trees portal_tree ≡ portal_row (pos first_version) phase office ∷ []
+Upgrades old new = IsFirstSchema old.schema → (phase : ℤ) (office : List ℕ) → old.trees portal_tree ≡ portal_row (pos first_version) phase office ∷ []
     → Upgraded phase office old new

@@ -1,8 +1,8 @@
--- What putting a list into its table does: the rows of its owner are the places from 1, and no other row is touched.
+-- What putting a list into its table does: the rows of its owner are the places from 1, and no other row equals touched.
 use Rattle.std.specs.Prelude.{◌≡◌, ◌+◌, ◌||◌, ◌∷◌}
-use Rattle.portal_tables.specs.Base.{ℕ, pos, false, List, [], map, IsPermutation, Row, Database, IsDatabase, Key, is, has}
-use Rattle.portal_tables.specs.Own.{IsCurrent}
-use Rattle.portal_tables.specs.Changes.{IsApart, Keeps, with_rows}
+use Rattle.portal_tables.specs.Base.{ℕ, pos, false, List, [], map, IsPermutation, Row, Database, IsDatabase, Key, equals, has}
+use Rattle.portal_tables.specs.Schema.{IsCurrentSchema}
+use Rattle.portal_tables.specs.Changes.{RowNumbersDiffer, Keeps, with_rows}
 use Rattle.portal_tables.specs.Tables.{ranked2_tree, assigned2_tree}
 use Rattle.portal_tables.specs.Rolls.{row_key}
 use Rattle.portal_tables.specs.Rows.{place_cells, pair_new}
@@ -24,32 +24,32 @@ placed r = (place_of r, named_by r)
 pub record HasPut (tree : ℕ) (owner : Key) (list : List Key) (old new : Database) : Type 0 where
   pub schema_is : new.schema ≡ old.schema
   pub sound : IsDatabase new
-  pub apart : IsApart (new.trees tree)
+  pub apart : RowNumbersDiffer (new.trees tree)
   pub tables : Keeps tree old new
-  pub others : (key : Key) → is key owner ≡ false → of_key key (new.trees tree) ≡ of_key key (old.trees tree)
+  pub others : (key : Key) → equals key owner ≡ false → of_key key (new.trees tree) ≡ of_key key (old.trees tree)
   pub places : IsPermutation (map placed (of_key owner (new.trees tree))) (numbered 1 list)
 
 abbrev pub PutsList : ℕ → Key → List Key → Database → Database → Type 0
-PutsList tree owner list old new = IsCurrent old.schema → IsApart (old.trees tree) → HasPut tree owner list old new
+PutsList tree owner list old new = IsCurrentSchema old.schema → RowNumbersDiffer (old.trees tree) → HasPut tree owner list old new
 
--- the result of the second round is these pairs, in place of any other
-pub record HasPlaces (pairs : List (Key × Key)) (old new : Database) : Type 0 where
+-- the result of the second round equals these pairs, in place of any other
+pub record HasPlacements (pairs : List (Key × Key)) (old new : Database) : Type 0 where
   pub schema_is : new.schema ≡ old.schema
   pub sound : IsDatabase new
-  pub apart : IsApart (new.trees assigned2_tree)
+  pub apart : RowNumbersDiffer (new.trees assigned2_tree)
   pub tables : Keeps assigned2_tree old new
   pub rows : new.trees assigned2_tree ≡ with_rows [] (map pair_new pairs)
 
-abbrev pub PutsPlaces : List (Key × Key) → Database → Database → Type 0
-PutsPlaces pairs old new = IsCurrent old.schema → IsApart (old.trees assigned2_tree) → HasPlaces pairs old new
+abbrev pub PutsPlacements : List (Key × Key) → Database → Database → Type 0
+PutsPlacements pairs old new = IsCurrentSchema old.schema → RowNumbersDiffer (old.trees assigned2_tree) → HasPlacements pairs old new
 
--- the lecturer is one of those with a ranking in the second round, and who else is one has not changed
+-- the lecturer equals one of those with a ranking in the second round, and who else equals one has not changed
 pub record HasRanked (lecturer : Key) (old new : Database) : Type 0 where
   pub schema_is : new.schema ≡ old.schema
   pub sound : IsDatabase new
-  pub apart : IsApart (new.trees ranked2_tree)
+  pub apart : RowNumbersDiffer (new.trees ranked2_tree)
   pub tables : Keeps ranked2_tree old new
-  pub known : (k : Key) → has (map row_key (new.trees ranked2_tree)) k ≡ (is k lecturer || has (map row_key (old.trees ranked2_tree)) k)
+  pub known : (k : Key) → has (map row_key (new.trees ranked2_tree)) k ≡ (equals k lecturer || has (map row_key (old.trees ranked2_tree)) k)
 
 abbrev pub RanksSecond : Key → Database → Database → Type 0
-RanksSecond lecturer old new = IsCurrent old.schema → IsApart (old.trees ranked2_tree) → HasRanked lecturer old new
+RanksSecond lecturer old new = IsCurrentSchema old.schema → RowNumbersDiffer (old.trees ranked2_tree) → HasRanked lecturer old new

@@ -2,13 +2,13 @@
 use Rattle.std.specs.Prelude.{◌∷◌, ◌++◌}
 use Rattle.portal_tables.specs.Base.{codes, ℕ, List, [], Bool, Words, Row, Trees, Round, First, InSecond}
 use Rattle.portal_tables.specs.declared.select.Query.{Query}
-use Rattle.portal_tables.specs.declared.select.Query.TheVariants.{Office, Whole, LecturerByCode, StudentByCode, LecturerByKey, StudentTold, AllLists, ListOf, Choosers, Listed, ProjectsOf, Numbers, Second, SecondRanked, SecondRankedBy, SecondPlaces, SecondPlaceOf}
+use Rattle.portal_tables.specs.declared.select.Query.TheVariants.{Office, Whole, LecturerByCode, StudentByCode, LecturerByKey, StudentTold, AllLists, ListOf, Choosers, Listed, ProjectsOf, Numbers, Second, SecondRanked, SecondRankedBy, SecondPlacements, SecondPlaceOf}
 use Rattle.portal_tables.specs.declared.select.Roll.{Roll}
 use Rattle.portal_tables.specs.declared.select.Roll.TheVariants.{Lecturers, Projects, Students}
 use Rattle.portal_tables.specs.declared.select.Table.{Table}
 use Rattle.portal_tables.specs.declared.select.Table.TheVariants.{OfRoll, OfLists, OfRanked, OfPlaces}
 use Rattle.portal_tables.specs.Changes.{ListsBy, every, columns, has_text, has_number}
-use Rattle.portal_tables.specs.ListTables.{round_of, names, tree_of, choices_of}
+use Rattle.portal_tables.specs.ListTables.{round_of, names, tree_of, choice_table}
 use Rattle.portal_tables.specs.Tables.{portal_tree, lecturer_tree, project_tree, student_tree, second_tree, ranked2_tree, assigned2_tree}
 
 abbrev pub roll_tree : Roll → ℕ
@@ -44,7 +44,7 @@ round_asked (Numbers table) = table_round table
 round_asked Second = InSecond
 round_asked SecondRanked = InSecond
 round_asked (SecondRankedBy lecturer) = InSecond
-round_asked SecondPlaces = InSecond
+round_asked SecondPlacements = InSecond
 round_asked (SecondPlaceOf student) = InSecond
 round_asked _ = First
 
@@ -64,13 +64,13 @@ selection (LecturerByKey key) = record { tree = lecturer_tree; passes = has_text
 selection (StudentTold key) = record { tree = student_tree; passes = has_text 1 key.now; by = 1 ∷ []; shown = 1 ∷ 2 ∷ 4 ∷ [] }
 selection (AllLists lists) = record { tree = tree_of lists; passes = every; by = []; shown = 1 ∷ 2 ∷ 3 ∷ [] }
 selection (ListOf lists owner) = record { tree = tree_of lists; passes = has_text 1 owner.now; by = 2 ∷ []; shown = 2 ∷ 3 ∷ [] }
-selection (Choosers round project) = record { tree = tree_of (choices_of round); passes = has_text 3 project.now; by = 1 ∷ []; shown = 1 ∷ [] }
+selection (Choosers round project) = record { tree = tree_of (choice_table round); passes = has_text 3 project.now; by = 1 ∷ []; shown = 1 ∷ [] }
 selection (ProjectsOf lecturer) = record { tree = project_tree; passes = has_text 2 lecturer.now; by = 1 ∷ []; shown = 1 ∷ [] }
-selection (Listed round) = record { tree = tree_of (choices_of round); passes = has_number 2 1; by = 1 ∷ []; shown = 1 ∷ [] }
+selection (Listed round) = record { tree = tree_of (choice_table round); passes = has_number 2 1; by = 1 ∷ []; shown = 1 ∷ [] }
 selection Second = record { tree = second_tree; passes = every; by = 0 ∷ []; shown = 0 ∷ 2 ∷ [] }
 selection SecondRanked = record { tree = ranked2_tree; passes = every; by = 1 ∷ []; shown = 1 ∷ [] }
 selection (SecondRankedBy lecturer) = record { tree = ranked2_tree; passes = has_text 1 lecturer.now; by = 1 ∷ []; shown = 1 ∷ [] }
-selection SecondPlaces = record { tree = assigned2_tree; passes = every; by = 1 ∷ []; shown = 1 ∷ 2 ∷ [] }
+selection SecondPlacements = record { tree = assigned2_tree; passes = every; by = 1 ∷ []; shown = 1 ∷ 2 ∷ [] }
 selection (SecondPlaceOf student) = record { tree = assigned2_tree; passes = has_text 1 student.now; by = 1 ∷ []; shown = 1 ∷ 2 ∷ [] }
 selection (Numbers table) = record { tree = table_tree table; passes = every; by = 0 ∷ []; shown = 0 ∷ [] }
 
@@ -88,26 +88,26 @@ table_name (OfLists lists) = (names lists).name
 table_name OfRanked = codes "ranked2"
 table_name OfPlaces = codes "assigned2"
 
-abbrev pub text_of : Query → List ℕ
-text_of Office = codes "SELECT id, version, phase, office FROM portal ORDER BY id"
-text_of (Whole Lecturers) = codes "SELECT key, name, code, capacity, ranked FROM lecturer ORDER BY key"
-text_of (Whole Projects) = codes "SELECT key, lecturer, title, capacity FROM project ORDER BY key"
-text_of (Whole Students) = codes "SELECT key, name, code, assigned FROM student ORDER BY key"
-text_of (LecturerByCode code) = codes "SELECT key, name, code, capacity, ranked FROM lecturer WHERE code = ?1 ORDER BY key"
-text_of (StudentByCode code) = codes "SELECT key, name, code, assigned FROM student WHERE code = ?1 ORDER BY key"
-text_of (LecturerByKey key) = codes "SELECT key FROM lecturer WHERE key = ?1 ORDER BY key"
-text_of (StudentTold key) = codes "SELECT key, name, assigned FROM student WHERE key = ?1 ORDER BY key"
-text_of (AllLists lists) = let t = names lists in codes "SELECT " ++ t.owner ++ codes ", place, " ++ t.item ++ codes " FROM " ++ t.name
-text_of (ListOf lists owner) = let t = names lists in codes "SELECT place, " ++ t.item ++ codes " FROM " ++ t.name ++ codes " WHERE " ++ t.owner ++ codes " = ?1 ORDER BY place"
-text_of (Choosers round project) = codes "SELECT student FROM " ++ (names (choices_of round)).name ++ codes " WHERE project = ?1 ORDER BY student"
-text_of (ProjectsOf lecturer) = codes "SELECT key FROM project WHERE lecturer = ?1 ORDER BY key"
-text_of (Listed round) = codes "SELECT student FROM " ++ (names (choices_of round)).name ++ codes " WHERE place = 1 ORDER BY student"
-text_of Second = codes "SELECT id, phase FROM second ORDER BY id"
-text_of SecondRanked = codes "SELECT lecturer FROM ranked2 ORDER BY lecturer"
-text_of (SecondRankedBy lecturer) = codes "SELECT lecturer FROM ranked2 WHERE lecturer = ?1 ORDER BY lecturer"
-text_of SecondPlaces = codes "SELECT student, project FROM assigned2 ORDER BY student"
-text_of (SecondPlaceOf student) = codes "SELECT student, project FROM assigned2 WHERE student = ?1 ORDER BY student"
-text_of (Numbers table) = codes "SELECT rowid FROM " ++ table_name table ++ codes " ORDER BY rowid"
+abbrev pub query_text : Query → List ℕ
+query_text Office = codes "SELECT id, version, phase, office FROM portal ORDER BY id"
+query_text (Whole Lecturers) = codes "SELECT key, name, code, capacity, ranked FROM lecturer ORDER BY key"
+query_text (Whole Projects) = codes "SELECT key, lecturer, title, capacity FROM project ORDER BY key"
+query_text (Whole Students) = codes "SELECT key, name, code, assigned FROM student ORDER BY key"
+query_text (LecturerByCode code) = codes "SELECT key, name, code, capacity, ranked FROM lecturer WHERE code = ?1 ORDER BY key"
+query_text (StudentByCode code) = codes "SELECT key, name, code, assigned FROM student WHERE code = ?1 ORDER BY key"
+query_text (LecturerByKey key) = codes "SELECT key FROM lecturer WHERE key = ?1 ORDER BY key"
+query_text (StudentTold key) = codes "SELECT key, name, assigned FROM student WHERE key = ?1 ORDER BY key"
+query_text (AllLists lists) = let t = names lists in codes "SELECT " ++ t.owner ++ codes ", place, " ++ t.item ++ codes " FROM " ++ t.name
+query_text (ListOf lists owner) = let t = names lists in codes "SELECT place, " ++ t.item ++ codes " FROM " ++ t.name ++ codes " WHERE " ++ t.owner ++ codes " = ?1 ORDER BY place"
+query_text (Choosers round project) = codes "SELECT student FROM " ++ (names (choice_table round)).name ++ codes " WHERE project = ?1 ORDER BY student"
+query_text (ProjectsOf lecturer) = codes "SELECT key FROM project WHERE lecturer = ?1 ORDER BY key"
+query_text (Listed round) = codes "SELECT student FROM " ++ (names (choice_table round)).name ++ codes " WHERE place = 1 ORDER BY student"
+query_text Second = codes "SELECT id, phase FROM second ORDER BY id"
+query_text SecondRanked = codes "SELECT lecturer FROM ranked2 ORDER BY lecturer"
+query_text (SecondRankedBy lecturer) = codes "SELECT lecturer FROM ranked2 WHERE lecturer = ?1 ORDER BY lecturer"
+query_text SecondPlacements = codes "SELECT student, project FROM assigned2 ORDER BY student"
+query_text (SecondPlaceOf student) = codes "SELECT student, project FROM assigned2 WHERE student = ?1 ORDER BY student"
+query_text (Numbers table) = codes "SELECT rowid FROM " ++ table_name table ++ codes " ORDER BY rowid"
 
 abbrev pub given : Query → Row
 given (LecturerByCode code) = Words code.now ∷ []

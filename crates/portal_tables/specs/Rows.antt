@@ -3,9 +3,9 @@ use Rattle.std.specs.Prelude.{◌≡◌, if◌then◌else◌, ◌∷◌}
 use Rattle.portal_tables.specs.Base.{ℕ, ℤ, pos, List, [], map, filter, length, Option, Some, None, flat_map, is_eq, Value, Null, Int, Words, Row, column, value_cmp, Database, IsDatabase, Ghosts, Held, state, Key, LecturerRow, ProjectRow, StudentRow}
 use Rattle.portal_tables.specs.declared.insert.lists.NewPlace.{NewPlace}
 use Rattle.portal_tables.specs.Tables.{portal_tree, lecturer_tree, student_tree, second_tree}
-use Rattle.portal_tables.specs.Own.{IsCurrent}
+use Rattle.portal_tables.specs.Schema.{IsCurrentSchema}
 use Rattle.portal_tables.specs.Steps.{Ran, Made}
-use Rattle.portal_tables.specs.Changes.{Puts, Drops, Sets, Alters, Becomes, IsApart, has_text, columns}
+use Rattle.portal_tables.specs.Changes.{InsertsRows, Drops, Sets, Alters, Becomes, RowNumbersDiffer, has_text, columns}
 
 -- the cells of a row after its number; that of `portal` has its id for a number, and nothing in the column
 abbrev pub portal_cells : ℤ → ℤ → List ℕ → Row
@@ -60,7 +60,7 @@ pair_new p = Words p.0 ∷ Words p.1 ∷ []
 
 -- rows with these cells come to a table of the portal's own
 abbrev pub Adds : ℕ → List Row → Database → Database → Type 0
-Adds tree cells old new = IsCurrent old.schema → Puts tree cells old new
+Adds tree cells old new = IsCurrentSchema old.schema → InsertsRows tree cells old new
 
 -- a text that adds so many rows to the table, where it is run with the values of one after the other
 abbrev pub AddsBy : {S R : Type 0} → Ghosts S → List ℕ → ℕ → ℕ → (R → Row) → (R → Row) → Type 0
@@ -69,36 +69,36 @@ AddsBy {S} {R} g text count tree values cells = (rows : List R) → length rows 
 
 -- the rows with this key in their first column are gone
 abbrev pub Clears : ℕ → List ℕ → Database → Database → Type 0
-Clears tree key old new = IsCurrent old.schema → IsApart (old.trees tree) → Drops tree (has_text 1 key) old new
+Clears tree key old new = IsCurrentSchema old.schema → RowNumbersDiffer (old.trees tree) → Drops tree (has_text 1 key) old new
 
 -- the one row of `portal` tells this phase
 abbrev pub MovesTo : ℕ → Database → Database → Type 0
-MovesTo phase old new = IsCurrent old.schema → (version was : ℤ) (office : List ℕ) → old.trees portal_tree ≡ portal_row version was office ∷ []
+MovesTo phase old new = IsCurrentSchema old.schema → (version was : ℤ) (office : List ℕ) → old.trees portal_tree ≡ portal_row version was office ∷ []
     → Becomes portal_tree (portal_row version (pos phase) office) old new
 
 -- the one row of `portal` tells this version
 abbrev pub IsOfVersion : ℕ → Database → Database → Type 0
-IsOfVersion version old new = IsCurrent old.schema → (was phase : ℤ) (office : List ℕ) → old.trees portal_tree ≡ portal_row was phase office ∷ []
+IsOfVersion version old new = IsCurrentSchema old.schema → (was phase : ℤ) (office : List ℕ) → old.trees portal_tree ≡ portal_row was phase office ∷ []
     → Becomes portal_tree (portal_row (pos version) phase office) old new
 
 -- the one row of `second` tells this phase
 abbrev pub MovesSecond : ℕ → Database → Database → Type 0
-MovesSecond phase old new = IsCurrent old.schema → (was : ℤ) → old.trees second_tree ≡ second_row was ∷ [] → Becomes second_tree (second_row (pos phase)) old new
+MovesSecond phase old new = IsCurrentSchema old.schema → (was : ℤ) → old.trees second_tree ≡ second_row was ∷ [] → Becomes second_tree (second_row (pos phase)) old new
 
 -- the lecturer's one row says that a ranking is there
 abbrev pub Ranks : List ℕ → Database → Database → Type 0
-Ranks key old new = IsCurrent old.schema → IsApart (old.trees lecturer_tree) → (number : ℤ) (name code : List ℕ) (capacity ranked : ℤ)
+Ranks key old new = IsCurrentSchema old.schema → RowNumbersDiffer (old.trees lecturer_tree) → (number : ℤ) (name code : List ℕ) (capacity ranked : ℤ)
     → filter (has_text 1 key) (old.trees lecturer_tree) ≡ (Int number ∷ lecturer_cells key name code capacity ranked) ∷ []
     → Sets lecturer_tree (has_text 1 key) (Int number ∷ lecturer_cells key name code capacity (pos 1)) old new
 
 -- a text, or NULL
-abbrev pub text_or_null : Option (List ℕ) → Value
-text_or_null None = Null
-text_or_null (Some t) = Words t
+abbrev pub text_cell : Option (List ℕ) → Value
+text_cell None = Null
+text_cell (Some t) = Words t
 
 -- what a student's row shows: its number and its four columns
-abbrev pub student_shown : Row → Row
-student_shown = columns (0 ∷ 1 ∷ 2 ∷ 3 ∷ 4 ∷ [])
+abbrev pub student_columns : Row → Row
+student_columns = columns (0 ∷ 1 ∷ 2 ∷ 3 ∷ 4 ∷ [])
 
 -- a student's key, and the project that the student is to be assigned to, or none
 abbrev pub Assigned : Type 0
@@ -107,11 +107,11 @@ Assigned = List ℕ × Option (List ℕ)
 -- what the last of these says of the student with this key, or this value where none does
 abbrev pub assigned_by : List Assigned → Value → Value → Value
 assigned_by [] key value = value
-assigned_by (a ∷ all) key value = assigned_by all key (if is_eq (value_cmp key (Words a.0)) then text_or_null a.1 else value)
+assigned_by (a ∷ all) key value = assigned_by all key (if is_eq (value_cmp key (Words a.0)) then text_cell a.1 else value)
 
 abbrev pub with_assigned : List Assigned → Row → Row
 with_assigned all r = column r 0 ∷ column r 1 ∷ column r 2 ∷ column r 3 ∷ assigned_by all (column r 1) (column r 4) ∷ []
 
 -- each of these students is assigned to the project or to none, one after another, and no other student's row has changed
 abbrev pub Assigns : List Assigned → Database → Database → Type 0
-Assigns all old new = IsCurrent old.schema → IsDatabase old → IsApart (old.trees student_tree) → Alters student_tree student_shown (with_assigned all) old new
+Assigns all old new = IsCurrentSchema old.schema → IsDatabase old → RowNumbersDiffer (old.trees student_tree) → Alters student_tree student_columns (with_assigned all) old new

@@ -16,21 +16,21 @@ as_list None = []
 as_list (Some x) = x ∷ []
 
 -- the key that a shown row begins with
-abbrev pub first : Row → Key
-first c = bytes (column c 0)
+abbrev pub first_cell : Row → Key
+first_cell c = bytes (column c 0)
 
 abbrev pub shown_lecturer : Row → LecturerRow
-shown_lecturer c = record { key = first c; name = bytes (column c 1); code = bytes (column c 2); capacity = number_in (column c 3) }
+shown_lecturer c = record { key = first_cell c; name = bytes (column c 1); code = bytes (column c 2); capacity = number_in (column c 3) }
 
 abbrev pub shown_project : Row → ProjectRow
-shown_project c = record { key = first c; lecturer = bytes (column c 1); title = bytes (column c 2); capacity = number_in (column c 3) }
+shown_project c = record { key = first_cell c; lecturer = bytes (column c 1); title = bytes (column c 2); capacity = number_in (column c 3) }
 
 abbrev pub shown_student : Row → StudentRow
-shown_student c = record { key = first c; name = bytes (column c 1); code = bytes (column c 2) }
+shown_student c = record { key = first_cell c; name = bytes (column c 1); code = bytes (column c 2) }
 
 -- the place and the key that a row of a list shows
-abbrev pub shown_place : Row → ℕ
-shown_place c = number_in (column c 0)
+abbrev pub shown_rank : Row → ℕ
+shown_rank c = number_in (column c 0)
 
 abbrev pub shown_name : Row → Key
 shown_name c = bytes (column c 1)

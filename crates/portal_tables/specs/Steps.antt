@@ -46,5 +46,5 @@ abbrev pub LeavesOnly : State → Type 0
 LeavesOnly s = (db : Trees) → s.may_leave db → db ≡ s.now.trees
 
 -- nothing is changed, or the open transaction is undone
-abbrev pub Leaves : State → State → Type 0
-Leaves old new = IsUnchanged old new ⊎ IsRolledBack old new
+abbrev pub IsUnchangedOrUndone : State → State → Type 0
+IsUnchangedOrUndone old new = IsUnchanged old new ⊎ IsRolledBack old new

@@ -16,8 +16,8 @@ refers_to place parent = record {
 }
 
 -- what the tables share: STRICT, no computed defaults, no AUTOINCREMENT
-abbrev pub table_of : List ℕ → ℕ → List Column → Option ℕ → List ℕ → List (List ℕ) → List Order → List Term → List Reference → Table
-table_of name tree columns key primary uniques orders checks references = record {
+abbrev pub schema_of : List ℕ → ℕ → List Column → Option ℕ → List ℕ → List (List ℕ) → List Order → List Term → List Reference → Table
+schema_of name tree columns key primary uniques orders checks references = record {
   name = name;
   tree = tree;
   columns = columns;
@@ -44,41 +44,41 @@ portal_text = codes "CREATE TABLE portal (id INTEGER NOT NULL PRIMARY KEY CHECK 
     ++ codes "phase INTEGER NOT NULL, office TEXT NOT NULL) STRICT"
 
 abbrev pub portal : ℕ → Table
-portal tree = table_of (codes "portal") tree
+portal tree = schema_of (codes "portal") tree
     (column_of (codes "id") Integer true ∷ column_of (codes "version") Integer true ∷ column_of (codes "phase") Integer true ∷
     column_of (codes "office") Text true ∷ [])
     (Some 0) (0 ∷ []) [] [] (is_at 0 1 ∷ []) []
 
 abbrev pub lecturer_text : List ℕ
-lecturer_text = codes "CREATE TABLE lecturer (key TEXT NOT NULL PRIMARY KEY, name TEXT NOT NULL, code TEXT NOT NULL UNIQUE, "
+lecturer_text = codes "CREATE TABLE lecturer_schema (key TEXT NOT NULL PRIMARY KEY, name TEXT NOT NULL, code TEXT NOT NULL UNIQUE, "
     ++ codes "capacity INTEGER NOT NULL CHECK (capacity >= 1 AND capacity <= 200), "
     ++ codes "ranked INTEGER NOT NULL CHECK (ranked = 0 OR ranked = 1)) STRICT"
 
-abbrev pub lecturer : ℕ → Table
-lecturer tree = table_of (codes "lecturer") tree
+abbrev pub lecturer_schema : ℕ → Table
+lecturer_schema tree = schema_of (codes "lecturer_schema") tree
     (column_of (codes "key") Text true ∷ column_of (codes "name") Text true ∷ column_of (codes "code") Text true ∷
     column_of (codes "capacity") Integer true ∷ column_of (codes "ranked") Integer true ∷ [])
     None (1 ∷ []) ((1 ∷ []) ∷ (3 ∷ []) ∷ []) (plain ∷ plain ∷ []) (is_from 1 200 4 ∷ op2 Or (is_at 5 0) (is_at 5 1) ∷ []) []
 
 abbrev pub project_text : List ℕ
-project_text = codes "CREATE TABLE project (key TEXT NOT NULL PRIMARY KEY, lecturer TEXT NOT NULL REFERENCES lecturer (key), "
+project_text = codes "CREATE TABLE project_schema (key TEXT NOT NULL PRIMARY KEY, lecturer_schema TEXT NOT NULL REFERENCES lecturer_schema (key), "
     ++ codes "title TEXT NOT NULL, capacity INTEGER NOT NULL CHECK (capacity >= 1 AND capacity <= 200)) STRICT"
 
-abbrev pub project : ℕ → Table
-project tree = table_of (codes "project") tree
-    (column_of (codes "key") Text true ∷ column_of (codes "lecturer") Text true ∷ column_of (codes "title") Text true ∷
+abbrev pub project_schema : ℕ → Table
+project_schema tree = schema_of (codes "project_schema") tree
+    (column_of (codes "key") Text true ∷ column_of (codes "lecturer_schema") Text true ∷ column_of (codes "title") Text true ∷
     column_of (codes "capacity") Integer true ∷ [])
-    None (1 ∷ []) ((1 ∷ []) ∷ []) (plain ∷ []) (is_from 1 200 4 ∷ []) (refers_to 2 (codes "lecturer") ∷ [])
+    None (1 ∷ []) ((1 ∷ []) ∷ []) (plain ∷ []) (is_from 1 200 4 ∷ []) (refers_to 2 (codes "lecturer_schema") ∷ [])
 
 abbrev pub student_text : List ℕ
-student_text = codes "CREATE TABLE student (key TEXT NOT NULL PRIMARY KEY, name TEXT NOT NULL, code TEXT NOT NULL UNIQUE, "
-    ++ codes "assigned TEXT REFERENCES project (key)) STRICT"
+student_text = codes "CREATE TABLE student_schema (key TEXT NOT NULL PRIMARY KEY, name TEXT NOT NULL, code TEXT NOT NULL UNIQUE, "
+    ++ codes "assigned TEXT REFERENCES project_schema (key)) STRICT"
 
-abbrev pub student : ℕ → Table
-student tree = table_of (codes "student") tree
+abbrev pub student_schema : ℕ → Table
+student_schema tree = schema_of (codes "student_schema") tree
     (column_of (codes "key") Text true ∷ column_of (codes "name") Text true ∷ column_of (codes "code") Text true ∷
     column_of (codes "assigned") Text false ∷ [])
-    None (1 ∷ []) ((1 ∷ []) ∷ (3 ∷ []) ∷ []) (plain ∷ plain ∷ []) [] (refers_to 4 (codes "project") ∷ [])
+    None (1 ∷ []) ((1 ∷ []) ∷ (3 ∷ []) ∷ []) (plain ∷ plain ∷ []) [] (refers_to 4 (codes "project_schema") ∷ [])
 
 -- A table of lists: its name, and the names of two of its columns, each that of the roll to which it refers.
 pub record ListTable : Type 0 where
@@ -92,16 +92,16 @@ list_table_text t = codes "CREATE TABLE " ++ t.name ++ codes " (" ++ t.owner ++ 
     ++ codes " (key), PRIMARY KEY (" ++ t.owner ++ codes ", place), UNIQUE (" ++ t.item ++ codes ", " ++ t.owner ++ codes ")) STRICT"
 
 abbrev pub list_table : ListTable → ℕ → Table
-list_table t tree = table_of t.name tree
+list_table t tree = schema_of t.name tree
     (column_of t.owner Text true ∷ column_of (codes "place") Integer true ∷ column_of t.item Text true ∷ [])
     None (1 ∷ 2 ∷ []) ((1 ∷ 2 ∷ []) ∷ (3 ∷ 1 ∷ []) ∷ []) (plain ∷ plain ∷ []) [] (refers_to 1 t.owner ∷ refers_to 3 t.item ∷ [])
 
 -- students' lists of projects, and lecturers' rankings of students, of each round
 abbrev pub choice_names : ListTable
-choice_names = record { name = codes "choice"; owner = codes "student"; item = codes "project" }
+choice_names = record { name = codes "choice"; owner = codes "student_schema"; item = codes "project_schema" }
 
 abbrev pub ranking_names : ListTable
-ranking_names = record { name = codes "ranking"; owner = codes "lecturer"; item = codes "student" }
+ranking_names = record { name = codes "ranking"; owner = codes "lecturer_schema"; item = codes "student_schema" }
 
 abbrev pub choice2_names : ListTable
 choice2_names = record choice_names { name = codes "choice2" }
@@ -127,26 +127,26 @@ second_text = codes "CREATE TABLE second (id INTEGER NOT NULL PRIMARY KEY CHECK 
     ++ codes "phase INTEGER NOT NULL CHECK (phase >= 0 AND phase <= 3)) STRICT"
 
 abbrev pub second : ℕ → Table
-second tree = table_of (codes "second") tree
+second tree = schema_of (codes "second") tree
     (column_of (codes "id") Integer true ∷ column_of (codes "phase") Integer true ∷ [])
     (Some 0) (0 ∷ []) [] [] (is_at 0 1 ∷ is_from 0 3 2 ∷ []) []
 
 -- who has a ranking in the second round
 abbrev pub ranked2_text : List ℕ
-ranked2_text = codes "CREATE TABLE ranked2 (lecturer TEXT NOT NULL PRIMARY KEY REFERENCES lecturer (key)) STRICT"
+ranked2_text = codes "CREATE TABLE ranked2 (lecturer_schema TEXT NOT NULL PRIMARY KEY REFERENCES lecturer_schema (key)) STRICT"
 
 abbrev pub ranked2 : ℕ → Table
-ranked2 tree = table_of (codes "ranked2") tree (column_of (codes "lecturer") Text true ∷ [])
-    None (1 ∷ []) ((1 ∷ []) ∷ []) (plain ∷ []) [] (refers_to 1 (codes "lecturer") ∷ [])
+ranked2 tree = schema_of (codes "ranked2") tree (column_of (codes "lecturer_schema") Text true ∷ [])
+    None (1 ∷ []) ((1 ∷ []) ∷ []) (plain ∷ []) [] (refers_to 1 (codes "lecturer_schema") ∷ [])
 
 -- the result of the second round
 abbrev pub assigned2_text : List ℕ
-assigned2_text = codes "CREATE TABLE assigned2 (student TEXT NOT NULL PRIMARY KEY REFERENCES student (key), "
-    ++ codes "project TEXT NOT NULL REFERENCES project (key)) STRICT"
+assigned2_text = codes "CREATE TABLE assigned2 (student_schema TEXT NOT NULL PRIMARY KEY REFERENCES student_schema (key), "
+    ++ codes "project_schema TEXT NOT NULL REFERENCES project_schema (key)) STRICT"
 
 abbrev pub assigned2 : ℕ → Table
-assigned2 tree = table_of (codes "assigned2") tree (column_of (codes "student") Text true ∷ column_of (codes "project") Text true ∷ [])
-    None (1 ∷ []) ((1 ∷ []) ∷ []) (plain ∷ []) [] (refers_to 1 (codes "student") ∷ refers_to 2 (codes "project") ∷ [])
+assigned2 tree = schema_of (codes "assigned2") tree (column_of (codes "student_schema") Text true ∷ column_of (codes "project_schema") Text true ∷ [])
+    None (1 ∷ []) ((1 ∷ []) ∷ []) (plain ∷ []) [] (refers_to 1 (codes "student_schema") ∷ refers_to 2 (codes "project_schema") ∷ [])
 
 abbrev pub no_schema : Schema
 no_schema = record { tables = []; indexes = []; views = [] }
@@ -165,7 +165,7 @@ index_of tree name table columns = record {
 -- its own.
 abbrev pub first_schema : Schema
 first_schema = record {
-  tables = portal 0 ∷ lecturer 1 ∷ project 4 ∷ student 6 ∷ choice 9 ∷ ranking 12 ∷ [];
+  tables = portal 0 ∷ lecturer_schema 1 ∷ project_schema 4 ∷ student_schema 6 ∷ choice 9 ∷ ranking 12 ∷ [];
   indexes = index_of 2 (codes "lecturer_1") 1 (1 ∷ []) ∷ index_of 3 (codes "lecturer_2") 1 (3 ∷ []) ∷ index_of 5 (codes "project_1") 4 (1 ∷ [])
       ∷ index_of 7 (codes "student_1") 6 (1 ∷ []) ∷ index_of 8 (codes "student_2") 6 (3 ∷ [])
       ∷ index_of 10 (codes "choice_1") 9 (1 ∷ 2 ∷ []) ∷ index_of 11 (codes "choice_2") 9 (3 ∷ 1 ∷ [])

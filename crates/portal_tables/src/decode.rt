@@ -3,7 +3,7 @@
 ghost use Rattle.std.specs.Prelude.{◌≡◌, ◌↔◌, ◌≤◌};
 ghost use Rattle.portal_tables.specs.Base.{true, Err, IfOk, IsTrue, length, map, ⊤, AllByRecursion, Cells, is_key, IsLecturer, IsProject, IsStudent, Rise, is_before};
 ghost use Rattle.portal_tables.specs.Lists.{CountUp};
-ghost use Rattle.portal_tables.specs.Shown.{as_list, first, shown_lecturer, shown_project, shown_student, shown_place, shown_name};
+ghost use Rattle.portal_tables.specs.Shown.{as_list, first_cell, shown_lecturer, shown_project, shown_student, shown_rank, shown_name};
 
 use crate::cells::{bytes_at, capacity_at, code_at, key_at, name_at, number_at};
 use crate::fault::TableFault;
@@ -107,7 +107,7 @@ pub fn decoded<T: FromCells>(alloc: Global, rows: &[Row]) -> Result<Vec<T>, Tabl
 }
 
 /// The row, or what it is decoded to, if there is one. The fault is `Damaged` where there are more.
-pub fn only<T: Drop>(mut rows: Vec<T>) -> Result<Option<T>, TableFault>
+pub fn at_most_one<T: Drop>(mut rows: Vec<T>) -> Result<Option<T>, TableFault>
     ensures ok { IfOk result (λ row. as_list row ≡ rows.items) }
     ensures damaged { result ≡ Err TableFault.Damaged → length rows.items ≤ 1 → ⊥ }
 {
@@ -118,21 +118,21 @@ pub fn only<T: Drop>(mut rows: Vec<T>) -> Result<Option<T>, TableFault>
 }
 
 fn is_lower(a: &Row, b: &Row) -> bool
-    ensures { result ≡ is_before (first a.now) (first b.now) }
+    ensures { result ≡ is_before (first_cell a.now) (first_cell b.now) }
 {
     bytes_at(a, 0).cmp(bytes_at(b, 0)).is_lt()
 }
 
 /// Whether the keys that the rows begin with rise.
 pub fn do_rise(rows: &[Row]) -> bool
-    ensures { IsTrue result ↔ Rise (map first rows.now) }
+    ensures { IsTrue result ↔ Rise (map first_cell rows.now) }
 {
     rows.is_sorted_by(|a, b| is_lower(a, b))
 }
 
 /// Whether the rows have the places 1, 2 and so on.
 fn do_count_up(rows: &[Row]) -> bool
-    ensures { IsTrue result ↔ CountUp 1 (map shown_place rows.now) }
+    ensures { IsTrue result ↔ CountUp 1 (map shown_rank rows.now) }
 {
     for (i, row) in rows.iter().enumerate() {
         if number_at(row, 0) != i as u64 + 1 {
@@ -146,8 +146,8 @@ fn do_count_up(rows: &[Row]) -> bool
 /// name has not the form of a key.
 pub(crate) fn list_from(alloc: Global, rows: &[Row]) -> Result<Vec<Key>, TableFault>
     ensures names { IfOk result (λ v. v.items ≡ map shown_name rows.now) }
-    ensures whole { IfOk result (λ v. CountUp 1 (map shown_place rows.now)) }
-    ensures damaged { result ≡ Err TableFault.Damaged → CountUp 1 (map shown_place rows.now)
+    ensures whole { IfOk result (λ v. CountUp 1 (map shown_rank rows.now)) }
+    ensures damaged { result ≡ Err TableFault.Damaged → CountUp 1 (map shown_rank rows.now)
         → AllByRecursion (λ c. is_key (shown_name c) ≡ true) rows.now → ⊥ }
 {
     if !do_count_up(rows) {

@@ -2,12 +2,12 @@
 
 ghost use Rattle.std.specs.Prelude.{◌≡◌, ◌↔◌, ◌∷◌, if◌then◌else◌};
 ghost use Rattle.portal_tables.specs.Base.{[], false, true, Ok, Err, IfOk, OnOk, IsTrue, Some, None, option_map, map, AllByRecursion, filter_map, HasCleanDisk, state, is_key, has, Rise};
-ghost use Rattle.portal_tables.specs.Own.{HasRound};
+ghost use Rattle.portal_tables.specs.Schema.{HasRound};
 ghost use Rattle.portal_tables.specs.Lists.{of_key, IsWhole, chosen};
-ghost use Rattle.portal_tables.specs.Reading.{ReadsIn, TellsIn, TellsSound, OverSound};
+ghost use Rattle.portal_tables.specs.Reading.{RunsQueriesIn, YieldsIn, YieldsSound, OverSound};
 ghost use Rattle.portal_tables.specs.ListTables.{round_of, tree_of};
 ghost use Rattle.portal_tables.specs.Owners.{AreOwned, has_list, entry, with_list, IsRead, IsFine};
-ghost use Rattle.portal_tables.specs.Shown.{first};
+ghost use Rattle.portal_tables.specs.Shown.{first_cell};
 
 use crate::cells::{bytes_at, key_at, number_at};
 use crate::decode::{do_rise, list_from};
@@ -27,7 +27,7 @@ pub fn list_in<S: Alter>(
     lists: Lists,
     owner: &Key,
 ) -> Result<Vec<Key>, TableFault>
-    ensures names { TellsIn (round_of lists) S.Store conn.old conn.new result
+    ensures names { YieldsIn (round_of lists) S.Store conn.old conn.new result
         (λ db v. v.items ≡ chosen (db.trees (tree_of lists)) owner.now) }
     ensures whole { HasRound (round_of lists) conn.old.schema
         → HasCleanDisk (state S.Store conn.new)
@@ -39,7 +39,7 @@ pub fn list_in<S: Alter>(
         → IsWhole (of_key owner.now ((state S.Store conn.old).now.trees (tree_of lists)))
         → AllByRecursion (λ k. is_key k ≡ true)
         (chosen ((state S.Store conn.old).now.trees (tree_of lists)) owner.now) → ⊥ }
-    ensures reads { ReadsIn (round_of lists) result
+    ensures reads { RunsQueriesIn (round_of lists) result
         (state S.Store conn.old) (state S.Store conn.new) }
 {
     let rows = read_rows(alloc, conn, Query::ListOf(lists, owner.as_bytes()))?;
@@ -52,10 +52,10 @@ pub fn has_list_in<S: Alter>(
     lists: Lists,
     row: &Row,
 ) -> Result<bool, TableFault>
-    ensures told { TellsSound (round_of lists) S.Store conn.old conn.new result
+    ensures told { YieldsSound (round_of lists) S.Store conn.old conn.new result
         (λ db b. b ≡ has_list lists db.trees row.now) }
     ensures undamaged { result ≡ Err TableFault.Damaged → ⊥ }
-    ensures reads { ReadsIn (round_of lists) result
+    ensures reads { RunsQueriesIn (round_of lists) result
         (state S.Store conn.old) (state S.Store conn.new) }
 {
     match lists {
@@ -93,14 +93,14 @@ pub fn entry_in<S: Alter>(
     lists: Lists,
     owner: &Row,
 ) -> Result<Option<(Key, Vec<Key>)>, TableFault>
-    ensures ok { TellsSound (round_of lists) S.Store conn.old conn.new result
+    ensures ok { YieldsSound (round_of lists) S.Store conn.old conn.new result
         (λ db found. option_map with_list found ≡ entry lists db.trees owner.now) }
     ensures read { OverSound (round_of lists) S.Store conn.old conn.new
         (OnOk result (IsRead lists (state S.Store conn.old).now.trees owner.now)) }
     ensures damaged { OverSound (round_of lists) S.Store conn.old conn.new
         (result ≡ Err TableFault.Damaged
         → IsFine lists (state S.Store conn.old).now.trees owner.now → ⊥) }
-    ensures reads { ReadsIn (round_of lists) result
+    ensures reads { RunsQueriesIn (round_of lists) result
         (state S.Store conn.old) (state S.Store conn.new) }
 {
     let key = key_at(alloc, owner, 0)?;
@@ -117,7 +117,7 @@ fn entries_each<S: Alter>(
     lists: Lists,
     owners: &[Row],
 ) -> Result<Vec<(Key, Vec<Key>)>, TableFault>
-    ensures ok { TellsSound (round_of lists) S.Store conn.old conn.new result
+    ensures ok { YieldsSound (round_of lists) S.Store conn.old conn.new result
         (λ db v. map with_list v.items ≡ filter_map (entry lists db.trees) owners.now) }
     ensures read { OverSound (round_of lists) S.Store conn.old conn.new
         (OnOk result (AllByRecursion
@@ -125,7 +125,7 @@ fn entries_each<S: Alter>(
     ensures damaged { OverSound (round_of lists) S.Store conn.old conn.new
         (result ≡ Err TableFault.Damaged
         → AllByRecursion (IsFine lists (state S.Store conn.old).now.trees) owners.now → ⊥) }
-    ensures reads { ReadsIn (round_of lists) result
+    ensures reads { RunsQueriesIn (round_of lists) result
         (state S.Store conn.old) (state S.Store conn.new) }
 {
     let mut entries = Vec::new(alloc);
@@ -139,18 +139,18 @@ fn entries_each<S: Alter>(
 
 /// Whether each row begins with a key that one of the owners has, whose keys rise.
 fn are_named(owners: &[Row], rows: &[Row]) -> bool
-    requires { Rise (map first owners.now) }
+    requires { Rise (map first_cell owners.now) }
     ensures { IsTrue result
-        ↔ AllByRecursion (λ c. has (map first owners.now) (first c) ≡ true) rows.now }
+        ↔ AllByRecursion (λ c. has (map first_cell owners.now) (first_cell c) ≡ true) rows.now }
 {
     rows.iter().all(|row| is_named(owners, bytes_at(row, 0)))
 }
 
 /// Whether the owners' keys rise and each row begins with one of them.
 fn are_owned(owners: &[Row], rows: &[Row]) -> bool
-    ensures rise { IsTrue result → Rise (map first owners.now) }
-    ensures owned { Rise (map first owners.now)
-        → AllByRecursion (λ c. has (map first owners.now) (first c) ≡ true) rows.now
+    ensures rise { IsTrue result → Rise (map first_cell owners.now) }
+    ensures owned { Rise (map first_cell owners.now)
+        → AllByRecursion (λ c. has (map first_cell owners.now) (first_cell c) ≡ true) rows.now
         → IsTrue result }
 {
     do_rise(owners) && are_named(owners, rows)
@@ -168,7 +168,7 @@ fn see_owners<S: Alter>(
         → HasCleanDisk (state S.Store conn.new)
         → result ≡ Err TableFault.Damaged
         → AreOwned lists (state S.Store conn.old).now.trees owners.now → ⊥ }
-    ensures reads { ReadsIn (round_of lists) result
+    ensures reads { RunsQueriesIn (round_of lists) result
         (state S.Store conn.old) (state S.Store conn.new) }
 {
     let rows = read_rows(alloc, conn, Query::AllLists(lists))?;
@@ -187,7 +187,7 @@ pub fn entries_in<S: Alter>(
     lists: Lists,
     owners: &[Row],
 ) -> Result<Vec<(Key, Vec<Key>)>, TableFault>
-    ensures ok { TellsSound (round_of lists) S.Store conn.old conn.new result
+    ensures ok { YieldsSound (round_of lists) S.Store conn.old conn.new result
         (λ db v. map with_list v.items ≡ filter_map (entry lists db.trees) owners.now) }
     ensures read { OverSound (round_of lists) S.Store conn.old conn.new
         (OnOk result (AllByRecursion
@@ -196,7 +196,7 @@ pub fn entries_in<S: Alter>(
         (result ≡ Err TableFault.Damaged
         → AreOwned lists (state S.Store conn.old).now.trees owners.now
         → AllByRecursion (IsFine lists (state S.Store conn.old).now.trees) owners.now → ⊥) }
-    ensures reads { ReadsIn (round_of lists) result
+    ensures reads { RunsQueriesIn (round_of lists) result
         (state S.Store conn.old) (state S.Store conn.new) }
 {
     see_owners(alloc, conn, lists, owners)?;

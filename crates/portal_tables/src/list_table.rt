@@ -22,7 +22,7 @@ pub enum Lists {
 impl Lists {
     /// The students' lists of a round.
     pub fn choices_of(round: Round) -> Lists
-        ensures is { result ≡ meant.choices_of round }
+        ensures is { result ≡ meant.choice_table round }
         ensures round { round_of result ≡ round }
     {
         match round {
@@ -33,7 +33,7 @@ impl Lists {
 
     /// The rankings of a round.
     pub fn rankings_of(round: Round) -> Lists
-        ensures is { result ≡ meant.rankings_of round }
+        ensures is { result ≡ meant.ranking_table round }
         ensures round { round_of result ≡ round }
     {
         match round {

@@ -2,7 +2,7 @@
 
 ghost use Rattle.std.specs.Prelude.{◌≡◌, ◌<◌};
 ghost use Rattle.portal_tables.specs.Base.{IfSome, is_some, map, length, slice_index_or, slice_cmp, nat_cmp, Cells, has, Rise};
-ghost use Rattle.portal_tables.specs.Shown.{first};
+ghost use Rattle.portal_tables.specs.Shown.{first_cell};
 
 use crate::cells::bytes_at;
 use sqlite::Row;
@@ -10,15 +10,15 @@ use std::cmp::Ordering;
 
 /// Where a row begins with the key, among rows whose keys rise.
 pub(crate) fn place_named(rows: &[Row], key: &[u8]) -> Option<usize>
-    requires { Rise (map first rows.now) }
+    requires { Rise (map first_cell rows.now) }
     ensures within { IfSome result (λ i. i < length rows.now) }
     ensures there { IfSome result
-        (λ i. (c : Cells) → first (slice_index_or rows.now i c) ≡ key.now) }
-    ensures known { is_some result ≡ has (map first rows.now) key.now }
+        (λ i. (c : Cells) → first_cell (slice_index_or rows.now i c) ≡ key.now) }
+    ensures known { is_some result ≡ has (map first_cell rows.now) key.now }
 {
     match rows.binary_search_by(
         |row: &Row| -> Ordering
-            ensures { result ≡ slice_cmp nat_cmp (first row.now) key.entry.now }
+            ensures { result ≡ slice_cmp nat_cmp (first_cell row.now) key.entry.now }
         { bytes_at(row, 0).cmp(key) },
     ) {
         Ok(i) => Some(i),
@@ -28,8 +28,8 @@ pub(crate) fn place_named(rows: &[Row], key: &[u8]) -> Option<usize>
 
 /// Whether a row begins with the key, among rows whose keys rise.
 pub fn is_named(rows: &[Row], key: &[u8]) -> bool
-    requires { Rise (map first rows.now) }
-    ensures { result ≡ has (map first rows.now) key.now }
+    requires { Rise (map first_cell rows.now) }
+    ensures { result ≡ has (map first_cell rows.now) key.now }
 {
     place_named(rows, key).is_some()
 }

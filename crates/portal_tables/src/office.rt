@@ -3,10 +3,10 @@
 ghost use Rattle.std.specs.Prelude.{◌≡◌, ◌↔◌, ◌∷◌};
 ghost use Rattle.portal_tables.specs.Base.{[], pos, true, false, Err, IfOk, IfSome, IfNone, OnOk, OnErr, IsTrue, List, ℕ, Int, Words, Cells, column, HasCleanDisk, state, is_code, ThePhase, First};
 ghost use Rattle.portal_tables.specs.Tables.{portal_tree};
-ghost use Rattle.portal_tables.specs.Own.{IsOwn};
-ghost use Rattle.portal_tables.specs.Reading.{Asks, OverSound};
+ghost use Rattle.portal_tables.specs.Schema.{HasFirstSchema};
+ghost use Rattle.portal_tables.specs.Reading.{RunsQuery, OverSound};
 ghost use Rattle.portal_tables.specs.Rows.{portal_row};
-ghost use Rattle.portal_tables.specs.Office.{number_of, IsOffice, HasOffice};
+ghost use Rattle.portal_tables.specs.Office.{number_of_phase, IsOffice, HasOffice};
 
 use crate::cells::code_at;
 use crate::fault::TableFault;
@@ -41,9 +41,9 @@ pub(crate) fn is_number(row: &Row, at: usize, number: u32) -> bool
 }
 
 pub(crate) fn phase_at(row: &Row, at: usize) -> Option<Phase>
-    ensures some { IfSome result (λ phase. column row.now at ≡ Int (pos (number_of phase))) }
+    ensures some { IfSome result (λ phase. column row.now at ≡ Int (pos (number_of_phase phase))) }
     ensures none { IfNone result
-        ((phase : ThePhase) → column row.now at ≡ Int (pos (number_of phase)) → ⊥) }
+        ((phase : ThePhase) → column row.now at ≡ Int (pos (number_of_phase phase)) → ⊥) }
 {
     match row.get_ref(at) {
         Ok(ValueRef::Int(0)) => Some(Phase::Setup),
@@ -105,12 +105,12 @@ pub fn office_in<S: Alter>(
 ) -> Result<Office, TableFault>
     ensures row { OverSound First S.Store conn.old conn.new
         (IfOk result (λ office. (state S.Store conn.old).now.trees portal_tree
-        ≡ portal_row (pos version) (pos (number_of office.phase)) office.code ∷ [])) }
-    ensures damaged { IsOwn conn.old.schema → HasCleanDisk (state S.Store conn.new)
+        ≡ portal_row (pos version) (pos (number_of_phase office.phase)) office.code ∷ [])) }
+    ensures damaged { HasFirstSchema conn.old.schema → HasCleanDisk (state S.Store conn.new)
         → result ≡ Err TableFault.Damaged
         → (office : HasOffice version ((state S.Store conn.old).now.trees portal_tree))
         → is_code office.office ≡ true → ⊥ }
-    ensures asks { Asks result (state S.Store conn.old) (state S.Store conn.new) }
+    ensures asks { RunsQuery result (state S.Store conn.old) (state S.Store conn.new) }
 {
     let rows = read_rows(alloc, conn, Query::Office)?;
     office_from(alloc, &rows, version)

@@ -2,11 +2,11 @@
 
 ghost use Rattle.std.specs.Prelude.{◌≡◌};
 ghost use Rattle.portal_tables.specs.Base.{Err, IfOk, List, Cells, map, AllByRecursion, HasCleanDisk, state, IsLecturer, IsProject, IsStudent, Rise, First};
-ghost use Rattle.portal_tables.specs.Own.{HasRound};
+ghost use Rattle.portal_tables.specs.Schema.{HasRound};
 ghost use Rattle.portal_tables.specs.Queries.{Shows, round_asked};
-ghost use Rattle.portal_tables.specs.Reading.{Reads, ReadsIn, Tells, TellsIn, OverSound};
+ghost use Rattle.portal_tables.specs.Reading.{RunsQueries, RunsQueriesIn, Yields, YieldsIn, OverSound};
 ghost use Rattle.portal_tables.specs.Rolls.{roll_rows, RollRises, lecturers_shown, projects_shown, students_shown, RollsRise};
-ghost use Rattle.portal_tables.specs.Shown.{first, shown_lecturer, shown_project, shown_student};
+ghost use Rattle.portal_tables.specs.Shown.{first_cell, shown_lecturer, shown_project, shown_student};
 
 use crate::decode::{decoded, do_rise};
 use crate::fault::TableFault;
@@ -28,8 +28,8 @@ pub struct Rolls {
 
 /// The rows, if the keys that they begin with rise.
 fn risen(rows: Vec<Row>) -> Result<Vec<Row>, TableFault>
-    ensures ok { IfOk result (λ v. (v ≡ rows) × Rise (map first rows.items)) }
-    ensures damaged { result ≡ Err TableFault.Damaged → Rise (map first rows.items) → ⊥ }
+    ensures ok { IfOk result (λ v. (v ≡ rows) × Rise (map first_cell rows.items)) }
+    ensures damaged { result ≡ Err TableFault.Damaged → Rise (map first_cell rows.items) → ⊥ }
 {
     if do_rise(&rows) {
         Ok(rows)
@@ -45,14 +45,14 @@ pub fn rising<S: Alter>(
     conn: &mut Connection<S>,
     query: Query<'_>,
 ) -> Result<Vec<Row>, TableFault>
-    ensures rows { TellsIn (round_asked query.entry) S.Store conn.old conn.new result
+    ensures rows { YieldsIn (round_asked query.entry) S.Store conn.old conn.new result
         (λ db rows. Shows query.entry db.trees rows.items) }
-    ensures rise { IfOk result (λ rows. Rise (map first rows.items)) }
+    ensures rise { IfOk result (λ rows. Rise (map first_cell rows.items)) }
     ensures damaged { HasRound (round_asked query.entry) conn.old.schema
         → HasCleanDisk (state S.Store conn.new) → result ≡ Err TableFault.Damaged
         → ((rows : List Cells) → Shows query.entry (state S.Store conn.old).now.trees rows
-        → Rise (map first rows)) → ⊥ }
-    ensures reads { ReadsIn (round_asked query.entry) result
+        → Rise (map first_cell rows)) → ⊥ }
+    ensures reads { RunsQueriesIn (round_asked query.entry) result
         (state S.Store conn.old) (state S.Store conn.new) }
 {
     let rows = read_rows(alloc, conn, query)?;
@@ -65,28 +65,28 @@ pub fn roll_in<S: Alter>(
     conn: &mut Connection<S>,
     roll: Roll,
 ) -> Result<Vec<Row>, TableFault>
-    ensures rows { Tells S.Store conn.old conn.new result
+    ensures rows { Yields S.Store conn.old conn.new result
         (λ db v. v.items ≡ roll_rows roll db.trees) }
     ensures damaged { OverSound First S.Store conn.old conn.new
         (result ≡ Err TableFault.Damaged
         → RollRises roll (state S.Store conn.old).now.trees → ⊥) }
-    ensures reads { Reads result (state S.Store conn.old) (state S.Store conn.new) }
+    ensures reads { RunsQueries result (state S.Store conn.old) (state S.Store conn.new) }
 {
     rising(alloc, conn, Query::Whole(roll))
 }
 
 /// The three rolls by key, or the fault of the first that cannot be read.
 pub fn rolls_in<S: Alter>(alloc: Global, conn: &mut Connection<S>) -> Result<Rolls, TableFault>
-    ensures lecturers { Tells S.Store conn.old conn.new result
+    ensures lecturers { Yields S.Store conn.old conn.new result
         (λ db r. r.lecturers.items ≡ lecturers_shown db.trees) }
-    ensures projects { Tells S.Store conn.old conn.new result
+    ensures projects { Yields S.Store conn.old conn.new result
         (λ db r. r.projects.items ≡ projects_shown db.trees) }
-    ensures students { Tells S.Store conn.old conn.new result
+    ensures students { Yields S.Store conn.old conn.new result
         (λ db r. r.students.items ≡ students_shown db.trees) }
     ensures damaged { OverSound First S.Store conn.old conn.new
         (result ≡ Err TableFault.Damaged
         → RollsRise (state S.Store conn.old).now.trees → ⊥) }
-    ensures reads { Reads result (state S.Store conn.old) (state S.Store conn.new) }
+    ensures reads { RunsQueries result (state S.Store conn.old) (state S.Store conn.new) }
 {
     let lecturers = roll_in(alloc, conn, Roll::Lecturers)?;
     let projects = roll_in(alloc, conn, Roll::Projects)?;

@@ -3,10 +3,10 @@
 ghost use Rattle.std.specs.Prelude.{◌≡◌, ◌∷◌};
 ghost use Rattle.portal_tables.specs.Base.{[], pos, Err, IfOk, HasCleanDisk, state, ThePhase, Second, InSecond};
 ghost use Rattle.portal_tables.specs.Tables.{second_tree, assigned2_tree};
-ghost use Rattle.portal_tables.specs.Own.{IsCurrent};
-ghost use Rattle.portal_tables.specs.Office.{number_of, IsSecond};
-ghost use Rattle.portal_tables.specs.Putting.{PutsPlaces, RanksSecond};
-ghost use Rattle.portal_tables.specs.Reading.{AsksIn, OverSound};
+ghost use Rattle.portal_tables.specs.Schema.{IsCurrentSchema};
+ghost use Rattle.portal_tables.specs.Office.{number_of_phase, IsSecond};
+ghost use Rattle.portal_tables.specs.Putting.{PutsPlacements, RanksSecond};
+ghost use Rattle.portal_tables.specs.Reading.{RunsQueryIn, OverSound};
 ghost use Rattle.portal_tables.specs.Rows.{MovesSecond, pair_new, second_row};
 ghost use Rattle.portal_tables.specs.Steps.{Does, Made, GoesOn};
 
@@ -41,12 +41,12 @@ fn second_from(rows: &[Row]) -> Result<Phase, TableFault>
 pub fn second_in<S: Alter>(alloc: Global, conn: &mut Connection<S>) -> Result<Phase, TableFault>
     ensures row { OverSound InSecond S.Store conn.old conn.new
         (IfOk result (λ phase. (state S.Store conn.old).now.trees second_tree
-        ≡ second_row (pos (number_of phase)) ∷ [])) }
-    ensures damaged { IsCurrent conn.old.schema → HasCleanDisk (state S.Store conn.new)
+        ≡ second_row (pos (number_of_phase phase)) ∷ [])) }
+    ensures damaged { IsCurrentSchema conn.old.schema → HasCleanDisk (state S.Store conn.new)
         → result ≡ Err TableFault.Damaged → (phase : ThePhase)
         → (state S.Store conn.old).now.trees second_tree
-        ≡ second_row (pos (number_of phase)) ∷ [] → ⊥ }
-    ensures asks { AsksIn Second result (state S.Store conn.old) (state S.Store conn.new) }
+        ≡ second_row (pos (number_of_phase phase)) ∷ [] → ⊥ }
+    ensures asks { RunsQueryIn Second result (state S.Store conn.old) (state S.Store conn.new) }
 {
     let rows = read_rows(alloc, conn, Query::Second)?;
     second_from(&rows)
@@ -109,12 +109,12 @@ impl Target<(Key, Key)> for Places {
 
 /// The result of the second round becomes these pairs of a student and a project, in place of any other. The first error of the store ends it
 /// and is handed on, and it may be want of memory.
-pub fn put_places<S: Alter>(
+pub fn put_placements<S: Alter>(
     alloc: Global,
     tx: &mut Transaction<'_, S>,
     pairs: &[(Key, Key)],
 ) -> Result<(), Error>
-    ensures { Does S.Store (GoesOn (PutsPlaces pairs.now)) result tx.old tx.new }
+    ensures { Does S.Store (GoesOn (PutsPlacements pairs.now)) result tx.old tx.new }
 {
     write(tx, "DELETE FROM assigned2", &[])?;
     add_all(alloc, tx, &Places, pairs)

@@ -3,8 +3,8 @@
 ghost use Rattle.std.specs.Prelude.{◌≡◌};
 ghost use Rattle.portal_tables.specs.Base.{Err, IfOk, map, state, Cells, bound};
 ghost use Rattle.portal_tables.specs.Decoding.{ShowsAs, FindsAny};
-ghost use Rattle.portal_tables.specs.Queries.{Shows, round_asked, text_of, given};
-ghost use Rattle.portal_tables.specs.Reading.{AsksIn, ReadsIn, TellsIn};
+ghost use Rattle.portal_tables.specs.Queries.{Shows, round_asked, query_text, given};
+ghost use Rattle.portal_tables.specs.Reading.{RunsQueryIn, RunsQueriesIn, YieldsIn};
 ghost use Rattle.portal_tables.specs.Shown.{as_list};
 
 use crate::decode::FromCells;
@@ -71,7 +71,7 @@ pub enum Query<'a> {
     /// Of those the lecturer with a key, where there is one.
     SecondRankedBy(&'a [u8]),
     /// The result of the second round by student: student and project.
-    SecondPlaces,
+    SecondPlacements,
     /// Of that the row of one student, where there is one.
     SecondPlaceOf(&'a [u8]),
     /// The numbers of a table's rows.
@@ -80,7 +80,7 @@ pub enum Query<'a> {
 
 impl<'a> Query<'a> {
     fn text(self) -> &'static str
-        ensures { result.now ≡ text_of self.entry }
+        ensures { result.now ≡ query_text self.entry }
     {
         match self {
             Query::Office => "SELECT id, version, phase, office FROM portal ORDER BY id",
@@ -139,7 +139,7 @@ impl<'a> Query<'a> {
             Query::SecondRankedBy(_) => {
                 "SELECT lecturer FROM ranked2 WHERE lecturer = ?1 ORDER BY lecturer"
             }
-            Query::SecondPlaces => "SELECT student, project FROM assigned2 ORDER BY student",
+            Query::SecondPlacements => "SELECT student, project FROM assigned2 ORDER BY student",
             Query::SecondPlaceOf(_) => {
                 "SELECT student, project FROM assigned2 WHERE student = ?1 ORDER BY student"
             }
@@ -189,7 +189,7 @@ impl<'a> Query<'a> {
             | Query::Listed(_)
             | Query::Second
             | Query::SecondRanked
-            | Query::SecondPlaces
+            | Query::SecondPlacements
             | Query::Numbers(_) => None,
         }
     }
@@ -206,11 +206,11 @@ fn values<'a>(value: &'a Option<ValueRef<'a>>) -> &'a [ValueRef<'a>]
 
 /// The rows that a query shows, or the store's own error.
 pub fn read<S: Alter>(conn: &mut Connection<S>, query: Query<'_>) -> Result<Vec<Row>, Error>
-    ensures rows { TellsIn (round_asked query.entry) S.Store conn.old conn.new result
+    ensures rows { YieldsIn (round_asked query.entry) S.Store conn.old conn.new result
         (λ db rows. Shows query.entry db.trees rows.items) }
-    ensures asks { AsksIn (round_asked query.entry) result
+    ensures asks { RunsQueryIn (round_asked query.entry) result
         (state S.Store conn.old) (state S.Store conn.new) }
-    ensures reads { ReadsIn (round_asked query.entry) result
+    ensures reads { RunsQueriesIn (round_asked query.entry) result
         (state S.Store conn.old) (state S.Store conn.new) }
 {
     conn.query_all(query.text(), values(&query.value()))
@@ -222,12 +222,12 @@ pub fn read_each<S: Alter, T: FromCells>(
     conn: &mut Connection<S>,
     query: Query<'_>,
 ) -> Result<Vec<T>, TableFault>
-    ensures rows { TellsIn (round_asked query.entry) S.Store conn.old conn.new result
+    ensures rows { YieldsIn (round_asked query.entry) S.Store conn.old conn.new result
         (λ db v. ShowsAs T.shown (Shows query.entry db.trees) v.items) }
     ensures undamaged { result ≡ Err TableFault.Damaged → ((c : Cells) → T.is_fine c) → ⊥ }
-    ensures asks { AsksIn (round_asked query.entry) result
+    ensures asks { RunsQueryIn (round_asked query.entry) result
         (state S.Store conn.old) (state S.Store conn.new) }
-    ensures reads { ReadsIn (round_asked query.entry) result
+    ensures reads { RunsQueriesIn (round_asked query.entry) result
         (state S.Store conn.old) (state S.Store conn.new) }
 {
     run::read_each(alloc, conn, query.text(), values(&query.value()))
@@ -239,12 +239,12 @@ pub fn read_rows<S: Alter>(
     conn: &mut Connection<S>,
     query: Query<'_>,
 ) -> Result<Vec<Row>, TableFault>
-    ensures rows { TellsIn (round_asked query.entry) S.Store conn.old conn.new result
+    ensures rows { YieldsIn (round_asked query.entry) S.Store conn.old conn.new result
         (λ db rows. Shows query.entry db.trees rows.items) }
     ensures undamaged { result ≡ Err TableFault.Damaged → ⊥ }
-    ensures asks { AsksIn (round_asked query.entry) result
+    ensures asks { RunsQueryIn (round_asked query.entry) result
         (state S.Store conn.old) (state S.Store conn.new) }
-    ensures reads { ReadsIn (round_asked query.entry) result
+    ensures reads { RunsQueriesIn (round_asked query.entry) result
         (state S.Store conn.old) (state S.Store conn.new) }
 {
     read_each(alloc, conn, query)
@@ -252,11 +252,11 @@ pub fn read_rows<S: Alter>(
 
 /// Whether a query shows a row. No more than one is read.
 pub fn finds_any<S: Alter>(conn: &mut Connection<S>, query: Query<'_>) -> Result<bool, Error>
-    ensures told { TellsIn (round_asked query.entry) S.Store conn.old conn.new result
+    ensures told { YieldsIn (round_asked query.entry) S.Store conn.old conn.new result
         (λ db. FindsAny (Shows query.entry db.trees)) }
-    ensures asks { AsksIn (round_asked query.entry) result
+    ensures asks { RunsQueryIn (round_asked query.entry) result
         (state S.Store conn.old) (state S.Store conn.new) }
-    ensures reads { ReadsIn (round_asked query.entry) result
+    ensures reads { RunsQueriesIn (round_asked query.entry) result
         (state S.Store conn.old) (state S.Store conn.new) }
 {
     run::finds_any(conn, query.text(), values(&query.value()))

@@ -1,6 +1,6 @@
 -- The lines that are found by the keys of who names a project are those of its applicants.
 use Rattle.std.specs.Prelude.{◌≡◌, ◌||◌, ◌∷◌}
-use Rattle.portal_views.proofs.Base.{inl, inr, Bool, true, false, cond, Option, Some, None, option_map, List, [], map, filter, refl, sym, ap, subst, ◌∙◌, AllByRecursion, find, filter_map, cases_Bool, map-id, Row, Trees, Database, Round, First, Second, Students, choices_of, tree_of, Has, Key, is, has, is_before, Rise, all_map, all_weaker, before_other, rise_kept, is_same, is_own, all_unmap, row_key, by_key, roll_columns, students_shown, student_tree, ListsBy, columns, has_text, chosen, ShowsAs, first, HasTables, in_round, shown_line, told_line, line_at, applicant_lines, Line, all_of}
+use Rattle.portal_views.proofs.Base.{inl, inr, Bool, true, false, cond, Option, Some, None, option_map, List, [], map, filter, refl, sym, ap, subst, ◌∙◌, AllByRecursion, find, filter_map, cases_Bool, map-id, Row, Trees, Database, Round, First, Second, Students, choice_table, tree_of, Has, Key, equals, has, is_before, Rise, all_map, all_weaker, before_other, rise_kept, is_same, is_own, all_unmap, row_key, by_key, roll_columns, students_shown, student_tree, ListsBy, columns, has_text, chosen, ShowsAs, first_cell, HasTables, in_round, shown_line, told_line, applicant_at, applicant_lines, Line, all_of}
 use Rattle.portal_views.proofs.Choosers.{chooser, choosers_known}
 use Rattle.portal_views.proofs.Owners.{keys_shown}
 use Rattle.portal_tables.proofs.OneFound.{found}
@@ -8,7 +8,7 @@ use Rattle.portal_views.proofs.OneKey.{roll_keys_rise}
 use Rattle.portal_tables.proofs.Shapes.{IsStudentRow, student_test, student_rows_formed}
 use Rattle.portal_tables.proofs.Sorted.{at, has_of, one_order, map_alike_on, map_twice}
 
--- what is found of what is made of a list is made of what is found
+-- what equals found of what equals made of a list equals made of what equals found
 find_mapped : {X Y : Type 0} (t : Y → Bool) (f : X → Y) (xs : List X) → find t (map f xs) ≡ option_map f (find (λ x. t (f x)) xs)
 find_mapped t f [] = refl
 find_mapped t f (x ∷ xs) =
@@ -21,13 +21,13 @@ only_told (c ∷ d ∷ more) l e = absurd (cc)
 
 -- the only row of a key tells the line of its student
 first_told : (db : Database) → HasTables db → (key : Key) (lines : List Line) → ShowsAs told_line (ListsBy (1 ∷ []) (has_text 1 key) (columns (1 ∷ 2 ∷ 4 ∷ [])) (db.trees student_tree)) lines
-    → (l : Line) → lines ≡ l ∷ [] → Some l ≡ line_at First db.trees key
+    → (l : Line) → lines ≡ l ∷ [] → Some l ≡ applicant_at First db.trees key
 first_told db tables key lines shows l only =
     let one = only_told shows.rows l (sym shows.decoded ∙ only) in
     let table = db.trees student_tree in
-    let told = found (1 ∷ []) (has_text 1 key) (columns (1 ∷ 2 ∷ 4 ∷ [])) (λ r. shown_line First db.trees (roll_columns r)) told_line (λ (x : Line). is x.person.key key) (λ r. refl) table shows.rows
-    (all_weaker IsStudentRow (λ r. has_text 1 key r ≡ is (row_key r) key) (student_test key) table (student_rows_formed db tables.own tables.sound tables.apart.1.1.1.0)) shows.shown (Some one.0) (sym one.1) in
-    ap Some (sym one.2) ∙ told ∙ ap (find (λ (x : Line). is x.person.key key)) (map_twice (shown_line First db.trees) roll_columns (by_key table)) ∙ find_mapped (λ (x : Line). is x.person.key key) (shown_line First db.trees) (students_shown db.trees)
+    let told = found (1 ∷ []) (has_text 1 key) (columns (1 ∷ 2 ∷ 4 ∷ [])) (λ r. shown_line First db.trees (roll_columns r)) told_line (λ (x : Line). equals x.person.key key) (λ r. refl) table shows.rows
+    (all_weaker IsStudentRow (λ r. has_text 1 key r ≡ equals (row_key r) key) (student_test key) table (student_rows_formed db tables.own tables.sound tables.apart.1.1.1.0)) shows.shown (Some one.0) (sym one.1) in
+    ap Some (sym one.2) ∙ told ∙ ap (find (λ (x : Line). equals x.person.key key)) (map_twice (shown_line First db.trees) roll_columns (by_key table)) ∙ find_mapped (λ (x : Line). equals x.person.key key) (shown_line First db.trees) (students_shown db.trees)
 
 -- of either round, with its place
 by_round : (round : Round) (db : Trees) (o : Option Row) → option_map (in_round round db) (option_map (shown_line First db) o) ≡ option_map (shown_line round db) o
@@ -37,9 +37,9 @@ by_round Second db None = refl
 by_round Second db (Some c) = refl
 
 pub line_told : (round : Round) (db : Database) → HasTables db → (key : Key) (lines : List Line) → ShowsAs told_line (ListsBy (1 ∷ []) (has_text 1 key) (columns (1 ∷ 2 ∷ 4 ∷ [])) (db.trees student_tree)) lines
-    → (l : Line) → lines ≡ l ∷ [] → Some (in_round round db.trees l) ≡ line_at round db.trees key
+    → (l : Line) → lines ≡ l ∷ [] → Some (in_round round db.trees l) ≡ applicant_at round db.trees key
 line_told round db tables key lines shows l only =
-    ap (option_map (in_round round db.trees)) (first_told db tables key lines shows l only) ∙ by_round round db.trees (find (λ c. is (first c) key) (students_shown db.trees))
+    ap (option_map (in_round round db.trees)) (first_told db tables key lines shows l only) ∙ by_round round db.trees (find (λ c. equals (first_cell c) key) (students_shown db.trees))
 
 some_back : (ls : List Line) → filter_map (λ o. o) (map Some ls) ≡ ls
 some_back [] = refl
@@ -48,31 +48,31 @@ some_back (l ∷ ls) = ap (λ r. l ∷ r) (some_back ls)
 -- a key that stands among keys
 there : (ks : List Key) (k : Key) → has ks k ≡ true → Has ks k
 there [] k h = absurd (cc)
-there (x ∷ ks) k h = elim (cases_Bool (is k x)) [ inl same ↦ inl (is_same k x same) | inr other ↦ inr (there ks k (ap (λ b. b || has ks k) (sym other) ∙ h)) ]
+there (x ∷ ks) k h = elim (cases_Bool (equals k x)) [ inl same ↦ inl (is_same k x same) | inr other ↦ inr (there ks k (ap (λ b. b || has ks k) (sym other) ∙ h)) ]
 
 -- of rows some pass, those whose keys are among these
 module _ (ks : List Key) (q : Row → Bool) where
   abbrev Agree : Row → Type 0
-  Agree s = has ks (first s) ≡ q s
+  Agree s = has ks (first_cell s) ≡ q s
 
-  passed : (ss : List Row) → AllByRecursion Agree ss → AllByRecursion (λ s. has ks (first s) ≡ true) (filter q ss)
+  passed : (ss : List Row) → AllByRecursion Agree ss → AllByRecursion (λ s. has ks (first_cell s) ≡ true) (filter q ss)
   passed [] all = tt
   passed (s ∷ ss) all =
-      (elim (q s) as (λ b. has ks (first s) ≡ b → AllByRecursion (λ s. has ks (first s) ≡ true) (cond b (s ∷ filter q ss) (filter q ss))) [
+      (elim (q s) as (λ b. has ks (first_cell s) ≡ b → AllByRecursion (λ s. has ks (first_cell s) ≡ true) (cond b (s ∷ filter q ss) (filter q ss))) [
         | true ↦ λ e. (e, passed ss all.1)
         | false ↦ λ e. passed ss all.1
       ]) all.0
 
-  kept : (ss : List Row) (k : Key) → AllByRecursion Agree ss → has (map first ss) k ≡ true → has ks k ≡ true → Has (map first (filter q ss)) k
+  kept : (ss : List Row) (k : Key) → AllByRecursion Agree ss → has (map first_cell ss) k ≡ true → has ks k ≡ true → Has (map first_cell (filter q ss)) k
   kept [] k all on h = absurd (cc)
-  kept (s ∷ ss) k all on h = elim (cases_Bool (is k (first s))) [
+  kept (s ∷ ss) k all on h = elim (cases_Bool (equals k (first_cell s))) [
     | inl same ↦
-        let e : k ≡ (first s) = is_same k (first s) same in
+        let e : k ≡ (first_cell s) = is_same k (first_cell s) same in
         let passes : true ≡ q s = sym (subst (λ x. has ks x ≡ true) e h) ∙ all.0 in
-        subst (λ b. Has (map first (cond b (s ∷ filter q ss) (filter q ss))) k) passes (inl e)
+        subst (λ b. Has (map first_cell (cond b (s ∷ filter q ss) (filter q ss))) k) passes (inl e)
     | inr other ↦
-        let rest = kept ss k all.1 (ap (λ b. b || has (map first ss) k) (sym other) ∙ on) h in
-        elim (q s) as (λ b. Has (map first (cond b (s ∷ filter q ss) (filter q ss))) k) [ true ↦ inr rest | false ↦ rest ]
+        let rest = kept ss k all.1 (ap (λ b. b || has (map first_cell ss) k) (sym other) ∙ on) h in
+        elim (q s) as (λ b. Has (map first_cell (cond b (s ∷ filter q ss) (filter q ss))) k) [ true ↦ inr rest | false ↦ rest ]
   ]
 
 has_kept : (q : Row → Bool) (ss : List Row) (s : Row) → Has (filter q ss) s → Has ss s
@@ -83,29 +83,29 @@ has_kept q (x ∷ ss) s h =
       | false ↦ λ h. inr (has_kept q ss s h)
     ]) h
 
--- where the keys rise, a student is found by the own key
-found_own : (ss : List Row) → Rise (map first ss) → (s : Row) → Has ss s → find (λ t. is (first t) (first s)) ss ≡ Some s
+-- where the keys rise, a student equals found by the own key
+found_own : (ss : List Row) → Rise (map first_cell ss) → (s : Row) → Has ss s → find (λ t. equals (first_cell t) (first_cell s)) ss ≡ Some s
 found_own [] up s h = absurd h
 found_own (x ∷ ss) up s (inl e) =
-    ap (λ b. cond b (Some x) (find (λ t. is (first t) (first s)) ss)) (subst (λ y. is (first x) (first y) ≡ true) (sym e) (is_own (first x))) ∙ ap Some (sym e)
+    ap (λ b. cond b (Some x) (find (λ t. equals (first_cell t) (first_cell s)) ss)) (subst (λ y. equals (first_cell x) (first_cell y) ≡ true) (sym e) (is_own (first_cell x))) ∙ ap Some (sym e)
 found_own (x ∷ ss) up s (inr h) =
-    ap (λ b. cond b (Some x) (find (λ t. is (first t) (first s)) ss)) (before_other (first x) (first s) (at (λ t. is_before (first x) (first t) ≡ true) ss s (all_unmap (λ l. is_before (first x) l ≡ true) first ss up.0) h))
+    ap (λ b. cond b (Some x) (find (λ t. equals (first_cell t) (first_cell s)) ss)) (before_other (first_cell x) (first_cell s) (at (λ t. is_before (first_cell x) (first_cell t) ≡ true) ss s (all_unmap (λ l. is_before (first_cell x) l ≡ true) first_cell ss up.0) h))
     ∙ found_own ss up.1 s h
 
-pub lines_are : (round : Round) (db : Database) → HasTables db → (p : Key) (shown : List Row) → ListsBy (1 ∷ []) (has_text 3 p) (columns (1 ∷ [])) (db.trees (tree_of (choices_of round))) shown → (lines : List Line) → Rise (map first shown)
-    → map Some lines ≡ map (λ c. line_at round db.trees (first c)) shown → lines ≡ applicant_lines round db.trees p
+pub lines_are : (round : Round) (db : Database) → HasTables db → (p : Key) (shown : List Row) → ListsBy (1 ∷ []) (has_text 3 p) (columns (1 ∷ [])) (db.trees (tree_of (choice_table round))) shown → (lines : List Line) → Rise (map first_cell shown)
+    → map Some lines ≡ map (λ c. applicant_at round db.trees (first_cell c)) shown → lines ≡ applicant_lines round db.trees p
 lines_are round db tables p shown lists lines up told =
     let roll : List Row = students_shown db.trees in
-    let q : Row → Bool = λ c. has (chosen (db.trees (tree_of (choices_of round))) (first c)) p in
+    let q : Row → Bool = λ c. has (chosen (db.trees (tree_of (choice_table round))) (first_cell c)) p in
     let mine : List Row = filter q roll in
-    let rise : Rise (map first roll) = subst Rise (sym (keys_shown (2 ∷ 3 ∷ 4 ∷ []) (db.trees student_tree))) (roll_keys_rise db Students tables.current tables.sound tables.apart.1.1.1.0) in
-    let agree : AllByRecursion (Agree (map first shown) q) roll = all_of _ (λ c. chooser round db tables p shown lists (first c)) roll in
-    let keys : map first shown ≡ map first mine =
-    one_order (λ (k : Key). k) (map first shown) (map first mine) (subst Rise (sym (map-id (map first shown))) up) (subst Rise (sym (map-id (map first mine))) (rise_kept first q roll rise))
-    (λ k h. kept (map first shown) q roll k agree (at (λ k. has (map first roll) k ≡ true) (map first shown) k (choosers_known round db tables p shown lists) h) (has_of (map first shown) k h))
-    (λ k h. there (map first shown) k (at (λ k. has (map first shown) k ≡ true) (map first mine) k (all_map (λ k. has (map first shown) k ≡ true) first mine (passed (map first shown) q roll agree)) h)) in
-    let each : map (λ c. line_at round db.trees (first c)) mine ≡ map (λ c. Some (shown_line round db.trees c)) mine =
+    let rise : Rise (map first_cell roll) = subst Rise (sym (keys_shown (2 ∷ 3 ∷ 4 ∷ []) (db.trees student_tree))) (roll_keys_rise db Students tables.current tables.sound tables.apart.1.1.1.0) in
+    let agree : AllByRecursion (Agree (map first_cell shown) q) roll = all_of _ (λ c. chooser round db tables p shown lists (first_cell c)) roll in
+    let keys : map first_cell shown ≡ map first_cell mine =
+    one_order (λ (k : Key). k) (map first_cell shown) (map first_cell mine) (subst Rise (sym (map-id (map first_cell shown))) up) (subst Rise (sym (map-id (map first_cell mine))) (rise_kept first_cell q roll rise))
+    (λ k h. kept (map first_cell shown) q roll k agree (at (λ k. has (map first_cell roll) k ≡ true) (map first_cell shown) k (choosers_known round db tables p shown lists) h) (has_of (map first_cell shown) k h))
+    (λ k h. there (map first_cell shown) k (at (λ k. has (map first_cell shown) k ≡ true) (map first_cell mine) k (all_map (λ k. has (map first_cell shown) k ≡ true) first_cell mine (passed (map first_cell shown) q roll agree)) h)) in
+    let each : map (λ c. applicant_at round db.trees (first_cell c)) mine ≡ map (λ c. Some (shown_line round db.trees c)) mine =
     map_alike_on _ _ mine (λ c h. ap (λ o. option_map (shown_line round db.trees) o) (found_own roll rise c (has_kept q roll c h))) in
     let all : map Some lines ≡ map Some (map (shown_line round db.trees) mine) =
-    told ∙ map_twice (line_at round db.trees) first shown ∙ ap (map (line_at round db.trees)) keys ∙ sym (map_twice (line_at round db.trees) first mine) ∙ each ∙ map_twice Some (shown_line round db.trees) mine in
+    told ∙ map_twice (applicant_at round db.trees) first_cell shown ∙ ap (map (applicant_at round db.trees)) keys ∙ sym (map_twice (applicant_at round db.trees) first_cell mine) ∙ each ∙ map_twice Some (shown_line round db.trees) mine in
     sym (some_back lines) ∙ ap (filter_map (λ o. o)) all ∙ some_back (map (shown_line round db.trees) mine)

@@ -1,7 +1,7 @@
--- Each key of a roll is of one row, and so is a student's place in the second round, by the unique index of the table.
+-- Each key of a roll equals of one row, and so equals a student's place in the second round, by the unique index of the table.
 use Rattle.std.specs.Prelude.{◌≡◌, ◌≤◌, ◌&&◌, ◌∷◌}
 use Rattle.std.proofs.Common.{arith}
-use Rattle.portal_views.proofs.Base.{ℤ, Bool, true, false, not, cond, List, [], map, filter, length, refl, sym, ap, ap₂, subst, ◌∙◌, and_parts, or_parts, append-nil, AllByRecursion, IsDistinct, list_any, is_eq, is_ne, Ordering, Less, Equal, Greater, Some, Int, Words, Binary, Row, column, bytes, value_cmp, binary, is_true, from_truth, Trees, rowid, id_in, Database, IsDatabase, Unique, equal, differ, everything, Key, is, is_sym, is_same, Rise, all_weaker, all_unmap, lecturer_tree, project_tree, student_tree, assigned2_tree, roll_tree, OfRoll, OfPlaces, Second, Keeps, passes, Roll, Lecturers, Projects, Students, IsCurrent, IsApart, has_text, of_key, row_key, by_key}
+use Rattle.portal_views.proofs.Base.{ℤ, Bool, true, false, not, cond, List, [], map, filter, length, refl, sym, ap, ap₂, subst, ◌∙◌, and_parts, or_parts, append-nil, AllByRecursion, IsDistinct, list_any, is_eq, is_ne, Ordering, Less, Equal, Greater, Some, Int, Words, Binary, Row, column, bytes, value_cmp, binary, is_true, from_truth, Trees, rowid, id_in, Database, IsDatabase, Unique, equal, differ, everything, Key, equals, is_sym, is_same, Rise, all_weaker, all_unmap, lecturer_tree, project_tree, student_tree, assigned2_tree, roll_tree, OfRoll, OfPlaces, Second, Keeps, passes, Roll, Lecturers, Projects, Students, IsCurrentSchema, RowNumbersDiffer, has_text, of_key, row_key, by_key}
 use Rattle.portal_tables.specs.declared.select.Table.{Table as Named}
 use Rattle.portal_tables.proofs.Weak.{Open, schema_with, with_checks, own_is}
 use Rattle.portal_tables.proofs.Listed.{IsText}
@@ -18,7 +18,7 @@ told_not Less = refl
 told_not Equal = refl
 told_not Greater = refl
 
-same_text : (s t : Key) → (equal Binary (Words s) (Words t) && true) ≡ is s t
+same_text : (s t : Key) → (equal Binary (Words s) (Words t) && true) ≡ equals s t
 same_text s t = equals_text (Words s) t ∙ text_equals s t
 
 other_number : (m n : ℤ) → differ (Int m) (Int n) ≡ not (is_eq (value_cmp (Int m) (Int n)))
@@ -35,19 +35,19 @@ unlike true false h e = h
 unlike false b h e = refl
 
 apart_keys : (r s : Row) → IsText (column r 1) → IsText (column s 1) → rowid r ≡ Int (id_in (rowid r)) → rowid s ≡ Int (id_in (rowid s)) → is_twin r s ≡ false → is_eq (value_cmp (rowid r) (rowid s)) ≡ false
-    → is (row_key r) (row_key s) ≡ false
+    → equals (row_key r) (row_key s) ≡ false
 apart_keys r s x y m n h e =
-    let keys : (equal Binary (column r 1) (column s 1) && true) ≡ is (row_key r) (row_key s) = (λ i. equal Binary (x.1 i) (y.1 i) && true) ∙ same_text x.0 y.0 ∙ (λ i. is (bytes (sym x.1 i)) (bytes (sym y.1 i))) in
+    let keys : (equal Binary (column r 1) (column s 1) && true) ≡ equals (row_key r) (row_key s) = (λ i. equal Binary (x.1 i) (y.1 i) && true) ∙ same_text x.0 y.0 ∙ (λ i. equals (bytes (sym x.1 i)) (bytes (sym y.1 i))) in
     let numbers : differ (rowid r) (rowid s) ≡ not (is_eq (value_cmp (rowid r) (rowid s))) =
     (λ i. differ (m i) (n i)) ∙ other_number (id_in (rowid r)) (id_in (rowid s)) ∙ (λ i. not (is_eq (value_cmp (sym m i) (sym n i)))) in
-    unlike (is (row_key r) (row_key s)) (is_eq (value_cmp (rowid r) (rowid s))) (sym (ap₂ (λ a b. a && b) keys numbers) ∙ h) e
+    unlike (equals (row_key r) (row_key s)) (is_eq (value_cmp (rowid r) (rowid s))) (sym (ap₂ (λ a b. a && b) keys numbers) ∙ h) e
 
-others : (r : Row) (rows : List Row) → IsText (column r 1) → rowid r ≡ Int (id_in (rowid r)) → IsApart rows → AllByRecursion (λ s. IsText (column s 1)) rows → AllByRecursion (λ s. is_twin r s ≡ false) rows
-    → AllByRecursion (λ s. is_eq (value_cmp (rowid r) (rowid s)) ≡ false) rows → AllByRecursion (λ k. is (row_key r) k ≡ false) (map row_key rows)
+others : (r : Row) (rows : List Row) → IsText (column r 1) → rowid r ≡ Int (id_in (rowid r)) → RowNumbersDiffer rows → AllByRecursion (λ s. IsText (column s 1)) rows → AllByRecursion (λ s. is_twin r s ≡ false) rows
+    → AllByRecursion (λ s. is_eq (value_cmp (rowid r) (rowid s)) ≡ false) rows → AllByRecursion (λ k. equals (row_key r) k ≡ false) (map row_key rows)
 others r [] x n numbered all none apart = tt
 others r (s ∷ rows) x n numbered all none apart = (apart_keys r s x all.0 n numbered.0 none.0 apart.0, others r rows x n numbered.2 all.1 none.1 apart.1)
 
-distinct : (rows : List Row) → IsApart rows → AllByRecursion (λ r. IsText (column r 1)) rows → AllByRecursion (λ s. list_any (λ r. is_twin r s) rows ≡ false) rows → IsDistinct is (map row_key rows)
+distinct : (rows : List Row) → RowNumbersDiffer rows → AllByRecursion (λ r. IsText (column r 1)) rows → AllByRecursion (λ s. list_any (λ r. is_twin r s) rows ≡ false) rows → IsDistinct equals (map row_key rows)
 unfolding IsDistinct
 distinct [] apart all none = tt
 distinct (r ∷ rows) apart all none = (
@@ -55,7 +55,7 @@ distinct (r ∷ rows) apart all none = (
   distinct rows apart.2 all.1 (all_weaker _ _ (λ s h. (or_parts (is_twin r s) (list_any (λ q. is_twin q s) rows) h).1) rows none.1),
 )
 
--- a row of a table whose key is unique has no twin; that is looked for in the indexes of all tables
+-- a row of a table whose key equals unique has no twin; that equals looked for in the indexes of all tables
 abbrev IsAlone : Named → Open → Trees → Row → Type 0
 IsAlone t o db r = passes Unique (schema_with Second o) db (with_checks o.checks o.terms (form_of t)) r ≡ true
 
@@ -74,13 +74,13 @@ all_alone Lecturers o db all = all.1.0
 all_alone Projects o db all = all.1.1.0
 all_alone Students o db all = all.1.1.1.0
 
-pub roll_keys_rise : (db : Database) (roll : Roll) → IsCurrent db.schema → IsDatabase db → IsApart (db.trees (roll_tree roll)) → Rise (map row_key (by_key (db.trees (roll_tree roll))))
+pub roll_keys_rise : (db : Database) (roll : Roll) → IsCurrentSchema db.schema → IsDatabase db → RowNumbersDiffer (db.trees (roll_tree roll)) → Rise (map row_key (by_key (db.trees (roll_tree roll))))
 roll_keys_rise db roll current sound apart =
     let w = own_is Second db.schema current in
     let table = db.trees (roll_tree roll) in
-    let differ : IsDistinct is (map row_key table) = distinct table apart (key_texts db (OfRoll roll) (current_own db.schema current) sound)
+    let differ : IsDistinct equals (map row_key table) = distinct table apart (key_texts db (OfRoll roll) (current_own db.schema current) sound)
     (all_weaker _ (λ r. list_any (λ other. is_twin other r) table ≡ false) (no_twin roll w.o db.trees) table (all_alone roll w.o db.trees (kept Second db sound Unique w))) in
-    rise_put_all row_key table [] (subst (λ l. IsDistinct is (map row_key l)) (sym (append-nil table)) differ) tt
+    rise_put_all row_key table [] (subst (λ l. IsDistinct equals (map row_key l)) (sym (append-nil table)) differ) tt
 
 -- who has a place in the second round has one row
 
@@ -88,24 +88,24 @@ none_left : (p : Row → Bool) (rows : List Row) → AllByRecursion (λ r. p r �
 none_left p [] all = refl
 none_left p (r ∷ rows) all = (λ i. cond (all.0 i) (r ∷ filter p rows) (filter p rows)) ∙ none_left p rows all.1
 
-one_of : (k : Key) (rows : List Row) → IsDistinct is (map row_key rows) → length (filter (λ r. is (row_key r) k) rows) ≤ 1
+one_of : (k : Key) (rows : List Row) → IsDistinct equals (map row_key rows) → length (filter (λ r. equals (row_key r) k) rows) ≤ 1
 unfolding IsDistinct
 one_of k [] differ = omega arith
 one_of k (r ∷ rows) differ =
-    (elim (is (row_key r) k) as (λ b. is (row_key r) k ≡ b → length (cond b (r ∷ filter (λ s. is (row_key s) k) rows) (filter (λ s. is (row_key s) k) rows)) ≤ 1) [
+    (elim (equals (row_key r) k) as (λ b. equals (row_key r) k ≡ b → length (cond b (r ∷ filter (λ s. equals (row_key s) k) rows) (filter (λ s. equals (row_key s) k) rows)) ≤ 1) [
       | true ↦ λ e.
-          let none : filter (λ s. is (row_key s) k) rows ≡ [] = none_left (λ s. is (row_key s) k) rows
-          (all_weaker (λ s. is (row_key r) (row_key s) ≡ false) (λ s. is (row_key s) k ≡ false) (λ s h. is_sym (row_key s) k ∙ subst (λ x. is x (row_key s) ≡ false) (is_same (row_key r) k e) h) rows
-          (all_unmap (λ x. is (row_key r) x ≡ false) row_key rows differ.0)) in
+          let none : filter (λ s. equals (row_key s) k) rows ≡ [] = none_left (λ s. equals (row_key s) k) rows
+          (all_weaker (λ s. equals (row_key r) (row_key s) ≡ false) (λ s. equals (row_key s) k ≡ false) (λ s h. is_sym (row_key s) k ∙ subst (λ x. equals x (row_key s) ≡ false) (is_same (row_key r) k e) h) rows
+          (all_unmap (λ x. equals (row_key r) x ≡ false) row_key rows differ.0)) in
           subst (λ l. length (r ∷ l) ≤ 1) (sym none) (omega arith)
       | false ↦ λ e. one_of k rows differ.1
     ]) refl
 
-pub one_place : (db : Database) → IsCurrent db.schema → IsDatabase db → IsApart (db.trees assigned2_tree) → (k : Key) → length (of_key k (db.trees assigned2_tree)) ≤ 1
+pub one_place : (db : Database) → IsCurrentSchema db.schema → IsDatabase db → RowNumbersDiffer (db.trees assigned2_tree) → (k : Key) → length (of_key k (db.trees assigned2_tree)) ≤ 1
 one_place db current sound apart k =
     let table = db.trees assigned2_tree in
-    let same : of_key k table ≡ filter (λ r. is (row_key r) k) table =
-    filter_alike (has_text 1 k) (λ r. is (row_key r) k) table (all_weaker (λ r. IsText (column r 1)) _ (λ r text. has_text_of 1 k r text.0 text.1 ∙ ap (λ v. is (bytes v) k) (sym text.1)) table (key_texts db OfPlaces current sound)) in
-    let differ : IsDistinct is (map row_key table) = distinct table apart (key_texts db OfPlaces current sound)
+    let same : of_key k table ≡ filter (λ r. equals (row_key r) k) table =
+    filter_alike (has_text 1 k) (λ r. equals (row_key r) k) table (all_weaker (λ r. IsText (column r 1)) _ (λ r text. has_text_of 1 k r text.0 text.1 ∙ ap (λ v. equals (bytes v) k) (sym text.1)) table (key_texts db OfPlaces current sound)) in
+    let differ : IsDistinct equals (map row_key table) = distinct table apart (key_texts db OfPlaces current sound)
     (all_weaker _ (λ r. list_any (λ other. is_twin other r) table ≡ false) (no_place_twin (own_is Second db.schema current).o db.trees) table (followed db OfPlaces current sound Unique)) in
     subst (λ l. length l ≤ 1) (sym same) (one_of k table differ)

@@ -1,7 +1,7 @@
 -- The projects that a query by lecturer shows, and those that the catalogue has of a lecturer, are those of the roll.
 use Rattle.std.specs.Prelude.{◌≡◌, ◌∷◌, ◌||◌, is_some}
 use Rattle.std.specs.List.{cons_option}
-use Rattle.portal_views.proofs.Base.{Bool, List, [], map, filter, sym, ap, subst, ◌∙◌, map-map, filter-map, IsPermutation, IsPermutation-filter, Row, column, bytes, Database, Key, is, Rise, all_weaker, rise_kept, Projects, columns_of, project_tree, ListsBy, every, columns, has_text, row_key, by_key, first, HasTables, own_keys, AllByRecursion, true, false, cond, refl, Option, Some, None, option_map, find, has, is_sym, all_map, LecturerRow, ProjectRow, Listing, listing_with, name_of, offered, own_listed, catalogue_shown, shown_lecturer, shown_project, lecturers_shown, projects_shown, Lecturers, lecturer_tree}
+use Rattle.portal_views.proofs.Base.{Bool, List, [], map, filter, sym, ap, subst, ◌∙◌, map-map, filter-map, IsPermutation, IsPermutation-filter, Row, column, bytes, Database, Key, equals, Rise, all_weaker, rise_kept, Projects, columns_of, project_tree, ListsBy, every, columns, has_text, row_key, by_key, first_cell, HasTables, own_keys_shown, AllByRecursion, true, false, cond, refl, Option, Some, None, option_map, find, has, is_sym, all_map, LecturerRow, ProjectRow, Listing, listing_with, name_of, offered, own_listed, catalogue_shown, shown_lecturer, shown_project, lecturers_shown, projects_shown, Lecturers, lecturer_tree}
 use Rattle.portal_tables.proofs.Listed.{IsText, roll_shown}
 use Rattle.portal_tables.proofs.Lists.{filter_all}
 use Rattle.portal_tables.proofs.OneFound.{filter_alike}
@@ -11,49 +11,49 @@ use Rattle.portal_tables.proofs.Parents.{OnRoll}
 use Rattle.portal_tables.proofs.Shapes.{has_text_of, project_rows_formed}
 use Rattle.portal_tables.proofs.Sorted.{all_permuted, in_order, permutes}
 
-pub own_found : (db : Database) → HasTables db → (k : Key) (shown : List Row) → ListsBy (1 ∷ []) (has_text 2 k) (columns (1 ∷ [])) (db.trees project_tree) shown → Rise (map first shown) → map first shown ≡ own_keys db.trees k
+pub own_found : (db : Database) → HasTables db → (k : Key) (shown : List Row) → ListsBy (1 ∷ []) (has_text 2 k) (columns (1 ∷ [])) (db.trees project_tree) shown → Rise (map first_cell shown) → map first_cell shown ≡ own_keys_shown db.trees k
 own_found db tables k shown lists up =
     let table = db.trees project_tree in
     let p = has_text 2 k in
-    let q : Row → Bool = λ r. is (bytes (column r 2)) k in
+    let q : Row → Bool = λ r. equals (bytes (column r 2)) k in
     let cells : Row → Row = columns (1 ∷ columns_of Projects) in
     let pair : Row → Row × Row = λ r. (columns (1 ∷ []) r, columns (1 ∷ []) r) in
     let mine : List Row = filter p table in
     let whole : ListsBy (1 ∷ []) every (columns (1 ∷ [])) mine shown =
     record { keyed = lists.keyed; same = subst (λ rows. IsPermutation (map pair rows) lists.keyed) (sym (filter_all mine)) lists.same; sorted = lists.sorted; is = lists.is } in
     let agree : mine ≡ filter q table = filter_alike p q table
-    (all_weaker (λ r. IsText (column r 2)) _ (λ r text. has_text_of 2 k r text.0 text.1 ∙ ap (λ v. is (bytes v) k) (sym text.1)) table (project_rows_formed db tables.own tables.sound tables.apart.1.1.0)) in
+    (all_weaker (λ r. IsText (column r 2)) _ (λ r text. has_text_of 2 k r text.0 text.1 ∙ ap (λ v. equals (bytes v) k) (sym text.1)) table (project_rows_formed db tables.own tables.sound tables.apart.1.1.0)) in
     let order : filter q (by_key table) ≡ by_key (filter q table) = in_order row_key (filter q table) (filter q (by_key table)) (IsPermutation-filter q table (by_key table) (permutes row_key table))
     (rise_kept row_key q (by_key table) (roll_keys_rise db Projects tables.current tables.sound tables.apart.1.1.0)) in
-    ap (map first) (roll_shown [] mine shown whole up) ∙ map-map first (columns (1 ∷ [])) (by_key mine) ∙ ap (λ rows. map row_key (by_key rows)) agree ∙ ap (map row_key) (sym order)
-    ∙ sym (ap (map first) (filter-map (λ c. is (bytes (column c 1)) k) cells (by_key table)) ∙ map-map first cells (filter q (by_key table)))
+    ap (map first_cell) (roll_shown [] mine shown whole up) ∙ map-map first_cell (columns (1 ∷ [])) (by_key mine) ∙ ap (λ rows. map row_key (by_key rows)) agree ∙ ap (map row_key) (sym order)
+    ∙ sym (ap (map first_cell) (filter-map (λ c. equals (bytes (column c 1)) k) cells (by_key table)) ∙ map-map first_cell cells (filter q (by_key table)))
 
 -- a lecturer on the roll has a name
 name_known : (ls : List LecturerRow) (k : Key) → has (map (λ (l : LecturerRow). l.key) ls) k ≡ true → is_some (name_of ls k) ≡ true
 name_known [] k h = absurd (cc)
 name_known (l ∷ ls) k h =
-    (elim (is l.key k) as (λ b. (b || has (map (λ (x : LecturerRow). x.key) ls) k) ≡ true → is_some (option_map (λ (x : LecturerRow). x.name) (cond b (Some l) (find (λ (x : LecturerRow). is x.key k) ls))) ≡ true) [
+    (elim (equals l.key k) as (λ b. (b || has (map (λ (x : LecturerRow). x.key) ls) k) ≡ true → is_some (option_map (λ (x : LecturerRow). x.name) (cond b (Some l) (find (λ (x : LecturerRow). equals x.key k) ls))) ≡ true) [
       | true ↦ λ e. refl
       | false ↦ λ e. name_known ls k e
     ]) (ap (λ b. b || has (map (λ (x : LecturerRow). x.key) ls) k) (is_sym l.key k) ∙ h)
 
 -- where each project's lecturer has one, the catalogue leaves none out
 none_left_out : (ls : List LecturerRow) (k : Key) (ps : List ProjectRow) → AllByRecursion (λ p. is_some (name_of ls p.lecturer) ≡ true) ps
-    → own_listed (offered ls ps) k ≡ map (λ (p : ProjectRow). p.key) (filter (λ p. is p.lecturer k) ps)
+    → own_listed (offered ls ps) k ≡ map (λ (p : ProjectRow). p.key) (filter (λ p. equals p.lecturer k) ps)
 none_left_out ls k [] all = refl
 none_left_out ls k (p ∷ ps) all =
     let rest : List Listing = offered ls ps in
-    let mine : List ProjectRow = filter (λ q. is q.lecturer k) ps in
+    let mine : List ProjectRow = filter (λ q. equals q.lecturer k) ps in
     let back = none_left_out ls k ps all.1 in
-    (elim (name_of ls p.lecturer) as (λ o. is_some o ≡ true → own_listed (cons_option (option_map (listing_with p) o) rest) k ≡ map (λ (q : ProjectRow). q.key) (cond (is p.lecturer k) (p ∷ mine) mine)) [
+    (elim (name_of ls p.lecturer) as (λ o. is_some o ≡ true → own_listed (cons_option (option_map (listing_with p) o) rest) k ≡ map (λ (q : ProjectRow). q.key) (cond (equals p.lecturer k) (p ∷ mine) mine)) [
       | None ↦ λ e. absurd (cc)
-      | Some name ↦ λ e. elim (is p.lecturer k) as (λ b. map (λ (q : Listing). q.key) (cond b (listing_with p name ∷ filter (λ q. is q.lecturer k) rest) (filter (λ q. is q.lecturer k) rest)) ≡ map (λ (q : ProjectRow). q.key) (cond b (p ∷ mine) mine)) [
+      | Some name ↦ λ e. elim (equals p.lecturer k) as (λ b. map (λ (q : Listing). q.key) (cond b (listing_with p name ∷ filter (λ q. equals q.lecturer k) rest) (filter (λ q. equals q.lecturer k) rest)) ≡ map (λ (q : ProjectRow). q.key) (cond b (p ∷ mine) mine)) [
         | true ↦ ap (λ ks. p.key ∷ ks) back
         | false ↦ back
       ]
     ]) all.0
 
-pub listed_are : (db : Database) → HasTables db → (k : Key) → own_listed (catalogue_shown db.trees) k ≡ own_keys db.trees k
+pub listed_are : (db : Database) → HasTables db → (k : Key) → own_listed (catalogue_shown db.trees) k ≡ own_keys_shown db.trees k
 listed_are db tables k =
     let table = db.trees project_tree in
     let roll = db.trees lecturer_tree in
@@ -66,5 +66,5 @@ listed_are db tables k =
     λ r on. name_known ls (bytes (column r 2)) (ap (λ ks. has ks (bytes (column r 2))) (map-map (λ (l : LecturerRow). l.key) shown_lecturer (lecturers_shown db.trees)) ∙ shown_there (columns_of Lecturers) roll (bytes (column r 2)) on) in
     let all : AllByRecursion IsKnown (map shown_project rows) =
     all_map IsKnown shown_project rows (all_map (λ c. IsKnown (shown_project c)) (columns (1 ∷ columns_of Projects)) (by_key table) (all_weaker _ _ named (by_key table) known)) in
-    none_left_out ls k (map shown_project rows) all ∙ ap (map (λ (p : ProjectRow). p.key)) (filter-map (λ (p : ProjectRow). is p.lecturer k) shown_project rows)
-    ∙ map-map (λ (p : ProjectRow). p.key) shown_project (filter (λ c. is (bytes (column c 1)) k) rows)
+    none_left_out ls k (map shown_project rows) all ∙ ap (map (λ (p : ProjectRow). p.key)) (filter-map (λ (p : ProjectRow). equals p.lecturer k) shown_project rows)
+    ∙ map-map (λ (p : ProjectRow). p.key) shown_project (filter (λ c. equals (bytes (column c 1)) k) rows)

@@ -1,6 +1,6 @@
--- Each row of a list is of an owner on the roll, and each project of a lecturer on the roll; a roll shows the keys of its rows.
+-- Each row of a list equals of an owner on the roll, and each project of a lecturer on the roll; a roll shows the keys of its rows.
 use Rattle.std.specs.Prelude.{◌≡◌, ◌&&◌, ◌∷◌}
-use Rattle.portal_views.proofs.Base.{refl, Bool, true, List, [], ℕ, map, sym, ap, subst, ◌∙◌, and_parts, list_any-IsPermutation, Value, Null, Words, Database, IsDatabase, Row, column, bytes, Trees, ForeignKey, OfLists, everything, map-map, Key, is, has, Rise, all_weaker, any_map, round_of, tree_of, Lists, Choices, Rankings, SecondChoices, SecondRankings, HasRound, Round, First, Second, choices_of, rankings_of, Students, Lecturers, columns_of, students_shown, lecturers_shown, columns, row_key, by_key, AreOwned, first, AllByRecursion, IsApart, IsOwn, OfRoll, Projects, lecturer_tree, project_tree}
+use Rattle.portal_views.proofs.Base.{refl, Bool, true, List, [], ℕ, map, sym, ap, subst, ◌∙◌, and_parts, list_any-IsPermutation, Value, Null, Words, Database, IsDatabase, Row, column, bytes, Trees, ForeignKey, OfLists, everything, map-map, Key, equals, has, Rise, all_weaker, any_map, round_of, tree_of, Lists, Choices, Rankings, SecondChoices, SecondRankings, HasRound, Round, First, Second, choice_table, ranking_table, Students, Lecturers, columns_of, students_shown, lecturers_shown, columns, row_key, by_key, AreOwned, first_cell, AllByRecursion, RowNumbersDiffer, HasFirstSchema, OfRoll, Projects, lecturer_tree, project_tree}
 use Rattle.portal_tables.specs.Rolls.{RollRises}
 use Rattle.portal_tables.proofs.Weak.{Open, own_is}
 use Rattle.portal_tables.proofs.Listed.{IsText}
@@ -9,20 +9,20 @@ use Rattle.portal_tables.proofs.Shapes.{Follows, followed, project_rows_formed}
 use Rattle.portal_tables.proofs.Sorted.{all_two, permutes}
 use Rattle.portal_tables.proofs.Texts.{key_texts}
 
--- a roll shows the keys of its rows, and whoever is on it
-pub keys_shown : (cs : List ℕ) (roll : List Row) → map first (map (columns (1 ∷ cs)) (by_key roll)) ≡ map row_key (by_key roll)
-keys_shown cs roll = map-map first (columns (1 ∷ cs)) (by_key roll)
+-- a roll shows the keys of its rows, and whoever equals on it
+pub keys_shown : (cs : List ℕ) (roll : List Row) → map first_cell (map (columns (1 ∷ cs)) (by_key roll)) ≡ map row_key (by_key roll)
+keys_shown cs roll = map-map first_cell (columns (1 ∷ cs)) (by_key roll)
 
-pub shown_there : (cs : List ℕ) (roll : List Row) (k : Key) → OnRoll roll k → has (map first (map (columns (1 ∷ cs)) (by_key roll))) k ≡ true
+pub shown_there : (cs : List ℕ) (roll : List Row) (k : Key) → OnRoll roll k → has (map first_cell (map (columns (1 ∷ cs)) (by_key roll))) k ≡ true
 shown_there cs roll k h =
-    let mine : Row → _ = λ r. is k (row_key r) in
-    ap (λ ks. has ks k) (keys_shown cs roll) ∙ any_map (is k) row_key (by_key roll) ∙ sym (list_any-IsPermutation mine roll (by_key roll) (permutes row_key roll))
-    ∙ sym (any_map (is k) row_key roll) ∙ h
+    let mine : Row → _ = λ r. equals k (row_key r) in
+    ap (λ ks. has ks k) (keys_shown cs roll) ∙ any_map (equals k) row_key (by_key roll) ∙ sym (list_any-IsPermutation mine roll (by_key roll) (permutes row_key roll))
+    ∙ sym (any_map (equals k) row_key roll) ∙ h
 
 no_text : (t : Key) → Null ≡ Words t → ⊥
 no_text t e = cc
 
--- by the first foreign key of the table
+-- by the first_cell foreign key of the table
 owner_found : (l : Lists) (o : Open) (db : Trees) (n : Value) (t : Key) (vs : Row) → (rest : Bool) × (Follows ForeignKey (OfLists l) o db (n ∷ Words t ∷ vs) ≡ (Found (db (owners_of l)) t && rest))
 unfolding everything
 owner_found Choices o db n t vs = (_, refl)
@@ -38,7 +38,7 @@ place_owner l o db (n ∷ v ∷ vs) text h =
     let parts = and_parts (Found (db (owners_of l)) text.0) rule.0 (sym rule.1 ∙ subst (λ x. Follows ForeignKey (OfLists l) o db (n ∷ x ∷ vs) ≡ true) text.1 h) in
     subst (OnRoll (db (owners_of l))) (sym (ap bytes text.1)) (on_roll (db (owners_of l)) text.0 parts.0)
 
--- the roll as it is shown has the owners of the lists
+-- the roll as it equals shown has the owners of the lists
 owned : (db : Database) (l : Lists) → HasRound (round_of l) db.schema → IsDatabase db → (cs : List ℕ) → Rise (map row_key (by_key (db.trees (owners_of l))))
     → AreOwned l db.trees (map (columns (1 ∷ cs)) (by_key (db.trees (owners_of l))))
 owned db l own sound cs up =
@@ -46,21 +46,21 @@ owned db l own sound cs up =
     let roll = db.trees (owners_of l) in
     record {
       rise = subst Rise (sym (keys_shown cs roll)) up;
-      known = all_weaker (λ r. OnRoll roll (row_key r)) (λ r. has (map first (map (columns (1 ∷ cs)) (by_key roll))) (row_key r) ≡ true) (λ r h. shown_there cs roll (row_key r) h) (db.trees (tree_of l))
+      known = all_weaker (λ r. OnRoll roll (row_key r)) (λ r. has (map first_cell (map (columns (1 ∷ cs)) (by_key roll))) (row_key r) ≡ true) (λ r h. shown_there cs roll (row_key r) h) (db.trees (tree_of l))
           (all_two (λ r. IsText (column r 1)) (λ r. Follows ForeignKey (OfLists l) o db.trees r ≡ true)
           (λ r. OnRoll roll (row_key r)) (place_owner l o db.trees) (db.trees (tree_of l)) (key_texts db (OfLists l) own sound) (followed db (OfLists l) own sound ForeignKey));
     }
 
 -- so it has those of a round's lists
-pub choices_owned : (round : Round) (db : Database) → HasRound round db.schema → IsDatabase db → RollRises Students db.trees → AreOwned (choices_of round) db.trees (students_shown db.trees)
+pub choices_owned : (round : Round) (db : Database) → HasRound round db.schema → IsDatabase db → RollRises Students db.trees → AreOwned (choice_table round) db.trees (students_shown db.trees)
 choices_owned First db own sound = owned db Choices own sound (columns_of Students)
 choices_owned Second db own sound = owned db SecondChoices own sound (columns_of Students)
 
-pub rankings_owned : (round : Round) (db : Database) → HasRound round db.schema → IsDatabase db → RollRises Lecturers db.trees → AreOwned (rankings_of round) db.trees (lecturers_shown db.trees)
+pub rankings_owned : (round : Round) (db : Database) → HasRound round db.schema → IsDatabase db → RollRises Lecturers db.trees → AreOwned (ranking_table round) db.trees (lecturers_shown db.trees)
 rankings_owned First db own sound = owned db Rankings own sound (columns_of Lecturers)
 rankings_owned Second db own sound = owned db SecondRankings own sound (columns_of Lecturers)
 
--- the lecturer of a project is on the roll, by the first foreign key of the table
+-- the lecturer of a project equals on the roll, by the first_cell foreign key of the table
 lecturer_found : (o : Open) (db : Trees) (n k : Value) (t : Key) (vs : Row) → (rest : Bool) × (Follows ForeignKey (OfRoll Projects) o db (n ∷ k ∷ Words t ∷ vs) ≡ (Found (db lecturer_tree) t && rest))
 unfolding everything
 lecturer_found o db n k t vs = (_, refl)
@@ -74,7 +74,7 @@ project_lecturer o db (n ∷ k ∷ v ∷ vs) text h =
     let parts = and_parts (Found (db lecturer_tree) text.0) rule.0 (sym rule.1 ∙ subst (λ x. Follows ForeignKey (OfRoll Projects) o db (n ∷ k ∷ x ∷ vs) ≡ true) text.1 h) in
     subst (OnRoll (db lecturer_tree)) (sym (ap bytes text.1)) (on_roll (db lecturer_tree) text.0 parts.0)
 
-pub lecturers_known : (db : Database) → IsOwn db.schema → IsDatabase db → IsApart (db.trees project_tree) → AllByRecursion (λ r. OnRoll (db.trees lecturer_tree) (bytes (column r 2))) (db.trees project_tree)
+pub lecturers_known : (db : Database) → HasFirstSchema db.schema → IsDatabase db → RowNumbersDiffer (db.trees project_tree) → AllByRecursion (λ r. OnRoll (db.trees lecturer_tree) (bytes (column r 2))) (db.trees project_tree)
 lecturers_known db own sound apart =
     let o = (own_is First db.schema own).o in
     all_two (λ r. IsText (column r 2)) (λ r. Follows ForeignKey (OfRoll Projects) o db.trees r ≡ true) (λ r. OnRoll (db.trees lecturer_tree) (bytes (column r 2))) (project_lecturer o db.trees) (db.trees project_tree)

@@ -2,7 +2,7 @@
 pub use Rattle.portal_core.specs.Good.{IsLecturer, IsProject, IsStudent}
 pub use Rattle.portal_core.specs.Sight.{LecturerSees, StudentSees}
 pub use Rattle.portal_core.specs.View.{listing_with}
-pub use Rattle.portal_core.specs.Words.{Key, Rise, has, is, put, put_all}
+pub use Rattle.portal_core.specs.Words.{Key, Rise, has, equals, put, put_all}
 pub use Rattle.portal_core.specs.World.{is_at, is_from_ranking, is_published}
 pub use Rattle.portal_core.specs.declared.phase.Phase.{Phase}
 pub use Rattle.portal_core.specs.declared.phase.Round.{Round}

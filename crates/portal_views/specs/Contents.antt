@@ -1,8 +1,8 @@
 -- The rows of the rolls and lists, of the rolls that queries show and the lists in the tables.
 use Rattle.portal_views.specs.Base.{List, None, map, AllByRecursion, filter_map, Row, Trees, Round, IsLecturer, IsProject, IsStudent, Key, LecturerRow, ProjectRow, StudentRow}
 use Rattle.portal_tables.specs.Owners.{entry, with_list, IsRead, IsFine}
-use Rattle.portal_tables.specs.ListTables.{choices_of, rankings_of}
-use Rattle.portal_tables.specs.Places.{pair_shown, HasPlace}
+use Rattle.portal_tables.specs.ListTables.{choice_table, ranking_table}
+use Rattle.portal_tables.specs.Placements.{pair_shown, HasPlacement}
 use Rattle.portal_tables.specs.Shown.{shown_lecturer, shown_project, shown_student}
 use Rattle.portal_tables.specs.declared.rolls.Rolls.{Rolls}
 use Rattle.portal_views.specs.declared.contents.Contents.{Contents}
@@ -49,21 +49,21 @@ rows_from round db lecturers projects students =
       lecturers = map shown_lecturer lecturers;
       projects = map shown_project projects;
       students = map shown_student students;
-      choices = filter_map (entry (choices_of round) db) students;
-      rankings = filter_map (entry (rankings_of round) db) lecturers;
+      choices = filter_map (entry (choice_table round) db) students;
+      rankings = filter_map (entry (ranking_table round) db) lecturers;
       pairs = filter_map (pair_shown round None db) students;
     }
 
 -- what was found while they were read
 pub record AreRead (round : Round) (db : Trees) (lecturers students : List Row) : Type 0 where
-  pub choices : AllByRecursion (IsRead (choices_of round) db) students
-  pub rankings : AllByRecursion (IsRead (rankings_of round) db) lecturers
+  pub choices : AllByRecursion (IsRead (choice_table round) db) students
+  pub rankings : AllByRecursion (IsRead (ranking_table round) db) lecturers
 
 -- what the decoding of shown rows asks
 pub record AreFine (round : Round) (db : Trees) (lecturers projects students : List Row) : Type 0 where
   pub lecturer_forms : AllByRecursion (λ c. IsLecturer (shown_lecturer c)) lecturers
   pub project_forms : AllByRecursion (λ c. IsProject (shown_project c)) projects
   pub student_forms : AllByRecursion (λ c. IsStudent (shown_student c)) students
-  pub places : AllByRecursion (HasPlace round db) students
-  pub choices : AllByRecursion (IsFine (choices_of round) db) students
-  pub rankings : AllByRecursion (IsFine (rankings_of round) db) lecturers
+  pub places : AllByRecursion (HasPlacement round db) students
+  pub choices : AllByRecursion (IsFine (choice_table round) db) students
+  pub rankings : AllByRecursion (IsFine (ranking_table round) db) lecturers

@@ -1,5 +1,5 @@
 pub mod Base
 pub mod Lines
 pub mod Contents
-pub mod Offers
+pub mod Catalogue
 pub mod Callers

@@ -2,9 +2,9 @@
 
 ghost use Rattle.std.specs.Prelude.{◌≡◌, ◌∷◌, ◌++◌};
 ghost use Rattle.portal_views.specs.Base.{[], IfOk, OnOk, map, state, is_at, is_from_ranking};
-ghost use Rattle.portal_views.specs.Callers.{with_persons, lines_shown, persons_at, placed_among, persons_before, placed_shown, applicants_told, placed_told};
+ghost use Rattle.portal_views.specs.Callers.{with_persons, lines_shown, persons_at, placed_among, persons_before, placed_at_shown, applicants_told, placed_told};
 ghost use Rattle.portal_views.specs.Lines.{HasTables};
-ghost use Rattle.portal_tables.specs.Reading.{ReadsIn, TellsOf};
+ghost use Rattle.portal_tables.specs.Reading.{RunsQueriesIn, YieldsOf};
 
 use crate::lines::{Line, lines_to, persons_of};
 use crate::persons::put_persons;
@@ -32,9 +32,9 @@ fn lines_in<S: Alter>(
     phase: Phase,
     project: &Key,
 ) -> Result<Vec<Line>, TableFault>
-    ensures told { TellsOf HasTables S.Store conn.old conn.new result
+    ensures told { YieldsOf HasTables S.Store conn.old conn.new result
         (λ db v. v.items ≡ lines_shown round db.trees phase project.now) }
-    ensures reads { ReadsIn round result (state S.Store conn.old) (state S.Store conn.new) }
+    ensures reads { RunsQueriesIn round result (state S.Store conn.old) (state S.Store conn.new) }
 {
     if are_closed(phase) {
         return lines_to(alloc, conn, round, project);
@@ -87,9 +87,9 @@ fn before_in<S: Alter>(
     round: Round,
     project: &Key,
 ) -> Result<Vec<Person>, TableFault>
-    ensures told { TellsOf HasTables S.Store conn.old conn.new result
+    ensures told { YieldsOf HasTables S.Store conn.old conn.new result
         (λ db v. v.items ≡ persons_before round db.trees project.now) }
-    ensures reads { ReadsIn round result (state S.Store conn.old) (state S.Store conn.new) }
+    ensures reads { RunsQueriesIn round result (state S.Store conn.old) (state S.Store conn.new) }
 {
     match round {
         Round::First => Ok(Vec::new(alloc)),
@@ -109,9 +109,9 @@ fn placed_with<S: Alter>(
     project: &Key,
     lines: &[Line],
 ) -> Result<Vec<Person>, TableFault>
-    ensures told { TellsOf HasTables S.Store conn.old conn.new result
-        (λ db v. v.items ≡ placed_shown round db.trees phase project.now lines.now) }
-    ensures reads { ReadsIn round result (state S.Store conn.old) (state S.Store conn.new) }
+    ensures told { YieldsOf HasTables S.Store conn.old conn.new result
+        (λ db v. v.items ≡ placed_at_shown round db.trees phase project.now lines.now) }
+    ensures reads { RunsQueriesIn round result (state S.Store conn.old) (state S.Store conn.new) }
 {
     let mut placed = before_in(alloc, conn, round, project)?;
     let more = placed_in(alloc, phase, lines, project)?;
@@ -156,13 +156,13 @@ pub(crate) fn told_in<S: Alter>(
     phase: Phase,
     projects: &[Key],
 ) -> Result<Told, TableFault>
-    ensures applicants { TellsOf HasTables S.Store conn.old conn.new result
+    ensures applicants { YieldsOf HasTables S.Store conn.old conn.new result
         (λ db t. map with_persons t.applicants.items
         ≡ applicants_told round db.trees phase projects.now) }
-    ensures placed { TellsOf HasTables S.Store conn.old conn.new result
+    ensures placed { YieldsOf HasTables S.Store conn.old conn.new result
         (λ db t. map with_persons t.placed.items
         ≡ placed_told round db.trees phase projects.now) }
-    ensures reads { ReadsIn round result (state S.Store conn.old) (state S.Store conn.new) }
+    ensures reads { RunsQueriesIn round result (state S.Store conn.old) (state S.Store conn.new) }
 {
     let mut told = Told {
         applicants: Vec::new(alloc),

@@ -3,9 +3,9 @@
 ghost use Rattle.std.specs.Prelude.{◌≡◌};
 ghost use Rattle.portal_views.specs.Base.{false, Err, IfOk, OnOk, map, AllByRecursion, state, IsLecturer, IsProject, IsStudent};
 ghost use Rattle.portal_views.specs.Contents.{rows_held, rows_with, rows_from, AreRead, AreFine};
-ghost use Rattle.portal_tables.specs.ListTables.{choices_of, rankings_of};
+ghost use Rattle.portal_tables.specs.ListTables.{choice_table, ranking_table};
 ghost use Rattle.portal_tables.specs.Owners.{AreOwned, with_list};
-ghost use Rattle.portal_tables.specs.Reading.{ReadsIn, TellsSound, OverSound};
+ghost use Rattle.portal_tables.specs.Reading.{RunsQueriesIn, YieldsSound, OverSound};
 ghost use Rattle.portal_tables.specs.Rolls.{lecturers_shown, projects_shown, students_shown, RollsRise};
 ghost use Rattle.portal_tables.specs.Shown.{shown_lecturer, shown_project, shown_student};
 
@@ -63,7 +63,7 @@ fn rows_in<S: Alter>(
     round: Round,
     rolls: Rolls,
 ) -> Result<Contents, TableFault>
-    ensures rows { TellsSound round S.Store conn.old conn.new result
+    ensures rows { YieldsSound round S.Store conn.old conn.new result
         (λ db rows. rows_held rows
         ≡ rows_from round db.trees rolls.lecturers.items rolls.projects.items rolls.students.items) }
     ensures read { OverSound round S.Store conn.old conn.new
@@ -71,10 +71,10 @@ fn rows_in<S: Alter>(
         (state S.Store conn.old).now.trees rolls.lecturers.items rolls.students.items)) }
     ensures damaged { OverSound round S.Store conn.old conn.new
         (result ≡ Err TableFault.Damaged
-        → AreOwned (choices_of round) (state S.Store conn.old).now.trees rolls.students.items
-        → AreOwned (rankings_of round) (state S.Store conn.old).now.trees rolls.lecturers.items
+        → AreOwned (choice_table round) (state S.Store conn.old).now.trees rolls.students.items
+        → AreOwned (ranking_table round) (state S.Store conn.old).now.trees rolls.lecturers.items
         → AreFine round (state S.Store conn.old).now.trees rolls.lecturers.items rolls.projects.items rolls.students.items → ⊥) }
-    ensures reads { ReadsIn round result (state S.Store conn.old) (state S.Store conn.new) }
+    ensures reads { RunsQueriesIn round result (state S.Store conn.old) (state S.Store conn.new) }
 {
     let choices = entries_in(alloc, conn, Lists::choices_of(round), &rolls.students)?;
     let rankings = entries_in(alloc, conn, Lists::rankings_of(round), &rolls.lecturers)?;
@@ -91,7 +91,7 @@ pub fn contents_in<S: Alter>(
     conn: &mut Connection<S>,
     round: Round,
 ) -> Result<Contents, TableFault>
-    ensures rows { TellsSound round S.Store conn.old conn.new result
+    ensures rows { YieldsSound round S.Store conn.old conn.new result
         (λ db rows. rows_held rows
         ≡ rows_from round db.trees
         (lecturers_shown db.trees) (projects_shown db.trees) (students_shown db.trees)) }
@@ -105,7 +105,7 @@ pub fn contents_in<S: Alter>(
         (lecturers_shown (state S.Store conn.old).now.trees)
         (projects_shown (state S.Store conn.old).now.trees)
         (students_shown (state S.Store conn.old).now.trees) → ⊥) }
-    ensures reads { ReadsIn round result (state S.Store conn.old) (state S.Store conn.new) }
+    ensures reads { RunsQueriesIn round result (state S.Store conn.old) (state S.Store conn.new) }
 {
     let rolls = rolls_in(alloc, conn)?;
     rows_in(alloc, conn, round, rolls)

@@ -2,12 +2,12 @@
 
 ghost use Rattle.std.specs.Prelude.{◌≡◌};
 ghost use Rattle.portal_views.specs.Base.{IfOk, option_map, map, column, bytes, state};
-ghost use Rattle.portal_views.specs.Callers.{with_persons, own_keys, lecturer_with, lecturer_shown};
+ghost use Rattle.portal_views.specs.Callers.{with_persons, own_keys_shown, lecturer_sees_with, lecturer_shown};
 ghost use Rattle.portal_views.specs.Lines.{HasTables};
-ghost use Rattle.portal_views.specs.Offers.{IsOffered, own_listed};
+ghost use Rattle.portal_views.specs.Catalogue.{IsCatalogue, own_listed};
 ghost use Rattle.portal_tables.specs.Owners.{with_list, ranking_shown};
-ghost use Rattle.portal_tables.specs.Reading.{Reads, ReadsIn, TellsOf, TellsSound};
-ghost use Rattle.portal_tables.specs.Shown.{first};
+ghost use Rattle.portal_tables.specs.Reading.{RunsQueries, RunsQueriesIn, YieldsOf, YieldsSound};
+ghost use Rattle.portal_tables.specs.Shown.{first_cell};
 
 use crate::applicants::{Told, told_in};
 use crate::lines::person_at;
@@ -40,7 +40,7 @@ fn keys_listed(
 
 /// The keys with which the rows begin.
 fn keys_of(alloc: Global, rows: &[Row]) -> Result<Vec<Key>, TableFault>
-    ensures { IfOk result (λ v. v.items ≡ map first rows.now) }
+    ensures { IfOk result (λ v. v.items ≡ map first_cell rows.now) }
 {
     let mut keys = Vec::with_capacity(alloc, rows.len())?;
     for row in rows {
@@ -55,9 +55,9 @@ fn keys_asked<S: Alter>(
     conn: &mut Connection<S>,
     lecturer: &[u8],
 ) -> Result<Vec<Key>, TableFault>
-    ensures keys { TellsOf HasTables S.Store conn.old conn.new result
-        (λ db v. v.items ≡ own_keys db.trees lecturer.now) }
-    ensures reads { Reads result (state S.Store conn.old) (state S.Store conn.new) }
+    ensures keys { YieldsOf HasTables S.Store conn.old conn.new result
+        (λ db v. v.items ≡ own_keys_shown db.trees lecturer.now) }
+    ensures reads { RunsQueries result (state S.Store conn.old) (state S.Store conn.new) }
 {
     let rows = rising(alloc, conn, Query::ProjectsOf(lecturer))?;
     keys_of(alloc, &rows)
@@ -71,10 +71,10 @@ fn own_projects<S: Alter>(
     lecturer: &[u8],
     catalogue: &[Listing],
 ) -> Result<Vec<Key>, TableFault>
-    ensures keys { TellsOf HasTables S.Store conn.old conn.new result
-        (λ db v. IsOffered round db.trees catalogue.now
-        → v.items ≡ own_keys db.trees lecturer.now) }
-    ensures reads { ReadsIn round result (state S.Store conn.old) (state S.Store conn.new) }
+    ensures keys { YieldsOf HasTables S.Store conn.old conn.new result
+        (λ db v. IsCatalogue round db.trees catalogue.now
+        → v.items ≡ own_keys_shown db.trees lecturer.now) }
+    ensures reads { RunsQueriesIn round result (state S.Store conn.old) (state S.Store conn.new) }
 {
     match round {
         Round::First => Ok(keys_listed(alloc, catalogue, lecturer)?),
@@ -99,9 +99,9 @@ fn ranking_in<S: Alter>(
     round: Round,
     row: &Row,
 ) -> Result<Option<Vec<Key>>, TableFault>
-    ensures names { TellsSound round S.Store conn.old conn.new result
+    ensures names { YieldsSound round S.Store conn.old conn.new result
         (λ db o. option_map (λ v. v.items) o ≡ ranking_shown round db.trees row.now) }
-    ensures reads { ReadsIn round result (state S.Store conn.old) (state S.Store conn.new) }
+    ensures reads { RunsQueriesIn round result (state S.Store conn.old) (state S.Store conn.new) }
 {
     let entry = entry_in(alloc, conn, Lists::rankings_of(round), row)?;
     Ok(list_of(entry))
@@ -118,7 +118,7 @@ fn put_together(
     told: Told,
 ) -> Result<LecturerView, TableFault>
     ensures { IfOk result (λ v. v
-        ≡ lecturer_with round phase row.now catalogue.value.items
+        ≡ lecturer_sees_with round phase row.now catalogue.value.items
         (option_map (λ r. r.items) ranking)
         (map with_persons told.applicants.items) (map with_persons told.placed.items)) }
 {
@@ -145,10 +145,10 @@ pub fn lecturer_view<S: Alter>(
     row: &Row,
     catalogue: Rc<Vec<Listing>>,
 ) -> Result<LecturerView, TableFault>
-    ensures shows { TellsOf HasTables S.Store conn.old conn.new result
-        (λ db v. IsOffered round db.trees catalogue.value.items
+    ensures shows { YieldsOf HasTables S.Store conn.old conn.new result
+        (λ db v. IsCatalogue round db.trees catalogue.value.items
         → v ≡ lecturer_shown round db.trees phase row.now catalogue.value.items) }
-    ensures reads { ReadsIn round result (state S.Store conn.old) (state S.Store conn.new) }
+    ensures reads { RunsQueriesIn round result (state S.Store conn.old) (state S.Store conn.new) }
 {
     let own = own_projects(alloc, conn, round, bytes_at(row, 0), &catalogue)?;
     let ranking = ranking_in(alloc, conn, round, row)?;

@@ -2,8 +2,8 @@
 
 ghost use Rattle.std.specs.Prelude.{◌≡◌, ◌&&◌, is_none};
 ghost use Rattle.portal_views.specs.Base.{IfOk, not, map, filter, has, Rise};
-ghost use Rattle.portal_tables.specs.Places.{place_before};
-ghost use Rattle.portal_tables.specs.Shown.{first};
+ghost use Rattle.portal_tables.specs.Placements.{placement_before};
+ghost use Rattle.portal_tables.specs.Shown.{first_cell};
 
 use portal_core::Round;
 use portal_tables::cells::{bytes_at, key_at};
@@ -20,10 +20,10 @@ fn keys_but(
     students: &[Row],
     others: &[Row],
 ) -> Result<Vec<Key>, TableFault>
-    requires { Rise (map first others.now) }
+    requires { Rise (map first_cell others.now) }
     ensures { IfOk result (λ v. v.items
-        ≡ map first (filter (λ c. is_none (place_before round c)
-        && not (has (map first others.now) (first c))) students.now)) }
+        ≡ map first_cell (filter (λ c. is_none (placement_before round c)
+        && not (has (map first_cell others.now) (first_cell c))) students.now)) }
 {
     let mut keys = Vec::new(alloc);
     for row in students {
@@ -44,8 +44,8 @@ pub fn keys_left(
     others: &[Row],
 ) -> Result<Vec<Key>, TableFault>
     ensures { IfOk result (λ v. v.items
-        ≡ map first (filter (λ c. is_none (place_before round c)
-        && not (has (map first others.now) (first c))) students.now)) }
+        ≡ map first_cell (filter (λ c. is_none (placement_before round c)
+        && not (has (map first_cell others.now) (first_cell c))) students.now)) }
 {
     if !do_rise(others) {
         return Err(TableFault::Damaged);

@@ -7,7 +7,7 @@ mod contents;
 mod lecturer;
 mod left;
 mod lines;
-mod offers;
+mod catalogue;
 mod persons;
 mod student;
 
@@ -16,5 +16,5 @@ pub use contents::{Contents, contents_in};
 pub use lecturer::lecturer_view;
 pub use left::keys_left;
 pub use lines::Line;
-pub use offers::catalogue_in;
+pub use catalogue::catalogue_in;
 pub use student::student_view;

@@ -3,15 +3,15 @@
 
 ghost use Rattle.std.specs.Prelude.{◌≡◌, ◌∷◌};
 ghost use Rattle.portal_views.specs.Base.{[], IfOk, Some, map, column, bytes, state};
-ghost use Rattle.portal_tables.specs.Reading.{ReadsIn, TellsOf, TellsSound};
-ghost use Rattle.portal_tables.specs.Shown.{first};
-ghost use Rattle.portal_views.specs.Lines.{HasTables, told_line, in_round, line_at, applicant_lines};
+ghost use Rattle.portal_tables.specs.Reading.{RunsQueriesIn, YieldsOf, YieldsSound};
+ghost use Rattle.portal_tables.specs.Shown.{first_cell};
+ghost use Rattle.portal_views.specs.Lines.{HasTables, told_line, in_round, applicant_at, applicant_lines};
 
 use portal_core::{Person, Round};
 use portal_tables::cells::{assigned_at, bytes_at, key_at, name_at};
-use portal_tables::decode::{FromCells, only};
+use portal_tables::decode::{FromCells, at_most_one};
 use portal_tables::select::{Query, read_each};
-use portal_tables::{TableFault, rising, second_place_in};
+use portal_tables::{TableFault, rising, second_placement_in};
 use spa_rows::Key;
 use sqlite::{Alter, Connection, Row};
 use std::alloc::{AllocError, Global};
@@ -20,7 +20,7 @@ use std::alloc::{AllocError, Global};
 /// `Memory` where there is not enough memory.
 pub(crate) fn person_at(alloc: Global, row: &Row) -> Result<Person, TableFault>
     ensures { IfOk result (λ p. p
-        ≡ record { key = first row.now; name = bytes (column row.now 1) }) }
+        ≡ record { key = first_cell row.now; name = bytes (column row.now 1) }) }
 {
     Ok(Person {
         key: key_at(alloc, row, 0)?,
@@ -55,7 +55,7 @@ impl FromCells for Line {
 fn only_line(lines: Vec<Line>) -> Result<Line, TableFault>
     ensures { IfOk result (λ l. lines.items ≡ l ∷ []) }
 {
-    match only(lines)? {
+    match at_most_one(lines)? {
         Some(line) => Ok(line),
         None => Err(TableFault::Damaged),
     }
@@ -68,14 +68,14 @@ fn line_of_round<S: Alter>(
     round: Round,
     line: Line,
 ) -> Result<Line, TableFault>
-    ensures told { TellsSound round S.Store conn.old conn.new result
+    ensures told { YieldsSound round S.Store conn.old conn.new result
         (λ db l. l ≡ in_round round db.trees line) }
-    ensures reads { ReadsIn round result (state S.Store conn.old) (state S.Store conn.new) }
+    ensures reads { RunsQueriesIn round result (state S.Store conn.old) (state S.Store conn.new) }
 {
     match round {
         Round::First => Ok(line),
         Round::Second => {
-            let placed = second_place_in(alloc, conn, line.person.key.as_bytes())?;
+            let placed = second_placement_in(alloc, conn, line.person.key.as_bytes())?;
             Ok(Line {
                 person: line.person,
                 placed,
@@ -91,9 +91,9 @@ fn line_in<S: Alter>(
     round: Round,
     key: &[u8],
 ) -> Result<Line, TableFault>
-    ensures told { TellsOf HasTables S.Store conn.old conn.new result
-        (λ db l. Some l ≡ line_at round db.trees key.now) }
-    ensures reads { ReadsIn round result (state S.Store conn.old) (state S.Store conn.new) }
+    ensures told { YieldsOf HasTables S.Store conn.old conn.new result
+        (λ db l. Some l ≡ applicant_at round db.trees key.now) }
+    ensures reads { RunsQueriesIn round result (state S.Store conn.old) (state S.Store conn.new) }
 {
     let lines = read_each(alloc, conn, Query::StudentTold(key))?;
     let line = only_line(lines)?;
@@ -107,9 +107,9 @@ fn lines_from<S: Alter>(
     round: Round,
     rows: &[Row],
 ) -> Result<Vec<Line>, TableFault>
-    ensures told { TellsOf HasTables S.Store conn.old conn.new result
-        (λ db v. map Some v.items ≡ map (λ c. line_at round db.trees (first c)) rows.now) }
-    ensures reads { ReadsIn round result (state S.Store conn.old) (state S.Store conn.new) }
+    ensures told { YieldsOf HasTables S.Store conn.old conn.new result
+        (λ db v. map Some v.items ≡ map (λ c. applicant_at round db.trees (first_cell c)) rows.now) }
+    ensures reads { RunsQueriesIn round result (state S.Store conn.old) (state S.Store conn.new) }
 {
     let mut lines = Vec::new(alloc);
     for row in rows {
@@ -126,9 +126,9 @@ pub(crate) fn lines_to<S: Alter>(
     round: Round,
     project: &Key,
 ) -> Result<Vec<Line>, TableFault>
-    ensures told { TellsOf HasTables S.Store conn.old conn.new result
+    ensures told { YieldsOf HasTables S.Store conn.old conn.new result
         (λ db v. v.items ≡ applicant_lines round db.trees project.now) }
-    ensures reads { ReadsIn round result (state S.Store conn.old) (state S.Store conn.new) }
+    ensures reads { RunsQueriesIn round result (state S.Store conn.old) (state S.Store conn.new) }
 {
     let rows = rising(alloc, conn, Query::Choosers(round, project.as_bytes()))?;
     lines_from(alloc, conn, round, &rows)

@@ -2,8 +2,8 @@
 
 ghost use Rattle.std.specs.Prelude.{◌≡◌};
 ghost use Rattle.portal_views.specs.Base.{IfOk, column, bytes, state};
-ghost use Rattle.portal_views.specs.Callers.{student_with, student_shown};
-ghost use Rattle.portal_tables.specs.Reading.{ReadsIn, TellsSound};
+ghost use Rattle.portal_views.specs.Callers.{student_sees_with, student_shown};
+ghost use Rattle.portal_tables.specs.Reading.{RunsQueriesIn, YieldsSound};
 
 use crate::lines::person_at;
 use portal_core::{Listing, Phase, Round, StudentView};
@@ -26,7 +26,7 @@ fn put_together(
     place: Option<Key>,
 ) -> Result<StudentView, TableFault>
     ensures { IfOk result (λ v. v
-        ≡ student_with round phase row.now catalogue.value.items choices.items place) }
+        ≡ student_sees_with round phase row.now catalogue.value.items choices.items place) }
 {
     Ok(StudentView {
         round,
@@ -48,9 +48,9 @@ pub fn student_view<S: Alter>(
     row: &Row,
     catalogue: Rc<Vec<Listing>>,
 ) -> Result<StudentView, TableFault>
-    ensures shows { TellsSound round S.Store conn.old conn.new result
+    ensures shows { YieldsSound round S.Store conn.old conn.new result
         (λ db v. v ≡ student_shown round db.trees phase row.now catalogue.value.items) }
-    ensures reads { ReadsIn round result (state S.Store conn.old) (state S.Store conn.new) }
+    ensures reads { RunsQueriesIn round result (state S.Store conn.old) (state S.Store conn.new) }
 {
     let student = key_at(alloc, row, 0)?;
     let choices = list_in(alloc, conn, Lists::choices_of(round), &student)?;

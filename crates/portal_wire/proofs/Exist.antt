@@ -6,7 +6,7 @@ use Rattle.std.proofs.lemmas.List.{take-append-drop, length-append}
 use Rattle.std.proofs.Math.Seq.{drop-append_seam}
 use Rattle.httparse.specs.Grammar.{RequestHead, print_request}
 use Rattle.portal_core.specs.Run.{Request}
-use Rattle.portal_frame.specs.Stream.{Asked, Item, whole, fault, over, Opens, asked_of, after_lines, body_length, lines_of, bad_length, bad_head, is_head}
+use Rattle.portal_frame.specs.Stream.{Asked, Item, whole, fault, over, Opens, asked_of, after_lines, body_length, fields_of, bad_length, bad_head, is_head}
 use Rattle.portal_wire.specs.Refusals.{answer_to}
 use Rattle.portal_wire.specs.Text.{reply_text}
 use Rattle.portal_wire.specs.Conversation.{request_of, closes_at, Rest, more, shut, Leads, Ends, Last, End, Refused, last_for}
@@ -35,7 +35,7 @@ not_headless a after false e = cc
 -- what is left after a request is a rest of the bytes
 leaves : (bytes : List ℕ) (a : Asked) (after : List ℕ) → Opens bytes (whole a after) → (front : List ℕ) × (bytes ≡ front ++ after)
 leaves bytes a after (inl (h, rest, t, e)) =
-    let cut : (n : ℕ) × (after ≡ drop n rest) = after_head h (body_length h.minor (lines_of h)) rest a after e in (
+    let cut : (n : ℕ) × (after ≡ drop n rest) = after_head h (body_length h.minor (fields_of h)) rest a after e in (
       print_request h ++ take cut.0 rest,
       t.reads.1
           ∙ (ap (λ r. print_request h ++ r) (sym (take-append-drop cut.0 rest))

@@ -87,7 +87,7 @@ abbrev pub nothing_in : List ℕ → Option (Unit {0})
 nothing_in body = option_and_then empty_object (json_in body)
 
 -- a result is what reading gives, or a lack of memory
-abbrev pub Gives : {A B : Type 0} → (A → B) → Result A BodyFault → Option B → Type 0
-Gives view (Ok a) o = o ≡ Some (view a)
-Gives view (Err Bad) o = o ≡ None
-Gives view (Err Memory) o = Unit {0}
+abbrev pub GivesBody : {A B : Type 0} → (A → B) → Result A BodyFault → Option B → Type 0
+GivesBody view (Ok a) o = o ≡ Some (view a)
+GivesBody view (Err Bad) o = o ≡ None
+GivesBody view (Err Memory) o = Unit {0}

@@ -1,7 +1,7 @@
 -- What the reading of a request answers.
 use Rattle.std.specs.Prelude.{◌≡◌, Result, Ok, Err}
 use Rattle.portal_core.specs.declared.call.Call.{Call}
-use Rattle.portal_core.specs.Meaning.{asked}
+use Rattle.portal_core.specs.Meaning.{call_model}
 use Rattle.portal_core.specs.Run.{Wish, Calls}
 use Rattle.portal_rolls.specs.declared.fault.RollFault.{RollFault}
 use Rattle.portal_rolls.specs.declared.fault.RollFault.TheVariants as fault
@@ -11,7 +11,7 @@ use Rattle.portal_wire.specs.declared.bodies.BodyFault.TheVariants as body
 use Rattle.portal_wire.specs.declared.calls.CallFault.{CallFault}
 use Rattle.portal_wire.specs.declared.calls.CallFault.TheVariants.{NoRoute, BadMethod, BadBody, BadRow, RollFull, Memory}
 use Rattle.portal_wire.specs.Routes.{allow_of}
-use Rattle.portal_wire.specs.Refusals.{no_route, bad_method, bad_body, bad_row, roll_full, no_memory}
+use Rattle.portal_wire.specs.Refusals.{no_route, bad_method, bad_body, bad_row, roll_full_reply, no_memory}
 use Rattle.portal_wire.specs.Wish.{turned_away}
 
 abbrev pub told_by : CallFault → Refuses
@@ -19,14 +19,14 @@ told_by NoRoute = no_route
 told_by (BadMethod at) = bad_method (allow_of at)
 told_by BadBody = bad_body
 told_by (BadRow row) = bad_row row
-told_by RollFull = roll_full
+told_by RollFull = roll_full_reply
 told_by Memory = no_memory
 
 -- the call, or why there is none; want of memory may be answered in place of both
-abbrev pub Wants : Wish → Result Call CallFault → Type 0
-Wants wish (Ok call) = wish ≡ Calls (asked call)
-Wants wish (Err Memory) = Unit {0}
-Wants wish (Err why) = wish ≡ turned_away (told_by why)
+abbrev pub IsCallOf : Wish → Result Call CallFault → Type 0
+IsCallOf wish (Ok call) = wish ≡ Calls (call_model call)
+IsCallOf wish (Err Memory) = Unit {0}
+IsCallOf wish (Err why) = wish ≡ turned_away (told_by why)
 
 -- why the fault of a body makes no call
 abbrev pub of_body : BodyFault → CallFault

@@ -77,13 +77,13 @@ told_in [] = []
 told_in (e ∷ es) = e.reply ∷ told_in es
 
 -- the text of a reply
-abbrev pub text_of : Exchange → List ℕ
-text_of e = reply_text e.reply e.request.head e.request.closes
+abbrev pub exchange_text : Exchange → List ℕ
+exchange_text e = reply_text e.reply e.request.head e.request.closes
 
 -- of one reply after another
 abbrev pub text : List Exchange → List ℕ
 text [] = []
-text (e ∷ es) = text_of e ++ text es
+text (e ∷ es) = exchange_text e ++ text es
 
 -- the exchanges are a run, which ends in this world
 abbrev pub Reaches : World → List Exchange → World → Type 0

@@ -20,8 +20,8 @@ bad_body = plain 400 (codes "bad_body")
 abbrev pub bad_row : ℕ → Refuses
 bad_row row = record { status = 422; word = codes "bad_row"; allow = []; row = Some row }
 
-abbrev pub roll_full : Refuses
-roll_full = plain 422 (codes "roll_full")
+abbrev pub roll_full_reply : Refuses
+roll_full_reply = plain 422 (codes "roll_full_reply")
 
 abbrev pub no_memory : Refuses
 no_memory = plain 503 (codes "unavailable")

@@ -64,8 +64,8 @@ own_rows = map row_of (
     (codes "/result", route.Outcome) ∷
     [])
 
-unfoldable pub roll_rows : RowsOf (RouteOf Route)
-roll_rows = map row_of (
+unfoldable pub roll_route_rows : RowsOf (RouteOf Route)
+roll_route_rows = map row_of (
     (codes "/applicants", route.Applicants) ∷
     (codes "/catalogue", route.Catalogue) ∷
     (codes "/choices", route.Choices) ∷

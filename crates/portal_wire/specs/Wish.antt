@@ -1,6 +1,6 @@
 -- What a request wants, by its route, its method and its body.
 use Rattle.std.specs.Prelude.{ℕ, List, codes, Option, Some, None, Result, Ok, Err}
-use Rattle.portal_core.specs.Ask.{Ask}
+use Rattle.portal_core.specs.AbstractCall.{AbstractCall}
 use Rattle.portal_core.specs.declared.phase.Phase.{Phase}
 use Rattle.portal_core.specs.declared.phase.Round.{Round}
 use Rattle.portal_core.specs.Run.{Wish, Calls, Refused}
@@ -15,14 +15,14 @@ use Rattle.portal_wire.specs.declared.methods.Method.TheVariants.{Get, Head, Put
 use Rattle.portal_wire.specs.Method.{method_of}
 use Rattle.portal_wire.specs.Routes.{route_at, allow_of}
 use Rattle.portal_wire.specs.Bodies.{listed_in, move_in, nothing_in}
-use Rattle.portal_wire.specs.Refusals.{no_route, bad_method, bad_body, bad_row, roll_full, no_memory, answer_to}
+use Rattle.portal_wire.specs.Refusals.{no_route, bad_method, bad_body, bad_row, roll_full_reply, no_memory, answer_to}
 
 -- no call: the request is refused
 abbrev pub turned_away : Refuses → Wish
 turned_away why = Refused (answer_to why)
 
 -- what a JSON body asks, where it has its form
-abbrev pub by_body : {X : Type 0} → (X → Ask) → Option X → Wish
+abbrev pub by_body : {X : Type 0} → (X → AbstractCall) → Option X → Wish
 by_body ask (Some x) = Calls (ask x)
 by_body ask None = turned_away bad_body
 
@@ -33,11 +33,11 @@ roll_refusal fault.BadHeader = bad_body
 roll_refusal (fault.FieldCount row) = bad_row row
 roll_refusal (fault.NotText row) = bad_row row
 roll_refusal (fault.BadField row column) = bad_row row
-roll_refusal fault.TooMany = roll_full
+roll_refusal fault.TooMany = roll_full_reply
 roll_refusal fault.Memory = no_memory
 
 -- what a roll asks, where it has no fault
-abbrev pub by_roll : {X : Type 0} → (List X → Ask) → Result (List X) RollFault → Wish
+abbrev pub by_roll : {X : Type 0} → (List X → AbstractCall) → Result (List X) RollFault → Wish
 by_roll ask (Ok rows) = Calls (ask rows)
 by_roll ask (Err fault) = turned_away (roll_refusal fault)
 
@@ -47,34 +47,34 @@ wrong_method at = turned_away (bad_method (allow_of at))
 
 -- what GET and HEAD ask
 abbrev pub get_at : Route → Wish
-get_at route.Me = Calls Ask.Me
-get_at route.Catalogue = Calls Ask.Catalogue
-get_at route.Choices = Calls Ask.ShowChoices
-get_at route.Applicants = Calls Ask.Applicants
-get_at route.Ranking = Calls Ask.ShowRanking
-get_at route.Outcome = Calls Ask.Result
-get_at route.Status = Calls Ask.Status
-get_at route.Allocation = Calls Ask.Allocation
-get_at route.AllocationCsv = Calls Ask.AllocationCsv
-get_at route.Report = Calls Ask.Report
+get_at route.Me = Calls AbstractCall.Me
+get_at route.Catalogue = Calls AbstractCall.Catalogue
+get_at route.Choices = Calls AbstractCall.ShowChoices
+get_at route.Applicants = Calls AbstractCall.Applicants
+get_at route.Ranking = Calls AbstractCall.ShowRanking
+get_at route.Outcome = Calls AbstractCall.Result
+get_at route.Status = Calls AbstractCall.Status
+get_at route.Allocation = Calls AbstractCall.Allocation
+get_at route.AllocationCsv = Calls AbstractCall.AllocationCsv
+get_at route.Report = Calls AbstractCall.Report
 get_at at = wrong_method at
 
 -- what PUT asks
 abbrev pub put_at : Route → List ℕ → Wish
-put_at route.Choices body = by_body Ask.SetChoices (listed_in (codes "projects") body)
-put_at route.Ranking body = by_body Ask.SetRanking (listed_in (codes "students") body)
+put_at route.Choices body = by_body AbstractCall.SetChoices (listed_in (codes "projects") body)
+put_at route.Ranking body = by_body AbstractCall.SetRanking (listed_in (codes "students") body)
 put_at at body = wrong_method at
 
-abbrev pub to_move : Phase × Option Round → Ask
-to_move m = Ask.Move m.0 m.1
+abbrev pub to_move : Phase × Option Round → AbstractCall
+to_move m = AbstractCall.Move m.0 m.1
 
 -- what POST asks
 abbrev pub post_at : Route → List ℕ → Wish
-post_at route.Lecturers body = by_roll Ask.AddLecturers (lecturers body)
-post_at route.Projects body = by_roll Ask.AddProjects (projects body)
-post_at route.Students body = by_roll Ask.AddStudents (students body)
+post_at route.Lecturers body = by_roll AbstractCall.AddLecturers (lecturers body)
+post_at route.Projects body = by_roll AbstractCall.AddProjects (projects body)
+post_at route.Students body = by_roll AbstractCall.AddStudents (students body)
 post_at route.Phase body = by_body to_move (move_in body)
-post_at route.Fill body = by_body (λ u. Ask.FillRankings) (nothing_in body)
+post_at route.Fill body = by_body (λ u. AbstractCall.FillRankings) (nothing_in body)
 post_at at body = wrong_method at
 
 abbrev pub wish_at : Method → Route → List ℕ → Wish

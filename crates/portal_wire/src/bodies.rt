@@ -2,7 +2,7 @@
 
 ghost use Rattle.std.specs.Prelude.{◌≡◌, map, option_map};
 ghost use Rattle.serde_json.specs.View.{view, items_view};
-ghost use Rattle.portal_wire.specs.Bodies.{json_in, member_among, item_texts, texts_in, phase_of, phase_named, round_named, phase_among, phase_and_round, move_named, empty_object, listed_in, move_in, nothing_in, Gives};
+ghost use Rattle.portal_wire.specs.Bodies.{json_in, member_among, item_texts, texts_in, phase_of, phase_named, round_named, phase_among, phase_and_round, move_named, empty_object, listed_in, move_in, nothing_in, GivesBody};
 ghost use Rattle.portal_wire.specs.declared.bodies.BodyFault.TheVariants.{Memory as OutOfMemory};
 
 use portal_core::{Phase, Round};
@@ -37,7 +37,7 @@ impl<T: Drop> From<AllocFailed<T>> for BodyFault {
 
 /// The JSON that a body is.
 fn json_of(alloc: Global, body: &[u8]) -> Result<Value, BodyFault>
-    ensures { Gives view result (json_in body.now) }
+    ensures { GivesBody view result (json_in body.now) }
 {
     let Ok(text) = str::from_utf8(body) else {
         return Err(BodyFault::Bad);
@@ -69,7 +69,7 @@ fn member_among<'a>(value: &'a Value, count: usize, name: &str) -> Option<&'a Va
 
 /// A copy of the text of each value.
 fn texts_of(alloc: Global, values: &[Value]) -> Result<Vec<Vec<u8>>, BodyFault>
-    ensures { Gives (λ ts. map (λ t. t.items) ts.items) result
+    ensures { GivesBody (λ ts. map (λ t. t.items) ts.items) result
         (item_texts (items_view values.now)) }
 {
     let mut texts = Vec::new(alloc);
@@ -84,7 +84,7 @@ fn texts_of(alloc: Global, values: &[Value]) -> Result<Vec<Vec<u8>>, BodyFault>
 
 /// The texts of an array.
 fn array_texts(alloc: Global, value: &Value) -> Result<Vec<Vec<u8>>, BodyFault>
-    ensures { Gives (λ ts. map (λ t. t.items) ts.items) result (texts_in (view value.now)) }
+    ensures { GivesBody (λ ts. map (λ t. t.items) ts.items) result (texts_in (view value.now)) }
 {
     let Value::Array(values) = value else {
         return Err(BodyFault::Bad);
@@ -94,7 +94,7 @@ fn array_texts(alloc: Global, value: &Value) -> Result<Vec<Vec<u8>>, BodyFault>
 
 /// The texts that a body lists under a name, and nothing else.
 pub(crate) fn read_list(alloc: Global, body: &[u8], name: &str) -> Result<Vec<Vec<u8>>, BodyFault>
-    ensures { Gives (λ ts. map (λ t. t.items) ts.items) result (listed_in name.now body.now) }
+    ensures { GivesBody (λ ts. map (λ t. t.items) ts.items) result (listed_in name.now body.now) }
 {
     let value = json_of(alloc, body)?;
     match member_among(&value, 1, name) {
@@ -159,7 +159,7 @@ fn named_move(value: &Value) -> Option<(Phase, Option<Round>)>
 
 /// The move that a body names: a phase, and perhaps a round, and nothing else.
 pub(crate) fn read_move(alloc: Global, body: &[u8]) -> Result<(Phase, Option<Round>), BodyFault>
-    ensures { Gives (λ m. m) result (move_in body.now) }
+    ensures { GivesBody (λ m. m) result (move_in body.now) }
 {
     let value = json_of(alloc, body)?;
     match named_move(&value) {
@@ -170,7 +170,7 @@ pub(crate) fn read_move(alloc: Global, body: &[u8]) -> Result<(Phase, Option<Rou
 
 /// That a value is an object without members.
 fn no_member(value: &Value) -> Result<(), BodyFault>
-    ensures { Gives (λ u. u) result (empty_object (view value.now)) }
+    ensures { GivesBody (λ u. u) result (empty_object (view value.now)) }
 {
     let Value::Object(members) = value else {
         return Err(BodyFault::Bad);
@@ -183,7 +183,7 @@ fn no_member(value: &Value) -> Result<(), BodyFault>
 
 /// That a body is an object without members.
 pub(crate) fn read_empty(alloc: Global, body: &[u8]) -> Result<(), BodyFault>
-    ensures { Gives (λ u. u) result (nothing_in body.now) }
+    ensures { GivesBody (λ u. u) result (nothing_in body.now) }
 {
     let value = json_of(alloc, body)?;
     no_member(&value)

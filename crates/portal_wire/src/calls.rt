@@ -1,17 +1,17 @@
 //! The call that a request makes.
 
 ghost use Rattle.std.specs.Prelude.{◌≡◌, ◌⊎◌, None, IfOk, IfErr};
-ghost use Rattle.portal_core.specs.Meaning.{asked};
+ghost use Rattle.portal_core.specs.Meaning.{call_model};
 ghost use Rattle.portal_core.specs.Run.{HasForm, Calls};
 ghost use Rattle.portal_rolls.specs.Rolls as roll;
 ghost use Rattle.portal_frame.specs.Stream as stream;
 ghost use Rattle.portal_frame.specs.Stream.{seen, refused};
-ghost use Rattle.portal_core.specs.Ask.{Ask};
+ghost use Rattle.portal_core.specs.AbstractCall.{AbstractCall};
 ghost use Rattle.portal_wire.specs.declared.calls.CallFault.TheVariants as why;
 ghost use Rattle.portal_wire.specs.Refusals.{no_memory};
 ghost use Rattle.portal_wire.specs.Wish.{turned_away, get_at, put_at, post_at, to_move, wish_at, wish_of, by_body, by_roll};
 ghost use Rattle.portal_wire.specs.Bodies.{move_in, nothing_in};
-ghost use Rattle.portal_wire.specs.Calls.{Wants, told_by, of_body, of_roll};
+ghost use Rattle.portal_wire.specs.Calls.{IsCallOf, told_by, of_body, of_roll};
 
 use crate::bodies::{BodyFault, read_empty, read_list, read_move};
 use crate::methods::{Method, method_in};
@@ -84,8 +84,8 @@ impl From<RollFault> for CallFault {
 
 /// The call of GET and HEAD.
 fn get_call(route: Route) -> Result<Call, CallFault>
-    ensures wish { Wants (get_at route) result }
-    ensures form { IfOk result (λ call. HasForm (asked call)) }
+    ensures wish { IsCallOf (get_at route) result }
+    ensures form { IfOk result (λ call. HasForm (call_model call)) }
 {
     match route {
         Route::Me => Ok(Call::Me),
@@ -104,8 +104,8 @@ fn get_call(route: Route) -> Result<Call, CallFault>
 
 /// The call of PUT.
 fn put_call(alloc: Global, route: Route, body: &[u8]) -> Result<Call, CallFault>
-    ensures wish { Wants (put_at route body.now) result }
-    ensures form { IfOk result (λ call. HasForm (asked call)) }
+    ensures wish { IsCallOf (put_at route body.now) result }
+    ensures form { IfOk result (λ call. HasForm (call_model call)) }
 {
     match route {
         Route::Choices => Ok(Call::SetChoices(read_list(alloc, body, "projects")?)),
@@ -116,8 +116,8 @@ fn put_call(alloc: Global, route: Route, body: &[u8]) -> Result<Call, CallFault>
 
 /// A move to the phase that a body names, of the round that it names or of the current one.
 fn move_call(alloc: Global, body: &[u8]) -> Result<Call, CallFault>
-    ensures wish { Wants (by_body to_move (move_in body.now)) result }
-    ensures form { IfOk result (λ call. HasForm (asked call)) }
+    ensures wish { IsCallOf (by_body to_move (move_in body.now)) result }
+    ensures form { IfOk result (λ call. HasForm (call_model call)) }
 {
     let (phase, round) = read_move(alloc, body)?;
     Ok(Call::Move { phase, round })
@@ -125,8 +125,8 @@ fn move_call(alloc: Global, body: &[u8]) -> Result<Call, CallFault>
 
 /// The filling of missing rankings, by a body that says nothing.
 fn fill_call(alloc: Global, body: &[u8]) -> Result<Call, CallFault>
-    ensures wish { Wants (by_body (λ u. Ask.FillRankings) (nothing_in body.now)) result }
-    ensures form { IfOk result (λ call. HasForm (asked call)) }
+    ensures wish { IsCallOf (by_body (λ u. AbstractCall.FillRankings) (nothing_in body.now)) result }
+    ensures form { IfOk result (λ call. HasForm (call_model call)) }
 {
     read_empty(alloc, body)?;
     Ok(Call::FillRankings)
@@ -134,32 +134,32 @@ fn fill_call(alloc: Global, body: &[u8]) -> Result<Call, CallFault>
 
 /// The lecturers of a roll.
 fn add_lecturers(alloc: Global, body: &[u8]) -> Result<Call, CallFault>
-    ensures wish { Wants (by_roll Ask.AddLecturers (roll.lecturers body.now)) result }
-    ensures form { IfOk result (λ call. HasForm (asked call)) }
+    ensures wish { IsCallOf (by_roll AbstractCall.AddLecturers (roll.lecturers body.now)) result }
+    ensures form { IfOk result (λ call. HasForm (call_model call)) }
 {
     Ok(Call::AddLecturers(read_lecturers(alloc, body)?))
 }
 
 /// The projects of a roll.
 fn add_projects(alloc: Global, body: &[u8]) -> Result<Call, CallFault>
-    ensures wish { Wants (by_roll Ask.AddProjects (roll.projects body.now)) result }
-    ensures form { IfOk result (λ call. HasForm (asked call)) }
+    ensures wish { IsCallOf (by_roll AbstractCall.AddProjects (roll.projects body.now)) result }
+    ensures form { IfOk result (λ call. HasForm (call_model call)) }
 {
     Ok(Call::AddProjects(read_projects(alloc, body)?))
 }
 
 /// The students of a roll.
 fn add_students(alloc: Global, body: &[u8]) -> Result<Call, CallFault>
-    ensures wish { Wants (by_roll Ask.AddStudents (roll.students body.now)) result }
-    ensures form { IfOk result (λ call. HasForm (asked call)) }
+    ensures wish { IsCallOf (by_roll AbstractCall.AddStudents (roll.students body.now)) result }
+    ensures form { IfOk result (λ call. HasForm (call_model call)) }
 {
     Ok(Call::AddStudents(read_students(alloc, body)?))
 }
 
 /// The call of POST.
 fn post_call(alloc: Global, route: Route, body: &[u8]) -> Result<Call, CallFault>
-    ensures wish { Wants (post_at route body.now) result }
-    ensures form { IfOk result (λ call. HasForm (asked call)) }
+    ensures wish { IsCallOf (post_at route body.now) result }
+    ensures form { IfOk result (λ call. HasForm (call_model call)) }
 {
     match route {
         Route::Lecturers => add_lecturers(alloc, body),
@@ -173,8 +173,8 @@ fn post_call(alloc: Global, route: Route, body: &[u8]) -> Result<Call, CallFault
 
 /// The call of a method at a route.
 fn call_at(alloc: Global, method: Method, route: Route, body: &[u8]) -> Result<Call, CallFault>
-    ensures wish { Wants (wish_at method route body.now) result }
-    ensures form { IfOk result (λ call. HasForm (asked call)) }
+    ensures wish { IsCallOf (wish_at method route body.now) result }
+    ensures form { IfOk result (λ call. HasForm (call_model call)) }
 {
     match method {
         Method::Get | Method::Head => get_call(route),
@@ -186,8 +186,8 @@ fn call_at(alloc: Global, method: Method, route: Route, body: &[u8]) -> Result<C
 
 /// The call that a request makes, or why it makes none.
 fn routed_call(alloc: Global, request: &Request) -> Result<Call, CallFault>
-    ensures wish { Wants (wish_of (seen request.now)) result }
-    ensures form { IfOk result (λ call. HasForm (asked call)) }
+    ensures wish { IsCallOf (wish_of (seen request.now)) result }
+    ensures form { IfOk result (λ call. HasForm (call_model call)) }
 {
     let Some(route) = route_in(alloc, request.path.as_slice())? else {
         return Err(CallFault::NoRoute);
@@ -247,8 +247,8 @@ fn copied(alloc: Global, bytes: &[u8]) -> Result<Vec<u8>, AllocError>
 /// that memory ran out.
 pub fn call_of(alloc: Global, request: &Request) -> Result<(Vec<u8>, Call), Refusal>
     ensures code { IfOk result (λ found. found.0.items ≡ request.now.code.items) }
-    ensures wish { IfOk result (λ found. wish_of (seen request.now) ≡ Calls (asked found.1)) }
-    ensures form { IfOk result (λ found. HasForm (asked found.1)) }
+    ensures wish { IfOk result (λ found. wish_of (seen request.now) ≡ Calls (call_model found.1)) }
+    ensures form { IfOk result (λ found. HasForm (call_model found.1)) }
     ensures refused { IfErr result (λ refusal. (refused refusal ≡ no_memory)
         ⊎ (wish_of (seen request.now) ≡ turned_away (refused refusal))) }
 {

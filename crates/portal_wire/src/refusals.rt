@@ -2,8 +2,8 @@
 
 ghost use Rattle.std.specs.Prelude.{◌≡◌, IfOk};
 ghost use Rattle.serde_json.specs.View.{view};
-ghost use Rattle.portal_core.specs.Answer.{IsWhole};
-ghost use Rattle.portal_core.specs.Meaning.{told, said};
+ghost use Rattle.portal_core.specs.Answer.{HasWholeNumbers};
+ghost use Rattle.portal_core.specs.Meaning.{reply_model, body_model};
 ghost use Rattle.portal_frame.specs.Stream.{refused};
 ghost use Rattle.portal_wire.specs.Refusals.{answer_to, fault_body};
 
@@ -28,8 +28,8 @@ fn told_fault(alloc: Global, word: &str, row: Option<u32>) -> Result<Value, Allo
 ///
 /// Memory ran out.
 pub fn reply_of(alloc: Global, refusal: &Refusal) -> Result<Reply, AllocError>
-    ensures reply { IfOk result (λ reply. told reply ≡ answer_to (refused refusal.now)) }
-    ensures whole { IfOk result (λ reply. IsWhole (said reply.body)) }
+    ensures reply { IfOk result (λ reply. reply_model reply ≡ answer_to (refused refusal.now)) }
+    ensures whole { IfOk result (λ reply. HasWholeNumbers (body_model reply.body)) }
 {
     if refusal.status == 503 {
         return Ok(Reply::unavailable());

@@ -1,9 +1,9 @@
 //! The bytes of a reply.
 
 ghost use Rattle.std.specs.Prelude.{◌≡◌, IfOk, OnOk, ◌++◌, string_bytes};
-ghost use Rattle.portal_core.specs.Answer.{IsWhole};
-ghost use Rattle.portal_core.specs.Meaning.{told, said};
-ghost use Rattle.portal_wire.specs.Text.{reply_text, phrase_of, type_of, body_bytes, head_lines, common_lines, allow_line, close_line};
+ghost use Rattle.portal_core.specs.Answer.{HasWholeNumbers};
+ghost use Rattle.portal_core.specs.Meaning.{reply_model, body_model};
+ghost use Rattle.portal_wire.specs.Text.{reply_text, phrase_of, type_of, body_bytes, reply_lines, common_lines, allow_line, close_line};
 
 use http::StatusCode;
 use portal_core::{Body, Reply};
@@ -39,7 +39,7 @@ fn phrase(status: u16) -> &'static str
 
 /// The content type of a body.
 fn content_type(body: &Body) -> &'static str
-    ensures { result.now ≡ type_of (said body.now) }
+    ensures { result.now ≡ type_of (body_model body.now) }
 {
     match body {
         Body::Json(_) => "application/json",
@@ -51,7 +51,7 @@ fn content_type(body: &Body) -> &'static str
 
 /// The bytes of the body that says that memory or the store failed.
 fn unavailable_bytes(alloc: Global) -> Result<Vec<u8>, AllocError>
-    ensures { IfOk result (λ bytes. bytes.items ≡ body_bytes (said Body.Unavailable)) }
+    ensures { IfOk result (λ bytes. bytes.items ≡ body_bytes (body_model Body.Unavailable)) }
 {
     Vec::from_slice(alloc, b"{\"error\":\"unavailable\"}")
 }
@@ -65,8 +65,8 @@ fn copied(alloc: Global, bytes: &[u8]) -> Result<Vec<u8>, AllocError>
 
 /// The bytes of a body.
 fn bytes_of(alloc: Global, body: &Body) -> Result<Vec<u8>, AllocError>
-    ensures { IfOk result (λ bytes. IsWhole (said body.now)
-        → bytes.items ≡ body_bytes (said body.now)) }
+    ensures { IfOk result (λ bytes. HasWholeNumbers (body_model body.now)
+        → bytes.items ≡ body_bytes (body_model body.now)) }
 {
     match body {
         Body::Json(value) => value.to_vec(alloc),
@@ -79,7 +79,7 @@ fn bytes_of(alloc: Global, body: &Body) -> Result<Vec<u8>, AllocError>
 /// The status line and the lines that each reply has.
 fn first_lines(alloc: Global, reply: &Reply, length: usize) -> Result<String, AllocError>
     ensures { IfOk result (λ text. string_bytes text
-        ≡ common_lines reply.now.status (said reply.now.body) length) }
+        ≡ common_lines reply.now.status (body_model reply.now.body) length) }
 {
     let status = status_number(reply.status);
     let phrase = phrase(reply.status);
@@ -114,7 +114,7 @@ fn push_close(text: &mut String, close: bool) -> Result<(), AllocError>
 
 /// The lines of a reply, with the empty line after them.
 fn head_text(alloc: Global, reply: &Reply, length: usize, close: bool) -> Result<String, AllocError>
-    ensures { IfOk result (λ text. string_bytes text ≡ head_lines (told reply.now) length close) }
+    ensures { IfOk result (λ text. string_bytes text ≡ reply_lines (reply_model reply.now) length close) }
 {
     let mut text = first_lines(alloc, reply, length)?;
     push_allow(&mut text, reply.allow)?;
@@ -135,8 +135,8 @@ pub fn reply_bytes(
     head_only: bool,
     close: bool,
 ) -> Result<Vec<u8>, AllocError>
-    ensures { IfOk result (λ bytes. IsWhole (said reply.now.body)
-        → bytes.items ≡ reply_text (told reply.now) head_only close) }
+    ensures { IfOk result (λ bytes. HasWholeNumbers (body_model reply.now.body)
+        → bytes.items ≡ reply_text (reply_model reply.now) head_only close) }
 {
     let body = bytes_of(alloc, &reply.body)?;
     let mut bytes = head_text(alloc, reply, body.len(), close)?.into_bytes();

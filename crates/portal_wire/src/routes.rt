@@ -2,7 +2,7 @@
 
 ghost use Rattle.std.specs.Prelude.{◌≡◌, IfOk, option_map};
 ghost use Rattle.matchit.specs.Seek.{first};
-ghost use Rattle.portal_wire.specs.Routes.{the_rows, own_rows, roll_rows, route_at, allow_of};
+ghost use Rattle.portal_wire.specs.Routes.{the_rows, own_rows, roll_route_rows, route_at, allow_of};
 
 use matchit::{InsertError, Router};
 use std::alloc::Global;
@@ -45,7 +45,7 @@ fn own_routes(alloc: Global) -> Result<Router<Route>, InsertError>
 
 /// These, and those by which the office fills the rolls and moves the round.
 fn roll_routes(alloc: Global) -> Result<Router<Route>, InsertError>
-    ensures { IfOk result (λ router. router ≡ roll_rows) }
+    ensures { IfOk result (λ router. router ≡ roll_route_rows) }
 {
     let mut router = own_routes(alloc)?;
     router.insert("/rolls/lecturers", Route::Lecturers)?;

@@ -6,7 +6,7 @@ use portal_tables::list_table::Lists;
 use portal_tables::names::{Names, is_there};
 use portal_tables::select::{Query, Roll, Table, read, read_rows};
 use portal_tables::{
-    FIRST_VERSION, Pattern, TableFault, VERSION, are_apart, office_in, put_list, put_places,
+    FIRST_VERSION, PortalSchema, TableFault, VERSION, row_numbers_differ, office_in, put_list, put_placements,
     rank_second, result_in, second_in, set_second, upgrade_tables,
 };
 use portal_views::{catalogue_in, lecturer_view};
@@ -59,7 +59,7 @@ fn is_upgraded(rt: &(impl Abort + AllocGlobal), conn: &mut Connection<MemStore>)
 
 #[test]
 fn version_1_is_upgraded(rt: HostRuntime) -> Result<(), Fail> {
-    let pattern = Pattern::new(rt.alloc())?;
+    let pattern = PortalSchema::new(rt.alloc())?;
     let mut conn = of_version_1(
         &rt,
         "CREATE TABLE choice (student TEXT NOT NULL REFERENCES student (key), place INTEGER NOT NULL, project TEXT NOT NULL REFERENCES project (key), PRIMARY KEY (student, place), UNIQUE (project, student)) STRICT",
@@ -72,7 +72,7 @@ fn version_1_is_upgraded(rt: HostRuntime) -> Result<(), Fail> {
 
 #[test]
 fn the_order_in_a_rule_is_free(rt: HostRuntime) -> Result<(), Fail> {
-    let pattern = Pattern::new(rt.alloc())?;
+    let pattern = PortalSchema::new(rt.alloc())?;
     let mut conn = of_version_1(
         &rt,
         "CREATE TABLE choice (student TEXT NOT NULL REFERENCES student (key), place INTEGER NOT NULL, project TEXT NOT NULL REFERENCES project (key), PRIMARY KEY (student, place), UNIQUE (student, project)) STRICT",
@@ -154,7 +154,7 @@ fn the_second_round_is_written(rt: HostRuntime) {
         Table::OfPlaces,
     ];
     for table in tables {
-        assert!(rt; are_apart(&mut conn, table).expect(&rt, "numbers"));
+        assert!(rt; row_numbers_differ(&mut conn, table).expect(&rt, "numbers"));
     }
 }
 
@@ -179,7 +179,7 @@ fn write_places(
         return Ok(());
     }
     let mut tx = conn.transaction();
-    put_places(alloc, &mut tx, pairs)?;
+    put_placements(alloc, &mut tx, pairs)?;
     tx.commit()
 }
 
@@ -193,7 +193,7 @@ fn the_second_result_is_put(rt: HostRuntime) {
     write_places(&mut conn, rt.alloc(), &both).expect(&rt, "rows");
     shows(
         &rt,
-        read(&mut conn, Query::SecondPlaces),
+        read(&mut conn, Query::SecondPlacements),
         2,
         "S1 P1 /S2 P2 /",
     );
@@ -205,7 +205,7 @@ fn the_second_result_is_put(rt: HostRuntime) {
         2,
         "",
     );
-    shows(&rt, read(&mut conn, Query::SecondPlaces), 2, "S2 P2 /");
+    shows(&rt, read(&mut conn, Query::SecondPlacements), 2, "S2 P2 /");
 }
 
 /// What Lee sees in the round, published, with the catalogue of the tables.

@@ -6,7 +6,7 @@ use portal_tables::list_table::Lists;
 use portal_tables::select::{Query, Roll, Table, finds_any, read, read_each, read_rows};
 use portal_tables::update::{set_phase, set_ranked};
 use portal_tables::{
-    Assignment, Pattern, TableFault, are_apart, assign_all, clear_list, create_portal, entries_in,
+    Assignment, PortalSchema, TableFault, row_numbers_differ, assign_all, clear_list, create_portal, entries_in,
     put_list,
 };
 use portal_views::Line;
@@ -224,16 +224,16 @@ pub(crate) fn change(conn: &mut Connection<MemStore>) -> Result<(), Error> {
 
 fn are_rolls_apart(conn: &mut Connection<MemStore>) -> Result<bool, Error> {
     Ok(
-        are_apart(conn, Table::OfRoll(Roll::Lecturers))?
-            && are_apart(conn, Table::OfRoll(Roll::Projects))?
-            && are_apart(conn, Table::OfRoll(Roll::Students))?,
+        row_numbers_differ(conn, Table::OfRoll(Roll::Lecturers))?
+            && row_numbers_differ(conn, Table::OfRoll(Roll::Projects))?
+            && row_numbers_differ(conn, Table::OfRoll(Roll::Students))?,
     )
 }
 
 fn are_lists_apart(conn: &mut Connection<MemStore>) -> Result<bool, Error> {
     Ok(
-        are_apart(conn, Table::OfLists(Lists::Choices))?
-            && are_apart(conn, Table::OfLists(Lists::Rankings))?,
+        row_numbers_differ(conn, Table::OfLists(Lists::Choices))?
+            && row_numbers_differ(conn, Table::OfLists(Lists::Rankings))?,
     )
 }
 
@@ -418,7 +418,7 @@ fn students_are_assigned(rt: HostRuntime) -> Result<(), Fail> {
 #[test]
 fn own_tables_are_told(rt: HostRuntime) -> Result<(), Fail> {
     let mut conn = Connection::open_in_memory(rt.alloc())?;
-    let pattern = Pattern::new(rt.alloc())?;
+    let pattern = PortalSchema::new(rt.alloc())?;
     assert!(rt; !pattern.fits(&conn));
     assert!(rt; creates(&rt, &mut conn));
     assert!(rt; pattern.fits(&conn));

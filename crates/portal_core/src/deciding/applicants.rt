@@ -4,7 +4,7 @@ ghost use Rattle.std.specs.Prelude.{◌≡◌, ◌||◌, Bool, true, false, not,
 ghost use Rattle.std.specs.List.{list_any};
 ghost use Rattle.std.specs.HashSet.{contains_by};
 ghost use Rattle.portal_core.specs.Words as words;
-ghost use Rattle.portal_core.specs.Words.{is};
+ghost use Rattle.portal_core.specs.Words.{equals};
 ghost use Rattle.portal_core.specs.Faults as fault;
 ghost use Rattle.portal_core.specs.Faults.{is_applicant};
 ghost use Rattle.portal_core.specs.Meaning.{by_project};
@@ -44,7 +44,7 @@ fn add_persons<'a>(
     persons: &'a [Person],
 ) -> Result<(), AllocError>
     ensures { OnOk result ((known : words.Key → Bool) → HasKeys known keys.old
-        → HasKeys (λ k. known k || list_any (λ s. is s.key k) persons.now) keys.new) }
+        → HasKeys (λ k. known k || list_any (λ s. equals s.key k) persons.now) keys.new) }
 {
     for person in persons {
         keys.insert(person.key.as_bytes(), &person.key)?;
@@ -55,7 +55,7 @@ fn add_persons<'a>(
 /// Whether some person is not among these.
 fn leaves_out(keys: &HashSet<&[u8]>, persons: &[Person]) -> bool
     ensures { result ≡ list_any
-        (λ s. not (contains_by (λ k. is s.key k.now) keys.now)) persons.now }
+        (λ s. not (contains_by (λ k. equals s.key k.now) keys.now)) persons.now }
 {
     persons
         .iter()

@@ -8,10 +8,10 @@ ghost use Rattle.portal_core.specs.Json.{dictionary, several, texts_or_null};
 ghost use Rattle.portal_core.specs.Bodies as shown;
 ghost use Rattle.portal_core.specs.Faults.{ranking_fault};
 ghost use Rattle.portal_core.specs.Change as change;
-ghost use Rattle.portal_core.specs.Ask.{Ask};
+ghost use Rattle.portal_core.specs.AbstractCall.{AbstractCall};
 ghost use Rattle.portal_core.specs.Answer as answer;
-ghost use Rattle.portal_core.specs.Answer.{unless, to_lecturer};
-ghost use Rattle.portal_core.specs.Meaning.{asked, texts_of, by_project, decided};
+ghost use Rattle.portal_core.specs.Answer.{unless_faulty, to_lecturer};
+ghost use Rattle.portal_core.specs.Meaning.{call_model, texts_of, by_project, decision_model};
 
 use crate::call::Call;
 use crate::deciding::bodies::{catalogue_body, persons_value, texts};
@@ -128,7 +128,7 @@ fn is_from_ranking(phase: Phase) -> bool
 
 /// A lecturer asks for the applicants.
 fn show_applicants(alloc: Global, view: &LecturerView) -> Result<Decision, AllocError>
-    ensures { IfOk result (λ decision. decided decision ≡ to_lecturer view.now Ask.Applicants) }
+    ensures { IfOk result (λ decision. decision_model decision ≡ to_lecturer view.now AbstractCall.Applicants) }
 {
     if is_from_ranking(view.phase) {
         Ok(shows(applicants_body(alloc, &view.applicants)?))
@@ -139,7 +139,7 @@ fn show_applicants(alloc: Global, view: &LecturerView) -> Result<Decision, Alloc
 
 /// A lecturer asks for the own ranking.
 fn show_ranking(alloc: Global, view: &LecturerView) -> Result<Decision, AllocError>
-    ensures { IfOk result (λ decision. decided decision ≡ to_lecturer view.now Ask.ShowRanking) }
+    ensures { IfOk result (λ decision. decision_model decision ≡ to_lecturer view.now AbstractCall.ShowRanking) }
 {
     if is_from_ranking(view.phase) {
         let students = ranking_value(alloc, &view.ranking)?;
@@ -155,7 +155,7 @@ fn replace_ranking(
     view: &LecturerView,
     students: Vec<Key>,
 ) -> Result<Decision, AllocError>
-    ensures { IfOk result (λ decision. decided decision
+    ensures { IfOk result (λ decision. decision_model decision
         ≡ answer.applies (shown.students_body (Some students.items))
         (change.Ranks view.now.me.key students.items)) }
 {
@@ -172,8 +172,8 @@ fn take_ranking(
     list: &[Vec<u8>],
 ) -> Result<Decision, AllocError>
     ensures { let texts = texts_of list.now in
-        IfOk result (λ decision. decided decision
-        ≡ unless (ranking_fault view.now.applicants 1 [] texts)
+        IfOk result (λ decision. decision_model decision
+        ≡ unless_faulty (ranking_fault view.now.applicants 1 [] texts)
         (answer.applies (shown.students_body (Some texts)) (change.Ranks view.now.me.key texts))) }
 {
     match checked_ranking(alloc, &view.applicants, list)? {
@@ -184,8 +184,8 @@ fn take_ranking(
 
 /// A lecturer hands in a ranking.
 fn set_ranking(alloc: Global, view: &LecturerView, list: &[Vec<u8>]) -> Result<Decision, AllocError>
-    ensures { IfOk result (λ decision. decided decision
-        ≡ to_lecturer view.now (Ask.SetRanking (texts_of list.now))) }
+    ensures { IfOk result (λ decision. decision_model decision
+        ≡ to_lecturer view.now (AbstractCall.SetRanking (texts_of list.now))) }
 {
     match view.phase {
         Phase::Ranking => take_ranking(alloc, view, list),
@@ -195,7 +195,7 @@ fn set_ranking(alloc: Global, view: &LecturerView, list: &[Vec<u8>]) -> Result<D
 
 /// A lecturer asks for the result.
 fn show_result(alloc: Global, view: &LecturerView) -> Result<Decision, AllocError>
-    ensures { IfOk result (λ decision. decided decision ≡ to_lecturer view.now Ask.Result) }
+    ensures { IfOk result (λ decision. decision_model decision ≡ to_lecturer view.now AbstractCall.Result) }
 {
     if view.round.has_result(view.phase) {
         Ok(shows(placed_body(alloc, &view.placed)?))
@@ -210,7 +210,7 @@ pub(crate) fn decide_lecturer(
     view: &LecturerView,
     call: &Call,
 ) -> Result<Decision, AllocError>
-    ensures { IfOk result (λ decision. decided decision ≡ to_lecturer view.now (asked call.now)) }
+    ensures { IfOk result (λ decision. decision_model decision ≡ to_lecturer view.now (call_model call.now)) }
 {
     match call {
         Call::Me => Ok(shows(me_body(alloc, view)?)),

@@ -12,9 +12,9 @@ ghost use Rattle.portal_core.specs.Bodies as shown;
 ghost use Rattle.portal_core.specs.Rolls as rolls;
 ghost use Rattle.portal_core.specs.Rolls.{Took};
 ghost use Rattle.portal_core.specs.Answer as answer;
-ghost use Rattle.portal_core.specs.Answer.{Nothing, Apply, only, row_fault, publishes, moves_on, opens, moves_in, moves, to_office, blank, emptied};
+ghost use Rattle.portal_core.specs.Answer.{Nothing, Apply, open_where, row_fault, publishes, moves_on, opens, moves_in, moves, to_office, blank, emptied};
 ghost use Rattle.portal_core.specs.Change.{Fill};
-ghost use Rattle.portal_core.specs.Meaning.{asked, told, does, decided};
+ghost use Rattle.portal_core.specs.Meaning.{call_model, reply_model, act_model, decision_model};
 
 use crate::call::Call;
 use crate::deciding::bodies::{catalogue_body, key_value, phase_body, texts};
@@ -199,7 +199,7 @@ fn allocation_body(alloc: Global, pairs: &[(Key, Key)]) -> Result<Value, AllocEr
 
 /// How a faulty row of a roll is refused.
 fn row_refusal(alloc: Global, fault: &RollFault) -> Result<Reply, AllocError>
-    ensures { IfOk result (λ reply. told reply
+    ensures { IfOk result (λ reply. reply_model reply
         ≡ row_fault fault.now.status fault.now.word fault.now.row) }
 {
     match fault.row {
@@ -220,7 +220,7 @@ fn roll_body(alloc: Global, new: usize, same: u64) -> Result<Value, AllocError>
 
 /// The new rows are added, where there are any.
 fn adds<X: Drop, R: Roll<X>>(roll: &R, new: Vec<X>) -> Act
-    ensures { does result ≡
+    ensures { act_model result ≡
         (if is_empty new.items then Nothing else Apply (R.changes roll.now new.items)) }
 {
     if new.is_empty() {
@@ -235,7 +235,7 @@ fn accepts<X: Drop, R: Roll<X>>(
     roll: &R,
     added: Added<X>,
 ) -> Result<Decision, AllocError>
-    ensures { IfOk result (λ decision. decided decision
+    ensures { IfOk result (λ decision. decision_model decision
         ≡ answer.added (R.changes roll.now) (Took added.new.items added.same)) }
 {
     let body = roll_body(alloc, added.new.len(), added.same)?;
@@ -263,8 +263,8 @@ fn add_rows<X: Drop, R: Roll<X>>(
     on_roll: &[X],
     rows: &[X],
 ) -> Result<Decision, AllocError>
-    ensures { IfOk result (λ decision. decided decision
-        ≡ only is_open
+    ensures { IfOk result (λ decision. decision_model decision
+        ≡ open_where is_open
         (answer.added (R.changes roll.now)
         (rolls.take_rows (R.rules roll.now) 1 on_roll.now rows.now))) }
 {
@@ -289,14 +289,14 @@ fn still_to_rank_body(alloc: Global, keys: &[Key]) -> Result<Value, AllocError>
 
 /// The refusal to publish while lecturers are still to rank.
 fn still_to_rank(alloc: Global, keys: &[Key]) -> Result<Reply, AllocError>
-    ensures { IfOk result (λ reply. told reply ≡ answer.still_to_rank keys.now) }
+    ensures { IfOk result (λ reply. reply_model reply ≡ answer.still_to_rank keys.now) }
 {
     Ok(json_reply(409, still_to_rank_body(alloc, keys)?))
 }
 
 /// Publishes, unless lecturers are still to rank. The result is in no reply.
 fn publish(alloc: Global, view: &OfficeView) -> Result<Decision, AllocError>
-    ensures { IfOk result (λ decision. decided decision ≡ publishes view.now) }
+    ensures { IfOk result (λ decision. decision_model decision ≡ publishes view.now) }
 {
     if !view.still_to_rank.is_empty() {
         return Ok(refuses(still_to_rank(alloc, &view.still_to_rank)?));
@@ -310,7 +310,7 @@ fn publish(alloc: Global, view: &OfficeView) -> Result<Decision, AllocError>
 
 /// Moves to the round's next phase, or to the current one, which changes nothing.
 fn move_on(alloc: Global, view: &OfficeView, phase: Phase) -> Result<Decision, AllocError>
-    ensures { IfOk result (λ decision. decided decision ≡ moves_on view.now view.now.phase phase) }
+    ensures { IfOk result (λ decision. decision_model decision ≡ moves_on view.now view.now.phase phase) }
 {
     match (view.phase, phase) {
         (Phase::Setup, Phase::Setup)
@@ -327,7 +327,7 @@ fn move_on(alloc: Global, view: &OfficeView, phase: Phase) -> Result<Decision, A
 
 /// Opens the second round, with choosing, once the first is published.
 fn open_second(alloc: Global, view: &OfficeView, phase: Phase) -> Result<Decision, AllocError>
-    ensures { IfOk result (λ decision. decided decision ≡ opens view.now.phase phase) }
+    ensures { IfOk result (λ decision. decision_model decision ≡ opens view.now.phase phase) }
 {
     match (view.phase, phase) {
         (Phase::Published, Phase::Choosing) => {
@@ -345,7 +345,7 @@ fn move_in(
     round: Round,
     phase: Phase,
 ) -> Result<Decision, AllocError>
-    ensures { IfOk result (λ decision. decided decision
+    ensures { IfOk result (λ decision. decision_model decision
         ≡ moves_in view.now view.now.round round phase) }
 {
     match (view.round, round) {
@@ -364,7 +364,7 @@ fn move_to(
     phase: Phase,
     round: Option<Round>,
 ) -> Result<Decision, AllocError>
-    ensures { IfOk result (λ decision. decided decision ≡ moves view.now phase round) }
+    ensures { IfOk result (λ decision. decision_model decision ≡ moves view.now phase round) }
 {
     match round {
         None => move_on(alloc, view, phase),
@@ -374,8 +374,8 @@ fn move_to(
 
 /// Shows the result, once one is there.
 fn allocation(alloc: Global, view: &OfficeView) -> Result<Decision, AllocError>
-    ensures { IfOk result (λ decision. decided decision
-        ≡ only (world.has_result view.now.round view.now.phase)
+    ensures { IfOk result (λ decision. decision_model decision
+        ≡ open_where (world.has_result view.now.round view.now.phase)
         (answer.shows (shown.allocation_body view.now.pairs))) }
 {
     if !view.round.has_result(view.phase) {
@@ -386,8 +386,8 @@ fn allocation(alloc: Global, view: &OfficeView) -> Result<Decision, AllocError>
 
 /// The result as a sheet, once a result is there; its text is still to be written.
 fn sheet(alloc: Global, view: &OfficeView, sheet: Sheet) -> Result<Decision, AllocError>
-    ensures { IfOk result (λ decision. decided decision
-        ≡ only (world.has_result view.now.round view.now.phase)
+    ensures { IfOk result (λ decision. decision_model decision
+        ≡ open_where (world.has_result view.now.round view.now.phase)
         (answer.renders (blank sheet) sheet)) }
 {
     if !view.round.has_result(view.phase) {
@@ -406,7 +406,7 @@ fn filled_body(alloc: Global, keys: &[Key]) -> Result<Value, AllocError>
 
 /// The missing rankings are made, where any is missing.
 fn fill_act(view: &OfficeView) -> Act
-    ensures { does result ≡ (if is_empty view.now.still_to_rank then Nothing else Apply Fill) }
+    ensures { act_model result ≡ (if is_empty view.now.still_to_rank then Nothing else Apply Fill) }
 {
     if view.still_to_rank.is_empty() {
         return Act::Nothing;
@@ -416,8 +416,8 @@ fn fill_act(view: &OfficeView) -> Act
 
 /// Fills the missing rankings, while the lecturers rank.
 fn fill_rankings(alloc: Global, view: &OfficeView) -> Result<Decision, AllocError>
-    ensures { IfOk result (λ decision. decided decision
-        ≡ only (is_ranking view.now.phase) (answer.fills view.now)) }
+    ensures { IfOk result (λ decision. decision_model decision
+        ≡ open_where (is_ranking view.now.phase) (answer.fills view.now)) }
 {
     if view.phase != Phase::Ranking {
         return wrong_phase(alloc);
@@ -435,8 +435,8 @@ pub(crate) fn decide_office(
     view: &OfficeView,
     call: &Call,
 ) -> Result<Decision, AllocError>
-    ensures { IfOk result (λ decision. decided decision
-        ≡ emptied (to_office view.now (asked call.now))) }
+    ensures { IfOk result (λ decision. decision_model decision
+        ≡ emptied (to_office view.now (call_model call.now))) }
 {
     let is_open = is_open_to_rolls(view.round, view.phase);
     match call {

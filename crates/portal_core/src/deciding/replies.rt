@@ -4,7 +4,7 @@ ghost use Rattle.std.specs.Prelude.{◌≡◌, codes, IfOk};
 ghost use Rattle.serde_json.specs.View as json;
 ghost use Rattle.portal_core.specs.Answer as answer;
 ghost use Rattle.portal_core.specs.Answer.{answered, by_word, blank};
-ghost use Rattle.portal_core.specs.Meaning.{told, meant, decided};
+ghost use Rattle.portal_core.specs.Meaning.{reply_model, change_model, decision_model};
 
 use crate::decision::{Act, Body, Change, Decision, Reply, Sheet};
 use serde_json::{Value, json};
@@ -12,7 +12,7 @@ use std::alloc::{AllocError, Global};
 
 /// A reply with this status and this body.
 pub(crate) fn json_reply(status: u16, body: Value) -> Reply
-    ensures { told result ≡ answered status (json.view body) }
+    ensures { reply_model result ≡ answered status (json.view body) }
 {
     Reply {
         status,
@@ -23,7 +23,7 @@ pub(crate) fn json_reply(status: u16, body: Value) -> Reply
 
 /// The body is shown, and nothing changes.
 pub(crate) fn shows(body: Value) -> Decision
-    ensures { decided result ≡ answer.shows (json.view body) }
+    ensures { decision_model result ≡ answer.shows (json.view body) }
 {
     Decision {
         reply: json_reply(200, body),
@@ -33,7 +33,7 @@ pub(crate) fn shows(body: Value) -> Decision
 
 /// The change is made, and the body is answered.
 pub(crate) fn applies(body: Value, change: Change) -> Decision
-    ensures { decided result ≡ answer.applies (json.view body) (meant change) }
+    ensures { decision_model result ≡ answer.applies (json.view body) (change_model change) }
 {
     Decision {
         reply: json_reply(200, body),
@@ -43,7 +43,7 @@ pub(crate) fn applies(body: Value, change: Change) -> Decision
 
 /// The sheet is to be written into the body.
 pub(crate) fn renders(alloc: Global, sheet: Sheet) -> Decision
-    ensures { decided result ≡ answer.renders (blank sheet) sheet }
+    ensures { decision_model result ≡ answer.renders (blank sheet) sheet }
 {
     let text = Vec::new(alloc);
     let body = match sheet {
@@ -62,7 +62,7 @@ pub(crate) fn renders(alloc: Global, sheet: Sheet) -> Decision
 
 /// The reply is a refusal, and nothing changes.
 pub(crate) fn refuses(reply: Reply) -> Decision
-    ensures { decided result ≡ answer.refuses (told reply) }
+    ensures { decision_model result ≡ answer.refuses (reply_model reply) }
 {
     Decision {
         reply,
@@ -72,7 +72,7 @@ pub(crate) fn refuses(reply: Reply) -> Decision
 
 /// A refusal that is told by a word alone.
 pub(crate) fn refused(alloc: Global, status: u16, word: &str) -> Result<Reply, AllocError>
-    ensures { IfOk result (λ reply. told reply ≡ by_word status word.now) }
+    ensures { IfOk result (λ reply. reply_model reply ≡ by_word status word.now) }
 {
     let body = json!(in alloc; {"error": word})?;
     Ok(json_reply(status, body))
@@ -80,28 +80,28 @@ pub(crate) fn refused(alloc: Global, status: u16, word: &str) -> Result<Reply, A
 
 /// The code names nobody.
 pub(crate) fn no_caller(alloc: Global) -> Result<Decision, AllocError>
-    ensures { IfOk result (λ decision. decided decision ≡ answer.no_caller) }
+    ensures { IfOk result (λ decision. decision_model decision ≡ answer.no_caller) }
 {
     Ok(refuses(refused(alloc, 403, "no_caller")?))
 }
 
 /// The call belongs to another role.
 pub(crate) fn not_yours(alloc: Global) -> Result<Decision, AllocError>
-    ensures { IfOk result (λ decision. decided decision ≡ answer.not_yours) }
+    ensures { IfOk result (λ decision. decision_model decision ≡ answer.not_yours) }
 {
     Ok(refuses(refused(alloc, 403, "not_yours")?))
 }
 
 /// The call is not open in this phase.
 pub(crate) fn wrong_phase(alloc: Global) -> Result<Decision, AllocError>
-    ensures { IfOk result (λ decision. decided decision ≡ answer.wrong_phase) }
+    ensures { IfOk result (λ decision. decision_model decision ≡ answer.wrong_phase) }
 {
     Ok(refuses(refused(alloc, 409, "wrong_phase")?))
 }
 
 /// The caller has a project of the first round.
 pub(crate) fn already_placed(alloc: Global) -> Result<Decision, AllocError>
-    ensures { IfOk result (λ decision. decided decision ≡ answer.already_placed) }
+    ensures { IfOk result (λ decision. decision_model decision ≡ answer.already_placed) }
 {
     Ok(refuses(refused(alloc, 409, "already_placed")?))
 }

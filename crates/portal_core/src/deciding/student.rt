@@ -6,10 +6,10 @@ ghost use Rattle.portal_core.specs.Json.{text_or_null};
 ghost use Rattle.portal_core.specs.Bodies as shown;
 ghost use Rattle.portal_core.specs.Faults.{choice_fault};
 ghost use Rattle.portal_core.specs.Change as change;
-ghost use Rattle.portal_core.specs.Ask.{Ask};
+ghost use Rattle.portal_core.specs.AbstractCall.{AbstractCall};
 ghost use Rattle.portal_core.specs.Answer as answer;
-ghost use Rattle.portal_core.specs.Answer.{unless, to_student};
-ghost use Rattle.portal_core.specs.Meaning.{asked, texts_of, decided};
+ghost use Rattle.portal_core.specs.Answer.{unless_faulty, to_student};
+ghost use Rattle.portal_core.specs.Meaning.{call_model, texts_of, decision_model};
 
 use crate::call::Call;
 use crate::deciding::bodies::{catalogue_body, key_value, texts};
@@ -75,7 +75,7 @@ fn replace_choices(
     view: &StudentView,
     projects: Vec<Key>,
 ) -> Result<Decision, AllocError>
-    ensures { IfOk result (λ decision. decided decision
+    ensures { IfOk result (λ decision. decision_model decision
         ≡ answer.applies (shown.projects_body projects.items)
         (change.Choices view.now.me.key projects.items)) }
 {
@@ -87,8 +87,8 @@ fn replace_choices(
 /// The list is taken where it has no fault.
 fn take_choices(alloc: Global, view: &StudentView, list: &[Vec<u8>]) -> Result<Decision, AllocError>
     ensures { let texts = texts_of list.now in
-        IfOk result (λ decision. decided decision
-        ≡ unless (choice_fault view.now.catalogue 1 [] texts)
+        IfOk result (λ decision. decision_model decision
+        ≡ unless_faulty (choice_fault view.now.catalogue 1 [] texts)
         (answer.applies (shown.projects_body texts) (change.Choices view.now.me.key texts))) }
 {
     match checked_choices(alloc, &view.catalogue, list)? {
@@ -99,8 +99,8 @@ fn take_choices(alloc: Global, view: &StudentView, list: &[Vec<u8>]) -> Result<D
 
 /// A student hands in a list.
 fn set_choices(alloc: Global, view: &StudentView, list: &[Vec<u8>]) -> Result<Decision, AllocError>
-    ensures { IfOk result (λ decision. decided decision
-        ≡ to_student view.now (Ask.SetChoices (texts_of list.now))) }
+    ensures { IfOk result (λ decision. decision_model decision
+        ≡ to_student view.now (AbstractCall.SetChoices (texts_of list.now))) }
 {
     match view.phase {
         Phase::Choosing => match view.result {
@@ -113,7 +113,7 @@ fn set_choices(alloc: Global, view: &StudentView, list: &[Vec<u8>]) -> Result<De
 
 /// A student asks for the result.
 fn show_result(alloc: Global, view: &StudentView) -> Result<Decision, AllocError>
-    ensures { IfOk result (λ decision. decided decision ≡ to_student view.now Ask.Result) }
+    ensures { IfOk result (λ decision. decision_model decision ≡ to_student view.now AbstractCall.Result) }
 {
     if view.round.has_result(view.phase) {
         Ok(shows(result_body(alloc, &view.result)?))
@@ -128,7 +128,7 @@ pub(crate) fn decide_student(
     view: &StudentView,
     call: &Call,
 ) -> Result<Decision, AllocError>
-    ensures { IfOk result (λ decision. decided decision ≡ to_student view.now (asked call.now)) }
+    ensures { IfOk result (λ decision. decision_model decision ≡ to_student view.now (call_model call.now)) }
 {
     match call {
         Call::Me => Ok(shows(me_body(alloc, view)?)),

@@ -1,7 +1,7 @@
 use Rattle.std.proofs.Common.{◌≡◌, ◌+◌, ◌≤◌, ◌++◌, length, map, take, drop, sym, ap, ◌∙◌, subst, arith, Ok}
 use Rattle.std.specs.Prelude.{codes}
 use Rattle.portal_frame.specs.Heads.{only, values_of, path_of}
-use Rattle.portal_frame.specs.Stream.{body_length, Opens, whole, closes_after, Asked, asked_of, lines_of}
+use Rattle.portal_frame.specs.Stream.{body_length, Opens, whole, closes_after, Asked, asked_of, fields_of}
 use Rattle.portal_frame.proofs.Heads.{after_whole, lines_same, same_asked}
 use Rattle.httparse.specs.Spans.{header_bytes}
 use Rattle.portal_frame.proofs.Limits.{whole-within}
@@ -15,7 +15,7 @@ returns-clause-framed c =
     let len = c.args.spans.len in
     let n = c.in-Ok.n in
     let rest = drop len bytes in
-    let sized : body_length h.minor (lines_of h) ≡ Ok n = lines_same _ _ _ _ h _ x (sym c.check_lines.ensures ∙ c.in-Ok.is) in
+    let sized : body_length h.minor (fields_of h) ≡ Ok n = lines_same _ _ _ _ h _ x (sym c.check_lines.ensures ∙ c.in-Ok.is) in
     let enough : n ≤ length rest = rw (sym c.split_at.ensures.back) (omega (arith, c.if-rest-n.false)) in
     let asked : Asked = record {
       method = c.in_ok-copied.field-0.items;
@@ -37,6 +37,6 @@ pub returns-clause-limits : goal.returns-clause-limits
 returns-clause-limits c =
     let h = c.requires.0 in
     let x = c.requires.1 in
-    let sized : body_length h.minor (lines_of h) ≡ Ok c.in-Ok.n = lines_same _ _ _ _ h _ x (sym c.check_lines.ensures ∙ c.in-Ok.is) in
+    let sized : body_length h.minor (fields_of h) ≡ Ok c.in-Ok.n = lines_same _ _ _ _ h _ x (sym c.check_lines.ensures ∙ c.in-Ok.is) in
     let within = whole-within h c.args.spans.len c.in-Ok.n x.len x.takes.short sized in
     (within.0, omega (arith, x.len_fits, c.if-rest-n.false, c.split_at.ensures.back_len), within.1)

@@ -6,7 +6,7 @@ ghost use Rattle.portal_list.specs.Fill.{unless_empty, missing, with_missing, fi
 
 use crate::entries::{LecturerEntry, StudentEntry};
 use crate::lists::applicants;
-use crate::wanted::Wanted;
+use crate::applicant_index::ApplicantIndex;
 use portal_core::ProjectRow;
 use spa_rows::Key;
 use std::alloc::{AllocError, Global};
@@ -42,7 +42,7 @@ fn copies(alloc: Global, keys: &[&Key]) -> Result<Vec<Key>, AllocError>
 pub(crate) fn applicants_by_key(
     alloc: Global,
     projects: &[ProjectRow],
-    wanted: &Wanted<'_>,
+    wanted: &ApplicantIndex<'_>,
     lecturer: &Key,
 ) -> Result<Vec<Key>, AllocError>
     ensures { IfOk result (λ v. v.items ≡ applicant_keys projects.now wanted.now lecturer.now) }
@@ -65,7 +65,7 @@ fn ranking_of(keys: Vec<Key>) -> Option<Ranking>
 fn missing_ranking(
     alloc: Global,
     projects: &[ProjectRow],
-    wanted: &Wanted<'_>,
+    wanted: &ApplicantIndex<'_>,
     lecturer: &LecturerEntry,
 ) -> Result<Option<Ranking>, AllocError>
     ensures { IfOk result (λ o. o ≡ missing projects.now wanted.now lecturer.now) }
@@ -86,7 +86,7 @@ fn missing_rankings(
 ) -> Result<Vec<Option<Ranking>>, AllocError>
     ensures { IfOk result (λ v. v.items ≡ map (missing projects.now students.now) lecturers.now) }
 {
-    let wanted = Wanted::of(alloc, students)?;
+    let wanted = ApplicantIndex::of(alloc, students)?;
     let mut rankings = Vec::with_capacity(alloc, lecturers.len())?;
     for lecturer in lecturers {
         rankings.push(missing_ranking(alloc, projects, &wanted, lecturer)?)?;

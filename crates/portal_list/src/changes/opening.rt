@@ -19,7 +19,7 @@ fn lay_by_list(alloc: Global, student: &mut StudentEntry)
     ensures { student.new ≡ placed_before student.old }
 {
     student.earlier_choice = mem::replace(&mut student.choice, Vec::new(alloc));
-    student.earlier_place = student.placed.take();
+    student.earlier_placement = student.placed.take();
 }
 
 /// The rankings become the first round's.

@@ -42,7 +42,7 @@ pub(crate) fn new_students(
             choice: Vec::new(alloc),
             placed: None,
             earlier_choice: Vec::new(alloc),
-            earlier_place: None,
+            earlier_placement: None,
         })?;
     }
     Ok(fresh)

@@ -2,11 +2,11 @@
 
 ghost use Rattle.std.specs.Prelude.{◌≡◌, IfOk, map, option_map, filter, [], if◌then◌else◌};
 ghost use Rattle.portal_core.specs.Words.{has};
-ghost use Rattle.portal_core.specs.World.{is_at, shown_place};
+ghost use Rattle.portal_core.specs.World.{is_at, shown_placement};
 ghost use Rattle.portal_core.specs.View.{persons};
-ghost use Rattle.portal_list.specs.Shown.{applicants_shown, placed_shown};
+ghost use Rattle.portal_list.specs.Shown.{applicants_shown, placements_shown};
 
-use super::places::place_shown;
+use super::placements::placement_shown;
 use crate::copies::{holds, person_of};
 use crate::entries::StudentEntry;
 use portal_core::{Person, Phase, ProjectRow};
@@ -49,11 +49,11 @@ fn placed_at(
     project: &Key,
 ) -> Result<Vec<Person>, AllocError>
     ensures { IfOk result (λ v. v.items
-        ≡ persons (filter (λ s. is_at project.now (shown_place phase s)) students.now)) }
+        ≡ persons (filter (λ s. is_at project.now (shown_placement phase s)) students.now)) }
 {
     let mut found = Vec::new(alloc);
     for student in students {
-        if is_given(place_shown(phase, student), project) {
+        if is_given(placement_shown(phase, student), project) {
             found.push(person_of(alloc, &student.row.key, &student.row.name)?)?;
         }
     }
@@ -107,7 +107,7 @@ pub(super) fn placed_by_project(
     projects: &[ProjectRow],
 ) -> Result<Vec<(Key, Vec<Person>)>, AllocError>
     ensures { IfOk result (λ v. map (λ p. (p.0, p.1.items)) v.items
-        ≡ placed_shown phase students.now lecturer.now projects.now) }
+        ≡ placements_shown phase students.now lecturer.now projects.now) }
 {
     let mut found = Vec::new(alloc);
     for project in projects {

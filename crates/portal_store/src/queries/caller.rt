@@ -5,12 +5,12 @@ ghost use Rattle.sqlite.specs.Held.{state};
 ghost use Rattle.portal_core.specs.View.{lecturer_with, student_with};
 ghost use Rattle.portal_core.specs.declared.phase.Round.{Round as ThatRound};
 ghost use Rattle.portal_store.specs.World.{world_in};
-ghost use Rattle.portal_tables.specs.Reading.{Reads};
+ghost use Rattle.portal_tables.specs.Reading.{RunsQueries};
 ghost use Rattle.portal_store.specs.Reading.{OverRound, shown};
 ghost use Rattle.portal_store.specs.Queried.{lecturer_from, student_from};
 
 use portal_tables::TableFault;
-use portal_tables::decode::only;
+use portal_tables::decode::at_most_one;
 use portal_tables::select::{Query, read_rows};
 use sqlite::{Alter, Connection, Row};
 use std::alloc::Global;
@@ -24,10 +24,10 @@ pub(super) fn lecturer_in<S: Alter>(
     ensures found { (round : ThatRound) → OverRound round S.Store conn.old conn.new
         (IfOk result (λ row. option_map (lecturer_from round (shown S.Store conn.old)) row
         ≡ lecturer_with (world_in round (shown S.Store conn.old)) code.now)) }
-    ensures reads { Reads result (state S.Store conn.old) (state S.Store conn.new) }
+    ensures reads { RunsQueries result (state S.Store conn.old) (state S.Store conn.new) }
 {
     let rows = read_rows(alloc, conn, Query::LecturerByCode(code))?;
-    only(rows)
+    at_most_one(rows)
 }
 
 /// The row of the student with the code.
@@ -39,8 +39,8 @@ pub(super) fn student_in<S: Alter>(
     ensures found { (round : ThatRound) → OverRound round S.Store conn.old conn.new
         (IfOk result (λ row. option_map (student_from round (shown S.Store conn.old)) row
         ≡ student_with (world_in round (shown S.Store conn.old)) code.now)) }
-    ensures reads { Reads result (state S.Store conn.old) (state S.Store conn.new) }
+    ensures reads { RunsQueries result (state S.Store conn.old) (state S.Store conn.new) }
 {
     let rows = read_rows(alloc, conn, Query::StudentByCode(code))?;
-    only(rows)
+    at_most_one(rows)
 }

@@ -3,13 +3,13 @@
 ghost use Rattle.std.specs.Prelude.{◌≡◌, [], Some, None, ◌&&◌, IfOk, if◌then◌else◌, map};
 ghost use Rattle.std.specs.List.{list_any, filter_map};
 ghost use Rattle.sqlite.specs.Held.{state};
-ghost use Rattle.portal_core.specs.Words.{is, has};
+ghost use Rattle.portal_core.specs.Words.{equals, has};
 ghost use Rattle.portal_core.specs.World.{is_from_ranking};
 ghost use Rattle.portal_core.specs.View as seen;
 ghost use Rattle.portal_list.specs.Shown.{is_wanted};
 ghost use Rattle.portal_store.specs.World.{world_in};
-ghost use Rattle.portal_tables.specs.Reading.{ReadsIn};
-ghost use Rattle.portal_tables.specs.Shown.{first, shown_lecturer, shown_project, shown_student};
+ghost use Rattle.portal_tables.specs.Reading.{RunsQueriesIn};
+ghost use Rattle.portal_tables.specs.Shown.{first_cell, shown_lecturer, shown_project, shown_student};
 ghost use Rattle.portal_store.specs.Queried.{unlisted, waiting_key, office_from};
 ghost use Rattle.portal_store.specs.Reading.{IsNow, OverRound, shown};
 
@@ -33,7 +33,7 @@ fn without_list<S: Alter>(
 ) -> Result<Vec<Key>, TableFault>
     ensures told { OverRound round S.Store conn.old conn.new
         (IfOk result (λ v. v.items ≡ unlisted round (shown S.Store conn.old) students.now)) }
-    ensures reads { ReadsIn round result (state S.Store conn.old) (state S.Store conn.new) }
+    ensures reads { RunsQueriesIn round result (state S.Store conn.old) (state S.Store conn.new) }
 {
     let listed = read_rows(alloc, conn, Query::Listed(round))?;
     keys_left(alloc, round, students, &listed)
@@ -48,10 +48,10 @@ fn is_chosen_of<S: Alter>(
 ) -> Result<bool, TableFault>
     ensures told { OverRound round S.Store conn.old conn.new
         (IfOk result (λ yes. yes
-        ≡ (is (shown_project project.now).lecturer (first lecturer.now)
+        ≡ (equals (shown_project project.now).lecturer (first_cell lecturer.now)
         && list_any (λ s. has s.choice (shown_project project.now).key)
         (world_in round (shown S.Store conn.old)).students))) }
-    ensures reads { ReadsIn round result (state S.Store conn.old) (state S.Store conn.new) }
+    ensures reads { RunsQueriesIn round result (state S.Store conn.old) (state S.Store conn.new) }
 {
     if bytes_at(project, 1) != bytes_at(lecturer, 0) {
         return Ok(false);
@@ -69,8 +69,8 @@ fn has_applicant<S: Alter>(
     ensures told { OverRound round S.Store conn.old conn.new
         (IfOk result (λ yes. yes
         ≡ is_wanted (world_in round (shown S.Store conn.old)).students
-        (map shown_project projects.now) (first lecturer.now))) }
-    ensures reads { ReadsIn round result (state S.Store conn.old) (state S.Store conn.new) }
+        (map shown_project projects.now) (first_cell lecturer.now))) }
+    ensures reads { RunsQueriesIn round result (state S.Store conn.old) (state S.Store conn.new) }
 {
     for project in projects {
         if is_chosen_of(conn, round, lecturer, project)? {
@@ -91,8 +91,8 @@ fn wanted_in<S: Alter>(
     ensures told { OverRound round S.Store conn.old conn.new
         (IfOk result (λ key. key
         ≡ (if is_wanted (world_in round (shown S.Store conn.old)).students
-        (map shown_project projects.now) (first lecturer.now) then Some (first lecturer.now) else None))) }
-    ensures reads { ReadsIn round result (state S.Store conn.old) (state S.Store conn.new) }
+        (map shown_project projects.now) (first_cell lecturer.now) then Some (first_cell lecturer.now) else None))) }
+    ensures reads { RunsQueriesIn round result (state S.Store conn.old) (state S.Store conn.new) }
 {
     if !has_applicant(conn, round, projects, lecturer)? {
         return Ok(None);
@@ -112,7 +112,7 @@ fn waiting_in<S: Alter>(
         (IfOk result (λ key. key
         ≡ waiting_key round (shown S.Store conn.old)
         (map shown_project projects.now) lecturer.now)) }
-    ensures reads { ReadsIn round result (state S.Store conn.old) (state S.Store conn.new) }
+    ensures reads { RunsQueriesIn round result (state S.Store conn.old) (state S.Store conn.new) }
 {
     if has_list_in(conn, Lists::rankings_of(round), lecturer)? {
         return Ok(None);
@@ -132,7 +132,7 @@ fn all_waiting<S: Alter>(
         (IfOk result (λ v. v.items
         ≡ filter_map (waiting_key round (shown S.Store conn.old)
         (map shown_project projects.now)) lecturers.now)) }
-    ensures reads { ReadsIn round result (state S.Store conn.old) (state S.Store conn.new) }
+    ensures reads { RunsQueriesIn round result (state S.Store conn.old) (state S.Store conn.new) }
 {
     let mut keys = Vec::new(alloc);
     for lecturer in lecturers {
@@ -156,7 +156,7 @@ fn still_to_rank<S: Alter>(
         ≡ (if is_from_ranking phase then filter_map
         (waiting_key round (shown S.Store conn.old)
         (map shown_project rolls.now.projects.items)) rolls.now.lecturers.items else []))) }
-    ensures reads { ReadsIn round result (state S.Store conn.old) (state S.Store conn.new) }
+    ensures reads { RunsQueriesIn round result (state S.Store conn.old) (state S.Store conn.new) }
 {
     if are_closed(phase) {
         return all_waiting(alloc, conn, round, &rolls.projects, &rolls.lecturers);
@@ -205,7 +205,7 @@ fn view_of_rolls<S: Alter>(
     ensures shows { OverRound round S.Store conn.old conn.new
         (IfOk result (λ v. v
         ≡ office_from round (shown S.Store conn.old) office.phase office.code catalogue.value.items rolls.now.lecturers.items rolls.now.projects.items rolls.now.students.items)) }
-    ensures reads { ReadsIn round result (state S.Store conn.old) (state S.Store conn.new) }
+    ensures reads { RunsQueriesIn round result (state S.Store conn.old) (state S.Store conn.new) }
 {
     let unlisted = without_list(alloc, conn, round, &rolls.students)?;
     let waiting = still_to_rank(alloc, conn, round, office.phase, rolls)?;
@@ -227,7 +227,7 @@ pub(super) fn office_view<S: Alter>(
         (IsNow (world_in round (shown S.Store conn.old)) round office
         → catalogue.value.items ≡ seen.catalogue (world_in round (shown S.Store conn.old))
         → IfOk result (λ v. v ≡ seen.office_sees (world_in round (shown S.Store conn.old)))) }
-    ensures reads { ReadsIn round result (state S.Store conn.old) (state S.Store conn.new) }
+    ensures reads { RunsQueriesIn round result (state S.Store conn.old) (state S.Store conn.new) }
 {
     let rolls = rolls_in(alloc, conn)?;
     view_of_rolls(alloc, conn, round, office, catalogue, &rolls)

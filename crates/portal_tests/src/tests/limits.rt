@@ -1,6 +1,6 @@
 //! A department at every limit, played from setup to published.
 
-ghost use Rattle.portal_core.specs.Meaning.{asked};
+ghost use Rattle.portal_core.specs.Meaning.{call_model};
 ghost use Rattle.portal_core.specs.Run.{HasForm};
 
 use crate::tests::portal::{OFFICE, Portal};
@@ -90,7 +90,7 @@ fn ranking(rt: &(impl Abort + AllocGlobal), lecturer: u64) -> Vec<Vec<u8>> {
 
 /// The caller's call is taken.
 fn taken(rt: &(impl Abort + AllocGlobal), portal: &mut Portal, code: &str, call: &Call)
-    requires { HasForm (asked call.now) }
+    requires { HasForm (call_model call.now) }
 {
     assert_eq!(rt; portal.status(rt, code, call), 200);
 }

@@ -1,6 +1,6 @@
 //! A good world that is asked as the portal is.
 
-ghost use Rattle.portal_core.specs.Meaning.{asked};
+ghost use Rattle.portal_core.specs.Meaning.{call_model};
 ghost use Rattle.portal_core.specs.Run.{HasForm};
 
 use portal_core::{Body, Call, Code};
@@ -50,7 +50,7 @@ impl Portal {
 
     /// The office is answered with this status and body.
     fn asks(&mut self, rt: &(impl Abort + AllocGlobal), call: &Call, status: u16, body: &str)
-        requires { HasForm (asked call.now) }
+        requires { HasForm (call_model call.now) }
     {
         self.answers(rt, OFFICE, call, status, body);
     }
@@ -64,7 +64,7 @@ impl Portal {
         status: u16,
         body: &str,
     )
-        requires { HasForm (asked call.now) }
+        requires { HasForm (call_model call.now) }
     {
         let alloc = rt.alloc();
         let reply = play(alloc, &mut self.keeper, code.as_bytes(), call).expect(rt, "memory");
@@ -80,7 +80,7 @@ impl Portal {
 
     /// The status of the answer to the caller with this code.
     pub(crate) fn status(&mut self, rt: &(impl Abort + AllocGlobal), code: &str, call: &Call) -> u16
-        requires { HasForm (asked call.now) }
+        requires { HasForm (call_model call.now) }
     {
         let reply = play(rt.alloc(), &mut self.keeper, code.as_bytes(), call);
         reply.expect(rt, "memory").status

@@ -1,13 +1,13 @@
 use Rattle.std.proofs.lemmas.Result.{IfOk-weaker}
-use Rattle.portal_core.specs.Meaning.{asked, decided}
+use Rattle.portal_core.specs.Meaning.{call_model, decision_model}
 use Rattle.portal_core.proofs.Numbers.{whole_office, whole_lecturer, whole_student}
 use Rattle.portal_core.proofs.deciding.decide.Goals as goal
 
 pub returns-in-Office-clause-whole : goal.returns-in-Office-clause-whole
-returns-in-Office-clause-whole c = IfOk-weaker c.decide_office.result _ _ (λ d e. whole_office c.in-Office.office (asked c.args.call.now) (decided d) e) c.decide_office.ensures
+returns-in-Office-clause-whole c = IfOk-weaker c.decide_office.result _ _ (λ d e. whole_office c.in-Office.office (call_model c.args.call.now) (decision_model d) e) c.decide_office.ensures
 
 pub returns-in-Lecturer-clause-whole : goal.returns-in-Lecturer-clause-whole
-returns-in-Lecturer-clause-whole c = IfOk-weaker c.decide_lecturer.result _ _ (λ d e. whole_lecturer c.in-Lecturer.lecturer (asked c.args.call.now) (decided d) e) c.decide_lecturer.ensures
+returns-in-Lecturer-clause-whole c = IfOk-weaker c.decide_lecturer.result _ _ (λ d e. whole_lecturer c.in-Lecturer.lecturer (call_model c.args.call.now) (decision_model d) e) c.decide_lecturer.ensures
 
 pub returns-in-Student-clause-whole : goal.returns-in-Student-clause-whole
-returns-in-Student-clause-whole c = IfOk-weaker c.decide_student.result _ _ (λ d e. whole_student c.in-Student.student (asked c.args.call.now) (decided d) e) c.decide_student.ensures
+returns-in-Student-clause-whole c = IfOk-weaker c.decide_student.result _ _ (λ d e. whole_student c.in-Student.student (call_model c.args.call.now) (decision_model d) e) c.decide_student.ensures

@@ -1,6 +1,6 @@
 use Rattle.std.proofs.Common.{◌≡◌, ◌-◌, ◌+◌, ◌≤◌, length}
 use Rattle.std.specs.Prelude.{if◌then◌else◌}
-use Rattle.portal_desk.specs.Reading.{Reads}
+use Rattle.portal_desk.specs.Reading.{ReadsMore}
 use Rattle.portal_desk.proofs.reading.next_frame.Given as goal
 
 abbrev pub decreases-loop-found : goal.decreases-loop-found
@@ -8,7 +8,7 @@ decreases-loop-found g l = 1064960 - length l.buffer.items + (if l.ended then 0 
 
 abbrev pub invariant-loop-found : goal.invariant-loop-found
 invariant-loop-found g l = record {
-  reads : Reads (g.R.Source.remaining l.initial.source) (g.R.Source.remaining l.source) l.initial.buffer.items l.buffer.items l.ended;
+  reads : ReadsMore (g.R.Source.remaining l.initial.source) (g.R.Source.remaining l.source) l.initial.buffer.items l.buffer.items l.ended;
   held : length l.buffer.items ≤ 1064960;
   calm : g.R.Source.failed l.source ≡ g.R.Source.failed l.initial.source;
   named : g.R.Source.name l.source ≡ g.R.Source.name l.initial.source;

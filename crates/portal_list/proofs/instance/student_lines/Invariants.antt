@@ -1,6 +1,6 @@
 use Rattle.std.proofs.Common.{◌≡◌, map, take}
-use Rattle.portal_list.specs.Lines.{student_line}
+use Rattle.portal_list.specs.Lines.{instance_student}
 use Rattle.portal_list.proofs.instance.student_lines.Given as goal
 
 abbrev pub invariant-loop-entry : goal.invariant-loop-entry
-invariant-loop-entry l = l.lines.items ≡ map student_line (take l.entry-index l.entries)
+invariant-loop-entry l = l.lines.items ≡ map instance_student (take l.entry-index l.entries)

@@ -2,7 +2,7 @@ use Rattle.std.proofs.Common.{◌≡◌, Bool, sym, ap, subst₂, ◌∙◌}
 use Rattle.std.specs.List.{AllByRecursion}
 use Rattle.std.proofs.lemmas.Result.{IfOk-weaker}
 use Rattle.portal_list.specs.Entries.{AllEntries}
-use Rattle.portal_list.specs.Parts.{applicant_keys, IsRanked}
+use Rattle.portal_list.specs.Parts.{applicant_keys, HasRanking}
 use Rattle.portal_list.proofs.lists.lists_fit.Goals as goal
 
 pub returns : goal.returns
@@ -13,7 +13,7 @@ returns c =
     let projects = c.deref-2.ensures.value ∙ ap (λ (a : AllEntries). a.projects) c.entries.view_is in
     let students = c.deref-3.ensures.value ∙ ap (λ (a : AllEntries). a.students) c.entries.view_is in
     let all : read ≡ e = λ i. record e { lecturers = lecturers i; projects = projects i; students = students i } in
-    let fits : Bool → AllEntries → Type 0 = λ asked a. AllByRecursion (λ l. IsRanked asked (applicant_keys a.projects a.students l.row.key) l.ranking) a.lecturers in
+    let fits : Bool → AllEntries → Type 0 = λ asked a. AllByRecursion (λ l. HasRanking asked (applicant_keys a.projects a.students l.row.key) l.ranking) a.lecturers in
     IfOk-weaker c.rankings_fit.result _ _ (λ yes same. (
       λ h. record {
         phase_fits = c.phase_fits.ensures.0 c.if-not-phase_fits.false;

@@ -5,7 +5,7 @@ use Rattle.portal_core.specs.Words.{Rise, has}
 use Rattle.portal_core.specs.World.{student_key}
 use Rattle.portal_core.proofs.Fills.{rise_kept}
 use Rattle.portal_core.specs.Room.{own_keys}
-use Rattle.portal_list.specs.Parts.{applicant_keys, IsRanked}
+use Rattle.portal_list.specs.Parts.{applicant_keys, HasRanking}
 use Rattle.portal_list.proofs.lists.ranking_fits.Goals as goal
 
 pub is_ranked-requires : goal.is_ranked-requires
@@ -18,5 +18,5 @@ returns c =
     let keys : map (λ k. k.now) c.deref.result.now ≡ applicant_keys c.args.projects.now c.args.wanted.now c.args.lecturer.now.row.key
     = ap (map (λ k. k.now)) c.deref.ensures.value ∙ c.in_ok-applicants.ensures ∙ ap (λ l. applicant_keys c.args.projects.now c.args.wanted.now l.row.key) c.lecturer.view_is in
     let ranking : option_map (λ r. r.items) c.lecturer.inside.ranking ≡ c.args.lecturer.now.ranking = ap (λ l. l.ranking) c.lecturer.view_is in
-    subst (λ r. IfOk c.is_ranked.result (λ yes. IsTrue yes ↔ IsRanked c.args.asked (applicant_keys c.args.projects.now c.args.wanted.now c.args.lecturer.now.row.key) r)) ranking
-    (subst (λ ks. IfOk c.is_ranked.result (λ yes. IsTrue yes ↔ IsRanked c.args.asked ks (option_map (λ r. r.items) c.lecturer.inside.ranking))) keys c.is_ranked.ensures)
+    subst (λ r. IfOk c.is_ranked.result (λ yes. IsTrue yes ↔ HasRanking c.args.asked (applicant_keys c.args.projects.now c.args.wanted.now c.args.lecturer.now.row.key) r)) ranking
+    (subst (λ ks. IfOk c.is_ranked.result (λ yes. IsTrue yes ↔ HasRanking c.args.asked ks (option_map (λ r. r.items) c.lecturer.inside.ranking))) keys c.is_ranked.ensures)

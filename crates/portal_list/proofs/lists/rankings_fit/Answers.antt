@@ -2,7 +2,7 @@ use Rattle.std.proofs.Common.{sym, ◌∙◌, subst, List}
 use Rattle.std.proofs.lemmas.Bool.{false≢true}
 use Rattle.portal_core.specs.World.{Lecturer, Student}
 use Rattle.portal_core.proofs.AllLaws.{all_at}
-use Rattle.portal_list.specs.Parts.{applicant_keys, IsRanked}
+use Rattle.portal_list.specs.Parts.{applicant_keys, HasRanking}
 use Rattle.portal_list.proofs.Steps.{all_more}
 use Rattle.portal_list.proofs.lists.rankings_fit.Goals as goal
 
@@ -10,7 +10,7 @@ pub returns-then-not-branch : goal.returns-then-not-branch
 returns-then-not-branch c = (
   λ e. absurd (false≢true e),
   λ all.
-      let fits : List Student → Lecturer → Type 0 = λ ss l. IsRanked c.args.asked (applicant_keys c.args.projects.now ss l.row.key) l.ranking in
+      let fits : List Student → Lecturer → Type 0 = λ ss l. HasRanking c.args.asked (applicant_keys c.args.projects.now ss l.row.key) l.ranking in
       let fit = all_at (fits c.args.students.now) c.args.lecturers.now c.loop-lecturer.lecturer-index c.lecturer-item.result all c.loop-lecturer-test.true in
       sym c.if-not-branch.true
       ∙ c.in_ok-ranking_fits.ensures.1 (subst (λ ss. fits ss c.lecturer-item.result) (sym c.in_ok-wanted.ensures) (subst (fits c.args.students.now) (sym c.lecturer-item.is) fit)),
@@ -18,6 +18,6 @@ returns-then-not-branch c = (
 
 pub loop-lecturer-preserved : goal.loop-lecturer-preserved
 loop-lecturer-preserved c =
-    let fits : List Student → Lecturer → Type 0 = λ ss l. IsRanked c.args.asked (applicant_keys c.args.projects.now ss l.row.key) l.ranking in
+    let fits : List Student → Lecturer → Type 0 = λ ss l. HasRanking c.args.asked (applicant_keys c.args.projects.now ss l.row.key) l.ranking in
     all_more (fits c.args.students.now) c.args.lecturers.now c.loop-lecturer.lecturer-index c.lecturer-item.result c.loop-lecturer-test.true (sym c.lecturer-item.is)
     c.loop-lecturer.invariant (subst (λ ss. fits ss c.lecturer-item.result) c.in_ok-wanted.ensures (c.in_ok-ranking_fits.ensures.0 c.if-not-branch.false))

@@ -12,7 +12,7 @@ returns c =
     let ls = c.entries.inside.lecturers.items in
     let ps = c.entries.inside.projects.items in
     let ss = c.entries.inside.students.items in
-    let pairs = c.in_ok-pairs.ensures ∙ ap (pairs_with (λ (s : Student). s.earlier_place)) c.deref.ensures.value in
+    let pairs = c.in_ok-pairs.ensures ∙ ap (pairs_with (λ (s : Student). s.earlier_placement)) c.deref.ensures.value in
     let lecturers : c.in_ok-lecturers.lecturers.items ≡ map alone_lecturer (lecturers_left ls ps ss)
     = c.in_ok-lecturers.ensures ∙ (λ i. filter_map (lecturer_played (c.deref-3.ensures.value i) ((c.deref-4.ensures.value ∙ pairs) i)) (c.deref-2.ensures.value i)) ∙ lecturers_are ls ps ss in
     let projects = c.in_ok-projects.ensures ∙ (λ i. filter_map (project_played (c.deref-5.ensures.value i) ((c.deref-7.ensures.value ∙ pairs) i)) (c.deref-6.ensures.value i)) ∙ projects_are ls ps ss c.in_ok-lecturers.lecturers.items lecturers in

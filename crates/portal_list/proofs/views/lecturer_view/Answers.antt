@@ -2,7 +2,7 @@ use Rattle.std.proofs.Common.{◌≡◌, ◌∙◌, ap, sym}
 use Rattle.portal_core.specs.World.{World}
 use Rattle.portal_core.specs.View.{lecturer_sees, catalogue}
 use Rattle.portal_list.specs.Entries.{world_with}
-use Rattle.portal_list.specs.Shown.{applicants_shown, placed_shown}
+use Rattle.portal_list.specs.Shown.{applicants_shown, placements_shown}
 use Rattle.portal_list.proofs.views.lecturer_view.Goals as goal
 
 pub returns : goal.returns
@@ -19,6 +19,6 @@ returns c =
       catalogue = (c.in_ok-catalogue.ensures ∙ ap catalogue (sym there)) i;
       applicants = (c.in_ok-applicants_by_project.ensures ∙ λ j. applicants_shown (c.are_closed-closed.ensures j) (c.deref.ensures.value j) c.lecturer.inside.row.key (c.deref-2.ensures.value j)) i;
       ranking = c.in_ok-ranking_copy.ensures i;
-      placed = (c.in_ok-placed_by_project.ensures ∙ λ j. placed_shown keeper.phase (c.deref-3.ensures.value j) c.lecturer.inside.row.key (c.deref-4.ensures.value j)) i;
+      placed = (c.in_ok-placed_by_project.ensures ∙ λ j. placements_shown keeper.phase (c.deref-3.ensures.value j) c.lecturer.inside.row.key (c.deref-4.ensures.value j)) i;
     })
     ∙ λ i. lecturer_sees (there i) (c.lecturer.view_is i)

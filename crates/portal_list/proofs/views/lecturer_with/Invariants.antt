@@ -1,7 +1,7 @@
 use Rattle.std.proofs.Common.{◌≡◌, drop}
 use Rattle.std.specs.List.{find}
-use Rattle.portal_core.specs.Words.{is}
+use Rattle.portal_core.specs.Words.{equals}
 use Rattle.portal_list.proofs.views.lecturer_with.Given as goal
 
 abbrev pub invariant-loop-lecturer : goal.invariant-loop-lecturer
-invariant-loop-lecturer l = find (λ s. is s.row.code l.code) (drop l.lecturer-index l.lecturers) ≡ find (λ s. is s.row.code l.code) l.lecturers
+invariant-loop-lecturer l = find (λ s. equals s.row.code l.code) (drop l.lecturer-index l.lecturers) ≡ find (λ s. equals s.row.code l.code) l.lecturers

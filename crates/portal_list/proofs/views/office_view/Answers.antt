@@ -1,7 +1,7 @@
 use Rattle.std.proofs.Common.{◌≡◌, Bool, cond, List, [], map, ◌∙◌, ap, sym}
 use Rattle.std.specs.Prelude.{filter, ◌&&◌}
 use Rattle.portal_core.specs.Words.{Key, is_empty}
-use Rattle.portal_core.specs.World.{World, Lecturer, Student, is_still_to_rank, is_from_ranking, shown_place, pairs_with}
+use Rattle.portal_core.specs.World.{World, Lecturer, Student, is_still_to_rank, is_from_ranking, shown_placement, pairs_with}
 use Rattle.portal_core.specs.declared.rows.ProjectRow.{ProjectRow}
 use Rattle.portal_core.specs.View.{office_sees, catalogue}
 use Rattle.portal_list.specs.Entries.{world_with}
@@ -33,6 +33,6 @@ returns c =
       catalogue = (c.in_ok-catalogue.ensures ∙ ap catalogue (sym there)) i;
       without_list = (c.in_ok-without_list.ensures ∙ ap (λ ss. map (λ (s : Student). s.row.key) (filter (λ s. takes_part e.round s && is_empty s.choice) ss)) c.deref-4.ensures.value ∙ ap (map (λ (s : Student). s.row.key)) (part_and (λ s. is_empty s.choice) e.round e.students.items)) i;
       still_to_rank = (c.in_ok-still_to_rank.ensures ∙ waiting w _ _ _ _ c.are_closed-closed.ensures c.deref-5.ensures.value c.deref-6.ensures.value c.deref-7.ensures.value) i;
-      pairs = (c.in_ok-pairs_of.ensures ∙ ap (pairs_with (shown_place keeper.phase)) c.deref-8.ensures.value) i;
+      pairs = (c.in_ok-pairs_of.ensures ∙ ap (pairs_with (shown_placement keeper.phase)) c.deref-8.ensures.value) i;
     })
     ∙ ap office_sees there

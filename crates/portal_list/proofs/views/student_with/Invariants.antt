@@ -1,7 +1,7 @@
 use Rattle.std.proofs.Common.{◌≡◌, drop}
 use Rattle.std.specs.List.{find}
-use Rattle.portal_core.specs.Words.{is}
+use Rattle.portal_core.specs.Words.{equals}
 use Rattle.portal_list.proofs.views.student_with.Given as goal
 
 abbrev pub invariant-loop-student : goal.invariant-loop-student
-invariant-loop-student l = find (λ s. is s.row.code l.code) (drop l.student-index l.students) ≡ find (λ s. is s.row.code l.code) l.students
+invariant-loop-student l = find (λ s. equals s.row.code l.code) (drop l.student-index l.students) ≡ find (λ s. equals s.row.code l.code) l.students

@@ -2,17 +2,17 @@ use Rattle.std.proofs.Common.{◌≡◌, ◌++◌, ◌∙◌, ◌∷◌, [], ℕ
 use Rattle.portal_core.specs.declared.rows.ProjectRow.{ProjectRow}
 use Rattle.portal_core.specs.declared.rows.StudentRow.{StudentRow}
 use Rattle.portal_core.specs.Sight.{OfficeSees}
-use Rattle.portal_core.specs.Sheets.{project_of, project_fields, student_fields, csv_record}
-use Rattle.portal_rolls.specs.Written.{Holds}
+use Rattle.portal_core.specs.Sheets.{project_given, project_fields, student_fields, csv_record}
+use Rattle.portal_rolls.specs.Written.{HasWritten}
 use Rattle.portal_rolls.proofs.allocation.put_student.Goals as goal
 
 placed : (v : OfficeSees) (s : StudentRow) (p : ProjectRow) (key name project title lecturer : List ℕ)
-    → key ≡ s.key → name ≡ s.name → project ≡ p.key → title ≡ p.title → lecturer ≡ p.lecturer → Some p ≡ project_of v s
+    → key ≡ s.key → name ≡ s.name → project ≡ p.key → title ≡ p.title → lecturer ≡ p.lecturer → Some p ≡ project_given v s
     → key ∷ name ∷ project ∷ title ∷ lecturer ∷ [] ≡ student_fields v s
 placed v s p key name project title lecturer k n q t l e =
     (λ i. k i ∷ n i ∷ q i ∷ t i ∷ l i ∷ []) ∙ ap (λ o. s.key ∷ s.name ∷ project_fields o) e
 
-unplaced : (v : OfficeSees) (s : StudentRow) (key name : List ℕ) → key ≡ s.key → name ≡ s.name → None ≡ project_of v s
+unplaced : (v : OfficeSees) (s : StudentRow) (key name : List ℕ) → key ≡ s.key → name ≡ s.name → None ≡ project_given v s
     → key ∷ name ∷ [] ∷ [] ∷ [] ∷ [] ≡ student_fields v s
 unplaced v s key name k n e = (λ i. k i ∷ n i ∷ [] ∷ [] ∷ [] ∷ []) ∙ ap (λ o. s.key ∷ s.name ∷ project_fields o) e
 
@@ -21,10 +21,10 @@ returns-in-Some c =
     let there = rw c.in-Some.is at c.project_of.ensures in
     let e = placed c.args.placings.now c.args.student.now c.in-Some.project.now _ _ _ _ _ c.as_bytes-key.ensures.bytes c.as_bytes-name.ensures.bytes
     c.as_bytes.ensures.bytes c.as_bytes-title.ensures.bytes c.as_bytes-in-Some.ensures.bytes there in
-    subst (λ fields. OnOk c.put_record.result ((text : List ℕ) → Holds c.args.writer.now text → Holds c.put_record.new.writer (text ++ csv_record fields))) e c.put_record.ensures
+    subst (λ fields. OnOk c.put_record.result ((text : List ℕ) → HasWritten c.args.writer.now text → HasWritten c.put_record.new.writer (text ++ csv_record fields))) e c.put_record.ensures
 
 pub returns-in-None : goal.returns-in-None
 returns-in-None c =
     let none = rw c.in-None.is at c.project_of.ensures in
     let e = unplaced c.args.placings.now c.args.student.now _ _ c.as_bytes-key.ensures.bytes c.as_bytes-name.ensures.bytes none in
-    subst (λ fields. OnOk c.put_record-in-None.result ((text : List ℕ) → Holds c.args.writer.now text → Holds c.put_record-in-None.new.writer (text ++ csv_record fields))) e c.put_record-in-None.ensures
+    subst (λ fields. OnOk c.put_record-in-None.result ((text : List ℕ) → HasWritten c.args.writer.now text → HasWritten c.put_record-in-None.new.writer (text ++ csv_record fields))) e c.put_record-in-None.ensures

@@ -6,14 +6,14 @@ use Rattle.std.proofs.lemmas.List.{take_all}
 use Rattle.portal_core.specs.declared.rows.StudentRow.{StudentRow}
 use Rattle.portal_core.specs.Sight.{OfficeSees}
 use Rattle.portal_core.specs.Sheets.{student_fields, csv_record, csv_header, csv_text}
-use Rattle.portal_rolls.specs.Written.{Holds}
+use Rattle.portal_rolls.specs.Written.{HasWritten}
 use Rattle.portal_core.proofs.Pieces.{one_more}
 use Rattle.portal_rolls.proofs.allocation.write_allocation.Goals as goal
 
 pub loop-student-init : goal.loop-student-init
 loop-student-init c =
     let from = c.from_writer-writer.ensures in
-    let fresh : Holds c.from_writer-writer.result [] = record {
+    let fresh : HasWritten c.from_writer-writer.result [] = record {
       text_is = rw (from.wtr, c.new.ensures.items, from.empty) refl;
       setup = from.cfg;
       fields = from.fields;
@@ -30,8 +30,8 @@ loop-student-preserved c =
     let inside : i < length v.students = subst (λ xs. i < length xs) items c.loop-student-test.true in
     let here : c.student-item.result ≡ get_or v.students i c.student-item.result =
     subst (λ (xs : List StudentRow). c.student-item.result ≡ get_or xs i c.student-item.result) items c.student-item.is in
-    subst (Holds c.put_student.new.writer) (one_more (λ s. csv_record (student_fields v s)) (csv_record csv_header) v.students i c.student-item.result inside here)
-    (subst (λ (p : OfficeSees). Holds c.put_student.new.writer (so_far ++ csv_record (student_fields p c.student-item.result))) c.in_ok-placings.ensures (c.in_ok-put_student.ensures so_far c.loop-student.invariant))
+    subst (HasWritten c.put_student.new.writer) (one_more (λ s. csv_record (student_fields v s)) (csv_record csv_header) v.students i c.student-item.result inside here)
+    (subst (λ (p : OfficeSees). HasWritten c.put_student.new.writer (so_far ++ csv_record (student_fields p c.student-item.result))) c.in_ok-placings.ensures (c.in_ok-put_student.ensures so_far c.loop-student.invariant))
 
 handed : {E : Type 0} (r : Result (Vec ℕ Global) E) (H : List ℕ → Type 0) (text wanted : List ℕ)
     → IfOk r (λ v. (held : List ℕ) → H held → v.items ≡ held) → H text → text ≡ wanted → IfOk r (λ v. v.items ≡ wanted)
@@ -44,5 +44,5 @@ returns c =
     let i = c.loop-student.student-index in
     let items : c.deref-student-items.result.now ≡ v.students = c.deref-student-items.ensures.value ∙ ap (λ (shared : Vec StudentRow Global). shared.items) c.deref.ensures ∙ ap (λ w. w.students) c.view.view_is in
     let all : length v.students ≤ i = subst (λ xs. length xs ≤ i) items c.loop-student-test.false in
-    handed _ (Holds c.loop-student.writer) _ (csv_text v) c.text_of.ensures c.loop-student.invariant
+    handed _ (HasWritten c.loop-student.writer) _ (csv_text v) c.text_of.ensures c.loop-student.invariant
     (ap (λ xs. csv_record csv_header ++ flat_map (λ s. csv_record (student_fields v s)) xs) (take_all i v.students all))

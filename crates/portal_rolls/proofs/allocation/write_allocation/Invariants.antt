@@ -1,9 +1,9 @@
 use Rattle.std.proofs.Common.{◌++◌, take}
 use Rattle.std.specs.List.{flat_map}
 use Rattle.portal_core.specs.Sheets.{csv_record, csv_header, student_fields}
-use Rattle.portal_rolls.specs.Written.{Holds}
+use Rattle.portal_rolls.specs.Written.{HasWritten}
 use Rattle.portal_rolls.proofs.allocation.write_allocation.Given as goal
 
 abbrev pub invariant-loop-student : goal.invariant-loop-student
 invariant-loop-student l =
-    Holds l.writer (csv_record csv_header ++ flat_map (λ s. csv_record (student_fields l.view s)) (take l.student-index l.view.students))
+    HasWritten l.writer (csv_record csv_header ++ flat_map (λ s. csv_record (student_fields l.view s)) (take l.student-index l.view.students))

@@ -5,4 +5,4 @@ use Rattle.portal_rolls.proofs.Cut.{before}
 use Rattle.portal_rolls.proofs.fields.list_of.Given as goal
 
 abbrev pub invariant-loop-byte : goal.invariant-loop-byte
-invariant-loop-byte l = view.texts l.list.items ++ before l.piece.items (spec.cut_at_blanks (drop l.byte-index l.field)) ≡ spec.cut_at_blanks l.field
+invariant-loop-byte l = view.text_views l.list.items ++ before l.piece.items (spec.cut_at_blanks (drop l.byte-index l.field)) ≡ spec.cut_at_blanks l.field

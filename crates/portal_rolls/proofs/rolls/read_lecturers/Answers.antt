@@ -1,8 +1,8 @@
 use Rattle.portal_rolls.proofs.Forms.{given, lecturer_form}
 use Rattle.portal_rolls.specs.Records.{records_of}
-use Rattle.portal_rolls.specs.Rolls.{lecturer_roll}
+use Rattle.portal_rolls.specs.Rolls.{lecturer_format}
 use Rattle.portal_rolls.specs.Views as view
 use Rattle.portal_rolls.proofs.rolls.read_lecturers.Goals as goal
 
 pub returns-clause-formed : goal.returns-clause-formed
-returns-clause-formed c = given view.items lecturer_roll _ lecturer_form (records_of c.args.text.now) c.read_text.result c.read_text.ensures
+returns-clause-formed c = given view.items lecturer_format _ lecturer_form (records_of c.args.text.now) c.read_text.result c.read_text.ensures

@@ -1,8 +1,8 @@
 use Rattle.sqlite.specs.Held.{state}
-use Rattle.portal_core.specs.Meaning.{meant}
-use Rattle.portal_store.specs.Kept.{Turns}
+use Rattle.portal_core.specs.Meaning.{change_model}
+use Rattle.portal_store.specs.Kept.{IsTransition}
 use Rattle.portal_store.proofs.Ended.{ends_err}
 use Rattle.portal_store.proofs.change.make.Goals as goal
 
 pub returns-in-Err-clause-ends : goal.returns-in-Err-clause-ends
-returns-in-Err-clause-ends g c = ends_err (Turns (meant c.args.change.now)) _ _ (state g.S.Store c.args.conn.now) (state g.S.Store c.take.new.conn) c.in-Err.ensures.ends
+returns-in-Err-clause-ends g c = ends_err (IsTransition (change_model c.args.change.now)) _ _ (state g.S.Store c.args.conn.now) (state g.S.Store c.take.new.conn) c.in-Err.ensures.ends

@@ -4,10 +4,10 @@ use Rattle.sqlite.specs.Held.{state}
 use Rattle.portal_core.specs.Words.{Key}
 use Rattle.portal_core.specs.Change.{Fill}
 use Rattle.portal_core.specs.Good.{Sound}
-use Rattle.portal_list.specs.Fill.{fills}
-use Rattle.portal_tables.specs.Own.{IsCurrent}
+use Rattle.portal_list.specs.Fill.{fill_missing}
+use Rattle.portal_tables.specs.Schema.{IsCurrentSchema}
 use Rattle.portal_store.specs.World.{world_in, world_of}
-use Rattle.portal_store.specs.Kept.{HoldsIn, TurnsIn}
+use Rattle.portal_store.specs.Kept.{IsConsistentIn, IsTransitionIn}
 use Rattle.portal_store.specs.Putting.{TurnsAll}
 use Rattle.portal_store.proofs.Asked.{asks_err, asks_more}
 use Rattle.portal_store.proofs.Ended.{ends_asked, ends_refused}
@@ -20,7 +20,7 @@ returns-in_err-read-clause-ends g c =
     let r = c.from_residual.result in
     let old = state g.S.Store c.args.conn.now in
     let new = state g.S.Store c.load_entries.new.conn in
-    ends_refused (TurnsIn c.args.round Fill) r old new c.from_residual.ensures.0 c.requires.idle (λ on. c.is_autocommit-idle.ensures.settled (search rules) on)
+    ends_refused (IsTransitionIn c.args.round Fill) r old new c.from_residual.ensures.0 c.requires.idle (λ on. c.is_autocommit-idle.ensures.settled (search rules) on)
     (asks_err _ r old new c.from_residual.ensures.0 c.in_err-read.ensures.asks)
 
 pub returns-in_err-rankings-clause-ends : goal.returns-in_err-rankings-clause-ends
@@ -28,7 +28,7 @@ returns-in_err-rankings-clause-ends g c =
     let r = c.from_residual-in_err-rankings.result in
     let old = state g.S.Store c.args.conn.now in
     let new = state g.S.Store c.load_entries.new.conn in
-    ends_refused (TurnsIn c.args.round Fill) r old new c.from_residual-in_err-rankings.ensures.0 c.requires.idle (λ on. c.is_autocommit-idle.ensures.settled (search rules) on)
+    ends_refused (IsTransitionIn c.args.round Fill) r old new c.from_residual-in_err-rankings.ensures.0 c.requires.idle (λ on. c.is_autocommit-idle.ensures.settled (search rules) on)
     (asks_more c.in_ok-read.read r old new c.in_ok-read.ensures.asks)
 
 pub returns-clause-ends : goal.returns-clause-ends
@@ -38,10 +38,10 @@ returns-clause-ends g c =
     let new = state g.S.Store c.commit.new.conn in
     let fs : List (Key × List Key) = map (λ f. (f.0, f.1.items)) c.deref.result.now in
     let are =
-    λ (own : IsCurrent old.now.schema) (clean : HasCleanDisk mid) (holds : HoldsIn c.args.round old.now) (sound : Sound (world_in c.args.round old.now.trees)).
+    λ (own : IsCurrentSchema old.now.schema) (clean : HasCleanDisk mid) (holds : IsConsistentIn c.args.round old.now) (sound : Sound (world_in c.args.round old.now.trees)).
     let told = world_told c.args.round old.now.trees holds.second in
-    ap (map {B = Key × List Key} (λ f. (f.0, f.1.items))) c.deref.ensures.value ∙ c.in_ok-rankings.ensures (world_of old.now.trees) (c.in_ok-read.ensures.entries own holds.sound clean (subst Sound (sym told) sound)) ∙ ap fills told in
-    ends_asked (TurnsAll c.args.round fs) (TurnsIn c.args.round Fill) c.commit.result old mid new c.commit.ensures.ok c.commit.ensures.err c.commit.ensures.durable c.commit.ensures.crash
+    ap (map {B = Key × List Key} (λ f. (f.0, f.1.items))) c.deref.ensures.value ∙ c.in_ok-rankings.ensures (world_of old.now.trees) (c.in_ok-read.ensures.entries own holds.sound clean (subst Sound (sym told) sound)) ∙ ap fill_missing told in
+    ends_asked (TurnsAll c.args.round fs) (IsTransitionIn c.args.round Fill) c.commit.result old mid new c.commit.ensures.ok c.commit.ensures.err c.commit.ensures.durable c.commit.ensures.crash
     c.in_ok-read.read c.in_ok-read.ensures.asks (λ own clean after. fill_turns c.args.round fs old.now after (are own clean))
 
 pub returns-clause-entries : goal.returns-clause-entries

@@ -8,7 +8,7 @@ use Rattle.portal_tables.proofs.Owned.{current_own}
 use Rattle.portal_store.specs.Loads.{Loads}
 use Rattle.portal_store.proofs.Asked.{asks_then, asks_all}
 use Rattle.portal_store.proofs.Loaded.{loads_first, same_error}
-use Rattle.portal_store.proofs.Remembered.{told_start}
+use Rattle.portal_store.proofs.ViewCache.{told_start}
 use Rattle.portal_store.proofs.load.load.Goals as goal
 
 pub returns-in_err-round_in-clause-damaged : goal.returns-in_err-round_in-clause-damaged

@@ -1,12 +1,12 @@
 use Rattle.sqlite.specs.Held.{state}
 use Rattle.portal_core.specs.declared.phase.Round.TheVariants.{First}
 use Rattle.portal_views.specs.Contents.{rows_held}
-use Rattle.portal_store.specs.Kept.{StandsAs}
+use Rattle.portal_store.specs.Kept.{HasGoodFirst}
 use Rattle.portal_tables.proofs.InTurn.{clean_before, reads_handed, reads_more}
 use Rattle.portal_store.proofs.Asked.{asks_err, asks_reads}
 use Rattle.portal_store.proofs.Loaded.{HasRead, loads, same_error}
 use Rattle.portal_store.proofs.Fine.{office_code, rolls_rise, all_fine}
-use Rattle.portal_store.proofs.Remembered.{told_start}
+use Rattle.portal_store.proofs.ViewCache.{told_start}
 use Rattle.portal_store.proofs.load.load_first.Goals as goal
 
 pub returns-in_err-office-clause-damaged : goal.returns-in_err-office-clause-damaged
@@ -16,7 +16,7 @@ returns-in_err-office-clause-damaged g c own sound clean damaged stands =
 
 pub returns-in_err-contents-clause-damaged : goal.returns-in_err-contents-clause-damaged
 returns-in_err-contents-clause-damaged g c own sound clean damaged =
-    told_start First c.in_ok-office.office _ _ (state g.S.Store c.contents_in.new.conn) (λ x. StandsAs c.args.version x.trees → ⊥) c.in_ok-office.ensures.asks c.in_ok-office.ensures.row (clean_before _ _ _ c.in_err-contents.ensures.reads.crash)
+    told_start First c.in_ok-office.office _ _ (state g.S.Store c.contents_in.new.conn) (λ x. HasGoodFirst c.args.version x.trees → ⊥) c.in_ok-office.ensures.asks c.in_ok-office.ensures.row (clean_before _ _ _ c.in_err-contents.ensures.reads.crash)
     (λ own sound clean stands. c.in_err-contents.ensures.damaged own sound clean (same_error c.from_residual-in_err-contents.result c.in_err-contents.field-0.0 _ c.from_residual-in_err-contents.ensures.1 damaged)
     (rolls_rise First _ stands.whole stands.good) (all_fine First _ stands.whole stands.good tt)) (λ row no. no) own sound clean
 

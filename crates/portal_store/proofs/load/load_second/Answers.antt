@@ -7,13 +7,13 @@ use Rattle.portal_tables.specs.Tables.{version}
 use Rattle.portal_tables.proofs.InTurn.{clean_before, reads_handed, reads_more}
 use Rattle.portal_views.proofs.OneKey.{one_place}
 use Rattle.portal_tables.proofs.Owned.{current_own}
-use Rattle.portal_store.specs.Asked.{AreApart}
-use Rattle.portal_store.specs.Kept.{StandsAs, StandsIn}
+use Rattle.portal_store.specs.Asked.{NumbersDiffer}
+use Rattle.portal_store.specs.Kept.{HasGoodFirst, HasGoodWorldIn}
 use Rattle.portal_store.specs.Loads.{Loads, LoadsIn}
 use Rattle.portal_store.proofs.Asked.{asks_all, asks_err, asks_reads, asks_then}
 use Rattle.portal_store.proofs.Fine.{all_fine, rolls_rise, stands_before}
 use Rattle.portal_store.proofs.Loaded.{HasRead, loads_after, same_error}
-use Rattle.portal_store.proofs.Remembered.{told_start}
+use Rattle.portal_store.proofs.ViewCache.{told_start}
 use Rattle.portal_store.proofs.load.load_second.Goals as goal
 
 pub returns-in_err-phase-clause-damaged : goal.returns-in_err-phase-clause-damaged
@@ -22,14 +22,14 @@ returns-in_err-phase-clause-damaged g c own sound clean damaged apart stands =
 
 pub returns-in_err-first-clause-damaged : goal.returns-in_err-first-clause-damaged
 returns-in_err-first-clause-damaged g c own sound clean damaged apart stands =
-    told_start Second c.in_ok-phase.phase _ _ (state g.S.Store c.load_first.new.conn) (λ x. StandsAs version x.trees → ⊥) c.in_ok-phase.ensures.asks c.in_ok-phase.ensures.row (clean_before _ _ _ c.in_err-first.ensures.asks.crash)
+    told_start Second c.in_ok-phase.phase _ _ (state g.S.Store c.load_first.new.conn) (λ x. HasGoodFirst version x.trees → ⊥) c.in_ok-phase.ensures.asks c.in_ok-phase.ensures.row (clean_before _ _ _ c.in_err-first.ensures.asks.crash)
     (λ own sound clean. c.in_err-first.ensures.damaged (current_own _ own) sound clean (same_error c.from_residual-in_err-first.result c.in_err-first.field-0.0 _ c.from_residual-in_err-first.ensures.1 damaged)) (λ row no. no (stands_before _ stands)) own sound clean
 
 pub returns-in_err-contents-clause-damaged : goal.returns-in_err-contents-clause-damaged
 returns-in_err-contents-clause-damaged g c own sound clean damaged =
     let end = state g.S.Store c.contents_in.new.conn in
     let late = clean_before (state g.S.Store c.load_first.new.conn) end _ c.in_err-contents.ensures.reads.crash in
-    let Stays = λ (x : Database). AreApart x.trees → StandsIn Second x.trees → ⊥ in
+    let Stays = λ (x : Database). NumbersDiffer x.trees → HasGoodWorldIn Second x.trees → ⊥ in
     told_start Second c.in_ok-phase.phase _ _ end Stays c.in_ok-phase.ensures.asks c.in_ok-phase.ensures.row (λ clean. clean_before _ _ _ c.in_ok-first.ensures.asks.crash (late clean))
     (told_start Second c.in_ok-first.first _ _ end Stays (asks_all First _ _ _ c.in_ok-first.ensures.asks) (λ own. c.in_ok-first.ensures.rows (current_own _ own)) late
     (λ own sound clean apart stands. c.in_err-contents.ensures.damaged own sound clean (same_error c.from_residual-in_err-contents.result c.in_err-contents.field-0.0 _ c.from_residual-in_err-contents.ensures.1 damaged)

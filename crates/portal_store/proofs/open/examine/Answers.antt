@@ -3,12 +3,12 @@ use Rattle.sqlite.specs.Effect.{Database}
 use Rattle.sqlite.specs.Held.{Held, state}
 use Rattle.sqlite.specs.State.{HasCleanDisk, IsLive, IsUnchanged}
 use Rattle.portal_core.specs.declared.phase.Round.TheVariants.{First, Second}
-use Rattle.portal_tables.specs.Own.{IsCurrent}
-use Rattle.portal_tables.specs.Reading.{AsksIn}
+use Rattle.portal_tables.specs.Schema.{IsCurrentSchema}
+use Rattle.portal_tables.specs.Reading.{RunsQueryIn}
 use Rattle.portal_tables.proofs.InTurn.{clean_before}
 use Rattle.portal_tables.proofs.Owned.{current_own}
 use Rattle.portal_store.specs.Asked.{Denies, Refutes, Admits}
-use Rattle.portal_store.specs.Kept.{Stands}
+use Rattle.portal_store.specs.Kept.{HasGoodWorld}
 use Rattle.portal_store.proofs.Asked.{asks_then, asks_err, asks_all, blames_more, handed, live_still, refuted}
 use Rattle.portal_store.proofs.open.examine.Goals as goal
 
@@ -32,7 +32,7 @@ returns-clause-asks g c mine =
     let b = state g.S.Store c.see_first.new.conn in
     let e = state g.S.Store c.judge_both.new.conn in
     asks_then c.in_ok-see_first.field-0 r a b e (asks_all First _ a b (c.in_ok-see_first.ensures.asks mine))
-    (subst (λ (h : Held g.row.S.Denot). AsksIn Second r (state g.S.Store h) e) (c.in_ok-see_second_tables.ensures.same mine) c.judge_both.ensures.asks)
+    (subst (λ (h : Held g.row.S.Denot). RunsQueryIn Second r (state g.S.Store h) e) (c.in_ok-see_second_tables.ensures.same mine) c.judge_both.ensures.asks)
 
 pub returns-clause-refused : goal.returns-clause-refused
 returns-clause-refused g c mine current live clean =
@@ -41,14 +41,14 @@ returns-clause-refused g c mine current live clean =
     let b = state g.S.Store c.see_first.new.conn in
     let e = state g.S.Store c.judge_both.new.conn in
     let same = c.in_ok-see_second_tables.ensures.same mine in
-    let asks = subst (λ (h : Held g.row.S.Denot). AsksIn Second r (state g.S.Store h) e) same c.judge_both.ensures.asks in
+    let asks = subst (λ (h : Held g.row.S.Denot). RunsQueryIn Second r (state g.S.Store h) e) same c.judge_both.ensures.asks in
     let own = current_own _ current in
     let before = clean_before b e _ asks.crash clean in
     let m : IsUnchanged a b = (c.in_ok-see_first.ensures.asks mine).same own before in
-    let there = subst (λ (x : Database). IsCurrent x.schema) (sym m.0.now_is) current in
-    let denied = subst (λ (h : Held g.row.S.Denot). IsCurrent h.schema → IsLive (state g.S.Store h) → HasCleanDisk e → IfErr r (λ f. Denies f (Stands (state g.S.Store h).now.trees))) same c.judge_both.ensures.refused in
+    let there = subst (λ (x : Database). IsCurrentSchema x.schema) (sym m.0.now_is) current in
+    let denied = subst (λ (h : Held g.row.S.Denot). IsCurrentSchema h.schema → IsLive (state g.S.Store h) → HasCleanDisk e → IfErr r (λ f. Denies f (HasGoodWorld (state g.S.Store h).now.trees))) same c.judge_both.ensures.refused in
     let db = a.now.trees in
-    refuted (Stands b.now.trees) db r (c.in_ok-see_first.ensures.version mine own before) (λ s. subst (λ (x : Database). Stands x.trees) (sym m.0.now_is) s) (denied there (live_still a b m live) clean)
+    refuted (HasGoodWorld b.now.trees) db r (c.in_ok-see_first.ensures.version mine own before) (λ s. subst (λ (x : Database). HasGoodWorld x.trees) (sym m.0.now_is) s) (denied there (live_still a b m live) clean)
 
 pub returns-clause-admits : goal.returns-clause-admits
 returns-clause-admits g c mine current live clean =
@@ -57,8 +57,8 @@ returns-clause-admits g c mine current live clean =
     let b = state g.S.Store c.see_first.new.conn in
     let e = state g.S.Store c.judge_both.new.conn in
     let same = c.in_ok-see_second_tables.ensures.same mine in
-    let asks = subst (λ (h : Held g.row.S.Denot). AsksIn Second r (state g.S.Store h) e) same c.judge_both.ensures.asks in
+    let asks = subst (λ (h : Held g.row.S.Denot). RunsQueryIn Second r (state g.S.Store h) e) same c.judge_both.ensures.asks in
     let m : IsUnchanged a b = (c.in_ok-see_first.ensures.asks mine).same (current_own _ current) (clean_before b e _ asks.crash clean) in
-    let there = subst (λ (x : Database). IsCurrent x.schema) (sym m.0.now_is) current in
-    let admits = subst (λ (h : Held g.row.S.Denot). IsCurrent h.schema → IsLive (state g.S.Store h) → HasCleanDisk e → OnOk r (Admits (state g.S.Store h).now.trees)) same c.judge_both.ensures.admits in
+    let there = subst (λ (x : Database). IsCurrentSchema x.schema) (sym m.0.now_is) current in
+    let admits = subst (λ (h : Held g.row.S.Denot). IsCurrentSchema h.schema → IsLive (state g.S.Store h) → HasCleanDisk e → OnOk r (Admits (state g.S.Store h).now.trees)) same c.judge_both.ensures.admits in
     subst (λ (x : Database). OnOk r (Admits x.trees)) m.0.now_is (admits there (live_still a b m live) clean)

@@ -3,7 +3,7 @@ use Rattle.std.proofs.lemmas.Result.{on_ok_weaker}
 use Rattle.sqlite.specs.Effect.{Database}
 use Rattle.sqlite.specs.Held.{state}
 use Rattle.sqlite.specs.State.{IsUnchanged}
-use Rattle.portal_tables.specs.Own.{IsCurrent}
+use Rattle.portal_tables.specs.Schema.{IsCurrentSchema}
 use Rattle.portal_tables.proofs.InTurn.{clean_before, unchanged_then}
 use Rattle.portal_store.specs.Asked.{IsJudged}
 use Rattle.portal_store.specs.Kept.{HasSecond}
@@ -38,7 +38,7 @@ returns-clause-admits g c own live clean =
     let clean_d = clean_before d e _ c.see_world.ensures.asks.crash clean in
     let clean_b = clean_before b d _ c.in_ok-see_second.ensures.asks.crash clean_d in
     let m : IsUnchanged a b = c.in_ok-see_apart.ensures.asks.same own clean_b in
-    let there = subst (λ (x : Database). IsCurrent x.schema) (sym m.0.now_is) own in
+    let there = subst (λ (x : Database). IsCurrentSchema x.schema) (sym m.0.now_is) own in
     let sound = (live_still a b m live m.0.is_open).0 in
     let n : IsUnchanged a d = unchanged_then a b d m (c.in_ok-see_second.ensures.asks.same there clean_d) in
     let db = a.now.trees in
@@ -48,4 +48,4 @@ returns-clause-admits g c own live clean =
     (λ h.
     let judged = subst (λ (x : Database). IsJudged x.trees) n.0.now_is h in
     record { apart = apart_both db (round_in db) judged.office second apart; stands = judged_stands db second judged })
-    (c.see_world.ensures.judged (subst (λ (x : Database). IsCurrent x.schema) (sym n.0.now_is) own) (live_still a d n live n.0.is_open).0 clean)
+    (c.see_world.ensures.judged (subst (λ (x : Database). IsCurrentSchema x.schema) (sym n.0.now_is) own) (live_still a d n live n.0.is_open).0 clean)

@@ -6,16 +6,16 @@ use Rattle.portal_core.specs.declared.phase.Round.TheVariants.{First, Second}
 use Rattle.portal_tables.proofs.InTurn.{clean_before}
 use Rattle.portal_tables.proofs.Owned.{current_own}
 use Rattle.portal_store.specs.Asked.{Denies}
-use Rattle.portal_store.specs.Kept.{AreEmpty, Stands, StandsIn}
+use Rattle.portal_store.specs.Kept.{AreEmpty, HasGoodWorld, HasGoodWorldIn}
 use Rattle.portal_store.specs.World.{phase_in}
 use Rattle.portal_store.proofs.Asked.{asks_then, asks_all, denied_of, denies_more, if_err_weaker}
-use Rattle.portal_store.proofs.Remembered.{told_start}
+use Rattle.portal_store.proofs.ViewCache.{told_start}
 use Rattle.portal_store.proofs.Rounds.{first_by, second_by, none_told, one_told, stands_in, tells_phase}
 use Rattle.portal_store.proofs.open.see_second.Goals as goal
 
 pub returns-in-Err-clause-refused : goal.returns-in-Err-clause-refused
 returns-in-Err-clause-refused g c own sound clean =
-    denied_of c.load_open_fault_of.result c.in-Err.fault (Stands (state g.S.Store c.args.conn.now).now.trees) c.load_open_fault_of.ensures.damaged.1 c.load_open_fault_of.ensures.nothing
+    denied_of c.load_open_fault_of.result c.in-Err.fault (HasGoodWorld (state g.S.Store c.args.conn.now).now.trees) c.load_open_fault_of.ensures.damaged.1 c.load_open_fault_of.ensures.nothing
     (λ e stands. let told = tells_phase stands.0 _ stands.1.second in c.in-Err.ensures.damaged own clean (ap Err e) told.0 told.1)
 
 pub returns-then-tells_none-clause-asks : goal.returns-then-tells_none-clause-asks
@@ -29,16 +29,16 @@ pub returns-then-tells_none-clause-refused : goal.returns-then-tells_none-clause
 returns-then-tells_none-clause-refused g c =
     let db = (state g.S.Store c.args.conn.now).now.trees in
     told_start Second c.in-Ok.phase _ _ (state g.S.Store c.see_nothing.new.conn) (λ x. IfErr c.see_nothing.result (λ f. Denies f (AreEmpty x.trees))) c.in-Ok.ensures.asks c.in-Ok.ensures.row (clean_before _ _ _ c.see_nothing.ensures.asks.crash) (λ own sound. c.see_nothing.ensures.refused own)
-    (λ row. if_err_weaker (λ f. Denies f (AreEmpty db)) (λ f. Denies f (Stands db)) c.see_nothing.result
-    (λ f. denies_more f (AreEmpty db) (Stands db) (λ s. (stands_in First db s (first_by db c.in-Ok.phase row (sym c.tells_none.ensures ∙ c.if-tells_none.true))).second.says)))
+    (λ row. if_err_weaker (λ f. Denies f (AreEmpty db)) (λ f. Denies f (HasGoodWorld db)) c.see_nothing.result
+    (λ f. denies_more f (AreEmpty db) (HasGoodWorld db) (λ s. (stands_in First db s (first_by db c.in-Ok.phase row (sym c.tells_none.ensures ∙ c.if-tells_none.true))).second.says)))
 
 pub returns-else-tells_none-clause-refused : goal.returns-else-tells_none-clause-refused
 returns-else-tells_none-clause-refused g c =
     let db = (state g.S.Store c.args.conn.now).now.trees in
-    told_start Second c.in-Ok.phase _ _ (state g.S.Store c.see_published.new.conn) (λ x. IfErr c.see_published.result (λ f. Denies f (StandsIn Second x.trees))) c.in-Ok.ensures.asks c.in-Ok.ensures.row (clean_before _ _ _ c.see_published.ensures.asks.crash)
+    told_start Second c.in-Ok.phase _ _ (state g.S.Store c.see_published.new.conn) (λ x. IfErr c.see_published.result (λ f. Denies f (HasGoodWorldIn Second x.trees))) c.in-Ok.ensures.asks c.in-Ok.ensures.row (clean_before _ _ _ c.see_published.ensures.asks.crash)
     (λ own. c.see_published.ensures.refused (current_own _ own))
-    (λ row. if_err_weaker (λ f. Denies f (StandsIn Second db)) (λ f. Denies f (Stands db)) c.see_published.result
-    (λ f. denies_more f (StandsIn Second db) (Stands db) (λ s. stands_in Second db s (second_by db c.in-Ok.phase row (sym c.tells_none.ensures ∙ c.if-tells_none.false)))))
+    (λ row. if_err_weaker (λ f. Denies f (HasGoodWorldIn Second db)) (λ f. Denies f (HasGoodWorld db)) c.see_published.result
+    (λ f. denies_more f (HasGoodWorldIn Second db) (HasGoodWorld db) (λ s. stands_in Second db s (second_by db c.in-Ok.phase row (sym c.tells_none.ensures ∙ c.if-tells_none.false)))))
 
 pub returns-then-tells_none-clause-second : goal.returns-then-tells_none-clause-second
 returns-then-tells_none-clause-second g c =

@@ -5,17 +5,17 @@ use Rattle.portal_store.proofs.open.see_second_apart.Goals as goal
 pub returns-in_err-apart-2-clause-asks : goal.returns-in_err-apart-2-clause-asks
 returns-in_err-apart-2-clause-asks g c =
     let r = c.from_residual-in_err-apart-2.result in
-    asks_after c.are_apart.result true r _ _ _ c.in_ok-apart.ensures.ok c.are_apart.ensures.asks (asks_err c.are_apart-2.result r _ _ c.from_residual-in_err-apart-2.ensures.0 c.are_apart-2.ensures.asks)
+    asks_after c.row_numbers_differ.result true r _ _ _ c.in_ok-apart.ensures.ok c.row_numbers_differ.ensures.asks (asks_err c.row_numbers_differ-2.result r _ _ c.from_residual-in_err-apart-2.ensures.0 c.row_numbers_differ-2.ensures.asks)
 
 pub returns-in_err-apart-3-clause-asks : goal.returns-in_err-apart-3-clause-asks
 returns-in_err-apart-3-clause-asks g c =
     let r = c.from_residual-in_err-apart-3.result in
-    asks_after c.are_apart.result true r _ _ _ c.in_ok-apart.ensures.ok c.are_apart.ensures.asks
-    (asks_after c.are_apart-2.result true r _ _ _ c.in_ok-apart-2.ensures.ok c.are_apart-2.ensures.asks (asks_err c.are_apart-3.result r _ _ c.from_residual-in_err-apart-3.ensures.0 c.are_apart-3.ensures.asks))
+    asks_after c.row_numbers_differ.result true r _ _ _ c.in_ok-apart.ensures.ok c.row_numbers_differ.ensures.asks
+    (asks_after c.row_numbers_differ-2.result true r _ _ _ c.in_ok-apart-2.ensures.ok c.row_numbers_differ-2.ensures.asks (asks_err c.row_numbers_differ-3.result r _ _ c.from_residual-in_err-apart-3.ensures.0 c.row_numbers_differ-3.ensures.asks))
 
 pub returns-clause-asks : goal.returns-clause-asks
 returns-clause-asks g c =
     let r = c.apart-4.result in
-    asks_after c.are_apart.result true r _ _ _ c.in_ok-apart.ensures.ok c.are_apart.ensures.asks
-    (asks_after c.are_apart-2.result true r _ _ _ c.in_ok-apart-2.ensures.ok c.are_apart-2.ensures.asks
-    (asks_after c.are_apart-3.result true r _ _ _ c.in_ok-apart-3.ensures.ok c.are_apart-3.ensures.asks (asks_so c.are_apart-4.result true r _ _ c.apart-4.ensures.ok c.are_apart-4.ensures.asks)))
+    asks_after c.row_numbers_differ.result true r _ _ _ c.in_ok-apart.ensures.ok c.row_numbers_differ.ensures.asks
+    (asks_after c.row_numbers_differ-2.result true r _ _ _ c.in_ok-apart-2.ensures.ok c.row_numbers_differ-2.ensures.asks
+    (asks_after c.row_numbers_differ-3.result true r _ _ _ c.in_ok-apart-3.ensures.ok c.row_numbers_differ-3.ensures.asks (asks_so c.row_numbers_differ-4.result true r _ _ c.apart-4.ensures.ok c.row_numbers_differ-4.ensures.asks)))

@@ -3,7 +3,7 @@ use Rattle.sqlite.specs.Held.{state}
 use Rattle.portal_core.specs.Good.{Good}
 use Rattle.portal_list.specs.Entries.{HasEntries}
 use Rattle.portal_store.specs.Asked.{Denies}
-use Rattle.portal_store.specs.Kept.{Stands}
+use Rattle.portal_store.specs.Kept.{HasGoodWorld}
 use Rattle.portal_store.specs.World.{world_of}
 use Rattle.portal_store.proofs.Asked.{denied_by, handed}
 use Rattle.portal_store.proofs.Rounds.{world_told}
@@ -15,8 +15,8 @@ returns-in_err-judge_world-in-Ok-clause-refused g c own sound clean apart =
     let db = (state g.S.Store c.args.conn.now).now.trees in
     let e = c.in_err-judge_world-in-Ok.field-0.0 in
     let found = c.in-Ok.ensures.found own sound clean in
-    handed (λ f. Denies f (Stands db)) e c.from_residual.result c.from_residual.ensures.1
-    (denied_by e (Stands db) c.in_err-judge_world-in-Ok.ensures.judged
+    handed (λ f. Denies f (HasGoodWorld db)) e c.from_residual.result c.from_residual.ensures.1
+    (denied_by e (HasGoodWorld db) c.in_err-judge_world-in-Ok.ensures.judged
     (λ is s. c.in_err-judge_world-in-Ok.ensures.damaged (ap Err is) (subst Good (sym (found.world ∙ world_told s.0 db s.1.second)) s.1.good)))
 
 pub returns-in_ok-judge_world-in-Ok-clause-judged : goal.returns-in_ok-judge_world-in-Ok-clause-judged

@@ -5,7 +5,7 @@ use Rattle.portal_core.specs.View.{catalogue, office_sees}
 use Rattle.portal_store.specs.Reading.{IsNow}
 use Rattle.portal_store.specs.World.{world_in}
 use Rattle.portal_tables.proofs.InTurn.{reads_then, clean_before}
-use Rattle.portal_store.proofs.Remembered.{at_start, round_held}
+use Rattle.portal_store.proofs.ViewCache.{at_start, round_held}
 use Rattle.portal_store.proofs.queries.office_read.Goals as goal
 
 pub returns-clause-shows : goal.returns-clause-shows
@@ -20,9 +20,9 @@ returns-clause-shows g c holds clean now right =
     (λ (x : Database). IsNow (world_in round x.trees) round c.args.office → shared.value.items ≡ catalogue (world_in round x.trees) → IfOk c.office_view.result (λ v. v ≡ office_sees (world_in round x.trees))) c.office_view.ensures.shows holds clean now
     (c.in_ok-catalogue.ensures.shows holds before right)
 
-pub returns-clause-mind : goal.returns-clause-mind
-returns-clause-mind g c holds clean =
-    c.in_ok-catalogue.ensures.mind holds (clean_before (state g.S.Store c.shared_catalogue.new.conn) (state g.S.Store c.office_view.new.conn) _ c.office_view.ensures.reads.crash clean)
+pub returns-clause-cached : goal.returns-clause-cached
+returns-clause-cached g c holds clean =
+    c.in_ok-catalogue.ensures.cached holds (clean_before (state g.S.Store c.shared_catalogue.new.conn) (state g.S.Store c.office_view.new.conn) _ c.office_view.ensures.reads.crash clean)
 
 pub returns-clause-reads : goal.returns-clause-reads
 returns-clause-reads g c =

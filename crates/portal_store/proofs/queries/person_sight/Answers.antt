@@ -9,14 +9,14 @@ use Rattle.portal_core.specs.declared.phase.Round.{Round}
 use Rattle.portal_core.specs.declared.view.View.TheVariants.{Lecturer as LecturerSight}
 use Rattle.portal_views.specs.Callers.{lecturer_shown}
 use Rattle.portal_views.specs.Lines.{HasTables}
-use Rattle.portal_views.specs.Offers.{IsOffered}
+use Rattle.portal_views.specs.Catalogue.{IsCatalogue}
 use Rattle.portal_tables.proofs.InTurn.{reads_in, reads_then, reads_more, reads_handed, clean_before}
 use Rattle.portal_store.specs.Queried.{lecturer_from}
 use Rattle.portal_store.specs.World.{world_in}
 use Rattle.portal_store.proofs.Applying.{lecturer_told}
 use Rattle.portal_store.proofs.Holding.{has_tables}
 use Rattle.portal_store.proofs.Queried.{catalogue_told}
-use Rattle.portal_store.proofs.Remembered.{listed_then, mind_start, row_then}
+use Rattle.portal_store.proofs.ViewCache.{listed_then, cache_start, row_then}
 use Rattle.portal_store.proofs.queries.person_sight.Goals as goal
 
 -- what the row and the catalogue were read of
@@ -53,9 +53,9 @@ returns-clause-shows g c holds clean phase other good right =
     let offers = c.in_ok-catalogue.catalogue.value.items in
     let row = c.in-Some.row in
     let late = clean_before (state g.S.Store c.shared_catalogue.new.conn) e _ c.in_ok-lecturer_view.ensures.reads.crash clean in
-    let listed = listed_then round c.in_ok-row.field-0 c.in_ok-catalogue.catalogue offers c.args.remembered.now a _ _ c.in_ok-row.ensures.reads c.in_ok-catalogue.ensures.reads c.in_ok-catalogue.ensures.shows holds late right in
-    let offered : IsOffered round a.now.trees offers = λ first. listed.0 ∙ ap (λ (r : Round). catalogue (world_in r a.now.trees)) first ∙ sym (catalogue_told a.now.trees) in
-    let told = subst (λ (x : Database). HasTables x → HasCleanDisk e → IsOffered round x.trees offers → c.in_ok-lecturer_view.field-0 ≡ lecturer_shown round x.trees c.args.phase row offers) listed.1 c.in_ok-lecturer_view.ensures.shows (has_tables a.now holds) clean offered
+    let listed = listed_then round c.in_ok-row.field-0 c.in_ok-catalogue.catalogue offers c.args.cache.now a _ _ c.in_ok-row.ensures.reads c.in_ok-catalogue.ensures.reads c.in_ok-catalogue.ensures.shows holds late right in
+    let offered : IsCatalogue round a.now.trees offers = λ first. listed.0 ∙ ap (λ (r : Round). catalogue (world_in r a.now.trees)) first ∙ sym (catalogue_told a.now.trees) in
+    let told = subst (λ (x : Database). HasTables x → HasCleanDisk e → IsCatalogue round x.trees offers → c.in_ok-lecturer_view.field-0 ≡ lecturer_shown round x.trees c.args.phase row offers) listed.1 c.in_ok-lecturer_view.ensures.shows (has_tables a.now holds) clean offered
     ∙ lecturer_told round a.now.trees holds.second good row c.args.phase offers phase listed.0 in
     let found = ap (option_map (lecturer_from round a.now.trees)) (sym c.in-Some.is) ∙ c.in_ok-row.ensures.found round holds (clean_before _ _ _ c.in_ok-catalogue.ensures.reads.crash late) in
     ap LecturerSight told
@@ -63,22 +63,22 @@ returns-clause-shows g c holds clean phase other good right =
 
 -- what is remembered
 
-pub returns-in_err-catalogue-clause-mind : goal.returns-in_err-catalogue-clause-mind
-returns-in_err-catalogue-clause-mind g c =
-    mind_start c.args.round c.in_ok-row.field-0 c.args.remembered.now c.shared_catalogue.new.remembered _ _ (state g.S.Store c.shared_catalogue.new.conn) (state g.S.Store c.shared_catalogue.new.conn) c.in_ok-row.ensures.reads c.in_err-catalogue.ensures.mind
+pub returns-in_err-catalogue-clause-cached : goal.returns-in_err-catalogue-clause-cached
+returns-in_err-catalogue-clause-cached g c =
+    cache_start c.args.round c.in_ok-row.field-0 c.args.cache.now c.shared_catalogue.new.cache _ _ (state g.S.Store c.shared_catalogue.new.conn) (state g.S.Store c.shared_catalogue.new.conn) c.in_ok-row.ensures.reads c.in_err-catalogue.ensures.cached
     (clean_before _ _ _ c.in_err-catalogue.ensures.reads.crash) (λ clean. clean)
 
-pub returns-in_err-lecturer_view-clause-mind : goal.returns-in_err-lecturer_view-clause-mind
-returns-in_err-lecturer_view-clause-mind g c =
-    mind_start c.args.round c.in_ok-row.field-0 c.args.remembered.now c.shared_catalogue.new.remembered _ _ (state g.S.Store c.shared_catalogue.new.conn) (state g.S.Store c.lecturer_view.new.conn) c.in_ok-row.ensures.reads c.in_ok-catalogue.ensures.mind
+pub returns-in_err-lecturer_view-clause-cached : goal.returns-in_err-lecturer_view-clause-cached
+returns-in_err-lecturer_view-clause-cached g c =
+    cache_start c.args.round c.in_ok-row.field-0 c.args.cache.now c.shared_catalogue.new.cache _ _ (state g.S.Store c.shared_catalogue.new.conn) (state g.S.Store c.lecturer_view.new.conn) c.in_ok-row.ensures.reads c.in_ok-catalogue.ensures.cached
     (clean_before _ _ _ c.in_ok-catalogue.ensures.reads.crash) (clean_before _ _ _ c.in_err-lecturer_view.ensures.reads.crash)
 
-pub returns-clause-mind : goal.returns-clause-mind
-returns-clause-mind g c =
-    mind_start c.args.round c.in_ok-row.field-0 c.args.remembered.now c.shared_catalogue.new.remembered _ _ (state g.S.Store c.shared_catalogue.new.conn) (state g.S.Store c.lecturer_view.new.conn) c.in_ok-row.ensures.reads c.in_ok-catalogue.ensures.mind
+pub returns-clause-cached : goal.returns-clause-cached
+returns-clause-cached g c =
+    cache_start c.args.round c.in_ok-row.field-0 c.args.cache.now c.shared_catalogue.new.cache _ _ (state g.S.Store c.shared_catalogue.new.conn) (state g.S.Store c.lecturer_view.new.conn) c.in_ok-row.ensures.reads c.in_ok-catalogue.ensures.cached
     (clean_before _ _ _ c.in_ok-catalogue.ensures.reads.crash) (clean_before _ _ _ c.in_ok-lecturer_view.ensures.reads.crash)
 
-pub returns-in_default-clause-mind : goal.returns-in_default-clause-mind
-returns-in_default-clause-mind g c =
-    mind_start c.args.round c.in_ok-row.field-0 c.args.remembered.now c.student_sight.new.remembered _ _ (state g.S.Store c.student_sight.new.conn) (state g.S.Store c.student_sight.new.conn) c.in_ok-row.ensures.reads c.student_sight.ensures.mind
+pub returns-in_default-clause-cached : goal.returns-in_default-clause-cached
+returns-in_default-clause-cached g c =
+    cache_start c.args.round c.in_ok-row.field-0 c.args.cache.now c.student_sight.new.cache _ _ (state g.S.Store c.student_sight.new.conn) (state g.S.Store c.student_sight.new.conn) c.in_ok-row.ensures.reads c.student_sight.ensures.cached
     (clean_before _ _ _ c.student_sight.ensures.reads.crash) (λ clean. clean)

@@ -7,12 +7,12 @@ use Rattle.portal_core.specs.View.{sight_of, caller_among}
 use Rattle.portal_core.specs.World.{Student}
 use Rattle.portal_core.specs.declared.view.View.TheVariants.{Student as StudentSight}
 use Rattle.portal_views.specs.Callers.{student_shown}
-use Rattle.portal_tables.specs.Own.{HasRound}
+use Rattle.portal_tables.specs.Schema.{HasRound}
 use Rattle.portal_tables.proofs.InTurn.{reads_in, reads_then, reads_more, reads_handed, clean_before}
 use Rattle.portal_store.specs.Queried.{student_from}
 use Rattle.portal_store.specs.World.{world_in}
 use Rattle.portal_store.proofs.Queried.{student_told}
-use Rattle.portal_store.proofs.Remembered.{listed_then, mind_start, round_held, row_then}
+use Rattle.portal_store.proofs.ViewCache.{listed_then, cache_start, round_held, row_then}
 use Rattle.portal_store.proofs.queries.student_sight.Goals as goal
 
 -- what the row and the catalogue were read of
@@ -47,7 +47,7 @@ returns-clause-shows g c holds clean phase right =
     let offers = c.in_ok-catalogue.catalogue.value.items in
     let row = c.in-Some.row in
     let late = clean_before (state g.S.Store c.shared_catalogue.new.conn) e _ c.in_ok-student_view.ensures.reads.crash clean in
-    let listed = listed_then round c.in_ok-row.field-0 c.in_ok-catalogue.catalogue offers c.args.remembered.now a _ _ c.in_ok-row.ensures.reads c.in_ok-catalogue.ensures.reads c.in_ok-catalogue.ensures.shows holds late right in
+    let listed = listed_then round c.in_ok-row.field-0 c.in_ok-catalogue.catalogue offers c.args.cache.now a _ _ c.in_ok-row.ensures.reads c.in_ok-catalogue.ensures.reads c.in_ok-catalogue.ensures.shows holds late right in
     let told = subst (λ (x : Database). HasRound round x.schema → IsDatabase x → HasCleanDisk e → c.in_ok-student_view.field-0 ≡ student_shown round x.trees c.args.phase row offers) listed.1 c.in_ok-student_view.ensures.shows (round_held a.now holds) holds.sound clean
     ∙ student_told round a.now.trees row c.args.phase offers phase listed.0 in
     let found = ap (option_map (student_from round a.now.trees)) (sym c.in-Some.is) ∙ c.in_ok-row.ensures.found round holds (clean_before _ _ _ c.in_ok-catalogue.ensures.reads.crash late) in
@@ -55,17 +55,17 @@ returns-clause-shows g c holds clean phase right =
 
 -- what is remembered
 
-pub returns-in_err-catalogue-clause-mind : goal.returns-in_err-catalogue-clause-mind
-returns-in_err-catalogue-clause-mind g c =
-    mind_start c.args.round c.in_ok-row.field-0 c.args.remembered.now c.shared_catalogue.new.remembered _ _ (state g.S.Store c.shared_catalogue.new.conn) (state g.S.Store c.shared_catalogue.new.conn) c.in_ok-row.ensures.reads c.in_err-catalogue.ensures.mind
+pub returns-in_err-catalogue-clause-cached : goal.returns-in_err-catalogue-clause-cached
+returns-in_err-catalogue-clause-cached g c =
+    cache_start c.args.round c.in_ok-row.field-0 c.args.cache.now c.shared_catalogue.new.cache _ _ (state g.S.Store c.shared_catalogue.new.conn) (state g.S.Store c.shared_catalogue.new.conn) c.in_ok-row.ensures.reads c.in_err-catalogue.ensures.cached
     (clean_before _ _ _ c.in_err-catalogue.ensures.reads.crash) (λ clean. clean)
 
-pub returns-in_err-student_view-clause-mind : goal.returns-in_err-student_view-clause-mind
-returns-in_err-student_view-clause-mind g c =
-    mind_start c.args.round c.in_ok-row.field-0 c.args.remembered.now c.shared_catalogue.new.remembered _ _ (state g.S.Store c.shared_catalogue.new.conn) (state g.S.Store c.student_view.new.conn) c.in_ok-row.ensures.reads c.in_ok-catalogue.ensures.mind
+pub returns-in_err-student_view-clause-cached : goal.returns-in_err-student_view-clause-cached
+returns-in_err-student_view-clause-cached g c =
+    cache_start c.args.round c.in_ok-row.field-0 c.args.cache.now c.shared_catalogue.new.cache _ _ (state g.S.Store c.shared_catalogue.new.conn) (state g.S.Store c.student_view.new.conn) c.in_ok-row.ensures.reads c.in_ok-catalogue.ensures.cached
     (clean_before _ _ _ c.in_ok-catalogue.ensures.reads.crash) (clean_before _ _ _ c.in_err-student_view.ensures.reads.crash)
 
-pub returns-clause-mind : goal.returns-clause-mind
-returns-clause-mind g c =
-    mind_start c.args.round c.in_ok-row.field-0 c.args.remembered.now c.shared_catalogue.new.remembered _ _ (state g.S.Store c.shared_catalogue.new.conn) (state g.S.Store c.student_view.new.conn) c.in_ok-row.ensures.reads c.in_ok-catalogue.ensures.mind
+pub returns-clause-cached : goal.returns-clause-cached
+returns-clause-cached g c =
+    cache_start c.args.round c.in_ok-row.field-0 c.args.cache.now c.shared_catalogue.new.cache _ _ (state g.S.Store c.shared_catalogue.new.conn) (state g.S.Store c.student_view.new.conn) c.in_ok-row.ensures.reads c.in_ok-catalogue.ensures.cached
     (clean_before _ _ _ c.in_ok-catalogue.ensures.reads.crash) (clean_before _ _ _ c.in_ok-student_view.ensures.reads.crash)

@@ -6,8 +6,8 @@ use Rattle.portal_core.specs.World.{is_setup}
 use Rattle.portal_core.specs.declared.phase.Round.{Round}
 use Rattle.portal_core.specs.declared.phase.Round.TheVariants.{First}
 use Rattle.portal_tables.specs.declared.office.Office.{Office}
-use Rattle.portal_tables.specs.Office.{number_of}
-use Rattle.portal_tables.specs.Own.{IsOwn}
+use Rattle.portal_tables.specs.Office.{number_of_phase}
+use Rattle.portal_tables.specs.Schema.{HasFirstSchema}
 use Rattle.portal_tables.specs.Rows.{portal_row}
 use Rattle.portal_tables.specs.Tables.{portal_tree, version}
 use Rattle.portal_tables.proofs.InTurn.{clean_before}
@@ -40,8 +40,8 @@ returns-clause-now g c own sound clean =
     let office = c.in_ok-office.office in
     let row = c.in_ok-second.ensures.row own sound before in
     let same = (c.in_ok-second.ensures.asks.same own before).0.now_is in
-    let there = c.in_ok-office.ensures.row (subst (λ (x : Database). IsOwn x.schema) (sym same) (current_own _ own)) (subst IsDatabase (sym same) sound) clean in
-    let here = subst (λ (x : Database). x.trees portal_tree ≡ portal_row (pos version) (pos (number_of office.phase)) office.code ∷ []) same there in
+    let there = c.in_ok-office.ensures.row (subst (λ (x : Database). HasFirstSchema x.schema) (sym same) (current_own _ own)) (subst IsDatabase (sym same) sound) clean in
+    let here = subst (λ (x : Database). x.trees portal_tree ≡ portal_row (pos version) (pos (number_of_phase office.phase)) office.code ∷ []) same there in
     elim (cases_Bool (is_setup second)) [
       | inl setup ↦ subst (λ (n : Round × Office). IsNow (world_of db) n.0 n.1) (sym (c.now_of.ensures.first setup)) (now_first db second row office here setup)
       | inr other ↦ subst (λ (n : Round × Office). IsNow (world_of db) n.0 n.1) (sym (c.now_of.ensures.second other)) (now_second db second row office here other)

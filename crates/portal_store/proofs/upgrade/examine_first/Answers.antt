@@ -4,8 +4,8 @@ use Rattle.sqlite.specs.Held.{state}
 use Rattle.sqlite.specs.State.{IsUnchanged}
 use Rattle.portal_tables.specs.Tables.{first_version}
 use Rattle.portal_tables.proofs.InTurn.{clean_before, still_own}
-use Rattle.portal_store.specs.Asked.{Blames, Denies}
-use Rattle.portal_store.specs.Kept.{StandsAs}
+use Rattle.portal_store.specs.Asked.{RefusalSays, Denies}
+use Rattle.portal_store.specs.Kept.{HasGoodFirst}
 use Rattle.portal_store.proofs.Asked.{blames_more, asks_then, asks_err, blamed, handed, if_err_weaker, live_still}
 use Rattle.portal_store.proofs.upgrade.examine_first.Goals as goal
 
@@ -16,7 +16,7 @@ returns-in_err-see_first-clause-asks g c mine =
 pub returns-in_err-see_first-clause-refused : goal.returns-in_err-see_first-clause-refused
 returns-in_err-see_first-clause-refused g c mine own live clean =
     let db = (state g.S.Store c.args.conn.now).now.trees in
-    handed (λ f. Blames f first_version (StandsAs first_version db) db) c.in_err-see_first.field-0.0 c.from_residual.result c.from_residual.ensures.1 (blames_more c.in_err-see_first.field-0.0 first_version (Unit {0}) (StandsAs first_version db) db (λ s. tt) (c.in_err-see_first.ensures.refused mine own clean))
+    handed (λ f. RefusalSays f first_version (HasGoodFirst first_version db) db) c.in_err-see_first.field-0.0 c.from_residual.result c.from_residual.ensures.1 (blames_more c.in_err-see_first.field-0.0 first_version (Unit {0}) (HasGoodFirst first_version db) db (λ s. tt) (c.in_err-see_first.ensures.refused mine own clean))
 
 pub returns-clause-asks : goal.returns-clause-asks
 returns-clause-asks g c mine =
@@ -30,6 +30,6 @@ returns-clause-refused g c mine own live clean =
     let before = clean_before b d _ c.judge.ensures.asks.crash clean in
     let m : IsUnchanged a b = (c.in_ok-see_first.ensures.asks mine).same own before in
     let db = a.now.trees in
-    if_err_weaker (λ f. Denies f (StandsAs first_version b.now.trees)) (λ f. Blames f first_version (StandsAs first_version db) db) c.judge.result
-    (λ f h. blamed f first_version (StandsAs first_version db) db (c.in_ok-see_first.ensures.version mine own before) (subst (λ (x : Database). Denies f (StandsAs first_version x.trees)) m.0.now_is h))
+    if_err_weaker (λ f. Denies f (HasGoodFirst first_version b.now.trees)) (λ f. RefusalSays f first_version (HasGoodFirst first_version db) db) c.judge.result
+    (λ f h. blamed f first_version (HasGoodFirst first_version db) db (c.in_ok-see_first.ensures.version mine own before) (subst (λ (x : Database). Denies f (HasGoodFirst first_version x.trees)) m.0.now_is h))
     (c.judge.ensures.refused (still_own a b m own) (live_still a b m live) clean)

@@ -1,5 +1,5 @@
 use Rattle.std.specs.Prelude.{◌≡◌}
-use Rattle.portal_tables.proofs.Base.{sym, ap, subst, ◌∙◌, IfOk-weaker, on_ok_weaker, if◌then◌else◌, Some, None, state, HasCleanDisk, Database, IsDatabase, HasRound, round_of, tree_of, of_key, IsWhole, chosen, list_of, first, has_list}
+use Rattle.portal_tables.proofs.Base.{sym, ap, subst, ◌∙◌, IfOk-weaker, on_ok_weaker, if◌then◌else◌, Some, None, state, HasCleanDisk, Database, IsDatabase, HasRound, round_of, tree_of, of_key, IsWhole, chosen, list_in_order, first_cell, has_list}
 use Rattle.portal_tables.proofs.Listed.{none_chosen}
 use Rattle.portal_tables.proofs.InTurn.{reads_then, reads_more, reads_handed, clean_before}
 use Rattle.portal_tables.proofs.entries.entry_in.Goals as goal
@@ -7,8 +7,8 @@ use Rattle.portal_tables.proofs.entries.entry_in.Goals as goal
 -- what the two queries tell of the owner
 record Found (g : _) (c : goal.After-kept_entry g) : Type 0 where
   there : c.in_ok-is_there.is_there ≡ has_list c.args.lists (state g.S.Store c.args.conn.now).now.trees c.args.owner.now
-  names : c.in_ok-list.list.items ≡ chosen ((state g.S.Store c.args.conn.now).now.trees (tree_of c.args.lists)) (first c.args.owner.now)
-  whole : IsWhole (of_key (first c.args.owner.now) ((state g.S.Store c.args.conn.now).now.trees (tree_of c.args.lists)))
+  names : c.in_ok-list.list.items ≡ chosen ((state g.S.Store c.args.conn.now).now.trees (tree_of c.args.lists)) (first_cell c.args.owner.now)
+  whole : IsWhole (of_key (first_cell c.args.owner.now) ((state g.S.Store c.args.conn.now).now.trees (tree_of c.args.lists)))
 
 found : (g : _) (c : goal.After-kept_entry g) → HasRound (round_of c.args.lists) c.args.conn.now.schema → IsDatabase (state g.S.Store c.args.conn.now).now → HasCleanDisk (state g.S.Store c.has_list_in.new.conn) → Found g c
 found g c own sound clean =
@@ -37,7 +37,7 @@ returns-clause-read g c own sound clean =
 pub returns-clause-damaged : goal.returns-clause-damaged
 returns-clause-damaged g c own sound clean damaged fine =
     let it = found g c own sound clean in
-    c.kept_entry.ensures.damaged damaged (λ no. it.names ∙ ap list_of (fine.read.none (sym it.there ∙ no)))
+    c.kept_entry.ensures.damaged damaged (λ no. it.names ∙ ap list_in_order (fine.read.none (sym it.there ∙ no)))
 
 pub returns-clause-reads : goal.returns-clause-reads
 returns-clause-reads g c = reads_more c.in_ok-is_there.is_there c.kept_entry.result _ _ (reads_then c.in_ok-list.list _ _ _ _ c.in_ok-list.ensures.reads c.in_ok-is_there.ensures.reads)

@@ -1,5 +1,5 @@
 use Rattle.std.specs.Prelude.{◌∷◌}
-use Rattle.portal_tables.proofs.Base.{◌∙◌, [], subst, sym, IfErr, Cells, HasCleanDisk, Begins, Shown, Survives, FailsToQuery, state, understood, bound, survives_weaker, survives_then, never_commits, begun_plain, given_begin, Leaves}
+use Rattle.portal_tables.proofs.Base.{◌∙◌, [], subst, sym, IfErr, Cells, HasCleanDisk, Begins, Shown, Survives, FailsToQuery, state, understood, bound, survives_weaker, survives_then, never_commits, begun_plain, given_begin, IsUnchangedOrUndone}
 use Rattle.sqlite.specs.Given.{IsPlain}
 use Rattle.portal_tables.proofs.Decoded.{at_err, at_end, at_row, shown_before}
 use Rattle.portal_tables.proofs.InTurn.{clean_before}
@@ -11,7 +11,7 @@ returns-in_err-rows-clause-err g c plain clean =
     let a = state g.S.Store c.args.conn.now in
     let b = state g.S.Store c.query.follows.lender-at-none in
     let refused = at_err c.query.result c.in_err-rows.field-0.0 _ c.in_err-rows.was c.query.follows.holds-at-none in
-    on_err (Leaves a b) c.from_residual.result (failed_leaves c.args.sql.now (bound c.args.params.now) a b _ plain (subst (λ r. IfErr r (FailsToQuery c.args.sql.now (bound c.args.params.now) a b)) c.in_err-rows.was (refused.err clean)))
+    on_err (IsUnchangedOrUndone a b) c.from_residual.result (failed_leaves c.args.sql.now (bound c.args.params.now) a b _ plain (subst (λ r. IfErr r (FailsToQuery c.args.sql.now (bound c.args.params.now) a b)) c.in_err-rows.was (refused.err clean)))
 
 pub returns-in_err-rows-clause-survives : goal.returns-in_err-rows-clause-survives
 returns-in_err-rows-clause-survives g c =

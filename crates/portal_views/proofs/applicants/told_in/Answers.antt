@@ -1,5 +1,5 @@
 use Rattle.std.specs.Prelude.{◌≡◌, ◌+◌, ◌∷◌, ◌++◌}
-use Rattle.portal_views.proofs.Base.{[], sym, ap, subst, ◌∙◌, map, map-append, take, take_more, List, Database, HasCleanDisk, state, HasTables, Line, lines_shown, placed_shown, applicants_told, placed_told}
+use Rattle.portal_views.proofs.Base.{[], sym, ap, subst, ◌∙◌, map, map-append, take, take_more, List, Database, HasCleanDisk, state, HasTables, Line, lines_shown, placed_at_shown, applicants_told, placed_told}
 use Rattle.portal_tables.proofs.InTurn.{reads_then, reads_more, reads_handed, clean_before}
 use Rattle.portal_tables.proofs.Owned.{has_round}
 use Rattle.portal_views.proofs.applicants.told_in.Goals as goal
@@ -35,9 +35,9 @@ loop-project-preserved g c =
     let clean_b : HasCleanDisk d → HasCleanDisk b = clean_before b d _ c.in_ok-lines.ensures.reads.crash in
     let lines : HasTables a.now → HasCleanDisk d → c.in_ok-lines.lines.items ≡ lines_shown round a.now.trees phase key =
     λ tables clean. subst (λ (x : Database). HasTables x → HasCleanDisk d → c.in_ok-lines.lines.items ≡ lines_shown round x.trees phase key) (inv.reads.now (has_round round _ tables.current) (clean_b clean)) c.in_ok-lines.ensures.told tables clean in
-    let placed : HasTables a.now → HasCleanDisk e → c.in_ok-placed.placed.items ≡ placed_shown round a.now.trees phase key (lines_shown round a.now.trees phase key) =
-    λ tables clean. subst (λ (x : Database). HasTables x → HasCleanDisk e → c.in_ok-placed.placed.items ≡ placed_shown round x.trees phase key c.deref.result.now) (both.now (has_round round _ tables.current) (clean_d clean)) c.in_ok-placed.ensures.told tables clean
-    ∙ ap (λ (ls : List Line). placed_shown round a.now.trees phase key ls) (c.deref.ensures.value ∙ lines tables (clean_d clean)) in
+    let placed : HasTables a.now → HasCleanDisk e → c.in_ok-placed.placed.items ≡ placed_at_shown round a.now.trees phase key (lines_shown round a.now.trees phase key) =
+    λ tables clean. subst (λ (x : Database). HasTables x → HasCleanDisk e → c.in_ok-placed.placed.items ≡ placed_at_shown round x.trees phase key c.deref.result.now) (both.now (has_round round _ tables.current) (clean_d clean)) c.in_ok-placed.ensures.told tables clean
+    ∙ ap (λ (ls : List Line). placed_at_shown round a.now.trees phase key ls) (c.deref.ensures.value ∙ lines tables (clean_d clean)) in
     record {
       applicants = λ tables clean.
           c.in_ok-add.ensures.applicants
@@ -46,6 +46,6 @@ loop-project-preserved g c =
       placed = λ tables clean.
           c.in_ok-add.ensures.placed
           ∙ (λ i. inv.placed tables (clean_b (clean_d clean)) i ++ (key, placed tables clean i) ∷ [])
-          ∙ sym (ap (placed_told round a.now.trees phase) next ∙ map-append (λ k. (k, placed_shown round a.now.trees phase k (lines_shown round a.now.trees phase k))) (take at keys) (key ∷ []));
+          ∙ sym (ap (placed_told round a.now.trees phase) next ∙ map-append (λ k. (k, placed_at_shown round a.now.trees phase k (lines_shown round a.now.trees phase k))) (take at keys) (key ∷ []));
       reads = reads_more c.in_ok-placed.placed _ a e (reads_then c.in_ok-lines.lines _ a d e both c.in_ok-placed.ensures.reads);
     }

@@ -1,5 +1,5 @@
 use Rattle.std.specs.Prelude.{◌≡◌}
-use Rattle.portal_views.proofs.Base.{Ok, map, take, HasCleanDisk, state, with_persons, applicants_told, placed_told, HasTables, ReadsIn, TableFault}
+use Rattle.portal_views.proofs.Base.{Ok, map, take, HasCleanDisk, state, with_persons, applicants_told, placed_told, HasTables, RunsQueriesIn, TableFault}
 use Rattle.portal_views.proofs.applicants.told_in.Given as goal
 
 abbrev pub invariant-loop-project : goal.invariant-loop-project
@@ -8,5 +8,5 @@ invariant-loop-project g l = record {
       → map with_persons l.told.applicants.items ≡ applicants_told l.round (state g.S.Store l.fn.conn).now.trees l.phase (take l.project-index l.projects);
   placed : HasTables (state g.S.Store l.fn.conn).now → HasCleanDisk (state g.S.Store l.conn)
       → map with_persons l.told.placed.items ≡ placed_told l.round (state g.S.Store l.fn.conn).now.trees l.phase (take l.project-index l.projects);
-  reads : ReadsIn l.round {E = TableFault} (Ok l.told) (state g.S.Store l.fn.conn) (state g.S.Store l.conn);
+  reads : RunsQueriesIn l.round {E = TableFault} (Ok l.told) (state g.S.Store l.fn.conn) (state g.S.Store l.conn);
 }

@@ -1,5 +1,5 @@
 use Rattle.std.specs.Prelude.{◌≡◌}
-use Rattle.portal_views.proofs.Base.{Err, IfOk, OnOk, List, ap, sym, subst, subst₂, Database, IsDatabase, HasCleanDisk, state, Cells, HasRound, choices_of, rankings_of, AreOwned, AreFine, lecturers_shown, projects_shown, students_shown}
+use Rattle.portal_views.proofs.Base.{Err, IfOk, OnOk, List, ap, sym, subst, subst₂, Database, IsDatabase, HasCleanDisk, state, Cells, HasRound, choice_table, ranking_table, AreOwned, AreFine, lecturers_shown, projects_shown, students_shown}
 use Rattle.portal_views.specs.Contents.{rows_held, rows_from, AreRead}
 use Rattle.portal_tables.specs.declared.fault.TableFault.TheVariants.{Damaged}
 use Rattle.std.proofs.Common.{rules}
@@ -50,8 +50,8 @@ returns-clause-damaged g c own sound clean damaged up fine =
     let there = subst (λ (x : Database). AreFine round x.trees (lecturers_shown a.now.trees) (projects_shown a.now.trees) (students_shown a.now.trees)) back fine in
     let here = subst₂ (λ (ls ps : List Cells). AreFine round b.now.trees ls ps (students_shown a.now.trees)) (sym it.lecturers) (sym it.projects) there in
     c.rows_in.ensures.damaged (subst (λ (x : Database). HasRound round x.schema) back own) (subst IsDatabase back sound) clean damaged
-    (subst₂ (λ (x : Database) (rows : List Cells). AreOwned (choices_of round) x.trees rows) back (sym it.students) (choices_owned round a.now own sound up.students_rise))
-    (subst₂ (λ (x : Database) (rows : List Cells). AreOwned (rankings_of round) x.trees rows) back (sym it.lecturers) (rankings_owned round a.now own sound up.lecturers_rise))
+    (subst₂ (λ (x : Database) (rows : List Cells). AreOwned (choice_table round) x.trees rows) back (sym it.students) (choices_owned round a.now own sound up.students_rise))
+    (subst₂ (λ (x : Database) (rows : List Cells). AreOwned (ranking_table round) x.trees rows) back (sym it.lecturers) (rankings_owned round a.now own sound up.lecturers_rise))
     (subst (AreFine round b.now.trees rolls.lecturers.items rolls.projects.items) (sym it.students) here)
 
 pub returns-clause-reads : goal.returns-clause-reads

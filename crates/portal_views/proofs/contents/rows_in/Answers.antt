@@ -1,5 +1,5 @@
 use Rattle.std.specs.Prelude.{◌≡◌}
-use Rattle.portal_views.proofs.Base.{Ok, Err, None, IfOk-weaker, refl, sym, ap, subst, subst₂, ◌∙◌, map, AllByRecursion, Database, IsDatabase, HasCleanDisk, state, HasRound, entry, filter_map, with_list, AreOwned, IsRead, IsFine, HasPlace, pair_shown, ReadsIn, TableFault}
+use Rattle.portal_views.proofs.Base.{Ok, Err, None, IfOk-weaker, refl, sym, ap, subst, subst₂, ◌∙◌, map, AllByRecursion, Database, IsDatabase, HasCleanDisk, state, HasRound, entry, filter_map, with_list, AreOwned, IsRead, IsFine, HasPlacement, pair_shown, RunsQueriesIn, TableFault}
 use Rattle.portal_views.specs.Base.{IsStudent}
 use Rattle.portal_views.specs.Contents.{rows_from}
 use Rattle.portal_tables.specs.Shown.{shown_student}
@@ -49,7 +49,7 @@ returns-in_err-rankings-clause-damaged g c own sound clean damaged choices ranki
     let b = state g.S.Store c.entries_in.new.conn in
     let d = state g.S.Store c.entries_in-2.new.conn in
     let fault : c.in_err-rankings.field-0.0 ≡ Damaged = search rules in
-    let first : ReadsIn c.args.round {E = TableFault} (Ok c.in_ok-choices.choices) a b = reads_shifted _ _ _ c.choices_of.ensures.round c.in_ok-choices.ensures.reads in
+    let first : RunsQueriesIn c.args.round {E = TableFault} (Ok c.in_ok-choices.choices) a b = reads_shifted _ _ _ c.choices_of.ensures.round c.in_ok-choices.ensures.reads in
     let same = sym (first.now own (clean_before b d _ c.in_err-rankings.ensures.reads.crash clean)) in
     let round = sym c.rankings_of.ensures.round in
     let lists = sym c.rankings_of.ensures.is in
@@ -64,13 +64,13 @@ returns-in_err-pairs-clause-damaged g c own sound clean damaged choices rankings
     let d = state g.S.Store c.entries_in-2.new.conn in
     let e = state g.S.Store c.pairs_in.new.conn in
     let fault : c.in_err-pairs.field-0.0 ≡ Damaged = search rules in
-    let both : ReadsIn c.args.round {E = TableFault} (Ok c.in_ok-rankings.rankings) a d =
+    let both : RunsQueriesIn c.args.round {E = TableFault} (Ok c.in_ok-rankings.rankings) a d =
     reads_then c.in_ok-choices.choices _ _ _ _ (reads_shifted _ _ _ c.choices_of.ensures.round c.in_ok-choices.ensures.reads) (reads_shifted _ _ _ c.rankings_of.ensures.round c.in_ok-rankings.ensures.reads) in
     let same = sym (both.now own (clean_before d e _ c.in_err-pairs.ensures.reads.crash clean)) in
     let rows = sym c.deref-3.ensures.value in
     c.in_err-pairs.ensures.damaged (subst (λ (x : Database). HasRound c.args.round x.schema) same own) (subst IsDatabase same sound) clean (ap Err fault) refl
     (subst (AllByRecursion (λ r. IsStudent (shown_student r))) rows fine.student_forms)
-    (subst₂ (λ (x : Database) rs. AllByRecursion (HasPlace c.args.round x.trees) rs) same rows fine.places)
+    (subst₂ (λ (x : Database) rs. AllByRecursion (HasPlacement c.args.round x.trees) rs) same rows fine.places)
 
 pub returns-clause-rows : goal.returns-clause-rows
 returns-clause-rows g c own sound clean =
@@ -78,8 +78,8 @@ returns-clause-rows g c own sound clean =
     let b = state g.S.Store c.entries_in.new.conn in
     let d = state g.S.Store c.entries_in-2.new.conn in
     let e = state g.S.Store c.pairs_in.new.conn in
-    let first : ReadsIn c.args.round {E = TableFault} (Ok c.in_ok-choices.choices) a b = reads_shifted _ _ _ c.choices_of.ensures.round c.in_ok-choices.ensures.reads in
-    let both : ReadsIn c.args.round {E = TableFault} (Ok c.in_ok-rankings.rankings) a d =
+    let first : RunsQueriesIn c.args.round {E = TableFault} (Ok c.in_ok-choices.choices) a b = reads_shifted _ _ _ c.choices_of.ensures.round c.in_ok-choices.ensures.reads in
+    let both : RunsQueriesIn c.args.round {E = TableFault} (Ok c.in_ok-rankings.rankings) a d =
     reads_then c.in_ok-choices.choices _ _ _ _ first (reads_shifted _ _ _ c.rankings_of.ensures.round c.in_ok-rankings.ensures.reads) in
     let clean_d = clean_before d e _ c.in_ok-pairs.ensures.reads.crash clean in
     let clean_b = clean_before b d _ c.in_ok-rankings.ensures.reads.crash clean_d in
@@ -98,7 +98,7 @@ returns-clause-read g c own sound clean =
     let a = state g.S.Store c.args.conn.now in
     let b = state g.S.Store c.entries_in.new.conn in
     let d = state g.S.Store c.entries_in-2.new.conn in
-    let first : ReadsIn c.args.round {E = TableFault} (Ok c.in_ok-choices.choices) a b = reads_shifted _ _ _ c.choices_of.ensures.round c.in_ok-choices.ensures.reads in
+    let first : RunsQueriesIn c.args.round {E = TableFault} (Ok c.in_ok-choices.choices) a b = reads_shifted _ _ _ c.choices_of.ensures.round c.in_ok-choices.ensures.reads in
     let clean_d = clean_before d (state g.S.Store c.pairs_in.new.conn) _ c.in_ok-pairs.ensures.reads.crash clean in
     let clean_b = clean_before b d _ c.in_ok-rankings.ensures.reads.crash clean_d in
     let same : a.now ≡ a.now = refl in

@@ -1,4 +1,4 @@
-use Rattle.portal_views.proofs.Base.{◌∙◌, List, Row, ap, map, state, first, IfOk-weaker}
+use Rattle.portal_views.proofs.Base.{◌∙◌, List, Row, ap, map, state, first_cell, IfOk-weaker}
 use Rattle.portal_tables.proofs.InTurn.{reads_more, reads_handed}
 use Rattle.portal_views.proofs.OwnProjects.{own_found}
 use Rattle.portal_views.proofs.lecturer.keys_asked.Goals as goal
@@ -7,7 +7,7 @@ pub returns-clause-keys : goal.returns-clause-keys
 returns-clause-keys g c tables clean =
     let db = (state g.S.Store c.args.conn.now).now in
     let own = own_found db tables c.args.lecturer.now c.in_ok-rows.rows.items (c.in_ok-rows.ensures.rows tables.own clean) c.in_ok-rows.ensures.rise in
-    IfOk-weaker c.keys_of.result _ _ (λ v is. is ∙ ap (λ (rs : List Row). map first rs) c.deref.ensures.value ∙ own) c.keys_of.ensures
+    IfOk-weaker c.keys_of.result _ _ (λ v is. is ∙ ap (λ (rs : List Row). map first_cell rs) c.deref.ensures.value ∙ own) c.keys_of.ensures
 
 pub returns-clause-reads : goal.returns-clause-reads
 returns-clause-reads g c = reads_more c.in_ok-rows.rows c.keys_of.result _ _ c.in_ok-rows.ensures.reads

@@ -1,5 +1,5 @@
 use Rattle.std.specs.Prelude.{◌≡◌}
-use Rattle.portal_views.proofs.Base.{◌∙◌, Vec, Global, Listing, ap, map, option_map, subst, Database, IsDatabase, state, HasCleanDisk, IfOk-weaker, with_persons, applicants_told, placed_told, ranking_shown, own_keys, lecturer_shown, HasRound, HasTables, IsOffered, first}
+use Rattle.portal_views.proofs.Base.{◌∙◌, Vec, Global, Listing, ap, map, option_map, subst, Database, IsDatabase, state, HasCleanDisk, IfOk-weaker, with_persons, applicants_told, placed_told, ranking_shown, own_keys_shown, lecturer_shown, HasRound, HasTables, IsCatalogue, first_cell}
 use Rattle.portal_tables.proofs.InTurn.{reads_then, reads_more, reads_handed, clean_before}
 use Rattle.portal_tables.proofs.Owned.{has_round}
 use Rattle.portal_views.proofs.lecturer.lecturer_view.Goals as goal
@@ -40,8 +40,8 @@ returns-clause-shows g c tables clean =
     let same_b = c.in_ok-own.ensures.reads.now current clean_b in
     let same_d = (reads_then c.in_ok-own.own _ a b d c.in_ok-own.ensures.reads c.in_ok-ranking.ensures.reads).now current clean_d in
     let offers : c.deref-2.result.now ≡ c.args.catalogue.value.items = c.deref-2.ensures.value ∙ ap (λ (v : Vec Listing Global). v.items) c.deref.ensures in
-    let own : IsOffered round db c.args.catalogue.value.items → keys ≡ own_keys db (first row) =
-    λ offered. c.deref-3.ensures.value ∙ c.in_ok-own.ensures.keys tables clean_b (λ is. offers ∙ offered is) ∙ ap (own_keys db) c.bytes_at.ensures in
+    let own : IsCatalogue round db c.args.catalogue.value.items → keys ≡ own_keys_shown db (first_cell row) =
+    λ offered. c.deref-3.ensures.value ∙ c.in_ok-own.ensures.keys tables clean_b (λ is. offers ∙ offered is) ∙ ap (own_keys_shown db) c.bytes_at.ensures in
     let ranking = subst (λ (x : Database). HasRound round x.schema → IsDatabase x → HasCleanDisk d → option_map (λ v. v.items) c.in_ok-ranking.ranking ≡ ranking_shown round x.trees row) same_b c.in_ok-ranking.ensures.names current tables.sound clean_d in
     let applicants = subst (λ (x : Database). HasTables x → HasCleanDisk e → map with_persons told.applicants.items ≡ applicants_told round x.trees phase keys) same_d c.in_ok-told.ensures.applicants tables clean in
     let placed = subst (λ (x : Database). HasTables x → HasCleanDisk e → map with_persons told.placed.items ≡ placed_told round x.trees phase keys) same_d c.in_ok-told.ensures.placed tables clean in

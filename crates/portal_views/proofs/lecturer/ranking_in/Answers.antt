@@ -1,5 +1,5 @@
 use Rattle.std.specs.Prelude.{◌≡◌}
-use Rattle.portal_views.proofs.Base.{Bool, true, false, cond, Key, List, Option, Some, None, has_list, rankings_of, ◌∙◌, refl, ap, option_map, IsDatabase, HasCleanDisk, state, HasRound, entry, with_list}
+use Rattle.portal_views.proofs.Base.{Bool, true, false, cond, Key, List, Option, Some, None, has_list, ranking_table, ◌∙◌, refl, ap, option_map, IsDatabase, HasCleanDisk, state, HasRound, entry, with_list}
 use Rattle.portal_tables.proofs.InTurn.{reads_more, reads_handed, reads_shifted, shifted}
 use Rattle.portal_views.proofs.lecturer.ranking_in.Goals as goal
 
@@ -15,7 +15,7 @@ returns-clause-names g c own sound clean =
     let row = c.args.row.now in
     let found = shifted {rows = row} {owners = row} (λ r l x k. HasRound r x.schema → IsDatabase x → HasCleanDisk d → option_map with_list c.in_ok-entry.entry ≡ entry l x.trees k)
     c.rankings_of.ensures.round c.rankings_of.ensures.is same refl c.in_ok-entry.ensures.ok own sound clean in
-    c.list_of.ensures ∙ ap (option_map (λ e. e.1)) found ∙ second_of (has_list (rankings_of c.args.round) a.now.trees row) _ _
+    c.list_of.ensures ∙ ap (option_map (λ e. e.1)) found ∙ second_of (has_list (ranking_table c.args.round) a.now.trees row) _ _
 
 pub returns-clause-reads : goal.returns-clause-reads
 returns-clause-reads g c = reads_more c.in_ok-entry.entry _ _ _ (reads_shifted _ _ _ c.rankings_of.ensures.round c.in_ok-entry.ensures.reads)

@@ -1,5 +1,5 @@
 use Rattle.std.specs.Prelude.{◌≡◌}
-use Rattle.portal_views.proofs.Base.{◌∙◌, subst, Some, ap, Database, HasCleanDisk, state, HasTables, line_at}
+use Rattle.portal_views.proofs.Base.{◌∙◌, subst, Some, ap, Database, HasCleanDisk, state, HasTables, applicant_at}
 use Rattle.std.proofs.Common.{arith}
 use Rattle.std.proofs.lemmas.Grind.{common_steps}
 use Rattle.portal_tables.proofs.InTurn.{reads_then, reads_more, reads_handed, clean_before}
@@ -22,8 +22,8 @@ loop-row-preserved g c =
       λ tables clean.
           let back = clean_before b d _ c.in_ok-line_in.ensures.reads.crash clean in
           let before = inv.0 tables back in
-          let there = subst (λ (x : Database). HasTables x → HasCleanDisk d → Some c.in_ok-line_in.field-0 ≡ line_at round x.trees c.bytes_at.result.now) (inv.1.now (has_round round _ tables.current) back) c.in_ok-line_in.ensures.told in
-          let here = there tables clean ∙ ap (line_at round a.now.trees) c.bytes_at.ensures in
+          let there = subst (λ (x : Database). HasTables x → HasCleanDisk d → Some c.in_ok-line_in.field-0 ≡ applicant_at round x.trees c.bytes_at.result.now) (inv.1.now (has_round round _ tables.current) back) c.in_ok-line_in.ensures.told in
+          let here = there tables clean ∙ ap (applicant_at round a.now.trees) c.bytes_at.ensures in
           grind (arith, common_steps, before, here),
       reads_more c.in_ok-line_in.field-0 _ a d (reads_then c.loop-row.lines _ a b d inv.1 c.in_ok-line_in.ensures.reads),
     )

@@ -1,7 +1,7 @@
 use Rattle.std.specs.Prelude.{◌≡◌}
-use Rattle.portal_views.proofs.Base.{◌∙◌, Ok, IfOk-weaker, refl, subst, Database, IsDatabase, HasCleanDisk, state, HasRound, tree_of, chosen, ReadsIn, TableFault}
+use Rattle.portal_views.proofs.Base.{◌∙◌, Ok, IfOk-weaker, refl, subst, Database, IsDatabase, HasCleanDisk, state, HasRound, tree_of, chosen, RunsQueriesIn, TableFault}
 use Rattle.portal_views.specs.Callers.{student_shown}
-use Rattle.portal_tables.specs.Places.{result_shown}
+use Rattle.portal_tables.specs.Placements.{result_shown}
 use Rattle.portal_tables.proofs.InTurn.{reads_then, reads_more, reads_handed, reads_shifted, shifted, clean_before}
 use Rattle.portal_views.proofs.student.student_view.Goals as goal
 
@@ -27,7 +27,7 @@ returns-clause-shows g c own sound clean =
     let round = c.args.round in
     let phase = c.args.phase in
     let row = c.args.row.now in
-    let first : ReadsIn round {E = TableFault} (Ok c.in_ok-choices.choices) a b = reads_shifted _ _ _ c.choices_of.ensures.round c.in_ok-choices.ensures.reads in
+    let first : RunsQueriesIn round {E = TableFault} (Ok c.in_ok-choices.choices) a b = reads_shifted _ _ _ c.choices_of.ensures.round c.in_ok-choices.ensures.reads in
     let before = clean_before b d _ c.in_ok-place.ensures.reads.crash clean in
     let same : a.now ≡ a.now = refl in
     let choices = shifted (λ r l x k. HasRound r x.schema → HasCleanDisk b → c.in_ok-choices.choices.items ≡ chosen (x.trees (tree_of l)) k)

@@ -1,10 +1,10 @@
 use Rattle.std.proofs.Common.{Bool, take}
 use Rattle.std.specs.Prelude.{◌||◌}
 use Rattle.std.specs.List.{list_any}
-use Rattle.portal_core.specs.Words.{Key, is}
+use Rattle.portal_core.specs.Words.{Key, equals}
 use Rattle.portal_core.specs.Tables.{HasKeys}
 use Rattle.portal_core.proofs.deciding.applicants.add_persons.Given as goal
 
 -- the keys of the persons so far are there
 abbrev pub invariant-loop-person : goal.invariant-loop-person
-invariant-loop-person l = (known : Key → Bool) → HasKeys known l.initial.keys → HasKeys (λ k. known k || list_any (λ s. is s.key k) (take l.person-index l.persons)) l.keys
+invariant-loop-person l = (known : Key → Bool) → HasKeys known l.initial.keys → HasKeys (λ k. known k || list_any (λ s. equals s.key k) (take l.person-index l.persons)) l.keys

@@ -1,5 +1,5 @@
 use Rattle.std.proofs.Common.{option_map, ap, sym, ◌∙◌}
-use Rattle.portal_core.specs.Change.{place_in}
+use Rattle.portal_core.specs.Change.{placement_in}
 use Rattle.portal_core.proofs.Tables.{looked_up}
 use Rattle.portal_core.proofs.pairs.Pairs.project_of.Goals as goal
 
@@ -7,9 +7,9 @@ pub returns-in_err-project : goal.returns-in_err-project
 returns-in_err-project c =
     ap (option_map (λ key. key.now)) c.from_residual.ensures
     ∙ looked_up c.self.inside.pairs.now c.self.inside.by_student c.self.invariant c.args.student _ (sym c.in_err-project.was ∙ c.row_at.ensures)
-    ∙ ap (λ pairs. place_in pairs c.args.student.now) c.self.view_is
+    ∙ ap (λ pairs. placement_in pairs c.args.student.now) c.self.view_is
 
 pub returns : goal.returns
 returns c =
     looked_up c.self.inside.pairs.now c.self.inside.by_student c.self.invariant c.args.student _ (sym c.in_ok-project.was ∙ c.row_at.ensures)
-    ∙ ap (λ pairs. place_in pairs c.args.student.now) c.self.view_is
+    ∙ ap (λ pairs. placement_in pairs c.args.student.now) c.self.view_is

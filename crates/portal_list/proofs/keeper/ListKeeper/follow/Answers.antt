@@ -2,7 +2,7 @@ use Rattle.std.proofs.Common.{◌≡◌, sym, ap, subst, ◌∙◌}
 use Rattle.std.specs.Prelude.{IfSome, Ok}
 use Rattle.portal_core.specs.World.{World}
 use Rattle.portal_core.specs.Change.{changed}
-use Rattle.portal_core.specs.Meaning.{meant}
+use Rattle.portal_core.specs.Meaning.{change_model}
 use Rattle.portal_list.specs.Entries.{HasEntries, entries_in}
 use Rattle.portal_list.specs.Shown.{catalogue_in}
 use Rattle.portal_list.proofs.Followed.{catalogue_after}
@@ -12,7 +12,7 @@ pub invariant_of-self-2 : goal.invariant_of-self-2
 invariant_of-self-2 c =
     let w : World = c.args.self.now in
     let before : c.self.inside.entries ≡ entries_in w = ap entries_in c.self.view_is in
-    let has : HasEntries c.follow.new.self (changed w (meant c.args.change.now))
+    let has : HasEntries c.follow.new.self (changed w (change_model c.args.change.now))
     = c.in_ok-follow.ensures.made (ap Ok (c.in_ok-follow.ensures.followed ∙ c.requires.followed)) w c.requires.sound (record { there = sym before }) in
     subst (λ shown. IfSome c.self.inside.catalogue (λ shared. shared.value.items ≡ shown))
-    (sym (catalogue_after w (meant c.args.change.now) c.requires.followed c.follow.new.self has ∙ ap catalogue_in (sym before))) c.self.invariant
+    (sym (catalogue_after w (change_model c.args.change.now) c.requires.followed c.follow.new.self has ∙ ap catalogue_in (sym before))) c.self.invariant

@@ -1,8 +1,8 @@
 use Rattle.std.proofs.Common.{◌≡◌, take}
 use Rattle.std.specs.Prelude.{filter}
-use Rattle.portal_core.specs.World.{is_at, shown_place}
+use Rattle.portal_core.specs.World.{is_at, shown_placement}
 use Rattle.portal_core.specs.View.{persons}
 use Rattle.portal_list.proofs.views.by_project.placed_at.Given as goal
 
 abbrev pub invariant-loop-student : goal.invariant-loop-student
-invariant-loop-student l = l.found.items ≡ persons (filter (λ s. is_at l.project (shown_place l.phase s)) (take l.student-index l.students))
+invariant-loop-student l = l.found.items ≡ persons (filter (λ s. is_at l.project (shown_placement l.phase s)) (take l.student-index l.students))

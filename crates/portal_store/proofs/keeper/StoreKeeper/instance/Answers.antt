@@ -18,7 +18,7 @@ invariant_of-self-in-None g c = record {
   kept = read_keeps g.S.Store c.self.inside.conn c.instance_in.new.conn c.self.inside.own c.self.inside.faults c.args.self.now c.self.view_is c.self.invariant.kept c.instance_in.ensures.idle c.in_default.ensures (law g c.instance_in.new.conn)
       c.instance_in.result c.instance_in.ensures.asks;
   shown = read_shown g.S.Store c.self.inside.conn c.instance_in.new.conn c.self.inside.own c.self.inside.faults c.args.self.now c.self.view_is c.self.invariant.kept c.instance_in.ensures.idle c.in_default.ensures (law g c.instance_in.new.conn)
-      c.instance_in.result c.instance_in.ensures.asks c.self.inside.mind c.self.inside.mind c.self.invariant.shown (λ _ _ _ told. told);
+      c.instance_in.result c.instance_in.ensures.asks c.self.inside.cache c.self.inside.cache c.self.invariant.shown (λ _ _ _ told. told);
   entered = read_still g.S.Store c.self.inside.conn c.instance_in.new.conn c.self.inside.own c.self.inside.faults c.args.self.now c.self.view_is c.self.invariant.kept c.instance_in.ensures.idle c.in_default.ensures (law g c.instance_in.new.conn)
       c.instance_in.result c.instance_in.ensures.asks c.self.inside.entries c.self.invariant.entered;
 }

@@ -19,7 +19,7 @@ invariant_of-self-2 g c = record {
   kept = read_keeps g.S.Store c.self.inside.conn c.view_with.new.conn c.self.inside.own c.self.inside.faults c.args.self.now c.self.view_is c.self.invariant.kept c.view_with.ensures.idle c.in_default.ensures (law g c.view_with.new.conn)
       c.view_with.result c.view_with.ensures.asks;
   shown = read_shown g.S.Store c.self.inside.conn c.view_with.new.conn c.self.inside.own c.self.inside.faults c.args.self.now c.self.view_is c.self.invariant.kept c.view_with.ensures.idle c.in_default.ensures (law g c.view_with.new.conn)
-      c.view_with.result c.view_with.ensures.asks c.self.inside.mind c.view_with.new.remembered c.self.invariant.shown c.view_with.ensures.mind;
+      c.view_with.result c.view_with.ensures.asks c.self.inside.cache c.view_with.new.cache c.self.invariant.shown c.view_with.ensures.cached;
   entered = read_still g.S.Store c.self.inside.conn c.view_with.new.conn c.self.inside.own c.self.inside.faults c.args.self.now c.self.view_is c.self.invariant.kept c.view_with.ensures.idle c.in_default.ensures (law g c.view_with.new.conn)
       c.view_with.result c.view_with.ensures.asks c.self.inside.entries c.self.invariant.entered;
 }

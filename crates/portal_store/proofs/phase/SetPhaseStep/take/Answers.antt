@@ -6,7 +6,7 @@ use Rattle.portal_core.specs.Change.{To}
 use Rattle.portal_tables.specs.Rows.{MovesTo, MovesSecond}
 use Rattle.portal_tables.specs.Steps.{Does, GoesOn}
 use Rattle.portal_tables.proofs.Runs.{does_more, made_more, made_goes}
-use Rattle.portal_store.specs.Kept.{TurnsIn}
+use Rattle.portal_store.specs.Kept.{IsTransitionIn}
 use Rattle.portal_store.proofs.Holding.{phase_turns, second_turns}
 use Rattle.portal_store.proofs.phase.SetPhaseStep.take.Goals as goal
 
@@ -15,8 +15,8 @@ returns-in-First g c =
     let phase = c.args.self.phase in
     let a = state g.S.Store c.args.tx.now.conn.now in
     let b = state g.S.Store c.set_phase.new.tx.conn.now in
-    subst (λ (round : Round). Does g.S.Store (GoesOn (TurnsIn round (To phase))) c.set_phase.result c.args.tx.now c.set_phase.new.tx) (sym c.in-First.is)
-    (does_more g.S.Store _ _ _ _ _ c.set_phase.ensures (λ made. made_goes _ a b (made_more (MovesTo c.phase_number.result) (TurnsIn First (To phase)) a b made
+    subst (λ (round : Round). Does g.S.Store (GoesOn (IsTransitionIn round (To phase))) c.set_phase.result c.args.tx.now c.set_phase.new.tx) (sym c.in-First.is)
+    (does_more g.S.Store _ _ _ _ _ c.set_phase.ensures (λ made. made_goes _ a b (made_more (MovesTo c.phase_number.result) (IsTransitionIn First (To phase)) a b made
     (λ moves. phase_turns phase a.now b.now (subst (λ n. MovesTo n a.now b.now) c.phase_number.ensures moves)))))
 
 pub returns-in-Second : goal.returns-in-Second
@@ -24,6 +24,6 @@ returns-in-Second g c =
     let phase = c.args.self.phase in
     let a = state g.S.Store c.args.tx.now.conn.now in
     let b = state g.S.Store c.set_second.new.tx.conn.now in
-    subst (λ (round : Round). Does g.S.Store (GoesOn (TurnsIn round (To phase))) c.set_second.result c.args.tx.now c.set_second.new.tx) (sym c.in-Second.is)
-    (does_more g.S.Store _ _ _ _ _ c.set_second.ensures (λ made. made_goes _ a b (made_more (MovesSecond c.phase_number-in-Second.result) (TurnsIn Second (To phase)) a b made
+    subst (λ (round : Round). Does g.S.Store (GoesOn (IsTransitionIn round (To phase))) c.set_second.result c.args.tx.now c.set_second.new.tx) (sym c.in-Second.is)
+    (does_more g.S.Store _ _ _ _ _ c.set_second.ensures (λ made. made_goes _ a b (made_more (MovesSecond c.phase_number-in-Second.result) (IsTransitionIn Second (To phase)) a b made
     (λ moves. second_turns phase a.now b.now (subst (λ n. MovesSecond n a.now b.now) c.phase_number-in-Second.ensures moves)))))

@@ -3,7 +3,7 @@ use Rattle.portal_tables.specs.Rows.{Assigns}
 use Rattle.portal_tables.specs.Steps.{Does, GoesOn}
 use Rattle.portal_tables.proofs.Runs.{does_then}
 use Rattle.portal_store.specs.Placing.{assigned_of}
-use Rattle.portal_store.proofs.Places.{result_made}
+use Rattle.portal_store.proofs.Placements.{result_made}
 use Rattle.portal_store.proofs.placing.PutResultStep.take.Goals as goal
 
 pub returns : goal.returns

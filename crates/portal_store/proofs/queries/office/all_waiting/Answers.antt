@@ -6,7 +6,7 @@ use Rattle.sqlite.specs.Held.{state}
 use Rattle.portal_store.specs.Queried.{waiting_key}
 use Rattle.portal_tables.specs.Shown.{shown_project}
 use Rattle.portal_tables.proofs.InTurn.{reads_then, reads_more, reads_handed, clean_before}
-use Rattle.portal_store.proofs.Remembered.{at_start, round_held}
+use Rattle.portal_store.proofs.ViewCache.{at_start, round_held}
 use Rattle.portal_store.proofs.queries.office.all_waiting.Goals.{in-Some+in_ok-push, in_default}
 use Rattle.portal_store.proofs.queries.office.all_waiting.Goals as goal
 

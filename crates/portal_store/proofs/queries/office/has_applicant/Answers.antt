@@ -3,11 +3,11 @@ use Rattle.std.specs.List.{list_any}
 use Rattle.std.proofs.lemmas.Grind.{common_steps}
 use Rattle.sqlite.specs.Effect.{Database}
 use Rattle.sqlite.specs.Held.{state}
-use Rattle.portal_core.specs.Words.{is, has}
+use Rattle.portal_core.specs.Words.{equals, has}
 use Rattle.portal_store.specs.World.{world_in}
-use Rattle.portal_tables.specs.Shown.{first, shown_project}
+use Rattle.portal_tables.specs.Shown.{first_cell, shown_project}
 use Rattle.portal_tables.proofs.InTurn.{reads_self, reads_then, reads_more, reads_handed, clean_before}
-use Rattle.portal_store.proofs.Remembered.{at_start, round_held}
+use Rattle.portal_store.proofs.ViewCache.{at_start, round_held}
 use Rattle.portal_store.proofs.queries.office.has_applicant.Goals as goal
 
 pub loop-project-init : goal.loop-project-init
@@ -26,7 +26,7 @@ returns-then-branch-clause-told g c holds clean =
     let before = c.loop-project.invariant.0 holds back in
     let project = shown_project c.project-item.result in
     let here = at_start a b d (c.loop-project.invariant.1.now (round_held a.now holds) back)
-    (λ (x : Database). c.in_ok-is_chosen_of.field-0 ≡ (is project.lecturer (first c.args.lecturer.now) && list_any (λ s. has s.choice project.key) (world_in c.args.round x.trees).students)) c.in_ok-is_chosen_of.ensures.told holds clean in
+    (λ (x : Database). c.in_ok-is_chosen_of.field-0 ≡ (equals project.lecturer (first_cell c.args.lecturer.now) && list_any (λ s. has s.choice project.key) (world_in c.args.round x.trees).students)) c.in_ok-is_chosen_of.ensures.told holds clean in
     grind (arith, common_steps, before, here)
 
 pub returns-then-branch-clause-reads : goal.returns-then-branch-clause-reads
@@ -43,7 +43,7 @@ loop-project-preserved g c =
           let back = clean_before b d _ c.in_ok-is_chosen_of.ensures.reads.crash clean in
           let before = inv.0 holds back in
           let here = at_start a b d (inv.1.now (round_held a.now holds) back)
-          (λ (x : Database). c.in_ok-is_chosen_of.field-0 ≡ (is project.lecturer (first c.args.lecturer.now) && list_any (λ s. has s.choice project.key) (world_in c.args.round x.trees).students)) c.in_ok-is_chosen_of.ensures.told holds clean in
+          (λ (x : Database). c.in_ok-is_chosen_of.field-0 ≡ (equals project.lecturer (first_cell c.args.lecturer.now) && list_any (λ s. has s.choice project.key) (world_in c.args.round x.trees).students)) c.in_ok-is_chosen_of.ensures.told holds clean in
           grind (arith, common_steps, before, here),
       reads_more c.in_ok-is_chosen_of.field-0 (Ok false) a d (reads_then false _ a b d inv.1 c.in_ok-is_chosen_of.ensures.reads),
     )

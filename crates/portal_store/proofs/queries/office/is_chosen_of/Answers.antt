@@ -2,16 +2,16 @@ use Rattle.std.proofs.Common.{◌≡◌, true, false, [], ◌∷◌, ◌&&◌, s
 use Rattle.std.specs.List.{list_any}
 use Rattle.sqlite.specs.declared.error.Error.{Error}
 use Rattle.sqlite.specs.Held.{state}
-use Rattle.portal_core.specs.Words.{Key, is, has}
+use Rattle.portal_core.specs.Words.{Key, equals, has}
 use Rattle.portal_core.specs.World.{Student}
 use Rattle.portal_tables.specs.Changes.{ListsBy, columns, has_text}
 use Rattle.portal_tables.specs.Decoding.{FindsAny}
-use Rattle.portal_tables.specs.ListTables.{choices_of, tree_of}
-use Rattle.portal_tables.specs.Shown.{first, shown_project}
+use Rattle.portal_tables.specs.ListTables.{choice_table, tree_of}
+use Rattle.portal_tables.specs.Shown.{first_cell, shown_project}
 use Rattle.portal_tables.proofs.InTurn.{reads_self, reads_more, reads_failed}
 use Rattle.portal_store.specs.World.{world_in}
 use Rattle.portal_store.proofs.OfficeSeen.{some_chooser}
-use Rattle.portal_store.proofs.Remembered.{round_held}
+use Rattle.portal_store.proofs.ViewCache.{round_held}
 use Rattle.portal_store.proofs.queries.office.is_chosen_of.Goals as goal
 
 pub returns-then-ne-clause-reads : goal.returns-then-ne-clause-reads
@@ -22,8 +22,8 @@ returns-clause-told g c holds clean =
     let db = (state g.S.Store c.args.conn.now).now in
     let round = c.args.round in
     let project = shown_project c.args.project.now in
-    let own : is project.lecturer (first c.args.lecturer.now) ≡ true = search rules in
-    let told = subst (λ (k : Key). FindsAny (ListsBy (1 ∷ []) (has_text 3 k) (columns (1 ∷ [])) (db.trees (tree_of (choices_of round)))) c.in_ok-finds_any.field-0) c.bytes_at-3.ensures (c.in_ok-finds_any.ensures.told (round_held db holds) clean) in
+    let own : equals project.lecturer (first_cell c.args.lecturer.now) ≡ true = search rules in
+    let told = subst (λ (k : Key). FindsAny (ListsBy (1 ∷ []) (has_text 3 k) (columns (1 ∷ [])) (db.trees (tree_of (choice_table round)))) c.in_ok-finds_any.field-0) c.bytes_at-3.ensures (c.in_ok-finds_any.ensures.told (round_held db holds) clean) in
     told.told ∙ some_chooser round db holds project.key told.rows told.shown ∙ sym (ap (λ b. b && list_any (λ (s : Student). has s.choice project.key) (world_in round db.trees).students) own)
 
 pub returns-clause-reads : goal.returns-clause-reads

@@ -7,12 +7,12 @@ use Rattle.sqlite.specs.Held.{state}
 use Rattle.sqlite.specs.Order.{Row}
 use Rattle.sqlite.specs.State.{HasCleanDisk}
 use Rattle.portal_core.specs.World.{is_from_ranking}
-use Rattle.portal_tables.specs.Own.{HasRound}
-use Rattle.portal_tables.specs.Places.{pair_shown}
+use Rattle.portal_tables.specs.Schema.{HasRound}
+use Rattle.portal_tables.specs.Placements.{pair_shown}
 use Rattle.portal_tables.specs.Shown.{shown_project}
 use Rattle.portal_tables.proofs.InTurn.{reads_then, reads_more, reads_handed, clean_before}
 use Rattle.portal_store.specs.Queried.{unlisted, waiting_key, office_from}
-use Rattle.portal_store.proofs.Remembered.{at_start, round_held}
+use Rattle.portal_store.proofs.ViewCache.{at_start, round_held}
 use Rattle.portal_store.proofs.queries.office.view_of_rolls.Goals as goal
 
 pub returns-in_err-waiting-clause-reads : goal.returns-in_err-waiting-clause-reads

@@ -5,14 +5,14 @@ use Rattle.sqlite.specs.Effect.{Database, IsDatabase}
 use Rattle.sqlite.specs.Held.{state}
 use Rattle.sqlite.specs.State.{HasCleanDisk}
 use Rattle.portal_list.specs.Shown.{is_wanted}
-use Rattle.portal_tables.specs.Own.{HasRound}
+use Rattle.portal_tables.specs.Schema.{HasRound}
 use Rattle.portal_tables.specs.Owners.{has_list}
-use Rattle.portal_tables.specs.Reading.{ReadsIn}
-use Rattle.portal_tables.specs.Shown.{first, shown_project}
+use Rattle.portal_tables.specs.Reading.{RunsQueriesIn}
+use Rattle.portal_tables.specs.Shown.{first_cell, shown_project}
 use Rattle.portal_tables.specs.declared.fault.TableFault.{TableFault}
 use Rattle.portal_tables.proofs.InTurn.{reads_then, reads_more, reads_handed, reads_shifted, shifted, clean_before}
 use Rattle.portal_store.specs.World.{world_in}
-use Rattle.portal_store.proofs.Remembered.{at_start, round_held}
+use Rattle.portal_store.proofs.ViewCache.{at_start, round_held}
 use Rattle.portal_store.proofs.queries.office.waiting_in.Goals as goal
 
 pub returns-in_err-has_list_in-clause-reads : goal.returns-in_err-has_list_in-clause-reads
@@ -32,7 +32,7 @@ returns-then-branch-clause-told g c holds clean =
     let row = c.args.lecturer.now in
     let there = shifted {rows = row} {owners = row} (λ r l x k. HasRound r x.schema → IsDatabase x → HasCleanDisk b → c.in_ok-has_list_in.field-0 ≡ has_list l x.trees k)
     c.rankings_of.ensures.round c.rankings_of.ensures.is same refl c.in_ok-has_list_in.ensures.told (round_held a.now holds) holds.sound clean in
-    ap (λ b. if b then None else (if is_wanted (world_in c.args.round a.now.trees).students (map shown_project c.args.projects.now) (first row) then Some (first row) else None)) (sym c.if-branch.true ∙ there)
+    ap (λ b. if b then None else (if is_wanted (world_in c.args.round a.now.trees).students (map shown_project c.args.projects.now) (first_cell row) then Some (first_cell row) else None)) (sym c.if-branch.true ∙ there)
 
 pub returns-clause-told : goal.returns-clause-told
 returns-clause-told g c holds clean =
@@ -45,7 +45,7 @@ returns-clause-told g c holds clean =
     let same : a.now ≡ a.now = refl in
     let there = shifted {rows = row} {owners = row} (λ r l x k. HasRound r x.schema → IsDatabase x → HasCleanDisk b → c.in_ok-has_list_in.field-0 ≡ has_list l x.trees k)
     c.rankings_of.ensures.round c.rankings_of.ensures.is same refl c.in_ok-has_list_in.ensures.told (round_held a.now holds) holds.sound before in
-    let read : ReadsIn round {E = TableFault} (Ok c.in_ok-has_list_in.field-0) a b = reads_shifted _ _ _ c.rankings_of.ensures.round c.in_ok-has_list_in.ensures.reads in
+    let read : RunsQueriesIn round {E = TableFault} (Ok c.in_ok-has_list_in.field-0) a b = reads_shifted _ _ _ c.rankings_of.ensures.round c.in_ok-has_list_in.ensures.reads in
     let wanted = at_start a b d (read.now (round_held a.now holds) before)
-    (λ (x : Database). IfOk c.wanted_in.result (λ key. key ≡ (if is_wanted (world_in round x.trees).students (map shown_project c.args.projects.now) (first row) then Some (first row) else None))) c.wanted_in.ensures.told holds clean in
-    IfOk-weaker c.wanted_in.result _ _ (λ key is. is ∙ ap (λ b. if b then None else (if is_wanted (world_in round a.now.trees).students (map shown_project c.args.projects.now) (first row) then Some (first row) else None)) (sym c.if-branch.false ∙ there)) wanted
+    (λ (x : Database). IfOk c.wanted_in.result (λ key. key ≡ (if is_wanted (world_in round x.trees).students (map shown_project c.args.projects.now) (first_cell row) then Some (first_cell row) else None))) c.wanted_in.ensures.told holds clean in
+    IfOk-weaker c.wanted_in.result _ _ (λ key is. is ∙ ap (λ b. if b then None else (if is_wanted (world_in round a.now.trees).students (map shown_project c.args.projects.now) (first_cell row) then Some (first_cell row) else None)) (sym c.if-branch.false ∙ there)) wanted

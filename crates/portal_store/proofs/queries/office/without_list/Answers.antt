@@ -2,18 +2,18 @@ use Rattle.std.proofs.Common.{[], ◌∷◌, ◌∙◌, sym, subst}
 use Rattle.std.proofs.lemmas.Result.{IfOk-weaker}
 use Rattle.sqlite.specs.Held.{state}
 use Rattle.portal_tables.specs.Changes.{ListsBy, has_number, columns}
-use Rattle.portal_tables.specs.ListTables.{choices_of, tree_of}
+use Rattle.portal_tables.specs.ListTables.{choice_table, tree_of}
 use Rattle.portal_tables.specs.declared.fault.TableFault.{TableFault}
 use Rattle.portal_tables.proofs.InTurn.{reads_more, reads_handed}
 use Rattle.portal_store.proofs.OfficeSeen.{unlisted_are}
-use Rattle.portal_store.proofs.Remembered.{round_held}
+use Rattle.portal_store.proofs.ViewCache.{round_held}
 use Rattle.portal_store.proofs.queries.office.without_list.Goals as goal
 
 pub returns-clause-told : goal.returns-clause-told
 returns-clause-told g c holds clean =
     let db = (state g.S.Store c.args.conn.now).now in
     let round = c.args.round in
-    let table = db.trees (tree_of (choices_of round)) in
+    let table = db.trees (tree_of (choice_table round)) in
     let h : ListsBy (1 ∷ []) (has_number 2 1) (columns (1 ∷ [])) table c.deref.result.now =
     subst (λ rows. ListsBy (1 ∷ []) (has_number 2 1) (columns (1 ∷ [])) table rows) (sym c.deref.ensures.value) (c.in_ok-listed.ensures.rows (round_held db holds) clean) in
     IfOk-weaker c.keys_left.result _ _ (λ v is. is ∙ unlisted_are round db holds c.deref.result.now h c.args.students.now) c.keys_left.ensures

@@ -19,7 +19,7 @@ invariant_of-self-2 g c = record {
   kept = read_keeps g.S.Store c.self.inside.conn c.office_of.new.conn c.self.inside.own c.self.inside.faults c.args.self.now c.self.view_is c.self.invariant.kept c.office_of.ensures.idle c.in_default.ensures (law g c.office_of.new.conn)
       c.office_of.result (asks_all First c.office_of.result (state g.S.Store c.self.inside.conn) (state g.S.Store c.office_of.new.conn) c.office_of.ensures.asks);
   shown = read_shown g.S.Store c.self.inside.conn c.office_of.new.conn c.self.inside.own c.self.inside.faults c.args.self.now c.self.view_is c.self.invariant.kept c.office_of.ensures.idle c.in_default.ensures (law g c.office_of.new.conn)
-      c.office_of.result (asks_all First c.office_of.result (state g.S.Store c.self.inside.conn) (state g.S.Store c.office_of.new.conn) c.office_of.ensures.asks) c.self.inside.mind c.self.inside.mind c.self.invariant.shown (λ _ _ _ told. told);
+      c.office_of.result (asks_all First c.office_of.result (state g.S.Store c.self.inside.conn) (state g.S.Store c.office_of.new.conn) c.office_of.ensures.asks) c.self.inside.cache c.self.inside.cache c.self.invariant.shown (λ _ _ _ told. told);
   entered = read_still g.S.Store c.self.inside.conn c.office_of.new.conn c.self.inside.own c.self.inside.faults c.args.self.now c.self.view_is c.self.invariant.kept c.office_of.ensures.idle c.in_default.ensures (law g c.office_of.new.conn)
       c.office_of.result (asks_all First c.office_of.result (state g.S.Store c.self.inside.conn) (state g.S.Store c.office_of.new.conn) c.office_of.ensures.asks) c.self.inside.entries c.self.invariant.entered;
 }

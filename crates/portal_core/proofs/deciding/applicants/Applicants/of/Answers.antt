@@ -1,7 +1,7 @@
 use Rattle.std.proofs.Common.{List, take, arith, sym, ap, ◌∙◌}
 use Rattle.std.specs.Prelude.{◌||◌}
 use Rattle.std.specs.List.{list_any}
-use Rattle.portal_core.specs.Words.{is}
+use Rattle.portal_core.specs.Words.{equals}
 use Rattle.portal_core.specs.declared.rows.Person.{Person}
 use Rattle.portal_core.specs.Faults.{is_applicant}
 use Rattle.portal_core.specs.Meaning.{by_project}
@@ -13,7 +13,7 @@ pub loop-persons-preserved : goal.loop-persons-preserved
 loop-persons-preserved c =
     let before = by_project (take c.loop-persons.persons-index c.args.projects.now) in
     known_alike _ _ c.add_persons.new.keys
-    (λ k. let test = λ (ps : List Person). list_any (λ s. is s.key k) ps in
+    (λ k. let test = λ (ps : List Person). list_any (λ s. equals s.key k) ps in
     ap (λ (ps : List Person). is_applicant before k || test ps) c.deref.ensures.value
     ∙ sym (passed_more test c.args.projects.now c.loop-persons.persons-index c.loop-persons-item.result (omega arith) c.loop-persons-item.is))
     (c.in_ok-add_persons.ensures (is_applicant before) c.loop-persons.invariant)

@@ -1,7 +1,0 @@
-use Rattle.std.proofs.Common.{◌≡◌, take, false}
-use Rattle.std.specs.List.{list_any}
-use Rattle.portal_core.specs.Words.{is}
-use Rattle.portal_list.proofs.by_key.place_of.Given as goal
-
-abbrev pub invariant-loop-i : goal.invariant-loop-i
-invariant-loop-i g l = list_any (λ row. is (g.T.Keyed.key_of row) l.key) (take l.i l.rows) ≡ false

@@ -1,0 +1,6 @@
+use Rattle.std.proofs.Common.{◌≡◌, take, map}
+use Rattle.portal_core.specs.Change.{placement_in}
+use Rattle.portal_list.proofs.changes.placements.places_of.Given as goal
+
+abbrev pub invariant-loop-student : goal.invariant-loop-student
+invariant-loop-student l = l.places.items ≡ map (λ s. placement_in l.pairs s.row.key) (take l.student-index l.students)

@@ -1,8 +1,0 @@
-use Rattle.std.proofs.Common.{◌≡◌, map, take}
-use Rattle.std.specs.Prelude.{filter, option_map}
-use Rattle.portal_list.specs.Played.{takes_part}
-use Rattle.spa_model.specs.Pairs.{number_in}
-use Rattle.portal_list.proofs.good.places_in.Given as goal
-
-abbrev pub invariant-loop-student : goal.invariant-loop-student
-invariant-loop-student l = l.places.items ≡ map (λ s. option_map (number_in l.instance.project_keys) s.placed) (filter (takes_part l.round) (take l.student-index l.students))

@@ -1,6 +1,0 @@
-use Rattle.std.proofs.Common.{◌≡◌, None, take}
-use Rattle.std.specs.List.{AllByRecursion}
-use Rattle.portal_list.proofs.lists.have_no_places.Given as goal
-
-abbrev pub invariant-loop-student : goal.invariant-loop-student
-invariant-loop-student l = AllByRecursion (λ s. s.placed ≡ None) (take l.student-index l.students)

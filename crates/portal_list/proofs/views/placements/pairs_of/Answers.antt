@@ -1,0 +1,8 @@
+use Rattle.std.proofs.Common.{arith}
+use Rattle.std.proofs.lemmas.Grind.{common_steps}
+use Rattle.std.proofs.lemmas.List.Elements.{filter_map-append}
+use Rattle.portal_list.proofs.views.placements.pairs_of.Goals as goal
+use Rattle.portal_list.proofs.views.placements.pairs_of.Goals.{in-Some+in_ok-push, in_default}
+
+pub loop-student-preserved : goal.loop-student-preserved
+loop-student-preserved c = elim c.match-branch-2.branch [ in-Some+in_ok-push w ↦ grind (arith, common_steps, filter_map-append) | in_default w ↦ grind (arith, common_steps, filter_map-append) ]

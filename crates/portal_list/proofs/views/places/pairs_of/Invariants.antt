@@ -1,6 +1,0 @@
-use Rattle.std.proofs.Common.{◌≡◌, take}
-use Rattle.portal_core.specs.World.{shown_place, pairs_with}
-use Rattle.portal_list.proofs.views.places.pairs_of.Given as goal
-
-abbrev pub invariant-loop-student : goal.invariant-loop-student
-invariant-loop-student l = l.pairs.items ≡ pairs_with (shown_place l.phase) (take l.student-index l.students)

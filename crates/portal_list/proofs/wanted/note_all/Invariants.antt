@@ -1,8 +1,0 @@
-use Rattle.std.proofs.Common.{◌≡◌, ℕ, take, Bor}
-use Rattle.std.specs.Prelude.{◌==◌, ◌||◌, ◌&&◌}
-use Rattle.portal_core.specs.Words.{Key, has}
-use Rattle.portal_list.specs.Wanted.{is_noted}
-use Rattle.portal_list.proofs.wanted.note_all.Given as goal
-
-abbrev pub invariant-loop-project : goal.invariant-loop-project
-invariant-loop-project l = (q : Bor Key) (i : ℕ) → is_noted l.places q i ≡ (is_noted l.initial.places q i || (has (take l.project-index l.choice) q.now && (l.place == i)))

@@ -1,0 +1,53 @@
+//! The result.
+
+ghost use Rattle.std.specs.Prelude.{◌≡◌, IfOk, OnOk, OnErr, map};
+ghost use Rattle.portal_core.specs.Change.{placement_in, with_place};
+ghost use Rattle.portal_list.specs.Played.{placed_now};
+
+use crate::copies::place_copy;
+use crate::entries::StudentEntry;
+use portal_core::Pairs;
+use spa_rows::Key;
+use std::alloc::{AllocError, Global};
+
+/// The project of each student.
+fn places_of(
+    alloc: Global,
+    students: &[StudentEntry],
+    pairs: &[(Key, Key)],
+) -> Result<Vec<Option<Key>>, AllocError>
+    ensures { IfOk result (λ v. v.items ≡ map (λ s. placement_in pairs.now s.row.key) students.now) }
+{
+    let pairs = Pairs::of(alloc, pairs)?;
+    let mut places = Vec::with_capacity(alloc, students.len())?;
+    for student in students {
+        let project = pairs.project_of(student.row.key.as_bytes());
+        places.push(place_copy(alloc, project)?)?;
+    }
+    Ok(places)
+}
+
+/// The student gets the project, or none. Who has a project of the first round keeps it alone.
+fn place(student: &mut StudentEntry, project: Option<Key>)
+    ensures { student.new ≡ placed_now student.old project }
+{
+    if student.earlier_placement.is_none() {
+        student.placed = project;
+    }
+}
+
+/// Gives each student who takes part the project of the pairs, or none.
+pub(crate) fn place_all(
+    alloc: Global,
+    students: &mut [StudentEntry],
+    pairs: &[(Key, Key)],
+) -> Result<(), AllocError>
+    ensures made { OnOk result (students.new ≡ map (with_place pairs.now) students.old) }
+    ensures same { OnErr result (students.new ≡ students.old) }
+{
+    let mut places = places_of(alloc, students, pairs)?;
+    for (i, student) in students.iter_mut().enumerate() {
+        place(student, places[i].take());
+    }
+    Ok(())
+}

@@ -1,0 +1,54 @@
+//! The projects that results give, as they are shown.
+
+ghost use Rattle.std.specs.Prelude.{◌≡◌, IfOk, option_map};
+ghost use Rattle.portal_core.specs.World.{shown_placement, pairs_with};
+
+use crate::entries::StudentEntry;
+use portal_core::Phase;
+use spa_rows::Key;
+use std::alloc::{AllocError, Global};
+
+/// The student's project: that of the first round, or of the round once it is published.
+pub(super) fn placement_shown(phase: Phase, student: &StudentEntry) -> Option<&Key>
+    ensures { option_map (λ k. k.now) result ≡ shown_placement phase student.now }
+{
+    if student.earlier_placement.is_some() {
+        return student.earlier_placement.as_ref();
+    }
+    match phase {
+        Phase::Published => student.placed.as_ref(),
+        Phase::Setup | Phase::Choosing | Phase::Ranking => None,
+    }
+}
+
+/// The student's pair, if a project is shown.
+fn pair_of(
+    alloc: Global,
+    phase: Phase,
+    student: &StudentEntry,
+) -> Result<Option<(Key, Key)>, AllocError>
+    ensures { IfOk result (λ o. o
+        ≡ option_map (λ p. (student.now.row.key, p)) (shown_placement phase student.now)) }
+{
+    match placement_shown(phase, student) {
+        Some(project) => Ok(Some((student.row.key.copy(alloc)?, project.copy(alloc)?))),
+        None => Ok(None),
+    }
+}
+
+/// The results that are shown, as pairs.
+pub(super) fn pairs_of(
+    alloc: Global,
+    phase: Phase,
+    students: &[StudentEntry],
+) -> Result<Vec<(Key, Key)>, AllocError>
+    ensures { IfOk result (λ v. v.items ≡ pairs_with (shown_placement phase) students.now) }
+{
+    let mut pairs = Vec::new(alloc);
+    for student in students {
+        if let Some(pair) = pair_of(alloc, phase, student)? {
+            pairs.push(pair)?;
+        }
+    }
+    Ok(pairs)
+}

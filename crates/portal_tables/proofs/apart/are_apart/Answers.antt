@@ -1,9 +1,0 @@
-use Rattle.std.specs.Prelude.{◌≡◌}
-use Rattle.portal_tables.proofs.Base.{None, true, subst, state, table_tree, rises}
-use Rattle.portal_tables.proofs.Rises.{apart_of}
-use Rattle.portal_tables.proofs.apart.are_apart.Goals as goal
-
-pub returns-clause-apart : goal.returns-clause-apart
-returns-clause-apart g c own clean right =
-    apart_of ((state g.S.Store c.args.conn.now).now.trees (table_tree c.args.table)) c.in_ok-rows.rows.items (c.in_ok-rows.ensures.rows own clean)
-    (subst (λ rows. rises None rows ≡ true) c.deref.ensures.value (c.do_rise.ensures right))

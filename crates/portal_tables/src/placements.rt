@@ -1,0 +1,208 @@
+//! The projects that the rounds' results give to students: that of the first stands in the student's row, that of the second in a row of its own.
+
+ghost use Rattle.std.specs.Prelude.{◌≡◌, ◌≤◌, is_none, if◌then◌else◌};
+ghost use Rattle.portal_tables.specs.Base.{true, Err, None, IfOk, IfSome, option_map, length, map, AllByRecursion, filter_map, state, is_key, is_published, IsStudent, InSecond};
+ghost use Rattle.portal_tables.specs.Tables.{assigned2_tree};
+ghost use Rattle.portal_tables.specs.Lists.{of_key};
+ghost use Rattle.portal_tables.specs.Reading.{RunsQueriesIn, YieldsSound, OverSound};
+ghost use Rattle.portal_tables.specs.Shown.{as_list, first_cell, shown_name, shown_student};
+ghost use Rattle.portal_tables.specs.Placements as meant;
+ghost use Rattle.portal_tables.specs.Placements.{second_placement, placement_shown, placement_before, result_shown, pair_shown, HasPlacement};
+
+use crate::cells::{assigned_at, bytes_at, is_null, key_at};
+use crate::decode::{decoded, at_most_one};
+use crate::fault::TableFault;
+use crate::select::{Query, read_rows};
+use portal_core::{Phase, Round};
+use spa_rows::Key;
+use sqlite::{Alter, Connection, Row};
+use std::alloc::Global;
+
+/// What the only row names, if there is a row.
+fn only_name(alloc: Global, rows: &[Row]) -> Result<Option<Key>, TableFault>
+    ensures ok { IfOk result (λ p. as_list p ≡ map shown_name rows.now) }
+    ensures damaged { result ≡ Err TableFault.Damaged → length rows.now ≤ 1
+        → AllByRecursion (λ c. is_key (shown_name c) ≡ true) rows.now → ⊥ }
+{
+    let names: Vec<Key> = decoded(alloc, rows)?;
+    at_most_one(names)
+}
+
+/// The place in the second round of the student with the key.
+pub fn second_placement_in<S: Alter>(
+    alloc: Global,
+    conn: &mut Connection<S>,
+    student: &[u8],
+) -> Result<Option<Key>, TableFault>
+    ensures ok { YieldsSound InSecond S.Store conn.old conn.new result
+        (λ db p. p ≡ second_placement db.trees student.now) }
+    ensures damaged { OverSound InSecond S.Store conn.old conn.new
+        (result ≡ Err TableFault.Damaged
+        → IfSome (second_placement (state S.Store conn.old).now.trees student.now)
+        (λ p. is_key p ≡ true)
+        → length (of_key student.now ((state S.Store conn.old).now.trees assigned2_tree)) ≤ 1
+        → ⊥) }
+    ensures reads { RunsQueriesIn InSecond result (state S.Store conn.old) (state S.Store conn.new) }
+{
+    let rows = read_rows(alloc, conn, Query::SecondPlaceOf(student))?;
+    only_name(alloc, &rows)
+}
+
+/// The place in a round of the student whose row this is. The fault is `Damaged` where it is no key or the second round has several,
+/// `Store` where the store answered an error, `Memory` where there is not enough memory.
+pub(crate) fn placement_in<S: Alter>(
+    alloc: Global,
+    conn: &mut Connection<S>,
+    round: Round,
+    row: &Row,
+) -> Result<Option<Key>, TableFault>
+    ensures ok { YieldsSound round S.Store conn.old conn.new result
+        (λ db p. p ≡ placement_shown round db.trees row.now) }
+    ensures damaged { OverSound round S.Store conn.old conn.new
+        (result ≡ Err TableFault.Damaged
+        → HasPlacement round (state S.Store conn.old).now.trees row.now → ⊥) }
+    ensures reads { RunsQueriesIn round result (state S.Store conn.old) (state S.Store conn.new) }
+{
+    match round {
+        Round::First => assigned_at(alloc, row, 3),
+        Round::Second => second_placement_in(alloc, conn, bytes_at(row, 0)),
+    }
+}
+
+/// The place that the round before gave to the student whose row this is.
+fn place_before_at(alloc: Global, round: Round, row: &Row) -> Result<Option<Key>, TableFault>
+    ensures { IfOk result (λ p. p ≡ placement_before round row.now) }
+{
+    match round {
+        Round::First => Ok(None),
+        Round::Second => assigned_at(alloc, row, 3),
+    }
+}
+
+/// Whether the student whose row this is takes part in the round: the one before gave no place.
+pub fn takes_part(round: Round, row: &Row) -> bool
+    ensures { result ≡ is_none (placement_before round row.now) }
+{
+    match round {
+        Round::First => true,
+        Round::Second => is_null(row, 3),
+    }
+}
+
+/// The place in a round, once the phase shows it.
+fn published_in<S: Alter>(
+    alloc: Global,
+    conn: &mut Connection<S>,
+    round: Round,
+    phase: Phase,
+    row: &Row,
+) -> Result<Option<Key>, TableFault>
+    ensures ok { YieldsSound round S.Store conn.old conn.new result
+        (λ db p. p ≡ (if is_published phase then placement_shown round db.trees row.now else None)) }
+    ensures reads { RunsQueriesIn round result (state S.Store conn.old) (state S.Store conn.new) }
+{
+    match phase {
+        Phase::Published => placement_in(alloc, conn, round, row),
+        Phase::Setup | Phase::Choosing | Phase::Ranking => Ok(None),
+    }
+}
+
+/// The place that the student whose row this is is shown in the phase. The faults are those of `placement_in`.
+pub fn result_in<S: Alter>(
+    alloc: Global,
+    conn: &mut Connection<S>,
+    round: Round,
+    phase: Phase,
+    row: &Row,
+) -> Result<Option<Key>, TableFault>
+    ensures ok { YieldsSound round S.Store conn.old conn.new result
+        (λ db p. p ≡ result_shown round db.trees phase row.now) }
+    ensures reads { RunsQueriesIn round result (state S.Store conn.old) (state S.Store conn.new) }
+{
+    if let Some(place) = place_before_at(alloc, round, row)? {
+        return Ok(Some(place));
+    }
+    published_in(alloc, conn, round, phase, row)
+}
+
+/// The place in a round of the student whose row this is, or with a phase the one that is shown in it.
+fn placement_asked<S: Alter>(
+    alloc: Global,
+    conn: &mut Connection<S>,
+    round: Round,
+    phase: Option<Phase>,
+    row: &Row,
+) -> Result<Option<Key>, TableFault>
+    ensures ok { YieldsSound round S.Store conn.old conn.new result
+        (λ db p. p ≡ meant.placement_asked round phase db.trees row.now) }
+    ensures damaged { OverSound round S.Store conn.old conn.new
+        (result ≡ Err TableFault.Damaged → phase ≡ None
+        → HasPlacement round (state S.Store conn.old).now.trees row.now → ⊥) }
+    ensures reads { RunsQueriesIn round result (state S.Store conn.old) (state S.Store conn.new) }
+{
+    match phase {
+        Some(phase) => result_in(alloc, conn, round, phase, row),
+        None => placement_in(alloc, conn, round, row),
+    }
+}
+
+/// The student whose row this is with the place, if there is one.
+fn with_place(
+    alloc: Global,
+    row: &Row,
+    place: Option<Key>,
+) -> Result<Option<(Key, Key)>, TableFault>
+    ensures ok { IfOk result (λ pair. pair ≡ option_map (λ p. (first_cell row.now, p)) place) }
+    ensures damaged { result ≡ Err TableFault.Damaged → IsStudent (shown_student row.now) → ⊥ }
+{
+    match place {
+        Some(project) => Ok(Some((key_at(alloc, row, 0)?, project))),
+        None => Ok(None),
+    }
+}
+
+/// The pair of the student whose row this is.
+fn pair_in<S: Alter>(
+    alloc: Global,
+    conn: &mut Connection<S>,
+    round: Round,
+    phase: Option<Phase>,
+    row: &Row,
+) -> Result<Option<(Key, Key)>, TableFault>
+    ensures ok { YieldsSound round S.Store conn.old conn.new result
+        (λ db o. o ≡ pair_shown round phase db.trees row.now) }
+    ensures damaged { OverSound round S.Store conn.old conn.new
+        (result ≡ Err TableFault.Damaged → phase ≡ None
+        → IsStudent (shown_student row.now)
+        → HasPlacement round (state S.Store conn.old).now.trees row.now → ⊥) }
+    ensures reads { RunsQueriesIn round result (state S.Store conn.old) (state S.Store conn.new) }
+{
+    let place = placement_asked(alloc, conn, round, phase, row)?;
+    with_place(alloc, row, place)
+}
+
+/// A round's result, or with a phase what is shown in it of all results: the pairs of the students whose rows these are, in their order. The
+/// faults are those of `placement_in`, and `Damaged` where a student's key is none.
+pub fn pairs_in<S: Alter>(
+    alloc: Global,
+    conn: &mut Connection<S>,
+    round: Round,
+    phase: Option<Phase>,
+    rows: &[Row],
+) -> Result<Vec<(Key, Key)>, TableFault>
+    ensures ok { YieldsSound round S.Store conn.old conn.new result
+        (λ db v. v.items ≡ filter_map (pair_shown round phase db.trees) rows.now) }
+    ensures damaged { OverSound round S.Store conn.old conn.new
+        (result ≡ Err TableFault.Damaged → phase ≡ None
+        → AllByRecursion (λ c. IsStudent (shown_student c)) rows.now
+        → AllByRecursion (HasPlacement round (state S.Store conn.old).now.trees) rows.now → ⊥) }
+    ensures reads { RunsQueriesIn round result (state S.Store conn.old) (state S.Store conn.new) }
+{
+    let mut pairs = Vec::new(alloc);
+    for row in rows {
+        if let Some(pair) = pair_in(alloc, conn, round, phase, row)? {
+            pairs.push(pair)?;
+        }
+    }
+    Ok(pairs)
+}

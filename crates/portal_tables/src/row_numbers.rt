@@ -1,0 +1,47 @@
+//! Whether the rows of a table have numbers of their own: what removes or changes rows goes by their numbers.
+
+ghost use Rattle.std.specs.Prelude.{◌≡◌};
+ghost use Rattle.portal_tables.specs.Base.{true, IfSome, IsTrue, None, state, Int, column};
+ghost use Rattle.portal_tables.specs.Changes.{RowNumbersDiffer};
+ghost use Rattle.portal_tables.specs.Queries.{table_tree, table_round};
+ghost use Rattle.portal_tables.specs.Reading.{RunsQueryIn, YieldsIn};
+ghost use Rattle.portal_tables.specs.Rising.{rises};
+
+use crate::select::{Query, Table, read};
+use sqlite::{Alter, Connection, Error, Row};
+
+fn number_of(row: &Row) -> Option<i64>
+    ensures { IfSome result (λ n. column row.now 0 ≡ Int n) }
+{
+    row.get::<i64>(0).ok()
+}
+
+/// Whether the rows begin with whole numbers that rise.
+fn do_rise(rows: &[Row]) -> bool
+    ensures { IsTrue result → rises None rows.now ≡ true }
+{
+    let mut last: Option<i64> = None;
+    for row in rows {
+        let Some(n) = number_of(row) else {
+            return false;
+        };
+        if let Some(before) = last {
+            if before >= n {
+                return false;
+            }
+        }
+        last = Some(n);
+    }
+    true
+}
+
+/// Whether the rows of a table have numbers of their own.
+pub fn row_numbers_differ<S: Alter>(conn: &mut Connection<S>, table: Table) -> Result<bool, Error>
+    ensures apart { YieldsIn (table_round table) S.Store conn.old conn.new result
+        (λ db apart. IsTrue apart → RowNumbersDiffer (db.trees (table_tree table))) }
+    ensures asks { RunsQueryIn (table_round table) result
+        (state S.Store conn.old) (state S.Store conn.new) }
+{
+    let rows = read(conn, Query::Numbers(table))?;
+    Ok(do_rise(&rows))
+}

@@ -1,0 +1,218 @@
+//! Whether the tables are those that the portal makes, but for the terms of their checks and defaults: a scratch connection
+//! in memory has the portal's own, and the two schemas are compared part by part.
+
+ghost use Rattle.std.specs.Prelude.{◌≡◌, ◌↔◌};
+ghost use Rattle.portal_tables.specs.Base.{IsTrue, [], length, false, IfOk, OnOk, Option, None, AllZip};
+ghost use Rattle.portal_tables.specs.Tables.{no_schema, portal_schema};
+ghost use Rattle.portal_tables.specs.Schema.{SameRules, SameDefaults, SameTable, SameSchema, IsCurrentSchema, IsFirstSchema, HasFirstSchema};
+
+use crate::make::make_tables;
+use sqlite::{Alter, Connection, Error, MemStore};
+use sqlite_items::Items;
+use sqlite_schema::code::lend_value;
+use sqlite_schema::schema::{Column, Index, Reference, Schema, Table};
+use sqlite_value::keys::Order;
+use sqlite_value::order::is_same;
+use sqlite_value::value::Bytes;
+use std::alloc::Global;
+use std::marker::Model;
+
+/// What can be compared whole.
+trait Same {
+    fn is_the_same(&self, other: &Self) -> bool
+        ensures { IsTrue result ↔ (self.now ≡ other.now) };
+}
+
+/// Whether the lists are the same.
+fn are_same<T: Same>(a: &[T], b: &[T]) -> bool
+    ensures { IsTrue result ↔ (a.now ≡ b.now) }
+{
+    if a.len() != b.len() {
+        return false;
+    }
+    for (i, x) in a.iter().enumerate() {
+        if !x.is_the_same(&b[i]) {
+            return false;
+        }
+    }
+    true
+}
+
+impl Same for Bytes {
+    fn is_the_same(&self, other: &Bytes) -> bool {
+        self.as_slice() == other.as_slice()
+    }
+}
+
+impl Same for Items<usize> {
+    fn is_the_same(&self, other: &Items<usize>) -> bool {
+        self.as_slice() == other.as_slice()
+    }
+}
+
+impl Same for Order {
+    fn is_the_same(&self, other: &Order) -> bool {
+        self == other
+    }
+}
+
+impl Same for Column {
+    fn is_the_same(&self, other: &Column) -> bool {
+        self.name.as_slice() == other.name.as_slice()
+            && self.kind == other.kind
+            && self.is_strict == other.is_strict
+            && self.not_null == other.not_null
+            && is_same(lend_value(&self.default), lend_value(&other.default))
+            && self.collation == other.collation
+    }
+}
+
+impl Same for Reference {
+    fn is_the_same(&self, other: &Reference) -> bool {
+        self.columns.as_slice() == other.columns.as_slice()
+            && self.parent.as_slice() == other.parent.as_slice()
+            && are_same(
+                self.parent_columns.as_slice(),
+                other.parent_columns.as_slice(),
+            )
+            && self.on_delete == other.on_delete
+            && self.on_update == other.on_update
+            && self.is_deferred == other.is_deferred
+    }
+}
+
+impl Same for Index {
+    fn is_the_same(&self, other: &Index) -> bool {
+        self.name.as_slice() == other.name.as_slice()
+            && self.tree == other.tree
+            && self.table == other.table
+            && self.columns.as_slice() == other.columns.as_slice()
+            && self.order == other.order
+            && self.is_unique == other.is_unique
+    }
+}
+
+/// The rules of a table.
+fn has_same_rules(a: &Table, b: &Table) -> bool
+    ensures { IsTrue result ↔ SameRules a.now b.now }
+{
+    a.primary.as_slice() == b.primary.as_slice()
+        && are_same(a.uniques.as_slice(), b.uniques.as_slice())
+        && are_same(a.orders.as_slice(), b.orders.as_slice())
+        && are_same(a.references.as_slice(), b.references.as_slice())
+}
+
+/// The defaults of a table, but for what they compute.
+fn has_same_defaults(a: &Table, b: &Table) -> bool
+    ensures { IsTrue result ↔ SameDefaults a.now b.now }
+{
+    a.computed.as_slice() == b.computed.as_slice()
+        && a.stamps.places.as_slice() == b.stamps.places.as_slice()
+        && are_same(a.stamps.formats.as_slice(), b.stamps.formats.as_slice())
+}
+
+fn is_same_table(a: &Table, b: &Table) -> bool
+    ensures { IsTrue result ↔ SameTable a.now b.now }
+{
+    a.name.as_slice() == b.name.as_slice()
+        && a.tree == b.tree
+        && are_same(a.columns.as_slice(), b.columns.as_slice())
+        && a.key == b.key
+        && a.is_counted == b.is_counted
+        && has_same_rules(a, b)
+        && has_same_defaults(a, b)
+}
+
+fn are_same_tables(a: &[Table], b: &[Table]) -> bool
+    ensures { IsTrue result ↔ AllZip SameTable a.now b.now }
+{
+    if a.len() != b.len() {
+        return false;
+    }
+    for (i, x) in a.iter().enumerate() {
+        if !is_same_table(x, &b[i]) {
+            return false;
+        }
+    }
+    true
+}
+
+/// Whether the schema has these tables, but for checks, and these indexes, and no view.
+fn is_same_schema(schema: &Schema, tables: &[Table], indexes: &[Index]) -> bool
+    ensures { IsTrue result
+        ↔ SameSchema schema.now
+        (record { tables = tables.now; indexes = indexes.now; views = [] }) }
+{
+    are_same_tables(schema.tables.as_slice(), tables)
+        && are_same(schema.indexes.as_slice(), indexes)
+        && schema.views.is_empty()
+}
+
+/// Makes the portal's tables over an empty database in memory.
+fn make_scratch(conn: &mut Connection<MemStore>) -> Result<(), Error>
+    requires idle { conn.old.in_transaction ≡ false }
+    requires empty { conn.old.schema ≡ no_schema }
+    ensures { OnOk result (conn.new.schema ≡ portal_schema) }
+{
+    let mut tx = conn.transaction();
+    make_tables(&mut tx)?;
+    tx.commit()?;
+    Ok(())
+}
+
+/// A connection in memory with the portal's own tables.
+fn scratch(alloc: Global) -> Result<Connection<MemStore>, Error>
+    ensures { IfOk result (λ c. c.schema ≡ portal_schema) }
+{
+    let mut conn = Connection::open_in_memory(alloc)?;
+    make_scratch(&mut conn)?;
+    Ok(conn)
+}
+
+/// The portal's own tables over no row, to compare with.
+#[derive(Drop)]
+pub struct PortalSchema {
+    conn: Connection<MemStore>,
+}
+
+impl Model for PortalSchema {
+    ghost use Rattle.std.specs.Prelude.{◌≡◌};
+    ghost use Rattle.portal_tables.specs.Tables.{portal_schema};
+
+    ghost Value = { Unit {0} };
+
+    ghost view = { λ _. tt };
+
+    ghost invariant = { λ p. p.conn.schema ≡ portal_schema };
+}
+
+impl PortalSchema {
+    /// Makes the tables in memory. Any error of `sqlite` is handed on.
+    pub fn new(alloc: Global) -> Result<PortalSchema, Error> {
+        let conn = scratch(alloc)?;
+        Ok(PortalSchema { conn })
+    }
+
+    /// Whether the tables of a connection are those that `make_tables` makes, and no other table, index or view is there.
+    /// It reads nothing of the database.
+    pub fn fits<S: Alter>(&self, conn: &Connection<S>) -> bool
+        ensures current { IsTrue result ↔ IsCurrentSchema conn.now.schema }
+        ensures own { IsTrue result → HasFirstSchema conn.now.schema }
+    {
+        let all = self.conn.schema();
+        is_same_schema(conn.schema(), all.tables.as_slice(), all.indexes.as_slice())
+    }
+
+    /// Whether they are the six of version 1, and no other is there.
+    pub fn fits_first<S: Alter>(&self, conn: &Connection<S>) -> bool
+        ensures first { IsTrue result ↔ IsFirstSchema conn.now.schema }
+        ensures own { IsTrue result → HasFirstSchema conn.now.schema }
+    {
+        let all = self.conn.schema();
+        is_same_schema(
+            conn.schema(),
+            &all.tables.as_slice()[..6],
+            &all.indexes.as_slice()[..9],
+        )
+    }
+}
