@@ -1,4 +1,4 @@
--- What a list or a ranking that equals put leaves of a caller, and what equals seen after a call of one's own.
+-- What a list or a ranking that is put leaves of a caller, and what is seen after a call of one's own.
 use Rattle.std.proofs.Common.{◌≡◌, Bool, true, false, cond, List, refl, ◌∙◌, ap}
 use Rattle.std.specs.Prelude.{map, Option, Some, None, option_map}
 use Rattle.std.specs.List.{find, filter_map}
@@ -93,7 +93,7 @@ view_ranked w c l list e =
     ap (sight_of (changed w (Ranks l.row.key list))) (caller_ranked w l.row.key list c ∙ ap (re_called (with_ranking l.row.key list)) e ∙ ap LecturerCaller (ranked_own list l))
     ∙ λ i. Lecturer (record (lecturer_sees w l) { catalogue = catalogue_ranked w l.row.key list i; ranking = Some list })
 
--- after a call that equals no Move and no Add, the caller sees what `own` says
+-- after a call that is no Move and no Add, the caller sees what `own` says
 module _ (w w' : World) (c : Key) where
   abbrev Shows : Sight → AbstractCall → Decision → Type 0
   Shows v ask d = is_move_or_add (Calls ask) ≡ false → StepLeaves w d.act w' → view w' c ≡ with_own v d.act

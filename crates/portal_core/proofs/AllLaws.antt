@@ -35,7 +35,7 @@ pub map_same : {X Y : Type 0} (key : X → Y) (f : X → X) → ((x : X) → key
 map_same key f same [] = refl
 map_same key f same (x ∷ xs) = λ i. same x i ∷ map_same key f same xs i
 
--- the test of keys equals symmetric
+-- the test of keys is symmetric
 pub is_sym : (a b : Key) → equals a b ≡ equals b a
 is_sym a b = go (equals a b) (equals b a) refl refl
   where
@@ -52,7 +52,7 @@ or_swap true false c = refl
 or_swap false true c = refl
 or_swap false false c = refl
 
--- none of the list equals the key
+-- none of the list is the key
 pub none_is : (k : Key) (ks : List Key) → AllByRecursion (λ l. equals l k ≡ false) ks → has ks k ≡ false
 none_is k [] all = refl
 none_is k (l ∷ ks) all = ap (λ b. b || has ks k) (is_sym k l ∙ all.0) ∙ none_is k ks all.1
@@ -119,7 +119,7 @@ none_passes {X} f p (x ∷ xs) e =
       | false ↦ λ h. (refl, none_passes f p xs h)
     ]) e
 
--- what equals shown passes, so the row that it equals of does
+-- what is shown passes, so the row that it is of does
 pub any_shown : {X Y : Type 0} (p : Y → Bool) (q : X → Bool) (f : X → Option Y) → ((x : X) (y : Y) → f x ≡ Some y → p y ≡ true → q x ≡ true) → (xs : List X) → list_any p (filter_map f xs) ≡ true → list_any q xs ≡ true
 any_shown p q f k [] h = cc
 any_shown {X} {Y} p q f k (x ∷ xs) h = step (f x) refl (any_shown p q f k xs) h
@@ -132,7 +132,7 @@ any_shown {X} {Y} p q f k (x ∷ xs) h = step (f x) refl (any_shown p q f k xs) 
         at true t g = ap (λ b. b || list_any q xs) (k x y e t)
         at false t g = ap (λ b. q x || b) (rest g) ∙ or-true (q x)
 
--- a change that keeps what equals shown and the test
+-- a change that keeps what is shown and the test
 pub kept_filtered : {X Y : Type 0} (key : X → Y) (f : X → X) (q : X → Bool) → ((x : X) → key (f x) ≡ key x) → ((x : X) → q (f x) ≡ q x) → (xs : List X) → map key (filter q (map f xs)) ≡ map key (filter q xs)
 kept_filtered key f q same alike [] = refl
 kept_filtered {X} key f q same alike (x ∷ xs) =

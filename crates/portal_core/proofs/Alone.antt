@@ -1,4 +1,4 @@
--- What a round equals played in equals a good world of one round.
+-- What a round is played in is a good world of one round.
 use Rattle.std.proofs.Common.{◌≡◌, ℕ, suc, ◌≤◌, Bool, true, false, cond, List, [], ◌∷◌, ◌++◌, length, refl, sym, ◌∙◌, ap, subst, arith}
 use Rattle.std.specs.Prelude.{map, filter, nat_lt, unwrap_or, option_map, not, ◌&&◌, ◌||◌, Option, None, IfSome, is_none}
 use Rattle.std.specs.List.{list_any, AllByRecursion}
@@ -85,9 +85,9 @@ and_first false b h = cc
 some_room : (n : ℕ) → nat_lt 0 n ≡ true → 1 ≤ n
 some_room n h = grind (arith, nat_tests)
 
--- who applies to a lecturer equals the same
+-- who applies to a lecturer is the same
 
--- a project that equals left out stands under no key of those that are left
+-- a project that is left out stands under no key of those that are left
 out_not_in : (t : ProjectRow → Bool) (zs : List ProjectRow) → Rise (map project_key zs) → AllByRecursion (λ z. t z ≡ false → has (map project_key (filter t zs)) z.key ≡ false) zs
 out_not_in t [] rise = tt
 out_not_in t (z ∷ zs) rise =
@@ -148,7 +148,7 @@ module _ (w : World) (g : Sound w) (two : w.round ≡ Second) where
   abbrev wants : World → Key → rows.Student → Bool
   wants u l s = list_any (λ p. has s.choice p.key) (projects_of u l)
 
-  -- of a student whose list equals over what equals left
+  -- of a student whose list is over what is left
   wants_same : (l : Key) (s : rows.Student) → IsChoice (project_keys (left_of w)) s.choice → wants (left_of w) l s ≡ wants w l s
   wants_same l s c =
       any_of_left (λ p. has s.choice p.key) (λ p. equals p.lecturer l) taken lowered (all_weaker _ _ (λ z out e. listed_in s.choice (project_keys (left_of w)) z.key c.known (out e)) lowered (out_not_in taken lowered rise))
@@ -263,7 +263,7 @@ rows_alone u =
 pub places_alone : (u : World) → places_of (alone u) ≡ places_of u
 places_alone u = map_same (λ (s : rows.Student). option_map (number_in (project_keys u)) s.placed) alone_student (λ s. refl) u.students
 
--- in the first round the world itself equals so
+-- in the first round the world itself is so
 itself_lecturers : (ls : List rows.Lecturer) → AllByRecursion (λ l. l.earlier_ranking ≡ None) ls → map alone_lecturer ls ≡ ls
 itself_lecturers [] all = refl
 itself_lecturers (l ∷ ls) all = λ i. record l { earlier_ranking = sym all.0 i } ∷ itself_lecturers ls all.1 i
@@ -283,7 +283,7 @@ sound_alone : (w : World) → Sound w → (r : Round) → w.round ≡ r → Soun
 sound_alone w g First one = subst (λ u. Sound (alone u)) (sym (first_plays w one)) (subst Sound (sym (itself w g one)) g)
 sound_alone w g Second two = subst (λ u. Sound (alone u)) (sym (second_plays w two)) (alone_sound w g two)
 
--- what a round equals played in equals, alone, a good world of one round, with the same instance
+-- what a round is played in is, alone, a good world of one round, with the same instance
 pub played_alone : (w : World) → Good w → Good (alone (in_play w)) × (instance (alone (in_play w)) ≡ instance w)
 played_alone w g = (
   record {

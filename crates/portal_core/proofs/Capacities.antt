@@ -33,7 +33,7 @@ sizes {X} a b (x ∷ xs) all =
       | false ↦ λ e. elim (b x) as (λ t. length (filter a xs) ≤ length (cond t (x ∷ filter b xs) (filter b xs))) [ true ↦ omega arith | false ↦ rest ]
     ]) refl
 
--- a count equals the length of a filter
+-- a count is the length of a filter
 count_mono : {X : Type 0} (a b : X → Bool) (xs : List X) → AllByRecursion (λ x. a x ≡ true → b x ≡ true) xs → count_by a xs ≤ count_by b xs
 count_mono a b xs all =
     let s : length (filter a xs) ≤ length (filter b xs) = sizes a b xs all in
@@ -108,7 +108,7 @@ module _ {X : Type 0} (key : X → Key) (f : X → ℕ) where
   look_each : (xs : List X) → Rise (map key xs) → AllByRecursion (λ x. look xs (key x) ≤ f x) xs
   look_each xs rise = subst (λ ys. AllByRecursion (λ x. look ys (key x) ≤ f x) xs) (filter_all xs) (look_filter (λ x. true) xs rise)
 
--- one matching and the rows that it equals of
+-- one matching and the rows that it is of
 
 at_itself : (n : ℕ) → (n == n) ≡ true
 at_itself n = grind (arith, nat_tests)
@@ -132,7 +132,7 @@ placed_at_most u k m =
     each [] = tt
     each (s ∷ ss) = (one s.placed, each ss)
 
--- who equals placed has a project that takes part
+-- who is placed has a project that takes part
 
 placed_known : (keys : List Key) (ss : List rows.Student) → ((s n : ℕ) → get_or (map (λ (s : rows.Student). option_map (number_in keys) s.placed) ss) s None ≡ Some n → n < length keys)
     → AllByRecursion (λ s. (q : Key) → s.placed ≡ Some q → number_in keys q < length keys) ss
@@ -229,7 +229,7 @@ module _ (u : World) (m : IsMatching (instance_of u) (places_of u)) (known : All
       each [] all = tt
       each (s ∷ ss) all = (one s.placed all.0, each ss all.1)
 
--- one round that equals published, by what takes part
+-- one round that is published, by what takes part
 module _ (w : World) (sound : Sound w) (m : IsMatching (instance w) (matching_of w)) where
   known_in : AllByRecursion (λ s. (q : Key) → s.placed ≡ Some q → number_in (project_keys (in_play w)) q < length (project_keys (in_play w))) (in_play w).students
   known_in = placed_known (project_keys (in_play w)) (in_play w).students (λ s n e. on_roll (project_keys (in_play w)) (in_play w).students (choices_in w sound) s n (m.acceptable s n e))
@@ -287,7 +287,7 @@ each_one P k (x ∷ xs) = (k x, each_one P k xs)
 both_fit : (a b c : ℕ) → a ≤ c → b ≤ c - a → a + b ≤ c
 both_fit a b c h k = omega (arith, h, k)
 
--- the second round's result, for the room that equals left
+-- the second round's result, for the room that is left
 record FitsLeft (w : World) : Type 0 where
   projects : AllByRecursion (λ p. placed_to w.students p.key ≤ p.capacity - given_to w.students p.key) w.projects
   lecturers : AllByRecursion (λ l. placed_with w.projects w.students l.row.key ≤ l.row.capacity - given_with w.projects w.students l.row.key) w.lecturers

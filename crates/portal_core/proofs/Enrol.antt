@@ -25,7 +25,7 @@ use Rattle.portal_core.proofs.AllLaws.{any_append, all_weaker, is_sym}
 use Rattle.portal_core.proofs.Puts.{all_put, length_put, rise_put, distinct_put, has_put}
 use Rattle.portal_core.proofs.Adds.{Alike, has_alike, taken}
 
--- before rankings nothing equals published
+-- before rankings nothing is published
 pub open_phase : (phase : Phase) → is_from_ranking phase ≡ false → is_published phase ≡ false
 open_phase Setup e = refl
 open_phase Choosing e = refl

@@ -14,7 +14,7 @@ use Rattle.portal_core.specs.Instance.{project_keys}
 use Rattle.portal_core.specs.Good.{Good, Sound, IsChoice, IsRanking}
 use Rattle.portal_core.specs.Change.{Choices, Fill, changed}
 use Rattle.portal_core.specs.AbstractCall.{AbstractCall}
-use Rattle.portal_core.specs.Worked.{worked, again, again_ranking, again_published, cyr, office}
+use Rattle.portal_core.specs.examples.Worked.{worked, again, again_ranking, again_published, cyr, office}
 use Rattle.portal_core.proofs.Steps.{step_good}
 use Rattle.portal_core.proofs.Texts.{ascii_text}
 

@@ -25,7 +25,7 @@ module _ (w : World) where
       (λ i. listings (play_filled w i).lecturers (play_filled w i).projects)
       ∙ λ i. filter_map (λ p. option_map (listing_with p) (names_kept (with_fill w) (fill_row w) (in_play w).lecturers p.lecturer i)) (in_play w).projects
 
-  -- nobody equals still to rank
+  -- nobody is still to rank
 
   pub now_ranked : (l : rows.Lecturer) → is_still_to_rank (changed w Fill) (with_fill w l) ≡ false
   now_ranked l = go (is_still_to_rank w l) refl
@@ -58,7 +58,7 @@ all_there : (ks ls : List Key) → ((k : Key) → has ks k ≡ true → has ls k
 all_there [] ls k = tt
 all_there (x ∷ ks) ls k = (k x (ap (λ b. b || has ks x) (is_own x)), all_there ks ls (λ l h. k l (ap (λ b. equals l x || b) h ∙ or-true (equals l x))))
 
--- a key that stands before another equals another
+-- a key that stands before another is another
 pub before_other : (k l : Key) → is_before k l ≡ true → equals k l ≡ false
 before_other k l h =
     (elim (equals k l) as (λ b. equals k l ≡ b → b ≡ false) [
@@ -94,7 +94,7 @@ module _ {X : Type 0} (key : X → Key) (p : X → Bool) where
 pub ranks_by_key : (ks : List Key) → Rise ks → IsRanking ks ks
 ranks_by_key ks rise = record { all = all_there ks ks (λ k h. h); only = all_there ks ks (λ k h. h); once = rise_distinct ks rise }
 
--- each missing ranking equals made, and each other one stays
+-- each missing ranking is made, and each other one stays
 rankings_filled : (w : World) → Rise (map student_key w.students) → (ls : List rows.Lecturer)
     → AllByRecursion (λ l. IfSome l.ranking (IsRanking (map student_key (applicants_of w l.row.key)))) ls
     → AllByRecursion (λ l. IfSome l.ranking (IsRanking (map student_key (applicants_of w l.row.key)))) (map (with_fill w) ls)

@@ -1,4 +1,4 @@
--- A fault equals told where it equals first.
+-- A fault is told where it is first.
 use Rattle.std.proofs.Common.{◌≡◌, ◌⊎◌, inl, inr, ℕ, ◌+◌, Bool, true, false, List, [], ◌∷◌, ◌++◌, length, refl, sym, ◌∙◌, ap, subst, arith, append_assoc, append-nil}
 use Rattle.std.specs.Prelude.{Option, Some, None, ◌==◌, nat_le, codes}
 use Rattle.std.specs.List.{find}
@@ -22,7 +22,7 @@ told_at o at word f so told =
     sym (ap (λ (x : ListFault). x.at) one)
 
 module _ (Bad : List Key → Key → Type 0) (scan : List Key → List Key → Option ListFault) where
-  -- the next key equals bad and its fault equals told at its place, or the scan goes on
+  -- the next key is bad and its fault is told at its place, or the scan goes on
   abbrev pub Steps : Type 0
   Steps = (earlier : List Key) (k : Key) (ks : List Key)
       → (Bad earlier k × ((f : ListFault) → scan earlier (k ∷ ks) ≡ Some f → f.at ≡ length earlier + 1)) ⊎ ((Bad earlier k → ⊥) × (scan earlier (k ∷ ks) ≡ scan (earlier ++ k ∷ []) ks))

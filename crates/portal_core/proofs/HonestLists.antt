@@ -12,7 +12,7 @@ use Rattle.spa_model.specs.Spa.{IsBest, place, project_of, choices_of, lecturer_
 use Rattle.spa_model.specs.Pairs.{number_in}
 use Rattle.spa_model.proofs.Numbers.{number_is, number_known}
 use Rattle.spa_model.proofs.PairFaults.{count_by-map}
-use Rattle.spa_student.specs.Machine.{IsRanked}
+use Rattle.spa_student.specs.inner.Machine.{IsRanked}
 use Rattle.spa_student.proofs.CutSteps.{acceptable_in_range}
 use Rattle.spa_honest.specs.Honest as instances
 use Rattle.spa_honest.proofs.Gains.{honest_is_best as honest_by_number}
@@ -69,7 +69,7 @@ module _ (keys : List Key) where
   number_on : (list : List Key) (k : Key) → number_in keys k < length keys → IsOn (map (number_in keys) list) (number_in keys k) → has list k ≡ true
   number_on list k low on = number_has list k (omega (arith, place_number list k low, length-map list (number_in keys)))
 
-  -- what stands among the numbers equals the number of a key
+  -- what stands among the numbers is the number of a key
   key_of : (list : List Key) (n : ℕ) → IsOn (map (number_in keys) list) n → (k : Key) × (has list k ≡ true) × (number_in keys k ≡ n)
   key_of [] n on = absurd (omega (arith, on))
   key_of (c ∷ cs) n on = by_test (eqb (number_in keys c) n) (eqb-true (number_in keys c) n) (key_of cs n) on
@@ -111,7 +111,7 @@ no_project = record { key = []; lecturer = []; title = []; capacity = 0 }
 no_lecturer : Lecturer
 no_lecturer = record { row = record { key = []; name = []; code = []; capacity = 0 }; ranking = None; earlier_ranking = None }
 
--- an applicant stands on the ranking, where nobody equals still to rank
+-- an applicant stands on the ranking, where nobody is still to rank
 on_ranking : (apps : List Student) (k : Key) (o : Option (List Key)) → IfSome o (IsRanking (map student_key apps)) → (not (is_empty apps) && is_none o) ≡ false → has (map student_key apps) k ≡ true → has (unwrap_or o []) k ≡ true
 on_ranking [] k None ranks ranked there = absurd (cc)
 on_ranking (a ∷ apps) k None ranks ranked there = absurd (cc)
@@ -151,7 +151,7 @@ module _ (w : World) (sound : Sound w) (one : w.round ≡ First) (published : is
   lecturer_known : (p : ℕ) → p < length w.projects → number_in (lecturer_keys w) (get_or w.projects p no_project).lecturer < length (lecturer_keys w)
   lecturer_known p h = has_number (lecturer_keys w) (get_or w.projects p no_project).lecturer (all_at (λ (q : ProjectRow). has (lecturer_keys w) q.lecturer ≡ true) w.projects p no_project sound.lecturers_known h)
 
-  -- a student whose list holds a project equals an applicant of its lecturer
+  -- a student whose list holds a project is an applicant of its lecturer
   applies : (s p : ℕ) (l : Key) → s < length w.students → p < length w.projects → (get_or w.projects p no_project).lecturer ≡ l → has (get_or w.students s no_student).choice (get_or w.projects p no_project).key ≡ true
       → has (map student_key (applicants_of w l)) (get_or w.students s no_student).row.key ≡ true
   applies s p l s_in p_in own there =
@@ -194,7 +194,7 @@ module _ (w : World) (sound : Sound w) (one : w.round ≡ First) (published : is
       (on_number (student_keys w) (unwrap_or row.ranking []) x.row.key (subst (λ n. n < length (student_keys w)) (sym s_number) s_low) there) in
       subst (λ n. IsOn (ranking_of (instance_of w) n) s) (sym (lecturer_at p p_in)) (subst (λ list. IsOn list s) (sym ranking) stands)
 
-  -- the instance of a sound world in published equals ranked
+  -- the instance of a sound world in published is ranked
   world_ranked : IsRanked (instance_of w)
   world_ranked = record {
     known = λ s p on. omega (arith, known s p on, length-map w.projects (λ (q : ProjectRow). number_in (lecturer_keys w) q.lecturer));
@@ -210,7 +210,7 @@ module _ (w : World) (sound : Sound w) (one : w.round ≡ First) (published : is
     distinct (x ∷ ss) all zero = numbers_distinct (project_keys w) x.choice all.0.known all.0.once
     distinct (x ∷ ss) all (suc s) = distinct ss all.1 s
 
-  -- the project that the matching gives equals the place in the result
+  -- the project that the matching gives is the place in the result
   given : (s : ℕ) (d : Student) → s < length w.students → project_of (places_of w) s ≡ option_map (number_in (project_keys w)) (get_or w.students s d).placed
   given s d h = get_or-map (λ (x : Student). option_map (number_in (project_keys w)) x.placed) w.students s d None h
 
@@ -227,7 +227,7 @@ module _ (w : World) (sound : Sound w) (one : w.round ≡ First) (published : is
   x_given : project_of (places_of w) s ≡ option_map (number_in (project_keys w)) x.placed
   x_given = subst (λ (y : Student). project_of (places_of w) s ≡ option_map (number_in (project_keys w)) y.placed) is_x.is (given w sound one published s x is_x.in_range)
 
-  -- a project on the list equals acceptable by its number
+  -- a project on the list is acceptable by its number
   x_acceptable : (p : Key) → number_in (project_keys w) p < length (project_keys w) → has x.choice p ≡ true → IsAcceptable (instance_of w) s (number_in (project_keys w) p)
   x_acceptable p low there = rw x_choices (on_number (project_keys w) x.choice p low there)
 
@@ -260,7 +260,7 @@ rows_same R f same [] (y ∷ ys) z = absurd z
 rows_same R f same (x ∷ xs) [] z = absurd z
 rows_same R f same (x ∷ xs) (y ∷ ys) z = λ i. same x y z.0 i ∷ rows_same R f same xs ys z.1 i
 
--- who passes a test equals on the roll
+-- who passes a test is on the roll
 kept_has : (f : Student → Bool) (ss : List Student) (k : Key) → has (map student_key (filter f ss)) k ≡ true → has (map student_key ss) k ≡ true
 kept_has f [] k h = h
 kept_has f (s ∷ ss) k h = by_test (f s) (kept_has f ss k) h
@@ -273,7 +273,7 @@ kept_has f (s ∷ ss) k h = by_test (f s) (kept_has f ss k) h
         by_key true g = refl
         by_key false g = r g
 
--- who stands on a ranking equals on the roll
+-- who stands on a ranking is on the roll
 rank_known : (w : World) → Sound w → (l : ℕ) (d : Lecturer) → l < length w.lecturers → (k : Key) → has (unwrap_or (get_or w.lecturers l d).ranking []) k ≡ true → number_in (student_keys w) k < length (student_keys w)
 rank_known w sound l d l_in k there =
     has_number (student_keys w) k (by_ranking (get_or w.lecturers l d).ranking (all_at (λ (y : Lecturer). IfSome y.ranking (IsRanking (map student_key (applicants_of w y.row.key)))) w.lecturers l d sound.rankings l_in) there)
@@ -365,7 +365,7 @@ module _ (w v : World) (sound : Sound w) (good : Sound v) (s : ℕ) (key : Key) 
           λ a b on_a on_b before. absurd (let off : IsOn [] a = rw none at on_a in omega (arith, off))
     ]
 
--- who equals shown what
+-- who is shown what
 
 shown_student : (w : World) (code : Key) (a : StudentSees) → view w code ≡ sees.Student a → (x : Student) × (student_with w code ≡ Some x) × (student_sees w x ≡ a)
 shown_student w code a e = by_caller (equals w.office code) (lecturer_with w code) (student_with w code) refl e
@@ -392,7 +392,7 @@ same_place key code x y (s ∷ ss) (t ∷ ts) z e f = by_test (equals s.row.code
     by_test false true same r e f = absurd (cc)
     by_test false false same r e f = let rest = r e f in (suc rest.0, omega (arith, rest.1), rest.2, omega (arith, rest.3), rest.4)
 
--- a world of one round in published, whose result equals the best for the students
+-- a world of one round in published, whose result is the best for the students
 record IsBestRound (w : World) : Type 0 where
   pub sound : Sound w
   pub one : w.round ≡ First
@@ -417,7 +417,7 @@ by_rows w v s x y one other same_projects differ is_x is_y p shows there =
         let x_choice : IsChoice (project_keys w) x.choice = subst (λ (z : Student). IsChoice (project_keys w) z.choice) is_x.is (choice w one.sound one.one one.published s x is_x.in_range) in
         has_number (project_keys w) p (subst (λ k. has (project_keys w) k ≡ true) at.2 (all_at (λ k. has (project_keys w) k ≡ true) x.choice at.0 p x_choice.known at.1))
 
--- from a round to the world that it equals played in
+-- from a round to the world that it is played in
 
 zip_kept : {X : Type 0} (R : X → X → Type 0) (q : X → Bool) → ((x y : X) → R x y → q y ≡ q x) → (xs ys : List X) → AllZip R xs ys → AllZip R (filter q xs) (filter q ys)
 zip_kept R q same [] [] z = tt
@@ -490,7 +490,7 @@ best_alone w h = record {
   best = subst (λ i. IsBest i (places_of (alone (in_play w)))) (sym (rows_alone (in_play w))) (subst (IsBest (instance w)) (sym (places_alone (in_play w))) h.best);
 }
 
--- who equals left by the first round equals found among those who are
+-- who is left by the first round is found among those who are
 find_left : (q : Student → Bool) (ss : List Student) (x : Student) → find q ss ≡ Some x → is_left x ≡ true → find q (students_left ss) ≡ Some x
 find_left q [] x e left = absurd (cc)
 find_left q (s ∷ ss) x e left = by_tests (q s) (is_left s) refl refl (λ f. find_left q ss x f left) e
@@ -517,7 +517,7 @@ found_alone w code x e left = find_alone code (students_in w.round w.students) x
     by_round First = e
     by_round Second = find_left (λ s. equals s.row.code code) w.students x e left
 
--- who equals left equals shown the place of the round
+-- who is left is shown the place of the round
 shown : (w : World) (x : Student) → is_published w.phase ≡ true → x.earlier_placement ≡ None → (student_sees w x).result ≡ x.placed
 shown w x published left = rw (left, published) refl
 

@@ -110,7 +110,7 @@ fill_lowered w ps ss l =
     elim (is_still_to_rank w l) as (λ b. lowered_lecturer ps ss (cond b (record l { ranking = Some (map student_key (applicants_of w l.row.key)) }) l)
     ≡ cond b (record (lowered_lecturer ps ss l) { ranking = Some (map student_key (applicants_of w l.row.key)) }) (lowered_lecturer ps ss l)) [ true ↦ refl | false ↦ refl ]
 
--- a student who equals new was given nothing
+-- a student who is new was given nothing
 
 filter_put : {X : Type 0} (key : X → Key) (x : X) (q : X → Bool) → q x ≡ false → (ys : List X) → filter q (put key x ys) ≡ filter q ys
 filter_put key x q no' [] = ap (λ b. cond b (x ∷ []) []) no'
@@ -131,7 +131,7 @@ given_none : (ps : List ProjectRow) (l : Key) → list_any (λ p. equals p.lectu
 given_none [] l = refl
 given_none (p ∷ ps) l = (λ i. and-false (equals p.lecturer l) i || list_any (λ p. equals p.lecturer l && is_at p.key None) ps) ∙ given_none ps l
 
--- the round after a change equals the change of the round
+-- the round after a change is the change of the round
 
 pub play_chosen : (w : World) (k : Key) (list : List Key) → in_play (changed w (Choices k list)) ≡ changed (in_play w) (Choices k list)
 play_chosen w k list = λ i. record w {

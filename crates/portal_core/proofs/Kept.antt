@@ -1,4 +1,4 @@
--- A change that equals decided keeps the rows sound.
+-- A change that is decided keeps the rows sound.
 use Rattle.std.proofs.Common.{◌≡◌, ℕ, ◌+◌, ◌≤◌, Bool, true, false, cond, List, [], ◌∷◌, ◌++◌, length, refl, sym, ◌∙◌, ap, subst, arith, append_assoc, append-nil}
 use Rattle.std.specs.Prelude.{map, filter, Option, Some, None, option_map, IfSome, not, ◌||◌, ◌&&◌, ◌==◌, if◌then◌else◌, is_none, unwrap_or}
 use Rattle.std.specs.List.{list_any, AllByRecursion}
@@ -25,13 +25,13 @@ use Rattle.portal_core.proofs.Acts.{choice_row, ranking_row}
 use Rattle.portal_core.proofs.InPlay.{play_chosen, play_ranked, play_placed}
 use Rattle.portal_core.proofs.AllLaws.{kept_filtered, all_map, all_both, all_weaker, map_same, is_sym, none_is, split_append, any_map, any_shown, any_alike, any_or, any_nowhere, filtered_any, none_passes}
 
--- before the result equals published nothing has to be stable
+-- before the result is published nothing has to be stable
 pub not_published : (w : World) → Sound w → is_published w.phase ≡ false → (is_second w.round ≡ true → IsRound (first w)) → Good w
 not_published w g shut before = record { sound = g; stable = λ h. cc; before = before }
 
 -- phases
 
--- to a phase after setup in which, as before, nothing equals published
+-- to a phase after setup in which, as before, nothing is published
 to_phase : (w : World) (phase : Phase) → Sound w → is_setup phase ≡ false → is_published phase ≡ false → is_published w.phase ≡ false → (is_from_ranking phase ≡ false → is_from_ranking w.phase ≡ false)
     → Sound (changed w (To phase))
 to_phase w phase g begun shut before early =
@@ -82,7 +82,7 @@ place_choice pairs s = elim (is_left s) as (λ b. (cond b (record s { placed = p
 pub place_first : (pairs : List (Key × Key)) (s : rows.Student) → first_placed (with_place pairs s) ≡ first_placed s
 place_first pairs s = elim (is_left s) as (λ b. first_placed (cond b (record s { placed = placement_in pairs s.row.key }) s) ≡ first_placed s) [ true ↦ refl | false ↦ refl ]
 
--- who equals out of the round has no place of it
+-- who is out of the round has no place of it
 abbrev StaysOut : rows.Student → Type 0
 StaysOut s = is_left s ≡ false → (s.choice ≡ []) × (s.placed ≡ None)
 
@@ -151,7 +151,7 @@ module _ (w : World) (pairs : List (Key × Key)) where
         only_left = all_map StaysOut (with_place pairs) w.students (all_weaker _ _ (λ s h. place_out pairs s h) w.students g.only_left);
       }
 
--- the instance of the round equals the same
+-- the instance of the round is the same
 pub instance_placed : (w : World) (pairs : List (Key × Key)) → instance (changed w (Placements pairs)) ≡ instance w
 instance_placed w pairs = ap instance_of (play_placed w pairs) ∙ rows_placed (in_play w) pairs
 
@@ -163,7 +163,7 @@ to_published w pairs g late ranked best =
       before = λ h. subst IsRound (sym (first_kept w pairs)) (g.before h);
     }
 
--- nobody equals still to rank
+-- nobody is still to rank
 pub all_ranked : (w : World) → is_from_ranking w.phase ≡ true → is_empty (office_sees w).still_to_rank ≡ true → AllByRecursion (λ l. is_still_to_rank w l ≡ false) w.lecturers
 all_ranked w closed none =
     none_passes (λ (l : rows.Lecturer). l.row.key) (is_still_to_rank w) w.lecturers
@@ -223,7 +223,7 @@ chosen_good w list e =
       once = c.once;
     }
 
--- what holds of a row holds after its list equals replaced
+-- what holds of a row holds after its list is replaced
 choice_with : (P : List Key → Type 0) (k : Key) (list : List Key) → P list → (ss : List rows.Student) → AllByRecursion (λ s. P s.choice) ss → AllByRecursion (λ s. P s.choice) (map (with_choice k list) ss)
 choice_with P k list new [] all = tt
 choice_with P k list new (s ∷ ss) all = (
@@ -358,7 +358,7 @@ none_lacks list (k ∷ ks) e = step (has list k) refl (λ h. none_lacks list ks 
     step true e rest h = (e, rest h)
     step false e rest h = cc
 
--- what the lecturer equals shown while rankings are made
+-- what the lecturer is shown while rankings are made
 abbrev pub shown_sets : World → Key → Bool → List (Key × List Person)
 shown_sets w l closed = map (λ p. (p.key, if closed then persons (applicants_to w p.key) else [])) (projects_of w l)
 

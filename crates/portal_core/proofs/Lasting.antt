@@ -1,4 +1,4 @@
--- What equals shown of a result equals shown in each world that comes after.
+-- What is shown of a result is shown in each world that comes after.
 use Rattle.std.proofs.Common.{◌≡◌, suc, Bool, true, false, cond, List, [], ◌∷◌, Contains, refl, sym, ◌∙◌, ap, subst, inl, inr, arith}
 use Rattle.std.specs.Prelude.{map, filter, Option, Some, None, option_map, is_none}
 use Rattle.std.specs.List.{filter_map, cons_option, AllByRecursion}
@@ -35,7 +35,7 @@ use Rattle.portal_core.proofs.Steps.{step_good}
 use Rattle.portal_core.proofs.Runs.{served_good}
 use Rattle.portal_core.proofs.Cases.{by_student, by_lecturer, by_office}
 
--- what equals of a list, and of what equals made of it
+-- what is of a list, and of what is made of it
 
 module _ {X : Type 0} where
   one_of : (P : X → Type 0) (xs : List X) (x : X) → AllByRecursion P xs → Contains xs x → P x
@@ -88,7 +88,7 @@ module _ {X Y : Type 0} (f : X → Option Y) where
         | Some a ↦ λ k. (k a refl, all_shown P xs all.1)
       ]) all.0
 
--- a world after another: each row equals there, and each student equals shown the same project, if one was shown
+-- a world after another: each row is there, and each student is shown the same project, if one was shown
 
 abbrev Mate : {X : Type 0} → (X → X → Type 0) → List X → X → Type 0
 Mate {X} R ys x = (y : X) × Contains ys y × R x y
@@ -106,7 +106,7 @@ record Grows (w v : World) : Type 0 where
   students : AllByRecursion (Mate (KeepsPlace w.phase v.phase) v.students) w.students
 
 module _ (w v : World) (g : Grows w v) (good : Good v) where
-  -- a student who was shown at a project equals so still
+  -- a student who was shown at a project is so still
   at_project : (p : Key) → AllByRecursion (Contains (persons (placed_at v p))) (persons (placed_at w p))
   at_project p =
       all_map (Contains (persons (placed_at v p))) person_of (placed_at w p)
@@ -193,7 +193,7 @@ module _ {X : Type 0} (key : X → Key) where
   all_beside [] ys = contained ys
   all_beside (x ∷ xs) ys = all_weaker _ _ (λ y there. one_of _ (put key x ys) y (all_beside xs (put key x ys)) there) ys (beside x ys)
 
--- where nothing was published a student equals shown the project of the earlier round, if any
+-- where nothing was published a student is shown the project of the earlier round, if any
 lasts : (before after : Phase) → is_published before ≡ false → (s t : rows.Student) → t.earlier_placement ≡ s.earlier_placement → (p : Key) → shown_placement before s ≡ Some p → shown_placement after t ≡ Some p
 lasts before after shut s t same p h = subst (λ o. cond (is_none o) (cond (is_published after) t.placed None) o ≡ Some p) (sym same) (go s.earlier_placement h)
   where
@@ -235,7 +235,7 @@ module _ (w : World) where
       (renewed _ (with_place pairs)
       (λ s. (place_row pairs s, lasts w.phase Published (ap is_published at) s (with_place pairs s) (ap (λ x. x.placed) (place_first pairs s)))) w.students)
 
-  -- the place of the first round equals shown on in the second
+  -- the place of the first round is shown on in the second
   second : Good w → w.round ≡ First → w.phase ≡ Published → Grows w (changed w SecondRound)
   second good one out =
       subst (Grows w) (sym (opens_to w one out))

@@ -1,4 +1,4 @@
--- A step has one reply and one end, since there equals one best matching; and so has a run.
+-- A step has one reply and one end, since there is one best matching; and so has a run.
 use Rattle.std.proofs.Common.{◌≡◌, ℕ, zero, suc, ◌+◌, ◌<◌, ◌≤◌, true, false, cond, List, [], ◌∷◌, map, length, get_or, refl, sym, ◌∙◌, ap, subst, arith, Contains}
 use Rattle.std.specs.Prelude.{◌==◌, ◌||◌, Option, Some, None, option_map}
 use Rattle.std.specs.List.{AllByRecursion}
@@ -36,7 +36,7 @@ has_contains (k ∷ ks) c h =
     ]) refl h
 
 module _ (keys : List Key) where
-  -- what a list of known keys holds equals a number of the roll
+  -- what a list of known keys holds is a number of the roll
   on_list : (choice : List Key) → AllByRecursion (λ p. has keys p ≡ true) choice → (n : ℕ) → IsOn (map (number_in keys) choice) n → n < length keys
   on_list [] known n on = absurd (omega (arith, on))
   on_list (c ∷ cs) known n on =
@@ -92,7 +92,7 @@ in_whole Second p q (x ∷ ss) e =
           λ i. (stays p ∙ sym (stays q)) i ∷ in_whole Second p q ss f i
     ]) e refl
 
--- who has a project equals counted there, so that it has room, and equals one of the roll
+-- who has a project is counted there, so that it has room, and is one of the roll
 
 counted : (m : List (Option ℕ)) (s n : ℕ) → project_of m s ≡ Some n → 1 ≤ at_project m n
 counted [] s n e = cc

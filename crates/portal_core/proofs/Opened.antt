@@ -97,11 +97,11 @@ opened_good w g one out =
       before = λ h. subst IsRound (sym (first_back w g.sound one out)) (record { sound = g.sound; stable = g.stable });
     }
 
--- where the first round equals published the second opens
+-- where the first round is published the second opens
 pub opens_to : (w : World) → w.round ≡ First → w.phase ≡ Published → changed w SecondRound ≡ opened First Published w
 opens_to w one out = λ i. opened (one i) (out i) w
 
--- where keys rise, a key equals of the one row that was found
+-- where keys rise, a key is of the one row that was found
 
 rows_with : {X : Type 0} (key : X → Key) (p : X → Bool) (xs : List X) (a : X) → Rise (map key xs) → find p xs ≡ Some a → AllByRecursion (λ x. key x ≡ key a → x ≡ a) xs
 rows_with key p [] a rise e = cc
@@ -114,7 +114,7 @@ rows_with {X} key p (x ∷ xs) a rise e =
           (λ same. absurd (not_before_itself (key x) (subst (λ l. is_before (key x) l ≡ true) (sym same) (found_all _ p xs a later f))), rows_with key p xs a rise.1 f)
     ]) e
 
--- a student who equals shown no project has none of the first round
+-- a student who is shown no project has none of the first round
 unplaced_left : (phase : Phase) (s : rows.Student) → is_none (shown_placement phase s) ≡ true → is_left s ≡ true
 unplaced_left phase s e = go s.earlier_placement refl e
   where

@@ -92,7 +92,7 @@ run_turns w (r ∷ rs) (a ∷ told) (v ∷ after) run = go (served_turns w v r a
         let two : v.round ≡ Second = ap (λ x. x.round) (o.after ∙ opens_to w o.first o.published) in
         inr (o, (two, lasts v rs told after two run.1))
 
--- the request that opens it equals answered so
+-- the request that opens it is answered so
 
 opening : (w : World) → w.round ≡ First → w.phase ≡ Published → decision (view w w.office) (AbstractCall.Move Choosing (Some Second)) ≡ applies (phase_body Second Choosing) SecondRound
 opening w one out =

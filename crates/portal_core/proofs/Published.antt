@@ -78,7 +78,7 @@ placed_map pairs projects [] left = refl
 placed_map pairs projects (s ∷ ss) left =
     λ i. option_map (number_in projects) (cond (left.0 i) (record s { placed = placement_in pairs s.row.key }) s).placed ∷ placed_map pairs projects ss left.1 i
 
--- what a matching's pairs leave equals the matching
+-- what a matching's pairs leave is the matching
 pub pairs_place : (w : World) (places : List (Option ℕ)) → Sound w → IsMatching (instance w) places
     → matching_of (changed w (Placements (pairs_by (student_keys (in_play w)) (project_keys (in_play w)) places))) ≡ places
 pairs_place w places sound matching =

@@ -69,7 +69,7 @@ still : (w : World) (k : Key) (list : List Key) (l : rows.Lecturer) → is_still
 still w k list l = ap (λ (r : LecturerRow). not (is_empty (applicants_of w r.key)) && is_none (with_ranking k list l).ranking) (ranking_row k list l)
     ∙ ranked (not (is_empty (applicants_of w l.row.key))) k list l
 
--- a list changes no place that equals shown
+-- a list changes no place that is shown
 pairs_chosen : (w : World) (k : Key) (list : List Key) → pairs_of (changed w (Choices k list)) ≡ pairs_of w
 pairs_chosen w k list = go w.students
   where
@@ -83,7 +83,7 @@ pairs_chosen w k list = go w.students
     go [] = refl
     go (s ∷ ss) = λ i. cons_option (same s i) (go ss i)
 
--- a list of some projects that equals put while students choose takes the student from those without one, and changes nothing else
+-- a list of some projects that is put while students choose takes the student from those without one, and changes nothing else
 pub choosing_seen : (w : World) (k : Key) (list : List Key) → w.phase ≡ Choosing → is_empty list ≡ false
     → office_sees (changed w (Choices k list)) ≡ record (office_sees w) { without_list = filter (λ x. not (equals x k)) (office_sees w).without_list }
 choosing_seen w k [] e some = cc
@@ -104,7 +104,7 @@ choosing_seen w k (p ∷ ps) e some =
       pairs = pairs_chosen w k (p ∷ ps) i;
     }
 
--- a ranking that equals put while lecturers rank takes the lecturer from those still to rank, and changes nothing else
+-- a ranking that is put while lecturers rank takes the lecturer from those still to rank, and changes nothing else
 pub ranking_seen : (w : World) (k : Key) (list : List Key) → w.phase ≡ Ranking
     → office_sees (changed w (Ranks k list)) ≡ record (office_sees w) { still_to_rank = filter (λ x. not (equals x k)) (office_sees w).still_to_rank }
 ranking_seen w k list e =

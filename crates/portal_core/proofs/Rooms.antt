@@ -1,16 +1,16 @@
--- What the pairs of the first round's result leave equals what the world's students leave.
+-- What the pairs of the first round's result leave is what the world's students leave.
 use Rattle.std.proofs.Common.{◌≡◌, ℕ, suc, ◌-◌, Bool, true, false, cond, List, [], ◌∷◌, map, length, refl, sym, ◌∙◌, ap}
 use Rattle.std.specs.Prelude.{filter, count_by, nat_lt, ◌&&◌, ◌||◌, Option, Some, None, option_map}
 use Rattle.std.specs.List.{list_any, filter_map, cons_option}
 use Rattle.std.proofs.lemmas.List.Sums.{length-filter}
 use Rattle.portal_core.specs.Words.{Key, equals, has}
 use Rattle.portal_core.specs.World.{Student, is_at, project_key, pairs_with, given_to, given_with, lowered_project}
-use Rattle.portal_core.specs.Room.{pairs_to, pairs_among, own_keys, project_left, lecturer_left}
+use Rattle.portal_core.specs.inner.Room.{pairs_to, pairs_among, own_keys, project_left, lecturer_left}
 use Rattle.portal_core.specs.declared.rows.LecturerRow.{LecturerRow}
 use Rattle.portal_core.specs.declared.rows.ProjectRow.{ProjectRow}
 use Rattle.portal_core.proofs.AllLaws.{any_map, filtered_any}
 
--- the project passes, if there equals one
+-- the project passes, if there is one
 abbrev passes : (Key → Bool) → Option Key → Bool
 passes q None = false
 passes q (Some k) = q k
@@ -67,7 +67,7 @@ module _ (ss : List Student) where
       room_case (λ n. record l { capacity = n }) (l.capacity - pairs_among pairs (own_keys ps l.key))
       ∙ (λ i. cond (nat_lt 0 (l.capacity - among_is ps l.key i)) (Some (record l { capacity = l.capacity - among_is ps l.key i })) None)
 
--- what equals left of each, where there equals something left
+-- what is left of each, where there is something left
 pub each_left : {X Y : Type 0} (h : X → Option Y) (q : Y → Bool) (f : X → Y) → ((x : X) → h x ≡ cond (q (f x)) (Some (f x)) None) → (xs : List X) → filter_map h xs ≡ filter q (map f xs)
 each_left h q f each [] = refl
 each_left {X} {Y} h q f each (x ∷ xs) = (λ i. cons_option (each x i) (each_left h q f each xs i)) ∙ at (q (f x))

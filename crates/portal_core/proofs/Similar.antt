@@ -86,7 +86,7 @@ zip_in Second ss ts z = zip_left ss ts z
 same_shown : (phase : Phase) (s t : rows.Student) → SameStudent s t → shown_placement phase s ≡ shown_placement phase t
 same_shown phase s t same = λ i. shown_placement phase (record s { placed = same.placed i; earlier_placement = same.earlier_placement i })
 
--- what equals left depends on the earlier places alone
+-- what is left depends on the earlier places alone
 module _ (ss ts : List rows.Student) (z : AllZip SameStudent ss ts) where
   count_same : (q : Option Key → Bool) → count_by (λ (s : rows.Student). q s.earlier_placement) ss ≡ count_by (λ s. q s.earlier_placement) ts
   count_same q = sym (count_by-map q (λ (s : rows.Student). s.earlier_placement) ss) ∙ ap (count_by q) (zip_map (λ s. s.earlier_placement) (λ s t same. same.earlier_placement) ss ts z) ∙ count_by-map q (λ (s : rows.Student). s.earlier_placement) ts
@@ -115,7 +115,7 @@ same_found c (s ∷ ss) (t ∷ ts) z =
       | false ↦ same_found c ss ts z.1
     ])
 
--- what equals seen, but for the own list
+-- what is seen, but for the own list
 
 abbrev pub SameSight : Sight → Sight → Type 0
 SameSight (Student x) (Student y) = record x { choices = y.choices } ≡ y

@@ -10,12 +10,12 @@ use Rattle.std.specs.HashMap as hash
 use Rattle.std.specs.HashMap.{HashMap}
 use Rattle.std.specs.HashSet as set
 use Rattle.std.specs.HashSet.{HashSet}
-use Rattle.spa_rows.specs.Index.{text_eq}
+use Rattle.spa_rows.specs.inner.Index.{text_eq}
 use Rattle.portal_core.specs.Words.{Key, equals, has}
 use Rattle.portal_core.specs.declared.rows.Person.{Person}
 use Rattle.portal_core.specs.Bodies.{is_assigned}
 use Rattle.portal_core.specs.Change.{placement_in}
-use Rattle.portal_core.specs.Tables.{HasTexts, HasRows, HasKeys}
+use Rattle.portal_core.specs.inner.Tables.{HasTexts, HasRows, HasKeys}
 use Rattle.portal_core.proofs.Keys.{is_same}
 use Rattle.portal_core.proofs.AllLaws.{any_alike, is_sym, or_swap}
 

@@ -1,4 +1,4 @@
--- What equals legal equals taken.
+-- What is legal is taken.
 use Rattle.std.proofs.Common.{◌≡◌, ℕ, ◌+◌, ◌<◌, Bool, true, false, cond, List, [], ◌∷◌, ◌++◌, length, refl, sym, ◌∙◌, ap, subst, arith, append_assoc, append-nil}
 use Rattle.std.specs.Prelude.{map, Some, None, not, ◌||◌, nat_le, codes, if◌then◌else◌}
 use Rattle.std.specs.List.{list_any, find, AllByRecursion}

@@ -1,4 +1,4 @@
--- What others do equals not seen.
+-- What others do is not seen.
 use Rattle.std.proofs.Common.{◌≡◌, Bool, true, false, cond, List, [], ◌∷◌, ◌++◌, refl, sym, ◌∙◌, ap, subst, inl, inr}
 use Rattle.std.specs.Prelude.{map, Option, Some, None}
 use Rattle.std.specs.List.{find}
@@ -74,7 +74,7 @@ choosing_open Published e = cc
 abbrev pub person_of : rows.Student → Person
 person_of s = record { key = s.row.key; name = s.row.name }
 
--- a new list keeps the person and the place that equals shown
+-- a new list keeps the person and the place that is shown
 same_person : (k : Key) (list : List Key) (s : rows.Student) → person_of (with_choice k list s) ≡ person_of s
 same_person k list s = λ i. record { key = (choice_row k list s i).key; name = (choice_row k list s i).name }
 

@@ -43,7 +43,7 @@ known_left q ks (p ∷ ps) =
       ]
     ]) refl
 
--- each project of a round equals of a lecturer of the round
+-- each project of a round is of a lecturer of the round
 known_in : (r : Round) (ls : List rows.Lecturer) (ps : List ProjectRow) (ss : List rows.Student) → AllByRecursion (λ p. has (map lecturer_key ls) p.lecturer ≡ true) ps
     → AllByRecursion (λ p. has (map lecturer_key (lecturers_in r ls ps ss)) p.lecturer ≡ true) (projects_in r ls ps ss)
 known_in First ls ps ss known = known

@@ -40,7 +40,7 @@ placed_body ps =
 abbrev pub project_body : Option Key → Data
 project_body o = dictionary ((codes "project", text_or_null o) ∷ [])
 
--- the round equals told in the second round alone
+-- the round is told in the second round alone
 abbrev pub round_member : Round → List (List ℕ × Data)
 round_member First = []
 round_member Second = (codes "round", count 2) ∷ []
@@ -48,7 +48,7 @@ round_member Second = (codes "round", count 2) ∷ []
 abbrev pub phase_body : Round → Phase → Data
 phase_body round phase = dictionary ((codes "phase", string (phase_word phase)) ∷ round_member round)
 
--- who the caller equals
+-- who the caller is
 
 abbrev pub student_me : StudentSees → Data
 student_me v =

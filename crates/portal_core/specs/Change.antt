@@ -44,7 +44,7 @@ placement_in pairs s = option_map (λ (x : Key × Key). x.1) (find (λ x. equals
 abbrev pub with_place : List (Key × Key) → Student → Student
 with_place pairs s = if is_left s then record s { placed = placement_in pairs s.row.key } else s
 
--- a lecturer who equals still to rank gets the applicants in the order of their keys
+-- a lecturer who is still to rank gets the applicants in the order of their keys
 abbrev pub with_fill : World → Lecturer → Lecturer
 with_fill w l = if is_still_to_rank w l then record l { ranking = Some (map student_key (applicants_of w l.row.key)) } else l
 
@@ -58,19 +58,19 @@ with_projects w rows = record w { projects = put_all project_key rows w.projects
 abbrev pub with_students : World → List StudentRow → World
 with_students w rows = record w { students = put_all student_key (map new_student rows) w.students }
 
--- where the second round opens, what there equals becomes the first round's
+-- where the second round opens, what there is becomes the first round's
 abbrev pub ranked_before : Lecturer → Lecturer
 ranked_before l = record { row = l.row; ranking = None; earlier_ranking = l.ranking }
 
 abbrev pub placed_before : Student → Student
 placed_before s = record { row = s.row; choice = []; placed = None; earlier_choice = s.choice; earlier_placement = s.placed }
 
--- a published first round equals followed by the second, and any other world stays as it equals
+-- a published first round is followed by the second, and any other world stays as it is
 abbrev pub opened : Round → Phase → World → World
 opened First Published w = record w { round = Second; phase = Choosing; lecturers = map ranked_before w.lecturers; students = map placed_before w.students }
 opened _ _ w = w
 
--- the second round takes no new rows, and stays as it equals
+-- the second round takes no new rows, and stays as it is
 abbrev pub in_first : Round → World → World → World
 in_first First new old = new
 in_first Second new old = old

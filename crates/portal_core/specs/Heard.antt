@@ -25,11 +25,11 @@ is_move_or_add _ = false
 abbrev pub own_item : Key → Request → List HeardItem
 own_item c r = if equals r.code c then Asked r.head r.closes r.wish ∷ [] else []
 
--- the new view where it equals another
+-- the new view where it is another
 abbrev pub ChangeSeen : Sight → Sight → List HeardItem → Type 0
 ChangeSeen old new items = (new ≡ old) × (items ≡ []) ⊎ (new ≢ old) × (items ≡ Sees new ∷ [])
 
--- whether the request equals another's, or c's own Move or Add call
+-- whether the request is another's, or c's own Move or Add call
 abbrev pub may_show : Key → Request → Bool
 may_show c r = not (equals r.code c) || is_move_or_add r.wish
 
@@ -66,6 +66,6 @@ abbrev pub IsIdleWish : World → Key → Wish → Type 0
 IsIdleWish w code (Calls ask) = IsIdleAct (decision (view w code) ask).act
 IsIdleWish w code (Refused refusal) = Unit {0}
 
--- a showing call, a refusal, a move to the current phase, a roll that equals all there or a fill that fills nobody
+-- a showing call, a refusal, a move to the current phase, a roll that is all there or a fill that fills nobody
 abbrev pub IsIdle : World → Request → Type 0
 IsIdle w r = IsIdleWish w r.code r.wish

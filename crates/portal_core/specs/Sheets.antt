@@ -1,4 +1,4 @@
--- The two texts of the result that the office equals given.
+-- The two texts of the result that the office is given.
 use Rattle.std.specs.Prelude.{ℕ, ◌-◌, Bool, ◌||◌, ◌==◌, if◌then◌else◌, codes, decimal, List, [], ◌∷◌, ◌++◌, length, replicate, Option, Some, None}
 use Rattle.std.specs.List.{list_any, find, flat_map, join_by, count_by}
 use Rattle.portal_core.specs.declared.rows.ProjectRow.{ProjectRow}

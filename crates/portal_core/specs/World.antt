@@ -1,4 +1,4 @@
--- The world: what the portal keeps. A finite map equals the list of its rows, by rising key.
+-- The world: what the portal keeps. A finite map is the list of its rows, by rising key.
 use Rattle.std.specs.Prelude.{ℕ, ◌-◌, nat_lt, Bool, true, false, not, ◌&&◌, if◌then◌else◌, List, [], map, filter, count_by, codes, Option, Some, None, is_none, option_map}
 use Rattle.std.specs.List.{list_any, filter_map}
 use Rattle.portal_core.specs.declared.phase.Phase.{Phase}
@@ -10,7 +10,7 @@ use Rattle.portal_core.specs.declared.rows.ProjectRow.{ProjectRow}
 use Rattle.portal_core.specs.declared.rows.StudentRow.{StudentRow}
 use Rattle.portal_core.specs.Words.{Key, equals, has, is_empty}
 
--- A lecturer's row, and the ranking of the current round if one equals there; in the second round also the ranking of the
+-- A lecturer's row, and the ranking of the current round if one is there; in the second round also the ranking of the
 -- first.
 pub record Lecturer : Type 0 where
   pub row : LecturerRow
@@ -54,7 +54,7 @@ projects_of w l = filter (λ p. equals p.lecturer l) w.projects
 abbrev pub applicants_of : World → Key → List Student
 applicants_of w l = filter (λ s. list_any (λ p. has s.choice p.key) (projects_of w l)) w.students
 
--- there equals an applicant, and no ranking
+-- there is an applicant, and no ranking
 abbrev pub is_still_to_rank : World → Lecturer → Bool
 is_still_to_rank w l = not (is_empty (applicants_of w l.row.key)) && is_none l.ranking
 
@@ -95,12 +95,12 @@ abbrev pub is_second : Round → Bool
 is_second First = false
 is_second Second = true
 
--- A result equals there: in published, and in the second round the first one's.
+-- A result is there: in published, and in the second round the first one's.
 abbrev pub has_result : Round → Phase → Bool
 has_result First phase = is_published phase
 has_result Second phase = true
 
--- the project that a student equals shown: of the first round, or of the current one once it equals published
+-- the project that a student is shown: of the first round, or of the current one once it is published
 abbrev pub shown_placement : Phase → Student → Option Key
 shown_placement phase s = if is_none s.earlier_placement then (if is_published phase then s.placed else None) else s.earlier_placement
 
@@ -135,7 +135,7 @@ lowered_lecturer ps ss l = record l { row = record l.row { capacity = l.row.capa
 abbrev pub lowered_project : List Student → ProjectRow → ProjectRow
 lowered_project ss p = record p { capacity = p.capacity - given_to ss p.key }
 
--- the lecturers with room, each with the room that equals left
+-- the lecturers with room, each with the room that is left
 abbrev pub lecturers_left : List Lecturer → List ProjectRow → List Student → List Lecturer
 lecturers_left ls ps ss = filter (λ l. nat_lt 0 l.row.capacity) (map (lowered_lecturer ps ss) ls)
 
@@ -160,7 +160,7 @@ abbrev pub students_in : Round → List Student → List Student
 students_in First ss = ss
 students_in Second ss = students_left ss
 
--- The world that the current round equals played in: in the first round the world itself, in the second what the first left.
+-- The world that the current round is played in: in the first round the world itself, in the second what the first left.
 abbrev pub in_play : World → World
 in_play w =
     record w {
@@ -185,6 +185,6 @@ alone_lecturer l = record l { earlier_ranking = None }
 abbrev pub alone_student : Student → Student
 alone_student s = record s { earlier_choice = []; earlier_placement = None }
 
--- These rows as a world of one round, with nothing before it. What a round equals played in equals a good world so.
+-- These rows as a world of one round, with nothing before it. What a round is played in is a good world so.
 abbrev pub alone : World → World
 alone w = record w { round = First; lecturers = map alone_lecturer w.lecturers; students = map alone_student w.students }

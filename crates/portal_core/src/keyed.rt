@@ -2,9 +2,9 @@
 
 ghost use Rattle.std.specs.Prelude.{◌≡◌, IfOk};
 ghost use Rattle.std.specs.HashMap.{get};
-ghost use Rattle.spa_rows.specs.Index.{text_eq};
+ghost use Rattle.spa_rows.specs.inner.Index.{text_eq};
 ghost use Rattle.portal_core.specs.Words as words;
-ghost use Rattle.portal_core.specs.Tables.{HasRows};
+ghost use Rattle.portal_core.specs.inner.Tables.{HasRows};
 
 use crate::rows::ProjectRow;
 use spa_rows::Key;

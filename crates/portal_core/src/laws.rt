@@ -28,7 +28,7 @@ ghost use Rattle.portal_core.specs.declared.phase.Phase.TheVariants.{Choosing, P
 ghost use Rattle.portal_core.specs.declared.phase.Round.TheVariants.{First, Second};
 ghost use Rattle.portal_core.specs.Places.{SameButPlaces, SameRequest, AlikeUntilPublished};
 ghost use Rattle.std.specs.List.{AllZip, AllByRecursion};
-ghost use Rattle.portal_core.specs.Worked.{worked, again, again_ranking, again_published, TellsWho, TellsApplicants, TellsLists, TellsMoves, TellsResult, TellsSheets, TellsFill, TellsOpening, TellsSecond};
+ghost use Rattle.portal_core.specs.examples.Worked.{worked, again, again_ranking, again_published, TellsWho, TellsApplicants, TellsLists, TellsMoves, TellsResult, TellsSheets, TellsFill, TellsOpening, TellsSecond};
 ghost use Rattle.portal_core.specs.declared.phase.Phase as phases;
 
 /// Two runs in which a caller starts with the same view and hears the same give the caller the same

@@ -20,7 +20,7 @@ pub struct Pairs<'a> {
 impl<'a> Model for Pairs<'a> {
     ghost use Rattle.std.specs.Prelude.{List};
     ghost use Rattle.portal_core.specs.Words.{Key};
-    ghost use Rattle.portal_core.specs.Tables.{HasRows};
+    ghost use Rattle.portal_core.specs.inner.Tables.{HasRows};
 
     ghost Value = { List (Key × Key) };
 

@@ -23,7 +23,7 @@ pub struct Placings<'a> {
 
 impl<'a> Model for Placings<'a> {
     ghost use Rattle.portal_core.specs.Sight.{OfficeSees};
-    ghost use Rattle.portal_core.specs.Tables.{HasPlacings};
+    ghost use Rattle.portal_core.specs.inner.Tables.{HasPlacings};
 
     ghost Value = { OfficeSees };
 

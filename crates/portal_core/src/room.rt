@@ -3,8 +3,8 @@
 ghost use Rattle.std.specs.Prelude.{◌≡◌, IfOk, map};
 ghost use Rattle.std.specs.List.{list_any};
 ghost use Rattle.portal_core.specs.Words.{equals};
-ghost use Rattle.portal_core.specs.Room as meant;
-ghost use Rattle.portal_core.specs.Room.{own_keys, pairs_to, pairs_among, room_of};
+ghost use Rattle.portal_core.specs.inner.Room as meant;
+ghost use Rattle.portal_core.specs.inner.Room.{own_keys, pairs_to, pairs_among, room_of};
 
 use crate::rows::{LecturerRow, ProjectRow};
 use spa_rows::Key;

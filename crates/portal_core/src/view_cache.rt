@@ -6,7 +6,7 @@ ghost use Rattle.portal_core.specs.World.{World};
 ghost use Rattle.portal_core.specs.Change.{Choices, Ranks, Fill, changed};
 ghost use Rattle.portal_core.specs.Meaning.{change_model};
 ghost use Rattle.portal_core.specs.View.{office_sees};
-ghost use Rattle.portal_core.specs.ViewCache.{IsCacheOf};
+ghost use Rattle.portal_core.specs.inner.ViewCache.{IsCacheOf};
 
 use crate::decision::Change;
 use crate::phase::Phase;

@@ -10,7 +10,7 @@ use Rattle.portal_desk.specs.declared.reading.FrameFault.TheVariants as fault
 use Rattle.portal_frame.specs.declared.types.Frame.{Frame}
 use Rattle.portal_frame.specs.declared.types.Frame.TheVariants as frame
 use Rattle.portal_frame.specs.Stream.{Framed, IsWithinLimits, Opens, whole, fault, over, seen, refused, Asked, item_of, after_lines, asked_of, is_head, fields_of, body_length, bad_length}
-use Rattle.portal_desk.specs.Reading.{ReadsMore, KeepsStream, Heads, Follows, IsWithin, NoneWhole, HoldsNone}
+use Rattle.portal_desk.specs.inner.Reading.{ReadsMore, KeepsStream, Heads, Follows, IsWithin, NoneWhole, HoldsNone}
 
 heads : (stream after rest : List ℕ) (ended : Bool) (f : Frame) → after ++ rest ≡ stream → (IsTrue ended → rest ≡ [])
     → Framed after ended f → f ≢ frame.Need → Heads stream after rest f

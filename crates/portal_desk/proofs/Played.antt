@@ -14,7 +14,7 @@ use Rattle.portal_core.proofs.Kept.{to_published}
 use Rattle.portal_core.proofs.Play.{can_apply, can_publish}
 use Rattle.portal_core.proofs.Published.{pairs_place}
 use Rattle.portal_core.proofs.Steps.{step_good}
-use Rattle.portal_desk.specs.Play.{CanDo, IsSolved}
+use Rattle.portal_desk.specs.inner.Play.{CanDo, IsSolved}
 
 -- the solved pairs place the students as the best matching does
 pub solved_best : (w : World) (i : Spa) (pairs : List (Key × Key)) → Good w → i ≡ instance w → IsSolved i pairs → IsBest (instance w) (matching_of (changed w (Placements pairs)))

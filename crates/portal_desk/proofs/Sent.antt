@@ -7,7 +7,7 @@ use Rattle.portal_core.specs.Run.{unavailable}
 use Rattle.portal_desk.specs.declared.served.Cause.{Cause}
 use Rattle.portal_desk.specs.declared.served.Cause.TheVariants as cause
 use Rattle.portal_wire.specs.Text.{reply_text}
-use Rattle.portal_desk.specs.Serving.{Partly, Broke}
+use Rattle.portal_desk.specs.inner.Serving.{Partly, Broke}
 
 pub broke : (why : Cause) (failed : Bool) (reply : Answer) (head closes : Bool) (before after : Option (List ℕ))
     → Partly why before after (reply_text reply head (closes || failed)) → Broke why failed reply head closes before after

@@ -16,7 +16,7 @@ use Rattle.portal_core.specs.AbstractCall.{AbstractCall}
 use Rattle.portal_core.specs.Faults.{ListFault, choice_fault, ranking_fault}
 use Rattle.portal_core.specs.Rolls.{Taken, Faulty, Took, take_rows, lecturer_roll, project_roll, student_roll}
 use Rattle.portal_core.specs.Answer.{Answer, Said, Json, Unavailable, Nothing, Apply, Decision, decision, emptied, open_where, unless_faulty, added, row_fault, already_placed, moves_on, opens, moves_in, moves, publishes, is_open_to_rolls, to_student, to_lecturer, to_office}
-use Rattle.portal_desk.specs.Play.{with_sheet}
+use Rattle.portal_desk.specs.inner.Play.{with_sheet}
 
 -- another body than that of 503
 abbrev pub IsSaid : Said → Type 0

@@ -4,7 +4,7 @@ use Rattle.std.specs.Prelude.{Option, Some, None}
 use Rattle.std.proofs.lemmas.List.{length-append, length-drop}
 use Rattle.portal_frame.specs.declared.types.Frame.{Frame}
 use Rattle.portal_desk.specs.Devices.{TakesAtMost}
-use Rattle.portal_desk.specs.Reading.{Follows}
+use Rattle.portal_desk.specs.inner.Reading.{Follows}
 
 -- the lengths of what stays one stream
 one_stream : (before after more rest : List ℕ) → after ++ rest ≡ before ++ more → length after + length rest ≡ length before + length more

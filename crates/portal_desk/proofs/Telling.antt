@@ -17,11 +17,12 @@ use Rattle.portal_desk.specs.declared.served.Cause.{Cause}
 use Rattle.portal_desk.specs.declared.served.Cause.TheVariants as cause
 use Rattle.portal_wire.specs.Text.{reply_text}
 use Rattle.portal_wire.specs.Refusals.{answer_to}
-use Rattle.portal_desk.specs.Reading.{Heads, Follows}
+use Rattle.portal_desk.specs.inner.Reading.{Heads, Follows}
 use Rattle.portal_wire.specs.Conversation as talk
 use Rattle.portal_wire.specs.Conversation.{request_of, closes_at, last_for, more, shut, Leads, Exchange, asked_in, text, exchange_text}
 use Rattle.portal_wire.proofs.Exist.{shut_ends}
-use Rattle.portal_desk.specs.Serving.{Deals, ServesWhole, ServesPart, Stops, Partly, Replied, Broke}
+use Rattle.portal_desk.specs.Serving.{Deals, ServesWhole, Stops}
+use Rattle.portal_desk.specs.inner.Serving.{ServesPart, Partly, Replied, Broke}
 use Rattle.portal_desk.specs.Kept.{Kept}
 use Rattle.portal_desk.proofs.Known.{Appends-append}
 use Rattle.portal_desk.proofs.Steps.{text-snoc, Reaches-snoc, after_one, Leads-snoc}

@@ -3,5 +3,5 @@ pub mod Devices
 pub mod Play
 pub mod Outcome
 pub mod Serving
-pub mod Reading
 pub mod Visits
+pub mod inner

@@ -2,8 +2,7 @@
 use Rattle.std.specs.Prelude.{◌≡◌, ◌⊎◌, ℕ, ◌≤◌, Bool, true, ◌||◌, List, [], ◌∷◌, ◌++◌, length, take, Option, Some}
 use Rattle.std.specs.Io.KnownBytes.{Appends}
 use Rattle.portal_core.specs.World.{World}
-use Rattle.portal_core.specs.Answer.{Answer}
-use Rattle.portal_core.specs.Run.{Request, Serves, unavailable}
+use Rattle.portal_core.specs.Run.{unavailable}
 use Rattle.portal_frame.specs.Stream.{Asked, Opens, whole}
 use Rattle.portal_desk.specs.Devices.{FailsAfter}
 use Rattle.portal_desk.specs.declared.served.Cause.{Cause}
@@ -22,11 +21,6 @@ abbrev pub ServesWhole : Type 0 → World → World → Option (List ℕ) → Op
 ServesWhole clean old new before after bytes count end =
     (es : List Exchange) × (rest : Rest) × (closing : List ℕ) × Deals clean old new bytes count es rest
     × Ends rest end closing × Appends before after (text es ++ closing)
-
--- so far, with the bytes that are left
-abbrev pub ServesPart : Type 0 → World → World → Option (List ℕ) → Option (List ℕ) → List ℕ → List ℕ → ℕ → Type 0
-ServesPart clean old new before after bytes left count =
-    (es : List Exchange) × Deals clean old new bytes count es (more left) × Appends before after (text es)
 
 -- the replies of all but the last, and of the last a first part; after a fault of the store the last closes
 abbrev pub CutsLast : Bool → List Exchange → Option (List ℕ) → Option (List ℕ) → Type 0
@@ -68,25 +62,6 @@ abbrev pub Blames : Cause → ℕ → ℕ → ℕ → ℕ → Type 0
 Blames cause.Read source_old source_new sink_old sink_new = FailsAfter source_old source_new
 Blames cause.Write source_old source_new sink_old sink_new = FailsAfter sink_old sink_new
 Blames _ source_old source_new sink_old sink_new = Unit {0}
-
--- a first part of a text that could not be written whole
-abbrev pub Partly : Cause → Option (List ℕ) → Option (List ℕ) → List ℕ → Type 0
-Partly cause.Write before after text = (k : ℕ) × Appends before after (take k text)
-Partly cause.Memory before after text = Appends before after []
-Partly _ before after text = ⊥
-
--- some reply, as the step of the run, with a fact
-abbrev pub Replied : Type 0 → World → World → Request → (Answer → Type 0) → Type 0
-Replied clean old new r P = (reply : Answer) × (clean → Serves old r reply new) × P reply
-
--- what one answer that failed wrote
-abbrev pub Broke : Cause → Bool → Answer → Bool → Bool → Option (List ℕ) → Option (List ℕ) → Type 0
-Broke cause.Read failed reply head closes before after = ⊥
-Broke cause.Write failed reply head closes before after =
-    (k : ℕ) × Appends before after (take k (reply_text reply head (closes || failed)))
-Broke cause.Memory failed reply head closes before after = Appends before after []
-Broke cause.Store failed reply head closes before after =
-    (failed ≡ true) × (reply ≡ unavailable) × Appends before after (reply_text unavailable head true)
 
 -- how many requests were taken on a desk that had failed before: the first ends the call
 abbrev pub AtFirst : Cause → ℕ → Type 0

@@ -16,7 +16,7 @@ pub record Visit : Type 0 where
   pub exchanges : List Exchange
   pub worlds : List World
 
--- it equals what a desk does for the stream in this world
+-- it is what a desk does for the stream in this world
 pub record IsVisit (w : World) (v : Visit) : Type 0 where
   pub closing : List ℕ
   pub requests : Requests v.bytes (asked_in v.exchanges) v.ending closing
@@ -36,7 +36,7 @@ abbrev pub worlds_of : List Visit → List World
 worlds_of [] = []
 worlds_of (v ∷ vs) = v.worlds ++ worlds_of vs
 
--- no reply equals 503
+-- no reply is 503
 abbrev pub AreAnswered : List Visit → Type 0
 AreAnswered vs = AllAnswered (told_in (exchanges_of vs))
 
@@ -76,7 +76,7 @@ AreServed clean world k (s ∷ ss) =
     × ServesWhole (clean s.new) (world s.old) (world s.new) (Some s.before) (Some s.after) s.bytes s.count s.ending
     × AreServed clean world s.new ss
 
--- the visit equals what the call of `serve` did
+-- the visit is what the call of `serve` did
 pub record TellsOf {K : Type 0} (s : Session K) (v : Visit) : Type 0 where
   pub bytes : v.bytes ≡ s.bytes
   pub ending : v.ending ≡ s.ending

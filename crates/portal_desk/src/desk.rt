@@ -11,7 +11,8 @@ ghost use Rattle.portal_wire.specs.Text.{reply_text};
 ghost use Rattle.portal_core.specs.Answer.{HasWholeNumbers};
 ghost use Rattle.portal_desk.specs.Devices.{FailsAfter, TakesAtMost};
 ghost use Rattle.portal_desk.specs.Outcome.{is_store, TurnsAway, FailsByCount};
-ghost use Rattle.portal_desk.specs.Serving.{ServesWhole, Stops, Blames, Broke, Replied, AtFirst};
+ghost use Rattle.portal_desk.specs.Serving.{ServesWhole, Stops, Blames, AtFirst};
+ghost use Rattle.portal_desk.specs.inner.Serving.{Broke, Replied};
 ghost use Rattle.portal_desk.specs.declared.served.Cause.TheVariants.{Read as ReadFailed, Write as WriteFailed, Store as StoreFailed};
 
 use crate::devices::{Sink, Source};

@@ -11,7 +11,8 @@ ghost use Rattle.portal_core.specs.Meaning.{call_model, decision_model, act_mode
 ghost use Rattle.portal_core.specs.Run.{HasForm, StepLeaves, Step};
 ghost use Rattle.portal_core.specs.View as seen;
 ghost use Rattle.portal_core.specs.Answer.{HasWholeNumbers};
-ghost use Rattle.portal_desk.specs.Play.{CanDo, IsSolved, IsTold, sheet_text, with_sheet};
+ghost use Rattle.portal_desk.specs.Play.{IsTold};
+ghost use Rattle.portal_desk.specs.inner.Play.{CanDo, IsSolved, sheet_text, with_sheet};
 
 use portal_core::{
     Act, Body, Call, Change, Decision, KeepFault, Keeper, OfficeView, Reply, Sheet, View, decide,

@@ -8,7 +8,7 @@ ghost use Rattle.portal_wire.specs.Refusals.{answer_to};
 ghost use Rattle.portal_wire.specs.Text.{reply_text};
 ghost use Rattle.portal_core.specs.Answer.{HasWholeNumbers};
 ghost use Rattle.portal_desk.specs.Devices.{FailsAfter};
-ghost use Rattle.portal_desk.specs.Serving.{Partly};
+ghost use Rattle.portal_desk.specs.inner.Serving.{Partly};
 ghost use Rattle.portal_desk.specs.declared.served.Cause.TheVariants.{Write as WriteFailed};
 
 use crate::devices::{Sink, write_whole};

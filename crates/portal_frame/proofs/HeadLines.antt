@@ -3,7 +3,7 @@ use Rattle.std.proofs.Common.{◌≡◌, ℕ, ◌+◌, true, false, inl, inr, Li
 use Rattle.std.specs.Prelude.{◌==◌}
 use Rattle.std.proofs.lemmas.Bool.{cases_Bool}
 use Rattle.portal_frame.specs.declared.counting.At.TheVariants.{Leading, LeadingCr, Fresh, FreshCr, Inside}
-use Rattle.portal_frame.specs.Counting.{lines_from}
+use Rattle.portal_frame.specs.inner.Counting.{lines_from}
 use Rattle.portal_frame.specs.Lines.{is_empty_line, lines_after, without_leading, before_empty, header_lines}
 
 -- a line that is not empty stays so

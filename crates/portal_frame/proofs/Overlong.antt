@@ -10,7 +10,7 @@ use Rattle.portal_frame.specs.Stream.{Opens, fault, bad_head}
 use Rattle.portal_frame.proofs.Heads.{opens_never}
 use Rattle.portal_frame.specs.declared.counting.At.{At}
 use Rattle.portal_frame.specs.declared.counting.At.TheVariants.{Leading, Fresh, Inside}
-use Rattle.portal_frame.specs.Counting.{step, stops, counts, lines_from}
+use Rattle.portal_frame.specs.inner.Counting.{step, stops, counts, lines_from}
 use Rattle.portal_frame.specs.Lines.{header_lines, is_overlong}
 use Rattle.portal_frame.proofs.HeadLines.{counted_is}
 

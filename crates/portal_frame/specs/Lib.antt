@@ -1,5 +1,5 @@
 pub mod Heads
 pub mod Connection
-pub mod Counting
 pub mod Lines
 pub mod Stream
+pub mod inner

@@ -16,7 +16,7 @@ use Rattle.portal_core.specs.Good.{Sound}
 use Rattle.portal_core.specs.declared.phase.Round.TheVariants.{First}
 use Rattle.portal_core.proofs.Capacities.{first_plays}
 use Rattle.portal_list.specs.Entries.{AllEntries, HasEntries, entries_in}
-use Rattle.portal_list.specs.Lines.{instance_lecturer, instance_project, instance_student, instance_rows}
+use Rattle.portal_list.specs.inner.Lines.{instance_lecturer, instance_project, instance_student, instance_rows}
 use Rattle.portal_list.proofs.Rising.{map_map, pairs_rise}
 use Rattle.portal_list.proofs.Standing.{spa_of_rows, only_instance}
 use Rattle.portal_list.proofs.Faultless.{faultless}

@@ -1,4 +1,4 @@
--- The lines of a sound world in which nobody equals still to rank have no fault.
+-- The lines of a sound world in which nobody is still to rank have no fault.
 use Rattle.std.proofs.Common.{◌≡◌, inl, inr, ℕ, ◌<◌, ◌≤◌, Bool, true, false, List, [], ◌∷◌, map, length, get_or, Any, refl, sym, ◌∙◌, subst, arith}
 use Rattle.std.specs.Prelude.{Option, Some, None, is_none, unwrap_or, IfSome, not, ◌&&◌}
 use Rattle.std.specs.List.{list_any, AllByRecursion}
@@ -22,7 +22,7 @@ use Rattle.portal_core.proofs.Keys.{is_same, is_own}
 use Rattle.portal_core.proofs.AllLaws as laws
 use Rattle.portal_core.proofs.Capacities.{first_plays}
 use Rattle.portal_list.specs.Entries.{entries_in}
-use Rattle.portal_list.specs.Lines.{instance_lecturer, instance_project, instance_student, instance_rows}
+use Rattle.portal_list.specs.inner.Lines.{instance_lecturer, instance_project, instance_student, instance_rows}
 use Rattle.portal_list.proofs.Rising.{map_map}
 use Rattle.portal_list.proofs.Members.{there, has_it, has_all, key_there, repeats_not, earlier_not, none_of}
 
@@ -135,7 +135,7 @@ module _ (w : World) where
     faultless ApplicantMissing low q bad = none_of (λ l. Ranks l.row.key l.ranking × (is_still_to_rank w l ≡ false)) instance_lecturer (λ x. x.row) (λ _ x. MissesOne rows x) w.lecturers ranked (λ j e l at is_ranked h. no_missing e.row.key e.ranking is_ranked.0 is_ranked.1 h) q bad
     faultless Memory low q bad = bad
 
--- what equals refused of rows without a fault equals memory
+-- what is refused of rows without a fault is memory
 pub only_memory : (rows : Rows) (fault : InstanceFault) (r : ℕ) → HasNoneBefore rows Memory → (fault ≡ Memory → ⊥) → IsRefusal rows fault r → ⊥
 only_memory rows TooMany r none other first = none TooMany (omega arith) r first.here
 only_memory rows BadKey r none other first = none BadKey (omega arith) r first.here

@@ -5,7 +5,7 @@ use Rattle.portal_core.specs.Words.{is_empty}
 use Rattle.portal_core.specs.World.{World, Lecturer, student_key, applicants_of}
 use Rattle.portal_core.specs.Change.{with_fill}
 use Rattle.portal_core.proofs.Kept.{empty_map}
-use Rattle.portal_list.specs.Fill.{unless_empty, with_missing, filled}
+use Rattle.portal_list.specs.inner.Fill.{unless_empty, with_missing, filled}
 use Rattle.portal_list.proofs.Parted.{applicants_are}
 
 module _ (w : World) where

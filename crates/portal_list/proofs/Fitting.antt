@@ -10,8 +10,8 @@ use Rattle.portal_core.specs.declared.phase.Round.TheVariants.{First, Second}
 use Rattle.portal_core.specs.World.{Lecturer, Student, is_second, pairs_with}
 use Rattle.portal_core.proofs.Keys.{is_same, is_own, not_before_itself}
 use Rattle.portal_list.specs.Rows.{choices_in, earlier_choices_in, rankings_with}
-use Rattle.portal_list.specs.Parts.{HasNothingEarlier}
-use Rattle.portal_list.specs.Fit.{next_for, rest_for, earlier_for, earlier_rest, lecturers_fitting, students_fitting, with_lists}
+use Rattle.portal_list.specs.inner.Parts.{HasNothingEarlier}
+use Rattle.portal_list.specs.inner.Fit.{next_for, rest_for, earlier_for, earlier_rest, lecturers_fitting, students_fitting, with_lists}
 
 pub next_map : {V W : Type 0} (f : V → W) (k : Key) (ps : List (Key × V)) → option_map f (next_for k ps) ≡ next_for k (map {B = Key × W} (λ (p : Key × V). (p.0, f p.1)) ps)
 next_map f k [] = refl
@@ -21,7 +21,7 @@ pub rest_map : {V W : Type 0} (f : V → W) (k : Key) (ps : List (Key × V)) →
 rest_map f k [] = refl
 rest_map {V} {W} f k (p ∷ ps) = elim (equals p.0 k) as (λ b. map {B = Key × W} (λ (q : Key × V). (q.0, f q.1)) (cond b ps (p ∷ ps)) ≡ cond b (map {B = Key × W} (λ (q : Key × V). (q.0, f q.1)) ps) ((p.0, f p.1) ∷ map {B = Key × W} (λ (q : Key × V). (q.0, f q.1)) ps)) [ true ↦ refl | false ↦ refl ]
 
--- one more in front of what equals still to come, or behind what equals there
+-- one more in front of what is still to come, or behind what is there
 pub moved : {X : Type 0} (es : List X) (e : X) (o : Option (List X)) → option_map (λ xs. (es ++ e ∷ []) ++ xs) o ≡ option_map (λ xs. es ++ xs) (option_map (λ xs. e ∷ xs) o)
 moved es e None = refl
 moved es e (Some xs) = ap Some (moved_list es)
@@ -30,12 +30,12 @@ moved es e (Some xs) = ap Some (moved_list es)
     moved_list [] = refl
     moved_list (d ∷ ds) = ap (λ ys. d ∷ ys) (moved_list ds)
 
--- what equals there of some rows, each under its key
+-- what is there of some rows, each under its key
 module _ {X V : Type 0} (key : X → Key) (opt : X → Option V) where
   abbrev there : List X → List (Key × V)
   there xs = filter_map (λ x. option_map (λ v. (key x, v)) (opt x)) xs
 
-  -- nothing equals there for a key before all of these
+  -- nothing is there for a key before all of these
   nothing : (k : Key) (xs : List X) → AllByRecursion (λ l. is_before k l ≡ true) (map key xs) → (next_for k (there xs) ≡ None) × (rest_for k (there xs) ≡ there xs)
   nothing k [] all = (refl, refl)
   nothing k (x ∷ xs) all = at (opt x) (nothing k xs all.1)
@@ -57,7 +57,7 @@ module _ {X V : Type 0} (key : X → Key) (opt : X → Option V) where
       at None = nothing (key x) xs all
       at (Some v) = rw (is_own (key x)) (refl, refl)
 
--- what equals taken and what equals left equals what was there
+-- what is taken and what is left is what was there
 pub put_back : {V : Type 0} (k : Key) (ps : List (Key × V)) → cons_option (option_map (λ v. (k, v)) (next_for k ps)) (rest_for k ps) ≡ ps
 put_back k [] = refl
 put_back {V} k (p ∷ ps) = at (equals p.0 k) refl
@@ -106,7 +106,7 @@ lecturers_rows (r ∷ rs) ps qs ls e = at (lecturers_fitting rs (rest_for r.key 
           ap (rankings_with (λ l. l.earlier_ranking)) (sym is_ls) ∙ ap (cons_option (option_map (λ v. (r.key, v)) (next_for r.key qs))) rest.2 ∙ put_back r.key qs,
         )
 
--- one more lecturer equals put together
+-- one more lecturer is put together
 pub lecturers_step : (es more : List Lecturer) (row : LecturerRow) (items others : List LecturerRow) (ps ps' qs qs' : List (Key × List Key)) (ranking earlier : Option (List Key)) (all : Option (List Lecturer))
     → option_map (λ ls. es ++ ls) (lecturers_fitting items ps qs) ≡ all → items ≡ row ∷ others → ps' ≡ rest_for row.key ps → qs' ≡ rest_for row.key qs
     → ranking ≡ next_for row.key ps → earlier ≡ next_for row.key qs → more ≡ es ++ record { row = row; ranking = ranking; earlier_ranking = earlier } ∷ []

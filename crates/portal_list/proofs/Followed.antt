@@ -7,8 +7,8 @@ use Rattle.portal_core.specs.Words.{Key}
 use Rattle.portal_core.proofs.Acts.{catalogue_chosen, catalogue_ranked}
 use Rattle.portal_core.proofs.Fills.{catalogue_filled}
 use Rattle.portal_list.specs.Entries.{AllEntries, HasEntries, entries_in, is_followed}
-use Rattle.portal_list.specs.Fill.{filled}
-use Rattle.portal_list.specs.Shown.{catalogue_in}
+use Rattle.portal_list.specs.inner.Fill.{filled}
+use Rattle.portal_list.specs.inner.Shown.{catalogue_in}
 use Rattle.portal_list.proofs.Filled.{all_filled}
 
 module _ (before : AllEntries) (w : World) (there : entries_in w ≡ before) (change : Change) where

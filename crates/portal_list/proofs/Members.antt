@@ -24,7 +24,7 @@ has_it ks k (j, x, low, at, same) = list_any-from_Any (equals k) ks (j, x, low, 
 pub has_all : (P : Key → Type 0) (ks : List Key) (k : Key) → AllByRecursion P ks → has ks k ≡ true → P k
 has_all P ks k all h = let found = there ks k h in subst P (found.3 ∙ found.4) (all_at P ks found.0 found.1 all found.2)
 
--- a known key equals a line's key
+-- a known key is a line's key
 pub key_there : {X L : Type 0} (f : X → L) (key : L → Key) (xs : List X) (k : Key) → has (map (λ x. key (f x)) xs) k ≡ true → IsKeyOf (map f xs) key k
 key_there f key xs k h =
     let found = any_unmap (λ y. y ≡ k) (λ x. key (f x)) xs (there (map (λ x. key (f x)) xs) k h) in
@@ -51,7 +51,7 @@ earlier_not key lines j x rise low at (i, y, less, is_y, same) =
     let below : slice_cmp nat_cmp (get_or (map key lines) i []) (get_or (map key lines) j []) ≡ Less = pairs_rise (map key lines) rise i j [] before (omega (arith, length-map lines key)) in
     never_itself (key x) (rw (map_at key lines i y [] (omega arith) y_at, map_at key lines j x [] low at, same) at below)
 
--- no line made of these equals bad
+-- no line made of these is bad
 pub none_of : {E L : Type 0} (P : E → Type 0) (f : E → L) (row : L → ℕ) (Bad : ℕ → L → Type 0) (es : List E) → AllByRecursion P es
     → ((j : ℕ) (e : E) → j < length es → get_or es j e ≡ e → P e → Bad j (f e) → ⊥)
     → (r : ℕ) → BadAt (map f es) row Bad r → ⊥

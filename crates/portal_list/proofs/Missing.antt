@@ -3,9 +3,9 @@ use Rattle.std.proofs.Common.{◌≡◌, List, map, ap, ◌∙◌}
 use Rattle.std.specs.Prelude.{filter}
 use Rattle.portal_core.specs.Words.{Key}
 use Rattle.portal_core.specs.World.{World, Lecturer, is_still_to_rank, applicants_of, student_key}
-use Rattle.portal_list.specs.Shown.{is_waiting}
-use Rattle.portal_list.specs.Parts.{applicant_keys}
-use Rattle.portal_list.specs.Fill.{fill_missing}
+use Rattle.portal_list.specs.inner.Shown.{is_waiting}
+use Rattle.portal_list.specs.inner.Parts.{applicant_keys}
+use Rattle.portal_list.specs.inner.Fill.{fill_missing}
 use Rattle.portal_list.proofs.Rising.{map_map}
 use Rattle.portal_list.proofs.Parted.{applicants_are}
 use Rattle.portal_list.proofs.Waiting.{waiting_lecturers}

@@ -9,12 +9,12 @@ use Rattle.std.proofs.lemmas.Bool.{cases_eq, eq-eqb, ne_eqb}
 use Rattle.std.proofs.Math.Bool.{or-true, or-false, or_assoc, and-true, and-false}
 use Rattle.std.proofs.lemmas.List.{length-take, get_or-set_same, get_or-set_other, map_push}
 use Rattle.std.proofs.lemmas.List.Folds.{list_any_more, list_any-append}
-use Rattle.spa_rows.specs.Index.{text_eq}
+use Rattle.spa_rows.specs.inner.Index.{text_eq}
 use Rattle.portal_core.specs.Words.{Key, equals, has}
 use Rattle.portal_core.specs.World.{Student}
 use Rattle.portal_core.proofs.AllLaws.{is_sym}
 use Rattle.portal_core.proofs.Keys.{is_same}
-use Rattle.portal_list.specs.ApplicantIndex.{passes_at, is_among, is_noted_in, is_noted, IsIndexOf}
+use Rattle.portal_list.specs.inner.ApplicantIndex.{passes_at, is_among, is_noted_in, is_noted, IsIndexOf}
 use Rattle.portal_list.proofs.Steps.{grown}
 
 among_push : (ns : List ℕ) (n i : ℕ) → is_among (ns ++ n ∷ []) i ≡ (is_among ns i || (n == i))
@@ -110,7 +110,7 @@ marked xs k i low = elim (cases_eq i k) [
 pub unmarked : (xs : List Bool) (k i : ℕ) → length xs ≤ k → i < length xs → get_or xs i false ≡ (get_or xs i false || (k == i))
 unmarked xs k i far low = sym (ap (λ b. get_or xs i false || b) (ne_eqb k i (λ e. absurd (omega (arith, e)))) ∙ or-false (get_or xs i false))
 
--- one more place of several: now equals what a mark makes of old
+-- one more place of several: now is what a mark makes of old
 pub marks_more : (places : List ℕ) (j k i : ℕ) (first old now : Bool) → old ≡ (first || is_among (take j places) i) → now ≡ (old || (k == i)) → j < length places → get_or places j k ≡ k
     → now ≡ (first || is_among (take (j + 1) places) i)
 marks_more places j k i first old now was is_now low at =

@@ -10,8 +10,8 @@ use Rattle.portal_core.specs.Instance.{lecturer_keys, student_keys}
 use Rattle.portal_core.proofs.Keys.{all_unmap}
 use Rattle.portal_core.proofs.AllLaws as laws
 use Rattle.portal_list.specs.Rows.{RowsOfWorld, world_rows, IsFitted}
-use Rattle.portal_list.specs.Fit.{lecturers_fitting, students_fitting}
-use Rattle.portal_list.specs.Parts.{codes_in, lecturer_row_keys, student_row_keys, applicant_keys, HasRanking, RollsFit, RollsOf, ListsOf}
+use Rattle.portal_list.specs.inner.Fit.{lecturers_fitting, students_fitting}
+use Rattle.portal_list.specs.inner.Parts.{codes_in, lecturer_row_keys, student_row_keys, applicant_keys, HasRanking, RollsFit, RollsOf, ListsOf}
 use Rattle.portal_list.proofs.Rising.{map_map}
 use Rattle.portal_list.proofs.Fitting.{lecturers_back, lecturers_rows, students_back, students_rows}
 

@@ -9,7 +9,7 @@ use Rattle.portal_core.proofs.Keys.{is_same, is_own}
 use Rattle.portal_core.proofs.AllLaws.{all_both, all_weaker, none_of}
 use Rattle.portal_core.proofs.Fills.{rise_distinct}
 
--- the keys without the first that equals k
+-- the keys without the first that is k
 without : Key → List Key → List Key
 without k [] = []
 without k (a ∷ as') = cond (equals k a) as' (a ∷ without k as')
@@ -40,7 +40,7 @@ fits (k ∷ ks) all once known =
     let left : AllByRecursion (λ x. has (without k all) x ≡ true) ks = all_weaker (λ x. (equals k x ≡ false) × (has all x ≡ true)) (λ x. has (without k all) x ≡ true) (λ x h. has_without k x all h.0 h.1) ks (all_both (λ x. equals k x ≡ false) (λ x. has all x ≡ true) ks (none_of ks k once.0) known.1) in
     omega (arith, fits ks (without k all) once.1 left, length_without k all known.0)
 
--- each key of a list equals on it
+-- each key of a list is on it
 own : (front ks : List Key) → AllByRecursion (λ k. has ks k ≡ true) ks
 own front [] = tt
 own front (k ∷ ks) = (rw (is_own k) refl, all_weaker (λ x. has ks x ≡ true) (λ x. has (k ∷ ks) x ≡ true) (λ x h. rw h (or-true (equals x k))) ks (own front ks))

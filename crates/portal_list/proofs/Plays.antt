@@ -14,7 +14,7 @@ use Rattle.portal_core.proofs.Fills.{rise_kept}
 use Rattle.portal_core.proofs.InPlay.{filter_kept}
 use Rattle.portal_core.proofs.Keys.{find_map}
 use Rattle.portal_core.proofs.Rooms.{project_left_is, lecturer_left_is, each_left}
-use Rattle.portal_list.specs.Played.{lecturer_played, project_played, takes_part}
+use Rattle.portal_list.specs.inner.Played.{lecturer_played, project_played, takes_part}
 use Rattle.portal_list.proofs.Rising.{map_map}
 
 mapped_case : {X Y : Type 0} (f : X → Y) (x : X) (b : Bool) → option_map f (cond b (Some x) None) ≡ cond b (Some (f x)) None

@@ -1,4 +1,4 @@
--- One row equals replaced where the keys rise.
+-- One row is replaced where the keys rise.
 use Rattle.std.proofs.Common.{◌≡◌, ℕ, suc, zero, ◌<◌, true, false, cond, List, [], ◌∷◌, length, get_or, refl, sym, ◌∙◌, ap, subst, arith}
 use Rattle.std.specs.Prelude.{map, slice_set, ◌||◌, Some}
 use Rattle.std.specs.List.{list_any, AllByRecursion}
@@ -11,7 +11,7 @@ use Rattle.portal_core.proofs.AllLaws.{all_at}
 -- a row without the key stays
 pub use Rattle.portal_core.proofs.Unseen.{choice_other as choice_elsewhere, ranking_other as ranking_elsewhere}
 
--- of two keys of which one comes before the other, only one equals the key k
+-- of two keys of which one comes before the other, only one is the key k
 not_both : (a b k : Key) → is_before a b ≡ true → equals a k ≡ true → equals b k ≡ true → ⊥
 not_both a b k low here there = not_before_itself k (subst (λ x. is_before k x ≡ true) (is_same b k there) (subst (λ x. is_before x b ≡ true) (is_same a k here) low))
 
@@ -29,7 +29,7 @@ module _ {X : Type 0} (key : X → Key) (k : Key) (f : X → X) (other : (x : X)
       ap (λ b. b || list_any (λ z. equals (key z) k) ys) (false_from_ne_true (equals (key y) k) (λ there. not_both (key x) (key y) k low.0 here there))
       ∙ none_later x ys here low.1
 
-  -- the row with the key equals written, and the others stay
+  -- the row with the key is written, and the others stay
   pub replaced : (xs : List X) (i : ℕ) (e d : X) → Rise (map key xs) → i < length xs → equals (key (get_or xs i d)) k ≡ true → e ≡ f (get_or xs i d) → slice_set xs i e ≡ map f xs
   replaced [] i e d rise low here new = absurd (omega arith)
   replaced (x ∷ xs) zero e d rise low here new =

@@ -11,7 +11,7 @@ use Rattle.portal_core.proofs.InRound.{all_filter}
 use Rattle.portal_core.proofs.Capacities.{left_of, second_plays}
 use Rattle.portal_core.proofs.Alone.{alone_sound, still_alone, rows_alone}
 use Rattle.portal_list.specs.Entries.{AllEntries, HasEntries}
-use Rattle.portal_list.specs.Played.{all_played}
+use Rattle.portal_list.specs.inner.Played.{all_played}
 
 module _ (a : AllEntries) (second : a.round ≡ Second) (e : AllEntries) (are : e ≡ all_played a) (w : World) (has : HasEntries a w) (sound : Sound w) where
   is_second : w.round ≡ Second

@@ -5,8 +5,8 @@ use Rattle.spa_model.specs.Spa.{Spa, IsStable}
 use Rattle.spa_model.specs.Pairs.{number_in}
 use Rattle.portal_core.specs.World.{World, Student, is_published}
 use Rattle.portal_core.specs.Instance.{instance, matching_of}
-use Rattle.portal_list.specs.Parts.{IsStableIfPublished}
-use Rattle.portal_list.specs.Played.{takes_part}
+use Rattle.portal_list.specs.inner.Parts.{IsStableIfPublished}
+use Rattle.portal_list.specs.inner.Played.{takes_part}
 use Rattle.portal_list.proofs.Plays.{part_is}
 
 pub settled_if : (w : World) (i : Spa) (places : List (Option ℕ)) (r : Bool) → is_published w.phase ≡ true → i ≡ instance w

@@ -5,7 +5,7 @@ use Rattle.spa_rows.specs.Lines.{Lecturer, Project, Student, Rows}
 use Rattle.spa_rows.proofs.Lists.{at_place, map_at}
 use Rattle.spa_model.specs.Spa.{Spa, Rise, IsLawful, choices_of, lecturer_of, capacity_of, ranking_of, limit_of}
 use Rattle.spa_model.specs.Built.{HasKey, keys_at, StandsFor, StandsStudent, StandsProject, StandsLecturer}
-use Rattle.spa_model.specs.Numbers.{student_keys, project_keys, lecturer_keys}
+use Rattle.spa_model.specs.inner.Numbers.{student_keys, project_keys, lecturer_keys}
 use Rattle.spa_model.specs.Pairs.{number_in}
 use Rattle.spa_model.proofs.Keys.{one_number}
 use Rattle.spa_model.proofs.Rising

@@ -4,8 +4,8 @@ ghost use Rattle.std.specs.Prelude.{◌≡◌, IfOk, List, map};
 ghost use Rattle.portal_core.specs.Words as words;
 ghost use Rattle.portal_core.specs.World.{World};
 ghost use Rattle.portal_list.specs.Entries.{HasEntries};
-ghost use Rattle.portal_list.specs.Parts.{applicant_keys};
-ghost use Rattle.portal_list.specs.Fill.{fill_missing};
+ghost use Rattle.portal_list.specs.inner.Parts.{applicant_keys};
+ghost use Rattle.portal_list.specs.inner.Fill.{fill_missing};
 
 use crate::changes::applicants_by_key;
 use crate::entries::{Entries, StudentEntry};

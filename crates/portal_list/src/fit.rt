@@ -1,7 +1,7 @@
 //! Rows put together to entries.
 
 ghost use Rattle.std.specs.Prelude.{◌≡◌, IfOk, map, option_map};
-ghost use Rattle.portal_list.specs.Fit.{next_for, rest_for, earlier_for, earlier_rest, lecturers_fitting, students_fitting};
+ghost use Rattle.portal_list.specs.inner.Fit.{next_for, rest_for, earlier_for, earlier_rest, lecturers_fitting, students_fitting};
 
 use crate::entries::{LecturerEntry, StudentEntry};
 use portal_core::{LecturerRow, Round, StudentRow};

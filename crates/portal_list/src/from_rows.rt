@@ -4,7 +4,7 @@ ghost use Rattle.std.specs.Prelude.{◌≡◌, ◌↔◌, Err, IfOk, IsTrue, Mat
 ghost use Rattle.portal_core.specs.World.{World};
 ghost use Rattle.portal_core.specs.Good.{Sound};
 ghost use Rattle.portal_list.specs.Entries.{HasEntries};
-ghost use Rattle.portal_list.specs.Parts.{RollsFit};
+ghost use Rattle.portal_list.specs.inner.Parts.{RollsFit};
 ghost use Rattle.portal_list.specs.Rows.{world_rows, IsFitted};
 ghost use Rattle.portal_list.specs.declared.from_rows.RowsFault.TheVariants.{Memory};
 

@@ -5,8 +5,8 @@ ghost use Rattle.spa_model.specs.Pairs.{number_in};
 ghost use Rattle.spa_model.specs.Spa.{IsStable};
 ghost use Rattle.portal_core.specs.Good.{Good, Sound, IsRound};
 ghost use Rattle.portal_core.specs.World.{first, first_published, first_placed, is_second};
-ghost use Rattle.portal_list.specs.Parts.{IsStableIfPublished, RollsOf};
-ghost use Rattle.portal_list.specs.Played.{takes_part};
+ghost use Rattle.portal_list.specs.inner.Parts.{IsStableIfPublished, RollsOf};
+ghost use Rattle.portal_list.specs.inner.Played.{takes_part};
 
 use crate::copies::{place_copy, project_rows_of, ranking_copy};
 use crate::entries::{Entries, LecturerEntry, StudentEntry};

@@ -39,7 +39,7 @@ impl Model for ListKeeper {
     ghost use Rattle.std.specs.Prelude.{◌≡◌, IfSome};
     ghost use Rattle.portal_core.specs.World.{World};
     ghost use Rattle.portal_list.specs.Entries.{world_with};
-    ghost use Rattle.portal_list.specs.Shown.{catalogue_in};
+    ghost use Rattle.portal_list.specs.inner.Shown.{catalogue_in};
 
     ghost Value = { World };
 

@@ -5,7 +5,7 @@ ghost use Rattle.std.specs.List.{AllByRecursion};
 ghost use Rattle.portal_core.specs.Words.{has, Rise};
 ghost use Rattle.portal_core.specs.World.{project_key, student_key, is_published};
 ghost use Rattle.portal_core.specs.Good.{IsChoice, IsRanking};
-ghost use Rattle.portal_list.specs.Parts.{PhaseFits, HasNothingEarlier, IsOutIfPlaced, RoundFits, HasChoices, applicant_keys, HasRanking, ListsFit};
+ghost use Rattle.portal_list.specs.inner.Parts.{PhaseFits, HasNothingEarlier, IsOutIfPlaced, RoundFits, HasChoices, applicant_keys, HasRanking, ListsFit};
 
 use crate::distinct::keys_are_distinct;
 use crate::entries::{Entries, LecturerEntry, StudentEntry};

@@ -4,8 +4,8 @@ ghost use Rattle.std.specs.Prelude.{◌≡◌, IfOk, map, filter, option_map};
 ghost use Rattle.std.specs.List.{list_any, filter_map};
 ghost use Rattle.portal_core.specs.Words.{equals};
 ghost use Rattle.portal_core.specs.World.{is_left, pairs_with, alone_student};
-ghost use Rattle.portal_list.specs.Played as meant;
-ghost use Rattle.portal_list.specs.Played.{lecturer_played, project_played, all_played};
+ghost use Rattle.portal_list.specs.inner.Played as meant;
+ghost use Rattle.portal_list.specs.inner.Played.{lecturer_played, project_played, all_played};
 
 use crate::copies::{place_copy, ranking_copy};
 use crate::entries::{Entries, LecturerEntry, StudentEntry};

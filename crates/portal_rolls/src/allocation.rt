@@ -2,7 +2,7 @@
 
 ghost use Rattle.std.specs.Prelude.{◌≡◌, ◌++◌, ℕ, List, map, IfOk, OnOk};
 ghost use Rattle.portal_core.specs.Sheets as sheet;
-ghost use Rattle.portal_rolls.specs.Written.{HasWritten};
+ghost use Rattle.portal_rolls.specs.inner.Written.{HasWritten};
 
 use csv::Writer;
 use portal_core::{OfficeView, Placings, StudentRow};

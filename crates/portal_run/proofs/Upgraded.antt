@@ -3,7 +3,8 @@ use Rattle.std.proofs.Common.{◌<◌, ℕ, Option, inl, inr, refl, arith, codes
 use Rattle.std.specs.Prelude.{Result, Ok, Err, IfOk, IfErr}
 use Rattle.portal_answer.specs.Told.{Text}
 use Rattle.portal_run.proofs.Known.{said_status}
-use Rattle.portal_run.specs.Lines.{Says, SaysUpgrade, refusal_line, status_of}
+use Rattle.portal_run.specs.Lines.{SaysUpgrade}
+use Rattle.portal_run.specs.inner.Lines.{Says, refusal_line, status_of}
 use Rattle.portal_run.specs.declared.refusal.Refusal.{Refusal}
 use Rattle.portal_run.specs.declared.refusal.Refusal.TheVariants.{NotPortal, OtherVersion, Damaged, Exists, Store, Memory}
 

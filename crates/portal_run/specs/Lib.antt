@@ -1,3 +1,4 @@
 pub mod Taken
 pub mod Run
 pub mod Lines
+pub mod inner

@@ -1,7 +1,7 @@
 //! Why a command did nothing with a database, and what is said then.
 
 ghost use Rattle.std.specs.Prelude.{◌≡◌, ◌↔◌, IfErr, IfOk};
-ghost use Rattle.portal_run.specs.Lines.{Says, refusal_line, status_of};
+ghost use Rattle.portal_run.specs.inner.Lines.{Says, refusal_line, status_of};
 
 use crate::output::{say, say_memory, say_store};
 use portal_store::{CreateFault, OpenFault, UpgradeFault};

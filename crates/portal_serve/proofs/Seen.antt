@@ -1,4 +1,4 @@
--- Who sees what an office sees equals the office.
+-- Who sees what an office sees is the office.
 use Rattle.std.proofs.Common.{◌≡◌, Bool, true, false, if◌then◌else◌, ℕ, List, Option, Some, None}
 use Rattle.portal_core.specs.World as rows
 use Rattle.portal_core.specs.World.{World}

@@ -1,4 +1,4 @@
--- Whether a lecturer equals on the roll, as a query tells; without the lecturer a ranking changes nothing.
+-- Whether a lecturer is on the roll, as a query tells; without the lecturer a ranking changes nothing.
 use Rattle.std.proofs.Common.{◌≡◌, ◌≢◌, ℕ, Bool, true, false, ◌||◌, cond, List, [], ◌∷◌, map, filter, length, refl, sym, ap, ◌∙◌}
 use Rattle.std.proofs.Math.Bool.{or-true}
 use Rattle.std.proofs.lemmas.List.{length-map}
@@ -12,12 +12,13 @@ use Rattle.portal_core.specs.World.{Lecturer, lecturer_key}
 use Rattle.portal_core.specs.Change.{Ranks, with_ranking}
 use Rattle.portal_core.proofs.Keys.{is_own}
 use Rattle.portal_tables.specs.Tables.{lecturer_tree}
-use Rattle.portal_tables.specs.Changes.{ListsBy, columns, has_text}
+use Rattle.portal_tables.specs.Changes.{has_text}
+use Rattle.portal_tables.specs.inner.Changes.{ListsBy, columns}
 use Rattle.portal_list.proofs.Replaced.{ranking_elsewhere}
 use Rattle.portal_tables.specs.Rolls.{row_key}
 use Rattle.portal_store.specs.World.{world_in, lecturer_stored}
-use Rattle.portal_store.specs.Kept.{IsTransitionIn}
-use Rattle.portal_store.specs.Putting.{TurnsThere}
+use Rattle.portal_store.specs.inner.Kept.{IsTransitionIn}
+use Rattle.portal_store.specs.inner.Putting.{TurnsThere}
 use Rattle.portal_tables.proofs.Sorted.{put_all_map, map_twice}
 use Rattle.portal_tables.proofs.Shapes.{IsLecturerRow, lecturer_rows_formed}
 use Rattle.portal_tables.proofs.Parents.{text_there}
@@ -32,7 +33,7 @@ as_many keys p show table shown h =
     let keyed : Row → Row × Row = λ r. (columns keys r, show r) in
     ap length h.is ∙ length-map h.keyed (λ k. k.1) ∙ length_permutation (map keyed (filter p table)) h.keyed h.same ∙ length-map (filter p table) keyed
 
--- some row has the text, so the key equals on the roll
+-- some row has the text, so the key is on the roll
 there_if : (k : Key) (table : List Row) → length (filter (has_text 1 k) table) ≢ 0 → has (map row_key table) k ≡ true
 there_if k [] some = absurd (some refl)
 there_if k (r ∷ table) some = go (has_text 1 k r) refl some (there_if k table)
@@ -75,7 +76,7 @@ ranks_nobody round k list db none holds good then =
     let w = world_in round db.trees in
     record { holds = holds; world = λ i. record { round = round; phase = w.phase; office = w.office; lecturers = roll i; projects = w.projects; students = w.students } }
 
--- where the lecturer equals on the roll of a good world
+-- where the lecturer is on the roll of a good world
 turns_there : (round : Round) (k : Key) (list : List Key) (first now : Database) → length (filter (has_text 1 k) (first.trees lecturer_tree)) ≢ 0
     → TurnsThere round k list first now → IsTransitionIn round (Ranks k list) first now
 turns_there round k list first now some turns holds good then = turns (there_if k (first.trees lecturer_tree) some) holds good.sound.lecturers_rise

@@ -1,4 +1,4 @@
--- New rows of a roll: what a loop of INSERTs leaves of the tables, and what that equals to the world.
+-- New rows of a roll: what a loop of INSERTs leaves of the tables, and what that is to the world.
 use Rattle.std.proofs.Common.{◌≡◌, ℕ, false, ◌||◌, List, [], ◌∷◌, ◌++◌, None, map, drop, refl, sym, ap, ap₂, subst, subst₂, ◌∙◌}
 use Rattle.std.proofs.lemmas.List.{map-append}
 use Rattle.std.specs.List.{AllByRecursion, IsDistinct}
@@ -19,15 +19,17 @@ use Rattle.portal_core.specs.Change.{changed, Lecturers, Projects, Students, new
 use Rattle.portal_core.specs.Good.{Good}
 use Rattle.portal_tables.specs.Tables.{lecturer_tree, project_tree, student_tree, choice_tree, ranking_tree}
 use Rattle.portal_tables.specs.declared.list_table.Lists.TheVariants as which
-use Rattle.portal_tables.specs.Changes.{RowNumbersDiffer, InsertsRows, Keeps, with_rows, AreNew}
-use Rattle.portal_tables.specs.Rows.{Adds, lecturer_new, project_new, student_new}
+use Rattle.portal_tables.specs.Changes.{RowNumbersDiffer}
+use Rattle.portal_tables.specs.inner.Changes.{InsertsRows, Keeps, with_rows, AreNew}
+use Rattle.portal_tables.specs.inner.Rows.{Adds, lecturer_new, project_new, student_new}
 use Rattle.portal_tables.proofs.Keeping.{puts_apart}
 use Rattle.portal_tables.proofs.Writes.{unnumbered}
 use Rattle.portal_tables.proofs.Lists.{put_splits}
-use Rattle.portal_store.specs.Adding.{with_rows_added}
+use Rattle.portal_store.specs.inner.Adding.{with_rows_added}
 use Rattle.portal_store.specs.declared.rolls.NewRows.{NewRows}
 use Rattle.portal_store.specs.declared.rolls.NewRows.TheVariants as come
-use Rattle.portal_store.specs.Kept.{IsConsistentIn, HasChangedIn, IsTransitionIn}
+use Rattle.portal_store.specs.Kept.{IsConsistentIn}
+use Rattle.portal_store.specs.inner.Kept.{HasChangedIn, IsTransitionIn}
 use Rattle.portal_tables.specs.Lists.{of_key, IsWhole, list_in_order}
 use Rattle.portal_tables.specs.Rolls.{row_key}
 use Rattle.portal_store.proofs.Still.{holds_after, world_after}
@@ -74,7 +76,7 @@ added_of tree cells old new put = record {
   sound = λ h. put.sound (λ _. h);
 }
 
--- what equals read of a row does not depend on its number
+-- what is read of a row does not depend on its number
 key_bare : (r : Row) → row_key (bare r) ≡ row_key r
 key_bare [] = refl
 key_bare (v ∷ r) = refl
@@ -140,7 +142,7 @@ roll_added key cells show rows news tree old new blind are a =
     more_put key news (map show (old.trees tree)) (map show (new.trees tree))
     (subst (λ l. IsPermutation (l ++ map show (old.trees tree)) (map show (new.trees tree))) (sym (map_twice (λ c. show (unnumbered c)) cells rows) ∙ are) (decoded show tree (map cells rows) old new blind a))
 
--- no row of a list equals that of an owner who equals new
+-- no row of a list is that of an owner who is new
 none_yet : {X Y : Type 0} (Q : Row → Type 0) (key : Y → Key) (of : X → Y) (show : Row → Y) (rows : List X) (roll lists : List Row) → map key (map show roll) ≡ map row_key roll → AllByRecursion (λ r. OnRoll roll (row_key r) × Q r) lists
     → Rise (map key (put_all key (map of rows) (put_all key (map show roll) []))) → AllByRecursion (λ x. of_key (key (of x)) lists ≡ []) rows
 none_yet Q key of show rows roll lists keys owned up =

@@ -23,25 +23,27 @@ use Rattle.portal_core.specs.Good.{Good}
 use Rattle.portal_core.proofs.Keys.{is_same}
 use Rattle.portal_core.proofs.Fills.{rise_kept}
 use Rattle.portal_core.proofs.AllLaws.{all_weaker, all_map}
-use Rattle.portal_tables.specs.Changes.{ListsBy, columns, has_text}
+use Rattle.portal_tables.specs.Changes.{has_text}
+use Rattle.portal_tables.specs.inner.Changes.{ListsBy, columns}
 use Rattle.portal_tables.specs.ListTables.{choice_table, tree_of}
 use Rattle.portal_tables.specs.Tables.{project_tree, student_tree}
 use Rattle.portal_views.specs.declared.lines.Line.{Line}
 use Rattle.portal_store.specs.Kept.{HasSecond, IsConsistentIn}
-use Rattle.portal_views.specs.Lines.{shown_line, applicant_lines}
-use Rattle.portal_tables.specs.Owners.{choice_shown}
-use Rattle.portal_tables.specs.Rolls.{row_key, by_key, roll_columns}
+use Rattle.portal_views.specs.inner.Lines.{shown_line, applicant_lines}
+use Rattle.portal_tables.specs.inner.Owners.{choice_shown}
+use Rattle.portal_tables.specs.Rolls.{row_key}
+use Rattle.portal_tables.specs.inner.Rolls.{by_key, roll_columns}
 use Rattle.portal_store.specs.World.{world_in, student_stored, project_row}
-use Rattle.portal_tables.specs.Shown.{first_cell}
-use Rattle.portal_views.specs.Callers.{person_key, lines_shown, persons_at, persons_before, placed_among, placed_at_shown, applicants_told, placed_told, own_keys_shown, lecturer_shown}
-use Rattle.portal_store.specs.Queried.{lecturer_from}
+use Rattle.portal_tables.specs.inner.Shown.{first_cell}
+use Rattle.portal_views.specs.inner.Callers.{person_key, lines_shown, persons_at, persons_before, placed_among, placed_at_shown, applicants_told, placed_told, own_keys_shown, lecturer_shown}
+use Rattle.portal_store.specs.inner.Queried.{lecturer_from}
 use Rattle.portal_views.proofs.Choosers.{chooser}
 use Rattle.portal_tables.proofs.Sorted.{distinct_permuted, map_alike, one_rise, permutes_more, put_all_map, rise_distinct, rise_put_all}
 use Rattle.portal_store.proofs.Holding.{has_tables}
 use Rattle.portal_store.proofs.Loaded.{none_earlier, projects_by_key, students_by_key}
 use Rattle.portal_store.proofs.Fine.{first_left, good_before, placed_on_lists}
 
--- a student of the world equals among those who name the project where the student's list names it
+-- a student of the world is among those who name the project where the student's list names it
 pub choosers : (round : Round) (db : Database) → IsConsistentIn round db → (p : Key) (shown : List Row) → ListsBy (1 ∷ []) (has_text 3 p) (columns (1 ∷ [])) (db.trees (tree_of (choice_table round))) shown
     → AllByRecursion (λ (s : Student). has (map first_cell shown) s.row.key ≡ has s.choice p) (world_in round db.trees).students
 unfolding world_in
@@ -99,7 +101,7 @@ filter_twice p q (s ∷ ss) all =
       ]
     ]) refl
 
--- who equals at a project has it on the list
+-- who is at a project has it on the list
 at_listed : (k : Key) (choice : List Key) (o : Option Key) → IfSome o (λ p. has choice p ≡ true) → is_at k o ≡ true → has choice k ≡ true
 at_listed k choice None on e = absurd (cc)
 at_listed k choice (Some p) on e = subst (λ x. has choice x ≡ true) (is_same p k e) on
@@ -122,7 +124,7 @@ none_pass : {X : Type 0} (p : X → Bool) (xs : List X) → AllByRecursion (λ x
 none_pass p [] all = refl
 none_pass p (x ∷ xs) all = (λ i. cond (all.0 i) (x ∷ filter p xs) (filter p xs)) ∙ none_pass p xs all.1
 
--- whom the round's result places at the project, once it equals published
+-- whom the round's result places at the project, once it is published
 abbrev is_placed : World → Key → Student → Bool
 is_placed w k s = is_published w.phase && is_at k s.placed
 
@@ -191,7 +193,7 @@ or-false : (b : Bool) → (b || false) ≡ b
 or-false true = refl
 or-false false = refl
 
--- a place that equals shown equals that of the round before, or of the round once it equals published
+-- a place that is shown is that of the round before, or of the round once it is published
 shown_parts : (w : World) (k : Key) (s : Student) (o : Option Key) → s.earlier_placement ≡ o → (is_none o ≡ false → s.placed ≡ None)
     → (is_at k (shown_placement w.phase s) ≡ (is_placed w k s || is_at k s.earlier_placement)) × ((is_placed w k s && is_at k s.earlier_placement) ≡ false)
 shown_parts w k s None e none =

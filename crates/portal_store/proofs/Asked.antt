@@ -16,20 +16,24 @@ use Rattle.portal_core.specs.declared.phase.Round.{Round}
 use Rattle.portal_core.specs.declared.phase.Round.TheVariants.{First, Second}
 use Rattle.portal_tables.specs.Tables.{portal_tree, second_tree, choice2_tree, ranked2_tree, ranking2_tree, assigned2_tree, own_trees, version}
 use Rattle.portal_tables.specs.Schema.{HasRound, IsCurrentSchema}
-use Rattle.portal_tables.specs.Changes.{RowNumbersDiffer, ListsBy, every, columns}
+use Rattle.portal_tables.specs.Changes.{RowNumbersDiffer}
+use Rattle.portal_tables.specs.inner.Changes.{ListsBy, every, columns}
 use Rattle.portal_tables.specs.Rows.{portal_row, second_row}
 use Rattle.portal_tables.specs.Office.{HasOffice, number_of_phase}
-use Rattle.portal_tables.specs.Reading.{RunsQueryIn, RunsQueriesIn}
-use Rattle.portal_tables.specs.Decoding.{FindsAny}
-use Rattle.portal_tables.specs.Queries.{selection, Shows}
+use Rattle.portal_tables.specs.Reading.{RunsQueryIn}
+use Rattle.portal_tables.specs.inner.Reading.{RunsQueriesIn}
+use Rattle.portal_tables.specs.inner.Decoding.{FindsAny}
+use Rattle.portal_tables.specs.inner.Queries.{selection, Shows}
 use Rattle.portal_tables.specs.declared.select.Query.{Query}
 use Rattle.portal_core.specs.Words.{is_empty}
 use Rattle.std.proofs.lemmas.Result.{on_ok_weaker, on_err_weaker}
-use Rattle.portal_store.specs.Kept.{AllNumbersDiffer, HasSecond, IsUnopened, IsConsistent, IsConsistentIn, IsKept, HasGoodWorld}
+use Rattle.portal_store.specs.Kept.{AllNumbersDiffer, HasSecond, IsUnopened, IsConsistent, IsConsistentIn, HasGoodWorld}
+use Rattle.portal_store.specs.inner.Kept.{IsKept}
 use Rattle.portal_tables.proofs.InTurn.{clean_before, unchanged_then, then_leaves, reads_of}
 use Rattle.portal_tables.proofs.Keeping.{apart_one, apart_none}
 use Rattle.portal_tables.proofs.Owned.{current_own, has_round}
-use Rattle.portal_store.specs.Asked.{NumbersDiffer, HasVersion, Denies, SaysNothing, RefusalSays, Refutes, AdmitsAs, Admits}
+use Rattle.portal_store.specs.Asked.{HasVersion, RefusalSays, Refutes}
+use Rattle.portal_store.specs.inner.Asked.{NumbersDiffer, Denies, SaysNothing, AdmitsAs, Admits}
 use Rattle.portal_tables.specs.declared.fault.TableFault.{TableFault}
 use Rattle.portal_tables.specs.declared.fault.TableFault.TheVariants as told
 use Rattle.portal_store.specs.declared.store.OpenFault.{OpenFault}

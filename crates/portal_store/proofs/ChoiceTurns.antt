@@ -16,14 +16,15 @@ use Rattle.portal_core.proofs.AllLaws.{all_weaker}
 use Rattle.portal_tables.specs.ListTables.{tree_of}
 use Rattle.portal_tables.specs.Changes.{RowNumbersDiffer}
 use Rattle.portal_tables.specs.Tables.{choice_tree, choice2_tree}
-use Rattle.portal_tables.specs.Steps.{GoesOn}
+use Rattle.portal_tables.specs.inner.Steps.{GoesOn}
 use Rattle.portal_tables.proofs.Runs.{goes_more}
 use Rattle.portal_tables.specs.Lists.{of_key, list_in_order, chosen, IsWhole}
 use Rattle.portal_store.proofs.Still.{but_one, holds_after, holds_there, opened_kept, world_after}
 use Rattle.portal_store.specs.World.{world_in, choice_table, student_stored}
 use Rattle.portal_tables.specs.Rolls.{row_key}
-use Rattle.portal_store.specs.Kept.{Whole, IsConsistentIn, IsTransitionIn}
-use Rattle.portal_tables.specs.Putting.{HasPut, PutsList}
+use Rattle.portal_store.specs.Kept.{Whole, IsConsistentIn}
+use Rattle.portal_store.specs.inner.Kept.{IsTransitionIn}
+use Rattle.portal_tables.specs.inner.Putting.{HasPut, PutsList}
 use Rattle.portal_tables.proofs.Sorted.{put_all_map, map_alike, map_twice}
 use Rattle.portal_tables.proofs.Putting.{list_is, whole_is}
 

@@ -13,7 +13,7 @@ use Rattle.portal_tables.specs.Reading.{RunsQueryIn}
 use Rattle.portal_tables.specs.Steps.{Commits, IsAfter, IsUnchangedOrUndone, LeavesOnly, Stays}
 use Rattle.portal_tables.proofs.Asking.{IsSettled, commits_asked, commits_none}
 use Rattle.portal_tables.proofs.InTurn.{clean_before}
-use Rattle.portal_store.specs.Ending.{CommitsChange}
+use Rattle.portal_store.specs.inner.Ending.{CommitsChange}
 
 -- the tables are read, and then the change is made, or not
 pub ends_then : {round : Round} {U F V E : Type 0} (C D : Database → Database → Type 0) (u : U) (r : Result V E) (old mid new : State) → RunsQueryIn round {V = U} {E = F} (Ok u) old mid → CommitsChange C r mid new

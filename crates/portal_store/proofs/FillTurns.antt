@@ -10,19 +10,20 @@ use Rattle.portal_core.specs.World.{World, lecturer_key}
 use Rattle.portal_core.specs.Change.{changed, Ranks, Fill}
 use Rattle.portal_core.specs.Good.{Sound}
 use Rattle.portal_core.specs.declared.phase.Round.{Round}
-use Rattle.portal_list.specs.Fill.{fill_missing}
+use Rattle.portal_list.specs.inner.Fill.{fill_missing}
 use Rattle.portal_tables.specs.Tables.{lecturer_tree}
 use Rattle.portal_store.specs.World.{world_in, lecturer_stored}
 use Rattle.portal_tables.specs.Rolls.{row_key}
-use Rattle.portal_store.specs.Kept.{IsConsistentIn, IsTransitionIn}
-use Rattle.portal_tables.specs.Steps.{GoesOn}
-use Rattle.portal_store.specs.Putting.{with_rankings, TurnsAll, TurnsThere}
+use Rattle.portal_store.specs.Kept.{IsConsistentIn}
+use Rattle.portal_store.specs.inner.Kept.{IsTransitionIn}
+use Rattle.portal_tables.specs.inner.Steps.{GoesOn}
+use Rattle.portal_store.specs.inner.Putting.{with_rankings, TurnsAll, TurnsThere}
 use Rattle.portal_tables.proofs.Runs.{goes_both}
 use Rattle.portal_tables.proofs.Sorted.{permutes}
 use Rattle.portal_store.proofs.Rounds.{keys_in}
 use Rattle.portal_store.proofs.Filled.{ranked_more, keys_still, all_filled, fills_there}
 
--- who equals in the world has a row
+-- who is in the world has a row
 rows_have : (round : Round) (db : Database) (k : Key) → has (map lecturer_key (world_in round db.trees).lecturers) k ≡ true → has (map row_key (db.trees lecturer_tree)) k ≡ true
 unfolding world_in
 rows_have round db k there =

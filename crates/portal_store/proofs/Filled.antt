@@ -8,9 +8,9 @@ use Rattle.portal_core.specs.World.{World, Lecturer, lecturer_key, student_key, 
 use Rattle.portal_core.specs.Change.{changed, Ranks, Fill, with_ranking, with_fill}
 use Rattle.portal_core.proofs.Keys.{is_own}
 use Rattle.portal_core.proofs.AllLaws.{is_sym, map_same}
-use Rattle.portal_list.specs.Fill.{fill_missing}
+use Rattle.portal_list.specs.inner.Fill.{fill_missing}
 use Rattle.portal_list.proofs.Replaced.{ranking_elsewhere, ranking_here}
-use Rattle.portal_store.specs.Putting.{with_rankings}
+use Rattle.portal_store.specs.inner.Putting.{with_rankings}
 use Rattle.portal_tables.proofs.Sorted.{map_twice, map_alike_on, rise_distinct}
 use Rattle.portal_store.proofs.RankTurns.{same_key}
 
@@ -39,7 +39,7 @@ ranked_is w (f ∷ fs) =
     let both = map_twice (with_all fs) (with_ranking f.0 f.1) w.lecturers in
     ranked_is (changed w (Ranks f.0 f.1)) fs ∙ (λ i. record w { lecturers = sym both i })
 
--- what holds of each element, as it equals shown, holds of those that pass
+-- what holds of each element, as it is shown, holds of those that pass
 all_shown : {X Y : Type 0} (P : Y → Type 0) (show : X → Y) (p : X → Bool) (xs : List X) → ((x : X) → Has xs x → P (show x))
     → AllByRecursion P (map show (filter p xs))
 all_shown P show p [] h = tt
@@ -67,7 +67,7 @@ module _ (w : World) where
   abbrev fill_for : Lecturer → Key × List Key
   fill_for l = (l.row.key, keys_for l)
 
-  -- the fill_missing of those who pass, and of one more
+  -- the fills of those who pass, and of one more
   abbrev among : List Lecturer → List (Key × List Key)
   among ls = map fill_for (filter (is_still_to_rank w) ls)
 

@@ -30,14 +30,15 @@ use Rattle.portal_core.specs.declared.phase.Round.{Round}
 use Rattle.portal_core.specs.declared.phase.Round.TheVariants.{First, Second}
 use Rattle.portal_tables.specs.Tables.{lecturer_tree, project_tree, student_tree, assigned2_tree, version}
 use Rattle.portal_tables.specs.ListTables.{tree_of}
-use Rattle.portal_tables.specs.Rolls.{row_key, by_key, RollsRise, lecturers_shown, projects_shown, students_shown, lecturer_columns, roll_columns}
+use Rattle.portal_tables.specs.Rolls.{row_key}
+use Rattle.portal_tables.specs.inner.Rolls.{by_key, RollsRise, lecturers_shown, projects_shown, students_shown, lecturer_columns, roll_columns}
 use Rattle.portal_store.specs.World.{world_in, phase_in, choice_table, ranking_table, is_ranked, ranking_in, choice_in, placement_in_round, lecturer_stored, student_stored, lecturer_row, student_row, project_row}
 use Rattle.portal_tables.specs.Lists.{of_key, chosen, list_in_order, IsWhole}
 use Rattle.portal_store.specs.Kept.{HasGoodFirst, HasGoodWorldIn, Whole}
-use Rattle.portal_tables.specs.Shown.{shown_lecturer, shown_project, shown_student}
-use Rattle.portal_tables.specs.Placements.{HasPlacement}
-use Rattle.portal_tables.specs.Owners.{IsFine}
-use Rattle.portal_views.specs.Contents.{AreFine}
+use Rattle.portal_tables.specs.inner.Shown.{shown_lecturer, shown_project, shown_student}
+use Rattle.portal_tables.specs.inner.Placements.{HasPlacement}
+use Rattle.portal_tables.specs.inner.Owners.{IsFine}
+use Rattle.portal_views.specs.inner.Contents.{AreFine}
 use Rattle.portal_store.proofs.Loaded.{has_choice, has_ranked, lecturers_by_key, projects_by_key, students_by_key}
 use Rattle.portal_tables.proofs.Sorted.{all_permuted, all_two, permutes}
 use Rattle.sqlite_trees.proofs.ListLemmas.{map-map, all-filter}
@@ -45,7 +46,7 @@ use Rattle.sqlite_trees.proofs.ListLemmas.{map-map, all-filter}
 abbrev IsKey : Key → Type 0
 IsKey k = is_key k ≡ true
 
--- a key that equals among keys, and one that has a number among them
+-- a key that is among keys, and one that has a number among them
 among : (ks : List Key) → AllByRecursion IsKey ks → (k : Key) → has ks k ≡ true → IsKey k
 among [] all k h = absurd (cc)
 among (x ∷ xs) all k h = elim (cases_Bool (equals k x)) [
@@ -61,7 +62,7 @@ numbered (x ∷ xs) all k low =
       | false ↦ λ e f. numbered xs all.1 k (omega (arith, f))
     ]) refl low
 
--- in a good world of the first round whoever equals placed equals so at a project on the list
+-- in a good world of the first round whoever is placed is so at a project on the list
 module _ (w : World) (one : w.round ≡ First) (good : Good w) where
   known_choices : AllByRecursion (λ s. IsChoice (project_keys w) s.choice) w.students
   known_choices = subst (λ u. AllByRecursion (λ s. IsChoice (project_keys u) s.choice) w.students) (first_plays w one) good.sound.choices
@@ -81,7 +82,7 @@ module _ (w : World) (one : w.round ≡ First) (good : Good w) where
       let here : get_or (places_of w) i None ≡ Some (number_in (project_keys w) p) = get_or-map place_of w.students i d None low ∙ ap (option_map (number_in (project_keys w))) e in
       numbered (project_keys w) known_projects p (on_roll (project_keys w) w.students known_choices i (number_in (project_keys w) p) (held.matching.acceptable i (number_in (project_keys w) p) here))
 
-  -- a number on a list of known keys equals that of a key on it
+  -- a number on a list of known keys is that of a key on it
   listed : (choice : List Key) (k : Key) → number_in (project_keys w) k < length (project_keys w) → IsOn (map (number_in (project_keys w)) choice) (number_in (project_keys w) k) → has choice k ≡ true
   listed [] k low on = absurd (omega (arith, on))
   listed (c ∷ cs) k low on =
@@ -102,7 +103,7 @@ module _ (w : World) (one : w.round ≡ First) (good : Good w) where
       listed (get_or w.students i d).choice p (on_roll (project_keys w) w.students known_choices i (number_in (project_keys w) p) on)
       (subst (λ l. IsOn l (number_in (project_keys w) p)) (get_or-map (λ (s : Student). map (number_in (project_keys w)) s.choice) w.students i d [] low) on)
 
-  -- who equals placed has the project on the list
+  -- who is placed has the project on the list
   pub placed_listed : AllByRecursion (λ s. IfSome s.placed (λ p. has s.choice p ≡ true)) w.students
   placed_listed = elim (cases_Bool (is_published w.phase)) [
     | inl so ↦ recursion_from_All (λ s. IfSome s.placed (λ p. has s.choice p ≡ true)) w.students (λ i d low. is_listed (stable so) i d low (get_or w.students i d).placed refl)
@@ -115,7 +116,7 @@ module _ (w : World) (one : w.round ≡ First) (good : Good w) where
     | inr other ↦ all_weaker (λ s. s.placed ≡ None) (λ s. IfSome s.placed IsKey) (λ s e. subst (λ o. IfSome o IsKey) (sym e) tt) w.students (good.sound.no_result_yet other)
   ]
 
--- who equals left has what equals so of those who are, and who equals not has nothing
+-- who is left has what is so of those who are, and who is not has nothing
 filtered : (P : Student → Type 0) (ss : List Student) → AllByRecursion (λ s. is_left s ≡ false → P s) ss → AllByRecursion P (filter is_left ss) → AllByRecursion P ss
 filtered P [] others all = tt
 filtered P (s ∷ ss) others all =
@@ -128,7 +129,7 @@ of_all : (round : Round) (P : Student → Type 0) (ss : List Student) → AllByR
 of_all First P ss others all = all
 of_all Second P ss others all = filtered P ss others all
 
--- in a good world whatever equals told of a student or a lecturer equals a key
+-- in a good world whatever is told of a student or a lecturer is a key
 module _ (w : World) (good : Good w) where
   abbrev as_one : Good (alone (in_play w))
   as_one = (played_alone w good).0
@@ -139,7 +140,7 @@ module _ (w : World) (good : Good w) where
       (all_weaker (λ s. is_left s ≡ false → (s.choice ≡ []) × (s.placed ≡ None)) (λ s. is_left s ≡ false → IfSome s.placed IsKey) (λ s h e. subst (λ o. IfSome o IsKey) (sym (h e).1) tt) w.students good.sound.only_left)
       (all_unmap (λ s. IfSome s.placed IsKey) alone_student (students_in w.round w.students) (placed_alone (alone (in_play w)) refl as_one))
 
-  -- who equals placed has the project on the list
+  -- who is placed has the project on the list
   pub placed_on_lists : AllByRecursion (λ s. IfSome s.placed (λ p. has s.choice p ≡ true)) w.students
   placed_on_lists =
       let OnList : Student → Type 0 = λ s. IfSome s.placed (λ p. has s.choice p ≡ true) in
@@ -173,7 +174,7 @@ has_place : (round : Round) (db : Trees) → PlacesOnce round db → (r : Row) �
 has_place First db once r key = key
 has_place Second db once r key = (key, once (row_key r))
 
--- what equals said of the world's rows, of the tables' rows in their order
+-- what is said of the world's rows, of the tables' rows in their order
 module _ (round : Round) (db : Trees) (whole : Whole round db) (good : Good (world_in round db)) where
   of_lecturers : (P : Lecturer → Type 0) → AllByRecursion P (world_in round db).lecturers → AllByRecursion (λ r. P (lecturer_stored round db r)) (by_key (db lecturer_tree))
   unfolding world_in

@@ -22,7 +22,8 @@ use Rattle.portal_tables.proofs.Fresh.{fresh_apart}
 use Rattle.portal_list.proofs.Fresh.{fresh_good}
 use Rattle.portal_store.specs.World.{world_in, world_of, phase_numbered, project_row}
 use Rattle.portal_store.proofs.FirstRows.{lecturer_of, student_of}
-use Rattle.portal_store.specs.Kept.{IsConsistent, IsConsistentIn, IsKept, early_trees, later_trees}
+use Rattle.portal_store.specs.Kept.{IsConsistent, IsConsistentIn, later_trees}
+use Rattle.portal_store.specs.inner.Kept.{IsKept, early_trees}
 use Rattle.portal_store.specs.Made.{first_world}
 use Rattle.portal_store.proofs.Rounds.{world_told}
 

@@ -10,10 +10,12 @@ use Rattle.portal_core.specs.declared.phase.Round.TheVariants.{First, Second}
 use Rattle.portal_core.specs.World.{is_setup}
 use Rattle.portal_core.specs.Change.{To}
 use Rattle.portal_tables.specs.Tables.{portal_tree, second_tree, version}
-use Rattle.portal_tables.specs.Rows.{MovesTo, MovesSecond, portal_row, second_row}
+use Rattle.portal_tables.specs.Rows.{portal_row, second_row}
+use Rattle.portal_tables.specs.inner.Rows.{MovesTo, MovesSecond}
 use Rattle.portal_tables.proofs.Keeping.{apart_one}
-use Rattle.portal_store.specs.Kept.{IsConsistentIn, HasChangedIn, IsTransitionIn}
-use Rattle.portal_views.specs.Lines.{HasTables}
+use Rattle.portal_store.specs.Kept.{IsConsistentIn}
+use Rattle.portal_store.specs.inner.Kept.{HasChangedIn, IsTransitionIn}
+use Rattle.portal_views.specs.inner.Lines.{HasTables}
 use Rattle.portal_tables.specs.Office.{number_of_phase}
 use Rattle.portal_store.proofs.Rounds.{phase_back}
 use Rattle.portal_store.proofs.Still.{holds_after, holds_there, world_after}

@@ -13,14 +13,15 @@ use Rattle.portal_tables.specs.Schema.{IsCurrentSchema}
 use Rattle.portal_tables.proofs.Runs.{clean_if_open}
 use Rattle.portal_tables.specs.Reading.{RunsQueryIn}
 use Rattle.portal_tables.specs.Steps.{Commits, Stays, IsUnchangedOrUndone, IsAfter}
-use Rattle.portal_core.specs.ViewCache.{IsCacheOf}
+use Rattle.portal_core.specs.inner.ViewCache.{IsCacheOf}
 use Rattle.portal_core.specs.declared.view_cache.ViewCache.{ViewCache}
 use Rattle.portal_store.specs.World.{world_of}
 use Rattle.portal_list.specs.Entries.{AllEntries}
-use Rattle.portal_store.specs.Kept.{AreEntries, IsConsistent, HasChanged, IsTransition, Seen, IsKept, IsCleanStore, Lasts, LastsInMemory, kept_world}
+use Rattle.portal_store.specs.Kept.{IsConsistent, HasChanged, IsTransition, Seen, IsCleanStore, Lasts, LastsInMemory, kept_world}
+use Rattle.portal_store.specs.inner.Kept.{AreEntries, IsKept}
 use Rattle.portal_store.specs.Crash.{IsLeft}
-use Rattle.portal_store.specs.Ending.{CommitsChange}
-use Rattle.portal_store.specs.Reading.{KeepsCache, KeepsEntries}
+use Rattle.portal_store.specs.inner.Ending.{CommitsChange}
+use Rattle.portal_store.specs.inner.Reading.{KeepsCache, KeepsEntries}
 
 -- nothing is changed
 pub still : {S : Type 0} (g : Ghosts S) (old new : Held S) (own : Bool) → IsKept g old own → new.in_transaction ≡ false

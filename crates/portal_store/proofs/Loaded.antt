@@ -20,15 +20,16 @@ use Rattle.portal_tables.specs.Tables.{portal_tree, lecturer_tree, project_tree,
 use Rattle.portal_tables.specs.Rows.{portal_row, second_row}
 use Rattle.portal_tables.specs.ListTables.{tree_of}
 use Rattle.portal_tables.specs.Office.{number_of_phase}
-use Rattle.portal_tables.specs.Rolls.{row_key, by_key, lecturers_shown, projects_shown, students_shown, lecturer_columns, roll_columns}
+use Rattle.portal_tables.specs.Rolls.{row_key}
+use Rattle.portal_tables.specs.inner.Rolls.{by_key, lecturers_shown, projects_shown, students_shown, lecturer_columns, roll_columns}
 use Rattle.portal_store.specs.World.{round_in, world_in, phase_numbered, second_phase, choice_table, ranking_table, is_ranked, lecturer_stored, student_stored, project_row}
 use Rattle.portal_tables.specs.Lists.{of_key, chosen, IsWhole}
 use Rattle.portal_store.specs.Kept.{Whole}
-use Rattle.portal_store.specs.Loads.{Loads, LoadsIn, after_first}
-use Rattle.portal_tables.specs.Shown.{shown_lecturer, shown_project, shown_student}
-use Rattle.portal_tables.specs.Placements.{pair_shown}
-use Rattle.portal_tables.specs.Owners.{entry, has_list, IsRead}
-use Rattle.portal_views.specs.Contents.{AllRows, AreRead, rows_from}
+use Rattle.portal_store.specs.inner.Loads.{Loads, LoadsIn, after_first}
+use Rattle.portal_tables.specs.inner.Shown.{shown_lecturer, shown_project, shown_student}
+use Rattle.portal_tables.specs.inner.Placements.{pair_shown}
+use Rattle.portal_tables.specs.inner.Owners.{entry, has_list, IsRead}
+use Rattle.portal_views.specs.inner.Contents.{AllRows, AreRead, rows_from}
 use Rattle.portal_tables.proofs.Sorted.{all_permuted, map_alike, permutes, put_all_map}
 use Rattle.portal_store.proofs.Rounds.{phase_back}
 use Rattle.portal_store.proofs.RowsOnce.{HasNothingBefore, nothing_before}

@@ -21,21 +21,23 @@ use Rattle.portal_core.proofs.AllLaws.{all_weaker, any_nowhere, is_sym, all_map,
 use Rattle.portal_core.proofs.Kept.{empty_map}
 use Rattle.portal_core.specs.declared.phase.Round.{Round}
 use Rattle.portal_core.specs.declared.phase.Round.TheVariants.{First, Second}
-use Rattle.portal_list.specs.Shown.{is_wanted, is_waiting}
+use Rattle.portal_list.specs.inner.Shown.{is_wanted, is_waiting}
 use Rattle.portal_list.proofs.Waiting.{waiting_lecturers}
 use Rattle.portal_list.proofs.Members.{has_all}
 use Rattle.portal_tables.specs.ListTables.{choice_table, ranking_table, tree_of}
-use Rattle.portal_tables.specs.Owners.{choice_shown}
+use Rattle.portal_tables.specs.inner.Owners.{choice_shown}
 use Rattle.portal_tables.specs.Tables.{lecturer_tree, student_tree}
 use Rattle.portal_tables.proofs.Lists.{any_alike, eq_self}
-use Rattle.portal_tables.specs.Changes.{ListsBy, columns, has_text, has_number}
+use Rattle.portal_tables.specs.Changes.{has_text}
+use Rattle.portal_tables.specs.inner.Changes.{ListsBy, columns, has_number}
 use Rattle.portal_store.specs.Kept.{IsConsistentIn, AreWhole, Whole}
-use Rattle.portal_tables.specs.Rolls.{row_key, by_key, lecturers_shown, projects_shown, students_shown, lecturer_columns, roll_columns}
+use Rattle.portal_tables.specs.Rolls.{row_key}
+use Rattle.portal_tables.specs.inner.Rolls.{by_key, lecturers_shown, projects_shown, students_shown, lecturer_columns, roll_columns}
 use Rattle.portal_store.specs.World.{world_in, is_ranked, lecturer_stored, student_stored}
 use Rattle.portal_tables.specs.Lists.{chosen, of_key, place_of, place_key, named_by, by_place, CountUp, IsWhole}
-use Rattle.portal_tables.specs.Shown.{first_cell, shown_project}
-use Rattle.portal_tables.specs.Placements.{pair_shown, placement_before}
-use Rattle.portal_store.specs.Queried.{student_from, unlisted, waiting_key, office_from}
+use Rattle.portal_tables.specs.inner.Shown.{first_cell, shown_project}
+use Rattle.portal_tables.specs.inner.Placements.{pair_shown, placement_before}
+use Rattle.portal_store.specs.inner.Queried.{student_from, unlisted, waiting_key, office_from}
 use Rattle.portal_store.proofs.Applying.{choosers}
 use Rattle.portal_store.proofs.Holding.{has_tables}
 use Rattle.portal_views.proofs.Choosers.{named_where, choices_formed, choices_parents, choosers_known as shown_known}
@@ -55,13 +57,13 @@ some_more f g (x ∷ xs) more h = elim (cases_Bool (f x)) [
   | inr fails ↦ ap (λ b. g x || b) (some_more f g xs more (sym (ap (λ b. b || list_any f xs) fails) ∙ h)) ∙ or-true (g x)
 ]
 
--- of students whose keys these are there equals one, where there equals a key
+-- of students whose keys these are there is one, where there is a key
 anyone : (ks : List Key) (ss : List Student) → AllByRecursion (λ k. has (map student_key ss) k ≡ true) ks → list_any (λ s. has ks s.row.key) ss ≡ not (is_empty ks)
 anyone [] ss all = any_nowhere ss
 anyone (k ∷ ks) ss all =
     some_more (λ (s : Student). equals k s.row.key) (λ s. equals s.row.key k || has ks s.row.key) ss (λ s e. ap (λ b. b || has ks s.row.key) (is_sym s.row.key k ∙ e)) (sym (any_map (equals k) student_key ss) ∙ all.0)
 
--- the keys of the roll that equals shown are those of the world
+-- the keys of the roll that is shown are those of the world
 keys_told : (round : Round) (db : Trees) → map first_cell (students_shown db) ≡ map student_key (world_in round db).students
 unfolding world_in
 keys_told round db =
@@ -72,7 +74,7 @@ module _ (round : Round) (db : Database) (holds : IsConsistentIn round db) (p : 
   abbrev named : World
   named = world_in round db.trees
 
-  -- who names the project equals on the roll
+  -- who names the project is on the roll
   choosers_known : AllByRecursion (λ k. has (map student_key named.students) k ≡ true) (map first_cell shown)
   choosers_known = subst (λ ks. AllByRecursion (λ k. has ks k ≡ true) (map first_cell shown)) (keys_told round db.trees) (shown_known round db (has_tables db holds) p shown lists)
 
@@ -86,7 +88,7 @@ own_whole : (round : Round) (db : Trees) → AreWhole round db → Whole round d
 own_whole First db h = h
 own_whole Second db h = h.1
 
--- each list of the table equals: its owner equals on the roll, or it equals empty
+-- each list of the table is: its owner is on the roll, or it is empty
 every_whole : (round : Round) (db : Database) → IsConsistentIn round db → (k : Key) → IsWhole (of_key k (db.trees (tree_of (choice_table round))))
 every_whole round db holds k =
     let table = db.trees (tree_of (choice_table round)) in
@@ -104,7 +106,7 @@ is_first : (r : Row) → IsPlace r → place_of r ≡ 1 → has_number 2 1 r ≡
 is_first r x e =
     ap (λ s. is_eq (value_cmp (column s 2) (Int (pos 1)))) x.is ∙ one_is x.place (sym (ap place_of x.is) ∙ e)
 
--- rows with the places 1, 2 and so on begin with the first_cell, if there are any
+-- rows with the places 1, 2 and so on begin with the first, if there are any
 begins : (rows : List Row) → AllByRecursion IsPlace rows → CountUp 1 (map place_of rows) → list_any (has_number 2 1) rows ≡ not (is_empty (map named_by rows))
 begins [] shapes up = refl
 begins (r ∷ rs) shapes up = ap (λ b. b || list_any (has_number 2 1) rs) (is_first r shapes.0 up.0)
@@ -122,7 +124,7 @@ module _ (round : Round) (db : Database) (holds : IsConsistentIn round db) (show
       let key : equals k (row_key r) ≡ equals x.owner k = ap (λ s. equals k (bytes (column s 1))) x.is ∙ is_sym k x.owner in
       ap (λ b. has_number 2 1 r && b) (key ∙ sym by) ∙ and_comm (has_number 2 1 r) (has_text 1 k r)
 
-  -- a key equals shown where it has a list
+  -- a key is shown where it has a list
   lister : (k : Key) → has (map first_cell shown) k ≡ not (is_empty (chosen table k))
   lister k =
       let mine : List Row = of_key k table in
@@ -141,7 +143,7 @@ module _ (round : Round) (db : Database) (holds : IsConsistentIn round db) (show
       ap (map first_cell) (filter_alike (λ c. is_none (placement_before round c) && not (has (map first_cell shown) (first_cell c))) (λ c. is_none (placement_before round c) && is_empty (choice_shown round db.trees c)) students
       (all_of _ (λ c. ap (λ b. is_none (placement_before round c) && b) (ap not (lister (first_cell c)) ∙ twice (is_empty (chosen table (first_cell c))))) students))
 
--- the parts of what equals seen
+-- the parts of what is seen
 
 -- those that pass, by their keys
 passing : {X Y Z : Type 0} (p : Y → Bool) (key : Y → Z) (of : X → Y) (f : X → Option Z) → ((x : X) → f x ≡ cond (p (of x)) (Some (key (of x))) None) → (xs : List X) → filter_map f xs ≡ map key (filter p (map of xs))

@@ -8,7 +8,7 @@ use Rattle.sqlite.specs.declared.types.Value.{Value}
 use Rattle.sqlite.specs.Order.{Row, column}
 use Rattle.sqlite.specs.Effect.{Database}
 use Rattle.sqlite.specs.State.{State}
-use Rattle.portal_tables.specs.Steps.{Made, GoesOn}
+use Rattle.portal_tables.specs.inner.Steps.{Made, GoesOn}
 use Rattle.portal_core.specs.declared.phase.Phase.TheVariants.{Published}
 use Rattle.portal_core.specs.declared.phase.Round.TheVariants.{First}
 use Rattle.portal_core.specs.Words.{Key, equals, has, Rise, put_all}
@@ -19,16 +19,18 @@ use Rattle.portal_core.proofs.Keys.{is_same, all_unmap}
 use Rattle.portal_core.proofs.AllLaws.{map_same, all_map}
 use Rattle.portal_core.proofs.Kept.{place_row}
 use Rattle.portal_tables.specs.Tables.{student_tree, choice_tree}
-use Rattle.portal_tables.specs.Changes.{has_text, columns, every}
-use Rattle.portal_tables.specs.Rows.{MovesTo, Assigns, assigned_by, with_assigned, student_columns, text_cell}
+use Rattle.portal_tables.specs.Changes.{has_text}
+use Rattle.portal_tables.specs.inner.Changes.{columns, every}
+use Rattle.portal_tables.specs.inner.Rows.{MovesTo, Assigns, assigned_by, with_assigned, student_columns, text_cell}
 use Rattle.portal_store.specs.Kept.{IsConsistentIn}
 use Rattle.portal_tables.specs.Lists.{of_key, IsWhole}
 use Rattle.portal_tables.specs.Rolls.{row_key}
-use Rattle.portal_tables.specs.Shown.{first_cell, text_or_none}
+use Rattle.portal_tables.specs.Shown.{text_or_none}
+use Rattle.portal_tables.specs.inner.Shown.{first_cell}
 use Rattle.portal_store.proofs.Still.{holds_after, world_after}
 use Rattle.portal_store.specs.World.{world_in}
 use Rattle.portal_store.proofs.FirstRows.{student_of}
-use Rattle.portal_store.specs.Placing.{assigned_of, ShowsRoll, TurnsShown}
+use Rattle.portal_store.specs.inner.Placing.{assigned_of, ShowsRoll, TurnsShown}
 use Rattle.portal_tables.proofs.Lists.{filter_all}
 use Rattle.portal_tables.proofs.Sorted.{all_permuted, put_same, put_all_map, map_twice, map_alike, map_alike_on, at, all_has, has_of}
 use Rattle.portal_tables.proofs.Shapes.{IsStudentRow, student_rows_formed, student_test}
@@ -39,7 +41,7 @@ text_back : (o : Option Key) → text_or_none (text_cell o) ≡ o
 text_back None = refl
 text_back (Some t) = refl
 
--- what equals written for a student of whom rows are shown
+-- what is written for a student of whom rows are shown
 module _ (pairs : List (Key × Key)) (r : Row) (f : IsStudentRow r) where
   abbrev place : Option Key
   place = placement_in pairs (row_key r)
@@ -79,7 +81,7 @@ shown_keys shown db h =
     let here : map key h.keyed ≡ map first_cell shown = map_twice first_cell (λ (k : Row × Row). k.1) h.keyed ∙ sym (ap (map first_cell) h.is) in
     subst₂ IsPermutation there here (IsPermutation-map key _ h.keyed h.same)
 
--- each student of the roll equals among those that are shown
+-- each student of the roll is among those that are shown
 pub shown_known : (shown : List Row) (db : Database) → ShowsRoll shown db → AllByRecursion (λ r. has (map first_cell shown) (row_key r) ≡ true) (db.trees student_tree)
 shown_known shown db h =
     let keys = map first_cell shown in

@@ -17,20 +17,21 @@ use Rattle.portal_core.proofs.Capacities.{first_plays}
 use Rattle.portal_core.specs.declared.phase.Round.{Round}
 use Rattle.portal_core.specs.declared.phase.Round.TheVariants.{First, Second}
 use Rattle.portal_tables.specs.Tables.{lecturer_tree, student_tree}
-use Rattle.portal_tables.specs.Changes.{ListsBy, columns, has_text}
-use Rattle.portal_views.specs.Contents.{AllRows}
+use Rattle.portal_tables.specs.Changes.{has_text}
+use Rattle.portal_tables.specs.inner.Changes.{ListsBy, columns}
+use Rattle.portal_views.specs.inner.Contents.{AllRows}
 use Rattle.portal_store.specs.Kept.{IsConsistentIn}
-use Rattle.portal_tables.specs.Rolls.{lecturer_columns, roll_columns}
+use Rattle.portal_tables.specs.inner.Rolls.{lecturer_columns, roll_columns}
 use Rattle.portal_store.specs.World.{world_in, lecturer_stored, student_stored}
-use Rattle.portal_tables.specs.Shown.{as_list}
-use Rattle.portal_views.specs.Catalogue.{name_of, offered, catalogue_shown}
-use Rattle.portal_views.specs.Callers.{student_shown}
-use Rattle.portal_store.specs.Queried.{lecturer_from, student_from}
+use Rattle.portal_tables.specs.inner.Shown.{as_list}
+use Rattle.portal_views.specs.inner.Catalogue.{name_of, offered, catalogue_shown}
+use Rattle.portal_views.specs.inner.Callers.{student_shown}
+use Rattle.portal_store.specs.inner.Queried.{lecturer_from, student_from}
 use Rattle.portal_tables.proofs.OneFound.{found}
 use Rattle.portal_store.proofs.Loaded.{lecturers_by_key, students_by_key, round_rows, world_first, some_alike}
 use Rattle.portal_tables.proofs.Shapes.{IsLecturerRow, IsStudentRow, has_text_of, lecturer_rows_formed, student_rows_formed}
 
--- a row of a roll, and as it equals shown, stand for one lecturer or student
+-- a row of a roll, and as it is shown, stand for one lecturer or student
 pub lecturer_is : (round : Round) (db : Trees) (r : Row) → lecturer_from round db (lecturer_columns r) ≡ lecturer_stored round db r
 lecturer_is First db r = refl
 lecturer_is Second db r = refl

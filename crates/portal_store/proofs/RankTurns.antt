@@ -18,10 +18,11 @@ use Rattle.portal_core.proofs.AllLaws.{all_weaker, is_sym, map_same}
 use Rattle.portal_list.proofs.Replaced.{ranking_here, ranking_elsewhere}
 use Rattle.portal_tables.specs.Schema.{HasFirstSchema, IsCurrentSchema}
 use Rattle.portal_tables.specs.Tables.{lecturer_tree, ranking_tree, own_trees, version}
-use Rattle.portal_tables.specs.Changes.{RowNumbersDiffer, Sets, has_text}
-use Rattle.portal_tables.specs.Rows as rows
-use Rattle.portal_tables.specs.Rows.{lecturer_cells}
-use Rattle.portal_tables.specs.Steps.{Made, GoesOn}
+use Rattle.portal_tables.specs.Changes.{RowNumbersDiffer, has_text}
+use Rattle.portal_tables.specs.inner.Changes.{Sets}
+use Rattle.portal_tables.specs.inner.Rows as rows
+use Rattle.portal_tables.specs.inner.Rows.{lecturer_cells}
+use Rattle.portal_tables.specs.inner.Steps.{Made, GoesOn}
 use Rattle.portal_tables.proofs.Lists.{put_splits}
 use Rattle.portal_tables.proofs.Keeping.{sets_apart}
 use Rattle.portal_tables.proofs.Runs.{goes_then}
@@ -32,8 +33,8 @@ use Rattle.portal_store.proofs.FirstRows.{lecturer_of, has_ranking}
 use Rattle.portal_tables.specs.Rolls.{row_key}
 use Rattle.portal_tables.specs.Office.{HasOffice}
 use Rattle.portal_store.specs.Kept.{Whole, IsConsistentIn}
-use Rattle.portal_tables.specs.Putting.{HasPut, PutsList}
-use Rattle.portal_store.specs.Putting.{TurnsThere}
+use Rattle.portal_tables.specs.inner.Putting.{HasPut, PutsList}
+use Rattle.portal_store.specs.inner.Putting.{TurnsThere}
 use Rattle.portal_tables.proofs.Listed.{all_map_on}
 use Rattle.portal_tables.proofs.Sorted.{put_all_map, put_same, distinct_if_rise, map_twice, all_permuted, all_two}
 use Rattle.portal_tables.proofs.Shapes.{IsLecturerRow, lecturer_rows_formed, has_text_of}
@@ -109,7 +110,7 @@ WholeIn lists r = IsWhole (of_key (row_key r) lists)
 abbrev NoneUnranked : List Row → Row → Type 0
 NoneUnranked lists r = has_ranking r ≡ false → of_key (row_key r) lists ≡ []
 
--- the ranking equals put, and then the lecturer's one row says so
+-- the ranking is put, and then the lecturer's one row says so
 module _ (k : Key) (list : List Key) (first mid now : Database) (put : HasPut ranking_tree k list first mid) (n : ℤ) (name code : List ℕ) (capacity was : ℤ)
     (one : filter (has_text 1 k) (first.trees lecturer_tree) ≡ (Int n ∷ lecturer_cells k name code capacity was) ∷ [])
     (set : Sets lecturer_tree (has_text 1 k) (Int n ∷ lecturer_cells k name code capacity (pos 1)) mid now) (formed : AllByRecursion IsLecturerRow (first.trees lecturer_tree)) where

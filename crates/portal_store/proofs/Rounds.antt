@@ -15,11 +15,12 @@ use Rattle.portal_core.specs.Words.{Key}
 use Rattle.portal_tables.specs.Tables.{portal_tree, second_tree, version}
 use Rattle.portal_tables.specs.Office.{number_of_phase}
 use Rattle.portal_tables.specs.declared.office.Office.{Office}
-use Rattle.portal_store.specs.Reading.{IsNow}
+use Rattle.portal_store.specs.inner.Reading.{IsNow}
 use Rattle.portal_tables.specs.Rows.{portal_row, second_row}
 use Rattle.portal_store.specs.World.{world_in, world_of, phase_numbered, phase_in, round_by, round_in, lecturer_stored}
-use Rattle.portal_store.specs.Asked.{IsJudged}
-use Rattle.portal_store.specs.Kept.{AreEmpty, HasSecond, IsConsistent, IsConsistentIn, HasGoodWorld, HasGoodWorldIn, HasChanged, IsTransitionFrom, IsTransitionIn}
+use Rattle.portal_store.specs.inner.Asked.{IsJudged}
+use Rattle.portal_store.specs.Kept.{AreEmpty, HasSecond, IsConsistent, IsConsistentIn, HasGoodWorld, HasGoodWorldIn, HasChanged}
+use Rattle.portal_store.specs.inner.Kept.{IsTransitionFrom, IsTransitionIn}
 use Rattle.portal_tables.specs.Rolls.{row_key}
 use Rattle.portal_tables.proofs.Sorted.{map_alike, map_twice}
 

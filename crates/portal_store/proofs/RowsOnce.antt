@@ -10,7 +10,7 @@ use Rattle.portal_core.specs.Good.{Sound}
 use Rattle.portal_core.proofs.AllLaws.{all_map}
 use Rattle.portal_core.proofs.Capacities.{each_one}
 use Rattle.portal_list.specs.Rows.{RowsOfWorld, world_rows}
-use Rattle.portal_list.specs.Fit.{lecturers_fitting, students_fitting}
+use Rattle.portal_list.specs.inner.Fit.{lecturers_fitting, students_fitting}
 use Rattle.portal_list.proofs.Fitting.{lecturers_back, students_back}
 use Rattle.sqlite_trees.proofs.ListLemmas.{map-map}
 

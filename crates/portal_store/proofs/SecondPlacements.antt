@@ -26,12 +26,13 @@ use Rattle.portal_core.specs.Good.{Good}
 use Rattle.portal_core.proofs.Keys.{is_same, is_own, find_map, all_unmap}
 use Rattle.portal_core.proofs.AllLaws.{all_map, all_append, all_weaker, is_sym}
 use Rattle.portal_core.proofs.Kept.{place_row}
-use Rattle.portal_tables.specs.Changes.{columns, every, with_rows}
+use Rattle.portal_tables.specs.inner.Changes.{columns, every, with_rows}
 use Rattle.portal_tables.specs.Rolls.{row_key}
-use Rattle.portal_tables.specs.Putting.{HasPlacements, PutsPlacements}
-use Rattle.portal_tables.specs.Rows.{MovesSecond, pair_new}
-use Rattle.portal_tables.specs.Steps.{Made, GoesOn}
-use Rattle.portal_tables.specs.Shown.{first_cell, text_or_none}
+use Rattle.portal_tables.specs.inner.Putting.{HasPlacements, PutsPlacements}
+use Rattle.portal_tables.specs.inner.Rows.{MovesSecond, pair_new}
+use Rattle.portal_tables.specs.inner.Steps.{Made, GoesOn}
+use Rattle.portal_tables.specs.Shown.{text_or_none}
+use Rattle.portal_tables.specs.inner.Shown.{first_cell}
 use Rattle.portal_tables.specs.Tables.{student_tree, assigned2_tree}
 use Rattle.portal_tables.proofs.Lists.{filter_all}
 use Rattle.portal_tables.proofs.Listed.{permuted}
@@ -39,7 +40,7 @@ use Rattle.portal_tables.proofs.Runs.{goes_then}
 use Rattle.portal_tables.proofs.Sorted.{all_permuted, at, distinct_if_rise, map_alike_on, map_twice, permutes, put_all_map}
 use Rattle.portal_store.specs.World.{world_in, student_stored}
 use Rattle.portal_store.specs.Kept.{IsConsistentIn}
-use Rattle.portal_store.specs.Placing.{pair_left, ShowsRoll, TurnsLeft}
+use Rattle.portal_store.specs.inner.Placing.{pair_left, ShowsRoll, TurnsLeft}
 use Rattle.portal_store.proofs.Holding.{second_turned}
 use Rattle.portal_store.proofs.Placements.{now_published, shown_known}
 use Rattle.portal_store.proofs.Still.{but_one, opened_kept, holds_there, world_after}
@@ -80,7 +81,7 @@ all_told rows pairs of = ap (map told) of ∙ rows_told 1 [] (map pair_new pairs
     itself [] = refl
     itself (p ∷ ps) = ap (λ l. p ∷ l) (itself ps)
 
--- the project that the rows give to a student equals that of the pairs
+-- the project that the rows give to a student is that of the pairs
 place_told : (rows : List Row) (pairs : List (Key × Key)) (k : Key) → rows ≡ with_rows [] (map pair_new pairs) → option_map (λ a. bytes (column a 2)) (find (λ a. equals (row_key a) k) rows) ≡ placement_in pairs k
 place_told rows pairs k of = sym (ap (λ ps. placement_in ps k) (sym (all_told rows pairs of)) ∙ ap (option_map (λ (x : Key × Key). x.1)) (find_map told (λ a. equals (row_key a) k) (λ x. equals x.0 k) (λ a. refl) rows) ∙ both (find (λ a. equals (row_key a) k) rows))
   where
@@ -88,12 +89,12 @@ place_told rows pairs k of = sym (ap (λ ps. placement_in ps k) (sym (all_told r
     both None = refl
     both (Some a) = refl
 
--- what the pairs say of a student: a project of the first_cell round leaves none
+-- what the pairs say of a student: a project of the first round leaves none
 abbrev pub place_left : List (Key × Key) → Option Key → Key → Option Key
 place_left pairs earlier k = if is_none earlier then placement_in pairs k else None
 
 module _ (pairs : List (Key × Key)) (k : Key) (earlier : Option Key) where
-  -- the student's own pair, if there equals one, before others
+  -- the student's own pair, if there is one, before others
   found : (b : Bool) (t : Option Key) (rest : List (Key × Key)) → placement_in rest k ≡ cond b t None → placement_in (cons_option (option_map (λ p. (k, p)) t) rest) k ≡ t
   found b None rest h = h ∙ elim b as (λ b. ◌≡◌ {A = Option Key} (cond b None None) None) [ true ↦ refl | false ↦ refl ]
   found b (Some p) rest h = rw (is_own k) refl
@@ -139,7 +140,7 @@ one_with r (x ∷ rows) d (inr there) =
     let other = at (λ y. equals (row_key x) (row_key y) ≡ false) rows r (all_unmap (λ l. equals (row_key x) l ≡ false) row_key rows d.0) there in
     (λ hit. let e : true ≡ false = sym hit ∙ other in absurd (cc), one_with r rows d.1 there)
 
--- who has a project of the first_cell round has none of the second, so that none equals given
+-- who has a project of the first round has none of the second, so that none is given
 with_left : (pairs : List (Key × Key)) (s : Student) → (is_left s ≡ false → s.placed ≡ None) → ◌≡◌ {A = Student} (record s { placed = place_left pairs s.earlier_placement s.row.key }) (with_place pairs s)
 with_left pairs s none = go (is_left s) none
   where
@@ -147,7 +148,7 @@ with_left pairs s none = go (is_left s) none
     go true h = refl
     go false h = λ i. record s { placed = sym (h refl) i }
 
--- each student who equals left has the place that the pairs give, and nothing else has changed
+-- each student who is left has the place that the pairs give, and nothing else has changed
 record IsPlaced (pairs : List (Key × Key)) (old new : Database) : Type 0 where
   holds : IsConsistentIn Second new
   world : world_in Second new.trees ≡ record (world_in Second old.trees) { students = map (with_place pairs) (world_in Second old.trees).students }

@@ -14,20 +14,20 @@ use Rattle.portal_core.proofs.AllLaws.{all_weaker}
 use Rattle.portal_tables.specs.Schema.{IsCurrentSchema}
 use Rattle.portal_tables.specs.Changes.{RowNumbersDiffer}
 use Rattle.portal_tables.specs.Lists.{of_key, chosen}
-use Rattle.portal_tables.specs.Putting.{HasPut, PutsList, HasRanked, RanksSecond}
+use Rattle.portal_tables.specs.inner.Putting.{HasPut, PutsList, HasRanked, RanksSecond}
 use Rattle.portal_tables.specs.Rolls.{row_key}
-use Rattle.portal_tables.specs.Steps.{Made, GoesOn}
+use Rattle.portal_tables.specs.inner.Steps.{Made, GoesOn}
 use Rattle.portal_tables.specs.Tables.{ranked2_tree, ranking2_tree, own_trees}
 use Rattle.portal_tables.proofs.Runs.{goes_then}
 use Rattle.portal_tables.proofs.Sorted.{put_all_map, map_alike, map_twice}
 use Rattle.portal_store.specs.World.{world_in, lecturer_stored, is_ranked}
 use Rattle.portal_store.specs.Kept.{Whole, IsConsistentIn}
-use Rattle.portal_store.specs.Putting.{TurnsThere}
+use Rattle.portal_store.specs.inner.Putting.{TurnsThere}
 use Rattle.portal_store.proofs.ChoiceTurns.{chosen_is, whole_at}
 use Rattle.portal_store.proofs.RankTurns.{same_key}
 use Rattle.portal_store.proofs.Still.{but_two, two_changed, world_same, whole_same, kept_at, apart_kept, first_kept, first_then, opened_kept, holds_second}
 
--- the ranking equals put, and then a row says that it equals there
+-- the ranking is put, and then a row says that it is there
 module _ (k : Key) (list : List Key) (first mid now : Database) (put : HasPut ranking2_tree k list first mid) (says : HasRanked k mid now) where
   -- the tables at the start, with the new rankings and who has one
   abbrev there : Trees
@@ -36,11 +36,11 @@ module _ (k : Key) (list : List Key) (first mid now : Database) (put : HasPut ra
   same : AllByRecursion (λ t. now.trees t ≡ there t) own_trees
   same = two_changed ranking2_tree ranked2_tree first mid now put.tables says.tables
 
-  -- who has a ranking equals this lecturer, and who had one
+  -- who has a ranking is this lecturer, and who had one
   known : (key : Key) → has (map row_key (now.trees 19)) key ≡ (equals key k || has (map row_key (first.trees 19)) key)
   known key = says.known key ∙ ap (λ rows. equals key k || has (map row_key rows) key) (kept_at ranking2_tree first mid put.tables ranked2_tree refl refl)
 
-  -- a ranking of the lecturer, by whether it equals this one
+  -- a ranking of the lecturer, by whether it is this one
   one : (r : Row) → lecturer_stored Second there r ≡ with_ranking k list (lecturer_stored Second first.trees r)
   one r =
       let l = lecturer_stored Second first.trees r in

@@ -24,8 +24,9 @@ use Rattle.portal_tables.specs.Steps.{Commits}
 use Rattle.portal_tables.proofs.Keeping.{apart_one}
 use Rattle.portal_tables.proofs.Owned.{current_own}
 use Rattle.portal_store.specs.World.{world_in, world_of, phase_numbered}
-use Rattle.portal_store.specs.Kept.{IsConsistentIn, IsKept, IsUnopened, HasGoodWorld, HasGoodFirst}
-use Rattle.portal_store.specs.Asked.{AdmitsAs}
+use Rattle.portal_store.specs.Kept.{IsConsistentIn, IsUnopened, HasGoodWorld, HasGoodFirst}
+use Rattle.portal_store.specs.inner.Kept.{IsKept}
+use Rattle.portal_store.specs.inner.Asked.{AdmitsAs}
 use Rattle.portal_store.proofs.Asked.{apart_all}
 use Rattle.portal_store.proofs.Rounds.{world_told}
 use Rattle.portal_store.proofs.Still.{apart_among, one_among, whole_first, world_first}

@@ -5,15 +5,16 @@ use Rattle.sqlite.specs.State.{State, HasCleanDisk}
 use Rattle.portal_core.specs.declared.phase.Round.{Round}
 use Rattle.portal_core.specs.declared.phase.Round.TheVariants.{First}
 use Rattle.portal_core.specs.declared.rows.Listing.{Listing}
-use Rattle.portal_core.specs.ViewCache.{IsCacheOf}
+use Rattle.portal_core.specs.inner.ViewCache.{IsCacheOf}
 use Rattle.portal_core.specs.View.{catalogue}
 use Rattle.portal_core.specs.declared.view_cache.ViewCache.{ViewCache}
 use Rattle.portal_tables.specs.Schema.{HasRound}
-use Rattle.portal_tables.specs.Reading.{RunsQueryIn, RunsQueriesIn}
+use Rattle.portal_tables.specs.Reading.{RunsQueryIn}
+use Rattle.portal_tables.specs.inner.Reading.{RunsQueriesIn}
 use Rattle.portal_tables.proofs.InTurn.{clean_before, reads_in, reads_then}
 use Rattle.portal_tables.proofs.Owned.{has_round}
 use Rattle.portal_store.specs.Kept.{IsConsistentIn}
-use Rattle.portal_store.specs.Reading.{KeepsCacheIn}
+use Rattle.portal_store.specs.inner.Reading.{KeepsCacheIn}
 use Rattle.portal_store.specs.World.{world_in}
 
 -- what holds of a reading after one that changed nothing holds over the tables before that one

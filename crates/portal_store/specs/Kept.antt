@@ -1,12 +1,11 @@
 -- What a store keeps true between two calls, and what a change of the world is to the tables.
-use Rattle.std.specs.Prelude.{◌≡◌, ◌⊎◌, ℕ, pos, ◌+◌, ◌-◌, ◌^◌, ◌≤◌, min, Bool, false, List, [], ◌∷◌, Option, IfSome, IsTrue, refl}
-use Rattle.std.specs.Coded.{Coded, code_by, coded×, coded_bool, coded_ℕ}
+use Rattle.std.specs.Prelude.{◌≡◌, ◌⊎◌, ℕ, pos, ◌+◌, ◌-◌, ◌^◌, ◌≤◌, min, Bool, false, List, [], ◌∷◌, IsTrue}
 use Rattle.std.specs.List.{AllByRecursion}
 use Rattle.sqlite.specs.Tree.{Trees}
 use Rattle.sqlite.specs.Effect.{Database, IsDatabase}
 use Rattle.sqlite.specs.State.{State, HasCleanDisk}
 use Rattle.sqlite.specs.Store.{Ghosts}
-use Rattle.sqlite.specs.Held.{Held, held_code, state}
+use Rattle.sqlite.specs.Held.{Held, state}
 use Rattle.sqlite.specs.Steps.{over_memory}
 use Rattle.sqlite_trees.specs.declared.memory.MemStore.{MemStore}
 use Rattle.portal_core.specs.declared.phase.Phase.{Phase}
@@ -16,11 +15,8 @@ use Rattle.portal_core.specs.declared.phase.Round.TheVariants.{First, Second}
 use Rattle.portal_core.specs.World.{World, is_setup}
 use Rattle.portal_core.specs.Change.{Change, changed}
 use Rattle.portal_core.specs.Good.{Good}
-use Rattle.portal_core.specs.ViewCache.{IsCacheOf}
-use Rattle.portal_core.specs.declared.view_cache.ViewCache.{ViewCache}
-use Rattle.portal_list.specs.Entries.{AllEntries, HasEntries}
 use Rattle.portal_tables.specs.ListTables.{tree_of}
-use Rattle.portal_tables.specs.Tables.{portal_tree, lecturer_tree, project_tree, student_tree, choice_tree, ranking_tree, second_tree, choice2_tree, ranked2_tree, ranking2_tree, assigned2_tree, own_trees, version}
+use Rattle.portal_tables.specs.Tables.{portal_tree, lecturer_tree, student_tree, second_tree, choice2_tree, ranked2_tree, ranking2_tree, assigned2_tree, own_trees, version}
 use Rattle.portal_tables.specs.Schema.{HasFirstSchema, IsCurrentSchema}
 use Rattle.portal_tables.specs.Changes.{RowNumbersDiffer}
 use Rattle.portal_tables.specs.Lists.{of_key, IsWhole}
@@ -34,10 +30,6 @@ pub record Whole (round : Round) (db : Trees) : Type 0 where
   pub choices : AllByRecursion (λ r. IsWhole (of_key (row_key r) (db (tree_of (choice_table round))))) (db student_tree)
   pub rankings : AllByRecursion (λ r. IsWhole (of_key (row_key r) (db (tree_of (ranking_table round))))) (db lecturer_tree)
   pub ranked : AllByRecursion (λ r. is_ranked round db r ≡ false → of_key (row_key r) (db (tree_of (ranking_table round))) ≡ []) (db lecturer_tree)
-
--- the tables of many rows: the rolls and the lists of the first round, and the lists and places of the second
-abbrev pub early_trees : List ℕ
-early_trees = lecturer_tree ∷ project_tree ∷ student_tree ∷ choice_tree ∷ ranking_tree ∷ []
 
 abbrev pub later_trees : List ℕ
 later_trees = choice2_tree ∷ ranked2_tree ∷ ranking2_tree ∷ assigned2_tree ∷ []
@@ -111,44 +103,11 @@ pub record HasChanged (change : Change) (old new : Database) : Type 0 where
 abbrev pub IsTransition : Change → Database → Database → Type 0
 IsTransition change old new = IsConsistent old → Good (world_of old.trees) → Good (changed (world_of old.trees) change) → HasChanged change old new
 
--- the same of tables that stay in their round
-pub record HasChangedIn (round : Round) (change : Change) (old new : Database) : Type 0 where
-  pub holds : IsConsistentIn round new
-  pub world : world_in round new.trees ≡ changed (world_in round old.trees) change
-
-abbrev pub IsTransitionIn : Round → Change → Database → Database → Type 0
-IsTransitionIn round change old new =
-    IsConsistentIn round old → Good (world_in round old.trees) → Good (changed (world_in round old.trees) change) → HasChangedIn round change old new
-
--- a change of tables of this round, whatever round it leaves
-pub record HasChangedFrom (round : Round) (change : Change) (old new : Database) : Type 0 where
-  pub holds : IsConsistent new
-  pub world : world_of new.trees ≡ changed (world_in round old.trees) change
-
-abbrev pub IsTransitionFrom : Round → Change → Database → Database → Type 0
-IsTransitionFrom round change old new =
-    IsConsistentIn round old → Good (world_in round old.trees) → Good (changed (world_in round old.trees) change) → HasChangedFrom round change old new
-
 -- what can be seen of a store: its connection, whether the tables are those that the portal makes, and how many calls were answered with its fault
 pub record Seen (S : Type 0) : Type 0 where
   pub conn : Held S
   pub own : Bool
   pub faults : ℕ
-
-abbrev pub seen_code : {S : Type 0} → Coded S → Coded (Seen S)
-seen_code {S} store =
-    code_by (Held S × (Bool × ℕ)) (coded× (held_code store) (coded× coded_bool coded_ℕ)) (λ s. (s.conn, (s.own, s.faults)))
-    (λ p. record { conn = p.0; own = p.1.0; faults = p.1.1 })
-    (λ _. refl)
-
--- all is committed
-pub record IsReady (s : State) : Type 0 where
-  pub settled : s.committed ≡ s.now
-  pub holds : IsConsistent s.now
-
-pub record IsKept {S : Type 0} (g : Ghosts S) (conn : Held S) (own : Bool) : Type 0 where
-  pub idle : conn.in_transaction ≡ false
-  pub ready : IsTrue own → IsTrue (state g conn).is_open → IsReady (state g conn)
 
 -- the tables are the portal's own, and the connection is open: what it shows is what the disk has
 abbrev pub IsCleanStore : {S : Type 0} → Ghosts S → Seen S → Type 0
@@ -164,16 +123,6 @@ Lasts g old new = HasCleanDisk (state g new.conn) → IsCleanStore g old → IsC
 
 abbrev pub kept_world : {S : Type 0} → Ghosts S → Seen S → World
 kept_world g s = world_of (state g s.conn).now.trees
-
--- the entries, if there are any, are the world's
-abbrev pub AreEntries : Option AllEntries → World → Type 0
-AreEntries entries w = IfSome entries (λ e. HasEntries e w)
-
--- a store between two calls; what it remembers is of its world
-pub record IsAtRest {S : Type 0} (g : Ghosts S) (conn : Held S) (own : Bool) (cache : ViewCache) (entries : Option AllEntries) : Type 0 where
-  pub kept : IsKept g conn own
-  pub shown : IsTrue own × IsTrue (state g conn).is_open → IsCacheOf cache (world_of (state g conn).now.trees)
-  pub entered : IsTrue own × IsTrue (state g conn).is_open → AreEntries entries (world_of (state g conn).now.trees)
 
 -- a clean store in memory stays clean: there is no disk that could fail
 abbrev pub LastsInMemory : Type 0

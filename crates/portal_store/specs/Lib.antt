@@ -1,14 +1,7 @@
-pub mod Adding
 pub mod Asked
 pub mod Crash
-pub mod Ending
-pub mod Found
 pub mod Kept
-pub mod Loads
 pub mod Made
-pub mod Opening
-pub mod Placing
-pub mod Putting
 pub mod Reading
 pub mod World
-pub mod Queried
+pub mod inner

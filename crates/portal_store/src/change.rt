@@ -5,11 +5,12 @@ ghost use Rattle.sqlite.specs.Held.{state};
 ghost use Rattle.portal_core.specs.Counting.{CountsFaults};
 ghost use Rattle.portal_core.specs.Change.{SecondRound};
 ghost use Rattle.portal_core.specs.Meaning.{change_model};
-ghost use Rattle.portal_store.specs.Opening.{is_opening};
+ghost use Rattle.portal_store.specs.inner.Opening.{is_opening};
 ghost use Rattle.portal_tables.specs.Schema.{IsCurrentSchema};
-ghost use Rattle.portal_store.specs.Kept.{IsTransition, IsTransitionFrom, IsTransitionIn};
-ghost use Rattle.portal_store.specs.Ending.{CommitsChange};
-ghost use Rattle.portal_store.specs.Reading.{KeepsEntries};
+ghost use Rattle.portal_store.specs.Kept.{IsTransition};
+ghost use Rattle.portal_store.specs.inner.Kept.{IsTransitionFrom, IsTransitionIn};
+ghost use Rattle.portal_store.specs.inner.Ending.{CommitsChange};
+ghost use Rattle.portal_store.specs.inner.Reading.{KeepsEntries};
 
 use crate::fault::told;
 use crate::fill::fill_rankings;

@@ -5,10 +5,10 @@ ghost use Rattle.sqlite.specs.Held.{state};
 ghost use Rattle.portal_core.specs.Words as words;
 ghost use Rattle.portal_core.specs.Change.{Fill};
 ghost use Rattle.portal_tables.specs.Schema.{IsCurrentSchema};
-ghost use Rattle.portal_store.specs.Kept.{IsTransitionIn};
-ghost use Rattle.portal_store.specs.Ending.{CommitsChange};
-ghost use Rattle.portal_store.specs.Putting.{TurnsAll};
-ghost use Rattle.portal_store.specs.Reading.{KeepsEntries};
+ghost use Rattle.portal_store.specs.inner.Kept.{IsTransitionIn};
+ghost use Rattle.portal_store.specs.inner.Ending.{CommitsChange};
+ghost use Rattle.portal_store.specs.inner.Putting.{TurnsAll};
+ghost use Rattle.portal_store.specs.inner.Reading.{KeepsEntries};
 
 use crate::lists::PutRanking;
 use crate::load::load_entries;

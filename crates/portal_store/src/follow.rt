@@ -6,7 +6,7 @@ ghost use Rattle.portal_core.specs.Good.{Sound};
 ghost use Rattle.portal_core.specs.Meaning.{change_model};
 ghost use Rattle.portal_core.specs.World.{World};
 ghost use Rattle.portal_list.specs.Entries.{HasEntries};
-ghost use Rattle.portal_store.specs.Kept.{AreEntries};
+ghost use Rattle.portal_store.specs.inner.Kept.{AreEntries};
 
 use portal_core::{Change, KeepFault};
 use portal_list::Entries;

@@ -10,7 +10,8 @@ ghost use Rattle.portal_core.specs.Instance as meant_by;
 ghost use Rattle.portal_list.specs.Entries.{HasEntries};
 ghost use Rattle.portal_tables.specs.Reading.{RunsQueryIn};
 ghost use Rattle.portal_store.specs.World.{world_of};
-ghost use Rattle.portal_store.specs.Reading.{shown, OverBoth};
+ghost use Rattle.portal_store.specs.Reading.{shown};
+ghost use Rattle.portal_store.specs.inner.Reading.{OverBoth};
 
 use crate::fault::{rows_fault_of, told};
 use crate::load::load_entries;

@@ -3,9 +3,9 @@
 ghost use Rattle.std.specs.Prelude.{◌≡◌, false};
 ghost use Rattle.sqlite.specs.Held.{state};
 ghost use Rattle.portal_core.specs.Change.{Choices, Ranks};
-ghost use Rattle.portal_store.specs.Kept.{IsTransitionIn};
-ghost use Rattle.portal_store.specs.Ending.{CommitsChange};
-ghost use Rattle.portal_store.specs.Putting.{TurnsThere};
+ghost use Rattle.portal_store.specs.inner.Kept.{IsTransitionIn};
+ghost use Rattle.portal_store.specs.inner.Ending.{CommitsChange};
+ghost use Rattle.portal_store.specs.inner.Putting.{TurnsThere};
 ghost use Rattle.portal_store.specs.World as world;
 
 use portal_core::Round;

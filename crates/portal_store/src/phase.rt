@@ -5,9 +5,9 @@ ghost use Rattle.sqlite.specs.Held.{state};
 ghost use Rattle.portal_core.specs.Change.{To};
 ghost use Rattle.portal_tables.specs.Office.{number_of_phase};
 ghost use Rattle.portal_tables.specs.Schema.{IsCurrentSchema};
-ghost use Rattle.portal_store.specs.Kept.{IsTransitionIn};
-ghost use Rattle.portal_store.specs.Ending.{CommitsChange};
-ghost use Rattle.portal_store.specs.Reading.{KeepsEntries};
+ghost use Rattle.portal_store.specs.inner.Kept.{IsTransitionIn};
+ghost use Rattle.portal_store.specs.inner.Ending.{CommitsChange};
+ghost use Rattle.portal_store.specs.inner.Reading.{KeepsEntries};
 
 use crate::load::load_entries;
 use portal_core::{Phase, Round};

@@ -4,9 +4,9 @@ ghost use Rattle.std.specs.Prelude.{◌≡◌, false, map, IfOk, is_none, option
 ghost use Rattle.std.specs.List.{filter_map};
 ghost use Rattle.sqlite.specs.Held.{state};
 ghost use Rattle.portal_core.specs.Change.{Placements, placement_in};
-ghost use Rattle.portal_store.specs.Kept.{IsTransitionIn};
-ghost use Rattle.portal_store.specs.Ending.{CommitsChange};
-ghost use Rattle.portal_store.specs.Placing.{TurnsShown, TurnsLeft, assigned_of, pair_left};
+ghost use Rattle.portal_store.specs.inner.Kept.{IsTransitionIn};
+ghost use Rattle.portal_store.specs.inner.Ending.{CommitsChange};
+ghost use Rattle.portal_store.specs.inner.Placing.{TurnsShown, TurnsLeft, assigned_of, pair_left};
 ghost use Rattle.sqlite.specs.Order.{column};
 ghost use Rattle.portal_tables.specs.Shown.{text_or_none};
 ghost use Rattle.portal_core.specs.declared.phase.Round.TheVariants.{First};

@@ -2,9 +2,9 @@
 
 ghost use Rattle.std.specs.Prelude.{◌≡◌, false};
 ghost use Rattle.sqlite.specs.Held.{state};
-ghost use Rattle.portal_store.specs.Adding.{with_rows_added};
-ghost use Rattle.portal_store.specs.Ending.{CommitsChange};
-ghost use Rattle.portal_store.specs.Kept.{IsTransitionIn};
+ghost use Rattle.portal_store.specs.inner.Adding.{with_rows_added};
+ghost use Rattle.portal_store.specs.inner.Ending.{CommitsChange};
+ghost use Rattle.portal_store.specs.inner.Kept.{IsTransitionIn};
 
 use portal_core::{LecturerRow, ProjectRow, Round, StudentRow};
 use portal_tables::insert::{Lecturers, Projects, Students, add_all};

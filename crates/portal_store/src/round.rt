@@ -5,9 +5,11 @@ ghost use Rattle.sqlite.specs.Held.{state};
 ghost use Rattle.portal_core.specs.declared.phase.Round.{Round as ThatRound};
 ghost use Rattle.portal_core.specs.declared.phase.Round.TheVariants.{First, Second};
 ghost use Rattle.portal_core.specs.World.{is_setup};
-ghost use Rattle.portal_tables.specs.Reading.{RunsQuery, RunsQueryIn};
+ghost use Rattle.portal_tables.specs.Reading.{RunsQueryIn};
+ghost use Rattle.portal_tables.specs.inner.Reading.{RunsQuery};
 ghost use Rattle.portal_store.specs.World as meant_by;
-ghost use Rattle.portal_store.specs.Reading.{shown, IsNow, OverBoth, OverOwn};
+ghost use Rattle.portal_store.specs.Reading.{shown};
+ghost use Rattle.portal_store.specs.inner.Reading.{IsNow, OverBoth, OverOwn};
 ghost use Rattle.portal_store.specs.Kept.{HasSecond, HasGoodWorldIn};
 
 use portal_core::{Phase, Round};

@@ -4,12 +4,14 @@ ghost use Rattle.std.specs.Prelude.{◌≡◌, false, Err, IfOk};
 ghost use Rattle.sqlite.specs.Held.{state};
 ghost use Rattle.portal_core.specs.Good.{Sound};
 ghost use Rattle.portal_core.specs.declared.phase.Round.TheVariants.{Second};
-ghost use Rattle.portal_tables.specs.Reading.{RunsQuery, RunsQueryIn};
-ghost use Rattle.portal_store.specs.Asked.{NumbersDiffer};
+ghost use Rattle.portal_tables.specs.Reading.{RunsQueryIn};
+ghost use Rattle.portal_tables.specs.inner.Reading.{RunsQuery};
+ghost use Rattle.portal_store.specs.inner.Asked.{NumbersDiffer};
 ghost use Rattle.portal_store.specs.Kept.{HasGoodWorld, HasGoodFirst};
 ghost use Rattle.portal_store.specs.World.{round_in};
-ghost use Rattle.portal_store.specs.Found.{ShowsWorld, FindsIn};
-ghost use Rattle.portal_store.specs.Reading.{shown, OverBoth, OverOwn};
+ghost use Rattle.portal_store.specs.inner.Found.{ShowsWorld, FindsIn};
+ghost use Rattle.portal_store.specs.Reading.{shown};
+ghost use Rattle.portal_store.specs.inner.Reading.{OverBoth, OverOwn};
 
 use crate::fault::rows_fault_of;
 use crate::load::{load, load_first};

@@ -10,13 +10,15 @@ ghost use Rattle.portal_tables.specs.Schema.{IsFirstSchema, HasFirstSchema};
 ghost use Rattle.portal_tables.specs.Making.{Upgrades};
 ghost use Rattle.portal_tables.specs.Names.{has_names};
 ghost use Rattle.portal_tables.specs.declared.names.Names.TheVariants.{OfSecond};
-ghost use Rattle.portal_tables.specs.Reading.{RunsQuery};
+ghost use Rattle.portal_tables.specs.inner.Reading.{RunsQuery};
 ghost use Rattle.portal_tables.specs.Steps.{Commits, IsAfter, LeavesOnly, Stays};
 ghost use Rattle.portal_list.specs.Entries.{HasEntries};
 ghost use Rattle.portal_store.specs.Kept.{HasGoodFirst, IsCleanStore, kept_world};
 ghost use Rattle.portal_store.specs.World.{world_in};
-ghost use Rattle.portal_store.specs.Asked.{RefusalSays, Bars, AdmitsAs};
-ghost use Rattle.portal_store.specs.Reading.{shown, OverLive};
+ghost use Rattle.portal_store.specs.Asked.{RefusalSays, Bars};
+ghost use Rattle.portal_store.specs.inner.Asked.{AdmitsAs};
+ghost use Rattle.portal_store.specs.Reading.{shown};
+ghost use Rattle.portal_store.specs.inner.Reading.{OverLive};
 
 use crate::fault::{open_fault_of, upgrade_fault_of, upgrading_fault_of};
 use crate::seeing::{judge, see_first};

@@ -21,7 +21,7 @@ no_acts checks terms olds news =
     [ true ↦ refl | false ↦ refl ]
 
 abbrev pub update_one : List ℕ
-update_one = codes "UPDATE student_schema SET assigned = ?2 WHERE key = ?1"
+update_one = codes "UPDATE student SET assigned = ?2 WHERE key = ?1"
 
 abbrev with_last : List Term
 with_last = col 1 0 ∷ col 1 1 ∷ col 1 2 ∷ col 1 3 ∷ param 1 ∷ []
@@ -142,7 +142,7 @@ assigns_then all x a b c first later own sound apart =
       sound = q.sound;
     }
 
--- a loop's turn: the student_schema at i
+-- a loop's turn: the student at i
 pub assigns_next : (all : List Assigned) (i : ℕ) (x : Assigned) (a b c : Database) → i < length all → x ≡ get_or all i x → Assigns (take i all) a b → Assigns (x ∷ []) b c → Assigns (take (i + 1) all) a c
 assigns_next all i x a b c within is was more =
     subst (λ l. Assigns l a c) (ap (λ z. take i all ++ z ∷ []) is ∙ sym (take_more all i x within)) (assigns_then (take i all) x a b c was more)

@@ -1,15 +1,15 @@
--- A key that equals looked for among rows whose keys rise.
+-- A key that is looked for among rows whose keys rise.
 use Rattle.std.specs.Prelude.{◌≡◌, ◌<◌, ◌≤◌, ◌||◌, ◌∷◌}
 use Rattle.portal_tables.proofs.Base.{inl, inr, zero, suc, ℕ, true, false, List, [], map, length, get_or, refl, sym, subst, ◌∙◌, ap, nat_cmp, slice_cmp, or-true, cases_Bool, cases_lt, nat_list_cmp_total, tied_itself, exact_bytes, Row, Key, equals, has, is_same, is_own, first_cell}
 use Rattle.std.proofs.Common.{Less, Equal, Greater, arith}
 
--- a key that equals found at a place equals there
+-- a key that is found at a place is there
 there : (rows : List Row) (k : Key) (n : ℕ) (d : Row) → n < length rows → slice_cmp nat_cmp (first_cell (get_or rows n d)) k ≡ Equal → has (map first_cell rows) k ≡ true
 there [] k n d low equal = absurd (omega (arith, low))
 there (r ∷ rows) k zero d low equal = ap (λ b. b || has (map first_cell rows) k) (subst (λ x. equals k x ≡ true) (sym (exact_bytes (first_cell r) k equal)) (is_own k))
 there (r ∷ rows) k (suc n) d low equal = ap (λ b. equals k (first_cell r) || b) (there rows k n d (omega (arith, low)) equal) ∙ or-true (equals k (first_cell r))
 
--- one that equals at no place equals not
+-- one that is at no place is not
 nowhere : (rows : List Row) (k : Key) → ((i : ℕ) (d : Row) → i < length rows → slice_cmp nat_cmp (first_cell (get_or rows i d)) k ≡ Equal → ⊥) → has (map first_cell rows) k ≡ false
 nowhere [] k other = refl
 nowhere (r ∷ rows) k other = elim (cases_Bool (equals k (first_cell r))) [

@@ -1,4 +1,4 @@
--- Whom a row names equals on the roll, by the foreign keys of the tables.
+-- Whom a row names is on the roll, by the foreign keys of the tables.
 use Rattle.std.specs.Prelude.{◌≡◌, ◌&&◌, ◌||◌, ◌∷◌}
 use Rattle.portal_tables.proofs.Base.{ℤ, inl, inr, ℕ, Bool, true, false, cond, map, List, [], refl, sym, ap, subst, ◌∙◌, and_parts, cases_Bool, AllByRecursion, list_any, is_eq, or-true, Value, Null, Int, Real, Blob, Words, Binary, Row, column, bytes, value_cmp, Database, IsDatabase, Trees, ForeignKey, OfLists, equal, Key, equals, has, is_same, is_own, lecturer_tree, project_tree, student_tree, round_of, tree_of, Lists, Choices, Rankings, SecondChoices, SecondRankings, HasRound, RowNumbersDiffer, has_text, everything, place_cells, row_key, of_key, named_by}
 use Rattle.portal_tables.proofs.Weak.{Open, own_is}
@@ -6,7 +6,7 @@ use Rattle.portal_tables.proofs.Shapes.{IsPlace, Follows, followed, place_rows_f
 use Rattle.portal_tables.proofs.Sorted.{all_two}
 use Rattle.portal_tables.proofs.Tests.{equals_text}
 
--- a parent equals found by its key
+-- a parent is found by its key
 equals_key : (v : Value) (t : Key) → is_eq (value_cmp v (Words t)) ≡ true → v ≡ Words t
 unfolding value_cmp lib.Ieee.is_nan lib.Ieee.lt
 equals_key Null t e = absurd (cc)
@@ -15,7 +15,7 @@ equals_key (Real x) t e = absurd (cc)
 equals_key (Words s) t e = ap Words (is_same s t (sym (text_equals s t) ∙ e))
 equals_key (Blob b) t e = absurd (cc)
 
--- a row whose text in a column equals these bytes
+-- a row whose text in a column is these bytes
 pub text_there : (at : ℕ) (t : Key) (r : Row) → has_text at t r ≡ true → column r at ≡ Words t
 text_there at t r e = equals_key (column r at) t e
 
@@ -67,7 +67,7 @@ place_parents db l own sound apart =
     ))
     (db.trees (tree_of l)) (place_rows_formed db l own sound apart) (followed db (OfLists l) own sound ForeignKey)
 
--- who equals not on the roll has no row
+-- who is not on the roll has no row
 pub none_of : (Q : Row → Type 0) (roll : List Row) (k : Key) (rows : List Row) → AllByRecursion (λ r. OnRoll roll (row_key r) × Q r) rows → has (map row_key roll) k ≡ false → of_key k rows ≡ []
 none_of Q roll k [] all off = refl
 none_of Q roll k (r ∷ rows) all off = elim (cases_Bool (has_text 1 k r)) [

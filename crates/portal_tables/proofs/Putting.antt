@@ -1,4 +1,4 @@
--- A list that equals put, whole, in place of another.
+-- A list that is put, whole, in place of another.
 use Rattle.std.specs.Prelude.{◌≡◌, ◌+◌, ◌<◌, ◌∷◌, ◌++◌, ◌&&◌}
 use Rattle.portal_tables.proofs.Base.{ℕ, pos, List, [], Bool, true, false, not, cond, map, filter, length, refl, sym, ap, ap₂, subst, ◌∙◌, get_or, take, suc, zero-add, AllByRecursion, IsPermutation, map-append, append-nil, append_assoc, length_push, take_more, length-take-le, State, Made, GoesOn, and-false, filter-append, IsPermutation-refl, IsPermutation-trans, IsPermutation-sym, IsPermutation-cons, IsPermutation-middle, IsPermutation-to_front, is_eq, Ordering, Less, Equal, Greater, Value, Int, Words, Row, value_cmp, column, next_rowid, is_taken, put_row, Database, value_cmp_total, Key, equals, is_before, Rise, is_sym, IsCurrentSchema, has_text, with_rows, AreNew, Adds, Clears, place_cells, of_key, place_key, by_place, list_in_order, CountUp, IsWhole, numbered, placed, list_cells, PutsList}
 use Rattle.std.proofs.Common.{arith}
@@ -14,7 +14,7 @@ equal_of Less e = absurd (cc)
 equal_of Equal e = refl
 equal_of Greater e = absurd (cc)
 
--- a text equals one text
+-- a text is one text
 pub same_text : (v : Value) (k s : Key) → is_eq (value_cmp v (Words k)) ≡ true → is_eq (value_cmp v (Words s)) ≡ equals k s
 same_text v k s e = ap is_eq (value_cmp_total.congr v (Words k) (Words s) (equal_of _ e)) ∙ text_equals k s
 
@@ -35,7 +35,7 @@ none_left s (r ∷ rows) = go (has_text 1 s r) refl (none_left s rows)
     go true e h = h
     go false e h = rw e h
 
--- once the owner's rows are gone nothing equals put
+-- once the owner's rows are gone nothing is put
 put_begun : (tree : ℕ) (owner : Key) (first now : Database) → Clears tree owner first now → PutsList tree owner [] first now
 put_begun tree owner first now cleared own apart =
     let drops = cleared own apart in
@@ -126,13 +126,13 @@ put_whole tree owner list first mid now puts adds own apart =
       places = subst (λ t. IsPermutation (map placed (of_key owner t)) (numbered 1 list)) (sym put.rows) listed.places;
     }
 
--- a list that equals written row by row
+-- a list that is written row by row
 pub cells_more : (owner : Key) (done : List Key) (k : Key) → list_cells owner (done ++ k ∷ []) ≡ list_cells owner done ++ place_cells owner (pos (length done + 1)) k ∷ []
 cells_more owner done k =
     ap (map (λ (p : ℕ × Key). place_cells owner (pos p.0) p.1)) (numbered_more 1 done k)
     ∙ map-append (λ (p : ℕ × Key). place_cells owner (pos p.0) p.1) (numbered 1 done) ((length done + 1, k) ∷ [])
 
--- the loop's turn: the row of the place at i equals written
+-- the loop's turn: the row of the place at i is written
 pub cells_next : {X : Type 0} (cells_of : X → Row) (rows : List X) (x : X) (owner k : Key) (keys : List Key) (i place : ℕ) → place ≡ i → i < length keys → k ≡ get_or keys i k
     → cells_of x ≡ place_cells owner (pos (place + 1)) k
     → map cells_of rows ≡ list_cells owner (take i keys) → map cells_of (rows ++ x ∷ []) ≡ list_cells owner (take (i + 1) keys)

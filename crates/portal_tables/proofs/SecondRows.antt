@@ -62,7 +62,7 @@ module _ (db : Database) (own : IsCurrentSchema db.schema) (sound : IsDatabase d
       IsPermutation-sym _ _ (subst₂ IsPermutation (map-map shown_name (columns (1 ∷ 2 ∷ [])) mine) (sym only) (IsPermutation-map shown_name _ shown same)) in
       sym (first_back o) ∙ ap first_of (sym (only_one o (map placed_project mine) named)) ∙ first_map placed_project mine ∙ first_mine
 
-  -- where there equals no more than one row, and it names a key
+  -- where there is no more than one row, and it names a key
   pub place_fine : IfSome (second_placement db.trees k) (λ p. is_key p ≡ true) → length mine ≤ 1 → (length shown ≤ 1) × AllByRecursion (λ c. is_key (shown_name c) ≡ true) shown
   place_fine key once = (
     subst (λ n. n ≤ 1) (sym (length_permutation _ shown same ∙ length-map mine (columns (1 ∷ 2 ∷ [])))) once,

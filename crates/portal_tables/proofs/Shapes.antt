@@ -71,7 +71,7 @@ pub record IsPlace (r : Row) : Type 0 where
   pub item : List ℕ
   pub is : r ≡ Int number ∷ place_cells owner place item
 
--- A row whose first cell equals a text, or a number: what equals so at each such cell, and whatever columns follow it, equals so of the cells.
+-- A row whose first cell is a text, or a number: what is so at each such cell, and whatever columns follow it, is so of the cells.
 text_first : (P : Row → Type 0) (name : List ℕ) (at : ℕ) (cs : List Column) (cells : Row) → are_typed None at (column_of name Text true ∷ cs) cells ≡ true → not (is_null (column cells 0)) ≡ true
     → ((t : List ℕ) (rest : Row) → are_typed None (at + 1) cs rest ≡ true → P (Words t ∷ rest)) → P cells
 text_first P name at cs [] typed there go = absurd (cc)
@@ -109,7 +109,7 @@ lecturer_form n cells typed present =
     number_first (λ x. IsLecturerRow (Int n ∷ Words key ∷ Words name ∷ Words code ∷ Int capacity ∷ x)) (codes "ranked") 4 [] rest3 typed3 d5 (λ ranked rest4 typed4.
     record { number = n; key = key; name = name; code = code; capacity = capacity; ranked = ranked; is = ap (λ x. Int n ∷ Words key ∷ Words name ∷ Words code ∷ Int capacity ∷ Int ranked ∷ x) (none_more 5 rest4 typed4) })) c5) b4 b5) a3 a4 a5) p2.0 p3.0 p4.0 p5.0
 
--- what may stand where the last column of a student_schema equals
+-- what may stand where the last column of a student is
 last_cell : (name : List ℕ) (at : ℕ) (cells : Row) → are_typed None at (column_of name Text false ∷ []) cells ≡ true → ((cells ≡ []) ⊎ ((v : Value) × (cells ≡ v ∷ []))) × IsNullOrText (column cells 0)
 last_cell name at [] t = (inl refl, inl refl)
 last_cell name at (v ∷ []) t = (inr (v, refl), null_or_text v (and_parts (is_of Text v) true t).0)
@@ -126,13 +126,13 @@ student_form n cells typed present =
     let end = last_cell (codes "assigned") 3 rest2 typed2 in
     record { number = n; key = key; name = name; code = code; last = rest2; is = refl; few = end.0; assigned = end.1 })) a3) p2.0 p3.0
 
--- the lecturer_schema of a project_schema equals a text
+-- the lecturer of a project is a text
 project_form : (n : ℤ) (cells : Row) → are_typed None 0 (project_schema 4).columns cells ≡ true → are_present None 0 (project_schema 4).columns (Int n ∷ cells) ≡ true → IsText (column (Int n ∷ cells) 2)
 project_form n cells typed present =
     let p1 = and_parts _ _ present in
     let p2 = and_parts _ _ p1.1 in
-    text_first (λ x. Present 2 (Int n ∷ x) → IsText (column (Int n ∷ x) 2)) (codes "key") 0 (column_of (codes "lecturer_schema") Text true ∷ column_of (codes "title") Text true ∷ column_of (codes "capacity") Integer true ∷ []) cells typed p1.0 (λ key rest0 typed0 a2.
-    text_first (λ x. IsText (column (Int n ∷ Words key ∷ x) 2)) (codes "lecturer_schema") 1 (column_of (codes "title") Text true ∷ column_of (codes "capacity") Integer true ∷ []) rest0 typed0 a2 (λ lecturer_schema rest1 typed1. (lecturer_schema, refl))) p2.0
+    text_first (λ x. Present 2 (Int n ∷ x) → IsText (column (Int n ∷ x) 2)) (codes "key") 0 (column_of (codes "lecturer") Text true ∷ column_of (codes "title") Text true ∷ column_of (codes "capacity") Integer true ∷ []) cells typed p1.0 (λ key rest0 typed0 a2.
+    text_first (λ x. IsText (column (Int n ∷ Words key ∷ x) 2)) (codes "lecturer") 1 (column_of (codes "title") Text true ∷ column_of (codes "capacity") Integer true ∷ []) rest0 typed0 a2 (λ lecturer_schema rest1 typed1. (lecturer_schema, refl))) p2.0
 
 place_form : (n : ℤ) (k l m : List ℕ) (cells : Row) → are_typed None 0 (column_of k Text true ∷ column_of l Integer true ∷ column_of m Text true ∷ []) cells ≡ true
     → are_present None 0 (column_of k Text true ∷ column_of l Integer true ∷ column_of m Text true ∷ []) (Int n ∷ cells) ≡ true → IsPlace (Int n ∷ cells)
@@ -158,7 +158,7 @@ formed P typed present form [] apart t p = tt
 formed P typed present form (r ∷ rows) apart t p =
     (with_number P typed present form r apart.0 (and_parts _ _ t.0).0 p.0, formed P typed present form rows apart.2 t.1 p.1)
 
--- what equals understood of a table
+-- what is understood of a table
 abbrev pub form_of : Named → Table
 form_of (OfRoll Lecturers) = lecturer_schema lecturer_tree
 form_of (OfRoll Projects) = project_schema project_tree
@@ -171,7 +171,7 @@ form_of OfPlaces = assigned2 assigned2_tree
 abbrev pub Follows : Constraint → (t : Named) → Open → Trees → Row → Bool
 Follows rule t o db row = passes rule (schema_with (table_round t) o) db (with_checks o.checks o.terms (form_of t)) row
 
--- a rule of all tables equals one of each
+-- a rule of all tables is one of each
 at_table : (t : Named) (o : Open) (rule : Constraint) (db : Trees) → Keeps rule (schema_with (table_round t) o) db → AllByRecursion (λ row. Follows rule t o db row ≡ true) (db (table_tree t))
 at_table (OfRoll Lecturers) o rule db all = all.1.0
 at_table (OfRoll Projects) o rule db all = all.1.1.0

@@ -32,14 +32,14 @@ rise_from_distinct (k ∷ ks) h d = (above_others k ks h.0 d.0, rise_from_distin
 pub has_permuted : {X : Type 0} (xs ys : List X) → IsPermutation xs ys → (x : X) → Has xs x → Has ys x
 has_permuted xs ys same x h = at (λ z. Has ys z) xs x (all_permuted (λ z. Has ys z) ys xs (IsPermutation-sym xs ys same) (all_has (λ z. Has ys z) ys (λ z k. k))) h
 
--- a key that equals a member passes the test of it
+-- a key that is a member passes the test of it
 pub has_of : (ks : List Key) (k : Key) → Has ks k → has ks k ≡ true
 has_of [] k h = absurd h
 has_of (l ∷ ks) k (inl e) = ap (λ b. b || has ks k) (subst (λ m. equals k m ≡ true) e (is_own k))
 has_of (l ∷ ks) k (inr h) = elim (equals k l) as (λ b. (b || has ks k) ≡ true) [ true ↦ refl | false ↦ has_of ks k h ]
 
 module _ {X : Type 0} (key : X → Key) where
-  -- one more equals put last
+  -- one more is put last
   pub put_all_more : (xs : List X) (x : X) (ys : List X) → put_all key (xs ++ x ∷ []) ys ≡ put key x (put_all key xs ys)
   put_all_more [] x ys = refl
   put_all_more (z ∷ zs) x ys = put_all_more zs x (put key z ys)
@@ -93,7 +93,7 @@ module _ {X : Type 0} (key : X → Key) where
   pub one_rise : (xs ys : List X) → IsPermutation xs ys → Rise (map key xs) → Rise (map key ys) → xs ≡ ys
   one_rise xs ys same p q = one_order xs ys p q (has_permuted xs ys same) (has_permuted ys xs (IsPermutation-sym xs ys same))
 
-  -- where the rows rise once put, no key equals of two rows
+  -- where the rows rise once put, no key is of two rows
   pub distinct_permuted : (xs ys : List X) → IsPermutation xs ys → IsDistinct equals (map key xs) → IsDistinct equals (map key ys)
   distinct_permuted xs ys same d = IsDistinct-IsPermutation equals is_sym (map key xs) (map key ys) (IsPermutation-map key xs ys same) d
 

@@ -105,11 +105,11 @@ second_added g = rows_added 6 _ 15 _ _ _ _ _ _ (λ checks more. refl) g (λ _. [
 abbrev lecturer_terms : ℕ → List Term
 lecturer_terms n = lit Null ∷ param n ∷ param (n + 1) ∷ param (n + 2) ∷ param (n + 3) ∷ lit (Int (pos 0)) ∷ []
 
-pub lecturer_one : Inserts (codes "INSERT INTO lecturer_schema (key, name, code, capacity, ranked) VALUES (?1, ?2, ?3, ?4, 0)") 1 (lecturer_terms 0) 6
+pub lecturer_one : Inserts (codes "INSERT INTO lecturer (key, name, code, capacity, ranked) VALUES (?1, ?2, ?3, ?4, 0)") 1 (lecturer_terms 0) 6
 unfolding understood everything
 lecturer_one = record { command = λ checks more. refl; plain = λ checks more. (refl, refl) }
 
-pub lecturer_eight : Inserts (codes "INSERT INTO lecturer_schema (key, name, code, capacity, ranked) VALUES (?1, ?2, ?3, ?4, 0), (?5, ?6, ?7, ?8, 0), (?9, ?10, ?11, ?12, 0), (?13, ?14, ?15, ?16, 0), (?17, ?18, ?19, ?20, 0), (?21, ?22, ?23, ?24, 0), (?25, ?26, ?27, ?28, 0), (?29, ?30, ?31, ?32, 0)") 1 (flat_map lecturer_terms (0 ∷ 4 ∷ 8 ∷ 12 ∷ 16 ∷ 20 ∷ 24 ∷ 28 ∷ [])) 6
+pub lecturer_eight : Inserts (codes "INSERT INTO lecturer (key, name, code, capacity, ranked) VALUES (?1, ?2, ?3, ?4, 0), (?5, ?6, ?7, ?8, 0), (?9, ?10, ?11, ?12, 0), (?13, ?14, ?15, ?16, 0), (?17, ?18, ?19, ?20, 0), (?21, ?22, ?23, ?24, 0), (?25, ?26, ?27, ?28, 0), (?29, ?30, ?31, ?32, 0)") 1 (flat_map lecturer_terms (0 ∷ 4 ∷ 8 ∷ 12 ∷ 16 ∷ 20 ∷ 24 ∷ 28 ∷ [])) 6
 unfolding understood everything
 lecturer_eight = record { command = λ checks more. refl; plain = λ checks more. (refl, refl) }
 
@@ -122,11 +122,11 @@ lecturers_added g count sql terms = rows_added 1 _ 1 _ _ _ _ _ _ (λ checks more
 abbrev project_terms : ℕ → List Term
 project_terms n = lit Null ∷ param n ∷ param (n + 1) ∷ param (n + 2) ∷ param (n + 3) ∷ []
 
-pub project_one : Inserts (codes "INSERT INTO project_schema (key, lecturer_schema, title, capacity) VALUES (?1, ?2, ?3, ?4)") 2 (project_terms 0) 5
+pub project_one : Inserts (codes "INSERT INTO project (key, lecturer, title, capacity) VALUES (?1, ?2, ?3, ?4)") 2 (project_terms 0) 5
 unfolding understood everything
 project_one = record { command = λ checks more. refl; plain = λ checks more. (refl, refl) }
 
-pub project_eight : Inserts (codes "INSERT INTO project_schema (key, lecturer_schema, title, capacity) VALUES (?1, ?2, ?3, ?4), (?5, ?6, ?7, ?8), (?9, ?10, ?11, ?12), (?13, ?14, ?15, ?16), (?17, ?18, ?19, ?20), (?21, ?22, ?23, ?24), (?25, ?26, ?27, ?28), (?29, ?30, ?31, ?32)") 2 (flat_map project_terms (0 ∷ 4 ∷ 8 ∷ 12 ∷ 16 ∷ 20 ∷ 24 ∷ 28 ∷ [])) 5
+pub project_eight : Inserts (codes "INSERT INTO project (key, lecturer, title, capacity) VALUES (?1, ?2, ?3, ?4), (?5, ?6, ?7, ?8), (?9, ?10, ?11, ?12), (?13, ?14, ?15, ?16), (?17, ?18, ?19, ?20), (?21, ?22, ?23, ?24), (?25, ?26, ?27, ?28), (?29, ?30, ?31, ?32)") 2 (flat_map project_terms (0 ∷ 4 ∷ 8 ∷ 12 ∷ 16 ∷ 20 ∷ 24 ∷ 28 ∷ [])) 5
 unfolding understood everything
 project_eight = record { command = λ checks more. refl; plain = λ checks more. (refl, refl) }
 
@@ -139,11 +139,11 @@ projects_added g count sql terms = rows_added 2 _ 4 _ _ _ _ _ _ (λ checks more.
 abbrev student_terms : ℕ → List Term
 student_terms n = lit Null ∷ param n ∷ param (n + 1) ∷ param (n + 2) ∷ lit Null ∷ []
 
-pub student_one : Inserts (codes "INSERT INTO student_schema (key, name, code) VALUES (?1, ?2, ?3)") 3 (student_terms 0) 5
+pub student_one : Inserts (codes "INSERT INTO student (key, name, code) VALUES (?1, ?2, ?3)") 3 (student_terms 0) 5
 unfolding understood everything
 student_one = record { command = λ checks more. refl; plain = λ checks more. (refl, refl) }
 
-pub student_eight : Inserts (codes "INSERT INTO student_schema (key, name, code) VALUES (?1, ?2, ?3), (?4, ?5, ?6), (?7, ?8, ?9), (?10, ?11, ?12), (?13, ?14, ?15), (?16, ?17, ?18), (?19, ?20, ?21), (?22, ?23, ?24)") 3 (flat_map student_terms (0 ∷ 3 ∷ 6 ∷ 9 ∷ 12 ∷ 15 ∷ 18 ∷ 21 ∷ [])) 5
+pub student_eight : Inserts (codes "INSERT INTO student (key, name, code) VALUES (?1, ?2, ?3), (?4, ?5, ?6), (?7, ?8, ?9), (?10, ?11, ?12), (?13, ?14, ?15), (?16, ?17, ?18), (?19, ?20, ?21), (?22, ?23, ?24)") 3 (flat_map student_terms (0 ∷ 3 ∷ 6 ∷ 9 ∷ 12 ∷ 15 ∷ 18 ∷ 21 ∷ [])) 5
 unfolding understood everything
 student_eight = record { command = λ checks more. refl; plain = λ checks more. (refl, refl) }
 
@@ -211,18 +211,18 @@ pub list_cleared : (l : Lists) (old new : State) (owner : List ℕ) → Ran (cle
 list_cleared l = cleared (place_among l) _ (tree_of l) _ _ _ _ _ _ (stands l) (clear_text (names l)) (clear_is l) (λ checks terms olds. refl)
 
 -- who has a ranking in the second round
-unrank_is : Deletes (codes "DELETE FROM ranked2 WHERE lecturer_schema = ?1") 8 19 (has_key 1)
+unrank_is : Deletes (codes "DELETE FROM ranked2 WHERE lecturer = ?1") 8 19 (has_key 1)
 unfolding understood everything
 unrank_is = record { command = λ checks more. refl; plain = λ checks more. (refl, refl) }
 
-pub rank_cleared : (old new : State) (owner : List ℕ) → Ran (codes "DELETE FROM ranked2 WHERE lecturer_schema = ?1") (Text owner ∷ []) old new → Made (Clears ranked2_tree owner) old new
-rank_cleared = cleared 8 _ 19 _ _ _ _ _ _ (λ checks more. refl) (codes "DELETE FROM ranked2 WHERE lecturer_schema = ?1") unrank_is (λ checks terms olds. refl)
+pub rank_cleared : (old new : State) (owner : List ℕ) → Ran (codes "DELETE FROM ranked2 WHERE lecturer = ?1") (Text owner ∷ []) old new → Made (Clears ranked2_tree owner) old new
+rank_cleared = cleared 8 _ 19 _ _ _ _ _ _ (λ checks more. refl) (codes "DELETE FROM ranked2 WHERE lecturer = ?1") unrank_is (λ checks terms olds. refl)
 
-rank_one : Inserts (codes "INSERT INTO ranked2 (lecturer_schema) VALUES (?1)") 8 (lit Null ∷ param 0 ∷ []) 2
+rank_one : Inserts (codes "INSERT INTO ranked2 (lecturer) VALUES (?1)") 8 (lit Null ∷ param 0 ∷ []) 2
 unfolding understood everything
 rank_one = record { command = λ checks more. refl; plain = λ checks more. (refl, refl) }
 
-pub rank_added : {S : Type 0} (g : Ghosts S) → AddsBy g (codes "INSERT INTO ranked2 (lecturer_schema) VALUES (?1)") 1 ranked2_tree (λ k. Text k ∷ []) (λ k. Text k ∷ [])
+pub rank_added : {S : Type 0} (g : Ghosts S) → AddsBy g (codes "INSERT INTO ranked2 (lecturer) VALUES (?1)") 1 ranked2_tree (λ k. Text k ∷ []) (λ k. Text k ∷ [])
 rank_added g = rows_added 8 _ 19 _ _ _ _ _ _ (λ checks more. refl) g (λ k. Text k ∷ []) (λ k. Text k ∷ []) (λ checks more k. rw (cast_null) refl) 1 _ _ 2 rank_one (by_one (λ k more. refl))
 
 -- the result of the second round
@@ -236,11 +236,11 @@ places_dropped = dropped 10 _ 24 _ _ _ _ _ _ (λ checks more. refl) (codes "DELE
 abbrev pair_terms : ℕ → List Term
 pair_terms n = lit Null ∷ param n ∷ param (n + 1) ∷ []
 
-pub pair_one : Inserts (codes "INSERT INTO assigned2 (student_schema, project_schema) VALUES (?1, ?2)") 10 (pair_terms 0) 3
+pub pair_one : Inserts (codes "INSERT INTO assigned2 (student, project) VALUES (?1, ?2)") 10 (pair_terms 0) 3
 unfolding understood everything
 pair_one = record { command = λ checks more. refl; plain = λ checks more. (refl, refl) }
 
-pub pair_eight : Inserts (codes "INSERT INTO assigned2 (student_schema, project_schema) VALUES (?1, ?2), (?3, ?4), (?5, ?6), (?7, ?8), (?9, ?10), (?11, ?12), (?13, ?14), (?15, ?16)") 10 (flat_map pair_terms (0 ∷ 2 ∷ 4 ∷ 6 ∷ 8 ∷ 10 ∷ 12 ∷ 14 ∷ [])) 3
+pub pair_eight : Inserts (codes "INSERT INTO assigned2 (student, project) VALUES (?1, ?2), (?3, ?4), (?5, ?6), (?7, ?8), (?9, ?10), (?11, ?12), (?13, ?14), (?15, ?16)") 10 (flat_map pair_terms (0 ∷ 2 ∷ 4 ∷ 6 ∷ 8 ∷ 10 ∷ 12 ∷ 14 ∷ [])) 3
 unfolding understood everything
 pair_eight = record { command = λ checks more. refl; plain = λ checks more. (refl, refl) }
 
@@ -248,7 +248,7 @@ pub pairs_added : {S : Type 0} (g : Ghosts S) (count : ℕ) (sql : List ℕ) (te
 pairs_added g count sql terms = rows_added 10 _ 24 _ _ _ _ _ _ (λ checks more. refl) g pair_new pair_new (λ checks more p. rw (cast_null) refl) count sql terms 3
 
 abbrev pub update_ranked : List ℕ
-update_ranked = codes "UPDATE lecturer_schema SET ranked = 1 WHERE key = ?1"
+update_ranked = codes "UPDATE lecturer SET ranked = 1 WHERE key = ?1"
 
 abbrev update_ranked_row : List Term
 update_ranked_row = col 1 0 ∷ col 1 1 ∷ col 1 2 ∷ col 1 3 ∷ col 1 4 ∷ lit (Int (pos 1)) ∷ []

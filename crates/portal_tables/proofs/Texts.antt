@@ -26,5 +26,5 @@ key_texts db t own sound = go t (own_is (table_round t) db.schema own).o (follow
     go (OfRoll Projects) o = texts (codes "key") (drop 1 (project_schema 4).columns) (db.trees project_tree)
     go (OfRoll Students) o = texts (codes "key") (drop 1 (student_schema 6).columns) (db.trees student_tree)
     go (OfLists l) o = texts (names l).owner (column_of (codes "place") Integer true ∷ column_of (names l).item Text true ∷ []) (db.trees (tree_of l))
-    go OfRanked o = texts (codes "lecturer_schema") [] (db.trees ranked2_tree)
-    go OfPlaces o = texts (codes "student_schema") (column_of (codes "project_schema") Text true ∷ []) (db.trees assigned2_tree)
+    go OfRanked o = texts (codes "lecturer") [] (db.trees ranked2_tree)
+    go OfPlaces o = texts (codes "student") (column_of (codes "project") Text true ∷ []) (db.trees assigned2_tree)

@@ -6,15 +6,11 @@ pub mod Changes
 pub mod Steps
 pub mod Making
 pub mod Rows
-pub mod Rising
 pub mod Lists
 pub mod Office
 pub mod Reading
-pub mod Queries
-pub mod Decoding
 pub mod Rolls
 pub mod Shown
 pub mod Placements
-pub mod Owners
 pub mod Names
-pub mod Putting
+pub mod inner

@@ -1,9 +1,6 @@
--- The project that a round's result gives to a student: of the first_cell round in the student's row, of the second in `assigned2`.
-use Rattle.std.specs.Prelude.{◌≡◌, ◌≤◌, if◌then◌else◌, is_none}
-use Rattle.portal_tables.specs.Base.{Option, Some, None, option_map, IfSome, true, length, find, Row, column, bytes, Trees, Round, First, Second, Phase, Key, equals, is_key, is_published}
-use Rattle.portal_tables.specs.Lists.{of_key}
+-- The project that a round's result gives to a student: of the first round in the student's row, of the second in `assigned2`.
+use Rattle.portal_tables.specs.Base.{Option, option_map, find, Row, column, bytes, Trees, Key, equals}
 use Rattle.portal_tables.specs.Rolls.{row_key}
-use Rattle.portal_tables.specs.Shown.{first_cell, text_or_none}
 use Rattle.portal_tables.specs.Tables.{assigned2_tree}
 
 -- the project in a row of `assigned2`
@@ -13,31 +10,3 @@ placed_project a = bytes (column a 2)
 -- the place in the second round of the student with this key
 abbrev pub second_placement : Trees → Key → Option Key
 second_placement db k = option_map placed_project (find (λ a. equals (row_key a) k) (db assigned2_tree))
-
--- the place in a round of the student whose row equals shown
-abbrev pub placement_shown : Round → Trees → Row → Option Key
-placement_shown First db c = text_or_none (column c 3)
-placement_shown Second db c = second_placement db (first_cell c)
-
--- the place that the round before gave to that student
-abbrev pub placement_before : Round → Row → Option Key
-placement_before First c = None
-placement_before Second c = text_or_none (column c 3)
-
--- the place that the student equals shown: of the round before, or of the round once it equals published
-abbrev pub result_shown : Round → Trees → Phase → Row → Option Key
-result_shown round db phase c = if is_none (placement_before round c) then (if is_published phase then placement_shown round db c else None) else placement_before round c
-
--- that of a round, or with a phase the one that equals shown in it
-abbrev pub placement_asked : Round → Option Phase → Trees → Row → Option Key
-placement_asked round None db c = placement_shown round db c
-placement_asked round (Some phase) db c = result_shown round db phase c
-
--- the same as a pair of the student and the project
-abbrev pub pair_shown : Round → Option Phase → Trees → Row → Option (Key × Key)
-pair_shown round phase db c = option_map (λ p. (first_cell c, p)) (placement_asked round phase db c)
-
--- what the reading of a place asks: it has the form of a key, and in the second round there equals no more than one row of the student
-abbrev pub HasPlacement : Round → Trees → Row → Type 0
-HasPlacement First db c = IfSome (placement_shown First db c) (λ p. is_key p ≡ true)
-HasPlacement Second db c = IfSome (placement_shown Second db c) (λ p. is_key p ≡ true) × (length (of_key (first_cell c) (db assigned2_tree)) ≤ 1)

@@ -39,57 +39,35 @@ is_at place n = op2 (Compare Eq Binary) (col 1 place) (lit (Int (pos n)))
 abbrev pub is_from : ℕ → ℕ → ℕ → Term
 is_from low high place = op2 And (op2 (Compare Ge Binary) (col 1 place) (lit (Int (pos low)))) (op2 (Compare Le Binary) (col 1 place) (lit (Int (pos high))))
 
-abbrev pub portal_text : List ℕ
-portal_text = codes "CREATE TABLE portal (id INTEGER NOT NULL PRIMARY KEY CHECK (id = 1), version INTEGER NOT NULL, "
-    ++ codes "phase INTEGER NOT NULL, office TEXT NOT NULL) STRICT"
-
 abbrev pub portal : ℕ → Table
 portal tree = schema_of (codes "portal") tree
     (column_of (codes "id") Integer true ∷ column_of (codes "version") Integer true ∷ column_of (codes "phase") Integer true ∷
     column_of (codes "office") Text true ∷ [])
     (Some 0) (0 ∷ []) [] [] (is_at 0 1 ∷ []) []
 
-abbrev pub lecturer_text : List ℕ
-lecturer_text = codes "CREATE TABLE lecturer_schema (key TEXT NOT NULL PRIMARY KEY, name TEXT NOT NULL, code TEXT NOT NULL UNIQUE, "
-    ++ codes "capacity INTEGER NOT NULL CHECK (capacity >= 1 AND capacity <= 200), "
-    ++ codes "ranked INTEGER NOT NULL CHECK (ranked = 0 OR ranked = 1)) STRICT"
-
 abbrev pub lecturer_schema : ℕ → Table
-lecturer_schema tree = schema_of (codes "lecturer_schema") tree
+lecturer_schema tree = schema_of (codes "lecturer") tree
     (column_of (codes "key") Text true ∷ column_of (codes "name") Text true ∷ column_of (codes "code") Text true ∷
     column_of (codes "capacity") Integer true ∷ column_of (codes "ranked") Integer true ∷ [])
     None (1 ∷ []) ((1 ∷ []) ∷ (3 ∷ []) ∷ []) (plain ∷ plain ∷ []) (is_from 1 200 4 ∷ op2 Or (is_at 5 0) (is_at 5 1) ∷ []) []
 
-abbrev pub project_text : List ℕ
-project_text = codes "CREATE TABLE project_schema (key TEXT NOT NULL PRIMARY KEY, lecturer_schema TEXT NOT NULL REFERENCES lecturer_schema (key), "
-    ++ codes "title TEXT NOT NULL, capacity INTEGER NOT NULL CHECK (capacity >= 1 AND capacity <= 200)) STRICT"
-
 abbrev pub project_schema : ℕ → Table
-project_schema tree = schema_of (codes "project_schema") tree
-    (column_of (codes "key") Text true ∷ column_of (codes "lecturer_schema") Text true ∷ column_of (codes "title") Text true ∷
+project_schema tree = schema_of (codes "project") tree
+    (column_of (codes "key") Text true ∷ column_of (codes "lecturer") Text true ∷ column_of (codes "title") Text true ∷
     column_of (codes "capacity") Integer true ∷ [])
-    None (1 ∷ []) ((1 ∷ []) ∷ []) (plain ∷ []) (is_from 1 200 4 ∷ []) (refers_to 2 (codes "lecturer_schema") ∷ [])
-
-abbrev pub student_text : List ℕ
-student_text = codes "CREATE TABLE student_schema (key TEXT NOT NULL PRIMARY KEY, name TEXT NOT NULL, code TEXT NOT NULL UNIQUE, "
-    ++ codes "assigned TEXT REFERENCES project_schema (key)) STRICT"
+    None (1 ∷ []) ((1 ∷ []) ∷ []) (plain ∷ []) (is_from 1 200 4 ∷ []) (refers_to 2 (codes "lecturer") ∷ [])
 
 abbrev pub student_schema : ℕ → Table
-student_schema tree = schema_of (codes "student_schema") tree
+student_schema tree = schema_of (codes "student") tree
     (column_of (codes "key") Text true ∷ column_of (codes "name") Text true ∷ column_of (codes "code") Text true ∷
     column_of (codes "assigned") Text false ∷ [])
-    None (1 ∷ []) ((1 ∷ []) ∷ (3 ∷ []) ∷ []) (plain ∷ plain ∷ []) [] (refers_to 4 (codes "project_schema") ∷ [])
+    None (1 ∷ []) ((1 ∷ []) ∷ (3 ∷ []) ∷ []) (plain ∷ plain ∷ []) [] (refers_to 4 (codes "project") ∷ [])
 
 -- A table of lists: its name, and the names of two of its columns, each that of the roll to which it refers.
 pub record ListTable : Type 0 where
   pub name : List ℕ
   pub owner : List ℕ
   pub item : List ℕ
-
-abbrev pub list_table_text : ListTable → List ℕ
-list_table_text t = codes "CREATE TABLE " ++ t.name ++ codes " (" ++ t.owner ++ codes " TEXT NOT NULL REFERENCES " ++ t.owner
-    ++ codes " (key), place INTEGER NOT NULL, " ++ t.item ++ codes " TEXT NOT NULL REFERENCES " ++ t.item
-    ++ codes " (key), PRIMARY KEY (" ++ t.owner ++ codes ", place), UNIQUE (" ++ t.item ++ codes ", " ++ t.owner ++ codes ")) STRICT"
 
 abbrev pub list_table : ListTable → ℕ → Table
 list_table t tree = schema_of t.name tree
@@ -98,10 +76,10 @@ list_table t tree = schema_of t.name tree
 
 -- students' lists of projects, and lecturers' rankings of students, of each round
 abbrev pub choice_names : ListTable
-choice_names = record { name = codes "choice"; owner = codes "student_schema"; item = codes "project_schema" }
+choice_names = record { name = codes "choice"; owner = codes "student"; item = codes "project" }
 
 abbrev pub ranking_names : ListTable
-ranking_names = record { name = codes "ranking"; owner = codes "lecturer_schema"; item = codes "student_schema" }
+ranking_names = record { name = codes "ranking"; owner = codes "lecturer"; item = codes "student" }
 
 abbrev pub choice2_names : ListTable
 choice2_names = record choice_names { name = codes "choice2" }
@@ -121,32 +99,18 @@ choice2 = list_table choice2_names
 abbrev pub ranking2 : ℕ → Table
 ranking2 = list_table ranking2_names
 
--- the phase of the second round, 0 where there is none
-abbrev pub second_text : List ℕ
-second_text = codes "CREATE TABLE second (id INTEGER NOT NULL PRIMARY KEY CHECK (id = 1), "
-    ++ codes "phase INTEGER NOT NULL CHECK (phase >= 0 AND phase <= 3)) STRICT"
-
 abbrev pub second : ℕ → Table
 second tree = schema_of (codes "second") tree
     (column_of (codes "id") Integer true ∷ column_of (codes "phase") Integer true ∷ [])
     (Some 0) (0 ∷ []) [] [] (is_at 0 1 ∷ is_from 0 3 2 ∷ []) []
 
--- who has a ranking in the second round
-abbrev pub ranked2_text : List ℕ
-ranked2_text = codes "CREATE TABLE ranked2 (lecturer_schema TEXT NOT NULL PRIMARY KEY REFERENCES lecturer_schema (key)) STRICT"
-
 abbrev pub ranked2 : ℕ → Table
-ranked2 tree = schema_of (codes "ranked2") tree (column_of (codes "lecturer_schema") Text true ∷ [])
-    None (1 ∷ []) ((1 ∷ []) ∷ []) (plain ∷ []) [] (refers_to 1 (codes "lecturer_schema") ∷ [])
-
--- the result of the second round
-abbrev pub assigned2_text : List ℕ
-assigned2_text = codes "CREATE TABLE assigned2 (student_schema TEXT NOT NULL PRIMARY KEY REFERENCES student_schema (key), "
-    ++ codes "project_schema TEXT NOT NULL REFERENCES project_schema (key)) STRICT"
+ranked2 tree = schema_of (codes "ranked2") tree (column_of (codes "lecturer") Text true ∷ [])
+    None (1 ∷ []) ((1 ∷ []) ∷ []) (plain ∷ []) [] (refers_to 1 (codes "lecturer") ∷ [])
 
 abbrev pub assigned2 : ℕ → Table
-assigned2 tree = schema_of (codes "assigned2") tree (column_of (codes "student_schema") Text true ∷ column_of (codes "project_schema") Text true ∷ [])
-    None (1 ∷ []) ((1 ∷ []) ∷ []) (plain ∷ []) [] (refers_to 1 (codes "student_schema") ∷ refers_to 2 (codes "project_schema") ∷ [])
+assigned2 tree = schema_of (codes "assigned2") tree (column_of (codes "student") Text true ∷ column_of (codes "project") Text true ∷ [])
+    None (1 ∷ []) ((1 ∷ []) ∷ []) (plain ∷ []) [] (refers_to 1 (codes "student") ∷ refers_to 2 (codes "project") ∷ [])
 
 abbrev pub no_schema : Schema
 no_schema = record { tables = []; indexes = []; views = [] }

@@ -2,8 +2,8 @@
 
 ghost use Rattle.std.specs.Prelude.{◌≡◌, ◌∷◌};
 ghost use Rattle.portal_tables.specs.Base.{[], option_map, owned};
-ghost use Rattle.portal_tables.specs.Steps.{Does, Made, GoesOn};
-ghost use Rattle.portal_tables.specs.Rows.{Assigns, text_cell as text_or_null_of};
+ghost use Rattle.portal_tables.specs.inner.Steps.{Does, Made, GoesOn};
+ghost use Rattle.portal_tables.specs.inner.Rows.{Assigns, text_cell as text_or_null_of};
 
 use crate::run::write;
 use sqlite::types::ValueRef;

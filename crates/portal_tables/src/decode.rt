@@ -3,7 +3,7 @@
 ghost use Rattle.std.specs.Prelude.{◌≡◌, ◌↔◌, ◌≤◌};
 ghost use Rattle.portal_tables.specs.Base.{true, Err, IfOk, IsTrue, length, map, ⊤, AllByRecursion, Cells, is_key, IsLecturer, IsProject, IsStudent, Rise, is_before};
 ghost use Rattle.portal_tables.specs.Lists.{CountUp};
-ghost use Rattle.portal_tables.specs.Shown.{as_list, first_cell, shown_lecturer, shown_project, shown_student, shown_rank, shown_name};
+ghost use Rattle.portal_tables.specs.inner.Shown.{as_list, first_cell, shown_lecturer, shown_project, shown_student, shown_rank, shown_name};
 
 use crate::cells::{bytes_at, capacity_at, code_at, key_at, name_at, number_at};
 use crate::fault::TableFault;

@@ -4,10 +4,10 @@ ghost use Rattle.std.specs.Prelude.{◌≡◌, ◌↔◌, ◌∷◌, if◌then�
 ghost use Rattle.portal_tables.specs.Base.{[], false, true, Ok, Err, IfOk, OnOk, IsTrue, Some, None, option_map, map, AllByRecursion, filter_map, HasCleanDisk, state, is_key, has, Rise};
 ghost use Rattle.portal_tables.specs.Schema.{HasRound};
 ghost use Rattle.portal_tables.specs.Lists.{of_key, IsWhole, chosen};
-ghost use Rattle.portal_tables.specs.Reading.{RunsQueriesIn, YieldsIn, YieldsSound, OverSound};
+ghost use Rattle.portal_tables.specs.inner.Reading.{RunsQueriesIn, YieldsIn, YieldsSound, OverSound};
 ghost use Rattle.portal_tables.specs.ListTables.{round_of, tree_of};
-ghost use Rattle.portal_tables.specs.Owners.{AreOwned, has_list, entry, with_list, IsRead, IsFine};
-ghost use Rattle.portal_tables.specs.Shown.{first_cell};
+ghost use Rattle.portal_tables.specs.inner.Owners.{AreOwned, has_list, entry, with_list, IsRead, IsFine};
+ghost use Rattle.portal_tables.specs.inner.Shown.{first_cell};
 
 use crate::cells::{bytes_at, key_at, number_at};
 use crate::decode::{do_rise, list_from};

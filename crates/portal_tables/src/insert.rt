@@ -2,9 +2,10 @@
 
 ghost use Rattle.std.specs.Prelude.{◌≡◌, ◌<◌, ◌≤◌, ◌++◌, ◌∷◌};
 ghost use Rattle.portal_tables.specs.Base.{ℕ, [], pos, map, OnOk, flat_map, Row, bound};
-ghost use Rattle.portal_tables.specs.Steps.{Does, Ran, Made, GoesOn};
+ghost use Rattle.portal_tables.specs.inner.Steps.{Does, Ran, Made, GoesOn};
 ghost use Rattle.portal_tables.specs.Tables.{portal_tree, second_tree, version};
-ghost use Rattle.portal_tables.specs.Rows.{Adds, AddsBy, portal_cells, second_cells};
+ghost use Rattle.portal_tables.specs.Rows.{portal_cells, second_cells};
+ghost use Rattle.portal_tables.specs.inner.Rows.{Adds, AddsBy};
 
 mod lists;
 mod rolls;

@@ -2,8 +2,10 @@
 
 ghost use Rattle.std.specs.Prelude.{◌≡◌};
 ghost use Rattle.portal_tables.specs.Base.{false, OnOk, OnErr, IsTrue, HasCleanDisk, Survives, state};
-ghost use Rattle.portal_tables.specs.Steps.{Does, Made, Commits, IsAfter, LeavesOnly, Stays};
-ghost use Rattle.portal_tables.specs.Making.{Creates, Makes, MakesFirst, MakesSecond};
+ghost use Rattle.portal_tables.specs.Steps.{Commits, IsAfter, LeavesOnly, Stays};
+ghost use Rattle.portal_tables.specs.inner.Steps.{Does, Made};
+ghost use Rattle.portal_tables.specs.Making.{Creates};
+ghost use Rattle.portal_tables.specs.inner.Making.{Makes, MakesFirst, MakesSecond};
 
 use crate::fault::TableFault;
 use crate::insert::{add_portal, add_second};

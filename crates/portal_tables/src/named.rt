@@ -2,7 +2,7 @@
 
 ghost use Rattle.std.specs.Prelude.{◌≡◌, ◌<◌};
 ghost use Rattle.portal_tables.specs.Base.{IfSome, is_some, map, length, slice_index_or, slice_cmp, nat_cmp, Cells, has, Rise};
-ghost use Rattle.portal_tables.specs.Shown.{first_cell};
+ghost use Rattle.portal_tables.specs.inner.Shown.{first_cell};
 
 use crate::cells::bytes_at;
 use sqlite::Row;

@@ -4,7 +4,7 @@ ghost use Rattle.std.specs.Prelude.{◌≡◌, ◌↔◌, ◌∷◌};
 ghost use Rattle.portal_tables.specs.Base.{[], pos, true, false, Err, IfOk, IfSome, IfNone, OnOk, OnErr, IsTrue, List, ℕ, Int, Words, Cells, column, HasCleanDisk, state, is_code, ThePhase, First};
 ghost use Rattle.portal_tables.specs.Tables.{portal_tree};
 ghost use Rattle.portal_tables.specs.Schema.{HasFirstSchema};
-ghost use Rattle.portal_tables.specs.Reading.{RunsQuery, OverSound};
+ghost use Rattle.portal_tables.specs.inner.Reading.{RunsQuery, OverSound};
 ghost use Rattle.portal_tables.specs.Rows.{portal_row};
 ghost use Rattle.portal_tables.specs.Office.{number_of_phase, IsOffice, HasOffice};
 

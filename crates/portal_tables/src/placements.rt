@@ -4,10 +4,11 @@ ghost use Rattle.std.specs.Prelude.{◌≡◌, ◌≤◌, is_none, if◌then◌e
 ghost use Rattle.portal_tables.specs.Base.{true, Err, None, IfOk, IfSome, option_map, length, map, AllByRecursion, filter_map, state, is_key, is_published, IsStudent, InSecond};
 ghost use Rattle.portal_tables.specs.Tables.{assigned2_tree};
 ghost use Rattle.portal_tables.specs.Lists.{of_key};
-ghost use Rattle.portal_tables.specs.Reading.{RunsQueriesIn, YieldsSound, OverSound};
-ghost use Rattle.portal_tables.specs.Shown.{as_list, first_cell, shown_name, shown_student};
-ghost use Rattle.portal_tables.specs.Placements as meant;
-ghost use Rattle.portal_tables.specs.Placements.{second_placement, placement_shown, placement_before, result_shown, pair_shown, HasPlacement};
+ghost use Rattle.portal_tables.specs.inner.Reading.{RunsQueriesIn, YieldsSound, OverSound};
+ghost use Rattle.portal_tables.specs.inner.Shown.{as_list, first_cell, shown_name, shown_student};
+ghost use Rattle.portal_tables.specs.inner.Placements as meant;
+ghost use Rattle.portal_tables.specs.Placements.{second_placement};
+ghost use Rattle.portal_tables.specs.inner.Placements.{placement_shown, placement_before, result_shown, pair_shown, HasPlacement};
 
 use crate::cells::{assigned_at, bytes_at, is_null, key_at};
 use crate::decode::{decoded, at_most_one};

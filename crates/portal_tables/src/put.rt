@@ -2,10 +2,10 @@
 
 ghost use Rattle.std.specs.Prelude.{◌≡◌, ◌≤◌};
 ghost use Rattle.portal_tables.specs.Base.{length, map, IfOk};
-ghost use Rattle.portal_tables.specs.Steps.{Does, Made, GoesOn};
+ghost use Rattle.portal_tables.specs.inner.Steps.{Does, Made, GoesOn};
 ghost use Rattle.portal_tables.specs.ListTables.{tree_of};
-ghost use Rattle.portal_tables.specs.Rows.{Clears, place_new};
-ghost use Rattle.portal_tables.specs.Putting.{list_cells, PutsList};
+ghost use Rattle.portal_tables.specs.inner.Rows.{Clears, place_new};
+ghost use Rattle.portal_tables.specs.inner.Putting.{list_cells, PutsList};
 
 use crate::insert::{NewPlace, add_all};
 use crate::list_table::Lists;

@@ -3,10 +3,10 @@
 ghost use Rattle.std.specs.Prelude.{◌≡◌};
 ghost use Rattle.portal_tables.specs.Base.{Err, IfOk, List, Cells, map, AllByRecursion, HasCleanDisk, state, IsLecturer, IsProject, IsStudent, Rise, First};
 ghost use Rattle.portal_tables.specs.Schema.{HasRound};
-ghost use Rattle.portal_tables.specs.Queries.{Shows, round_asked};
-ghost use Rattle.portal_tables.specs.Reading.{RunsQueries, RunsQueriesIn, Yields, YieldsIn, OverSound};
-ghost use Rattle.portal_tables.specs.Rolls.{roll_rows, RollRises, lecturers_shown, projects_shown, students_shown, RollsRise};
-ghost use Rattle.portal_tables.specs.Shown.{first_cell, shown_lecturer, shown_project, shown_student};
+ghost use Rattle.portal_tables.specs.inner.Queries.{Shows, round_asked};
+ghost use Rattle.portal_tables.specs.inner.Reading.{RunsQueries, RunsQueriesIn, Yields, YieldsIn, OverSound};
+ghost use Rattle.portal_tables.specs.inner.Rolls.{roll_rows, RollRises, lecturers_shown, projects_shown, students_shown, RollsRise};
+ghost use Rattle.portal_tables.specs.inner.Shown.{first_cell, shown_lecturer, shown_project, shown_student};
 
 use crate::decode::{decoded, do_rise};
 use crate::fault::TableFault;

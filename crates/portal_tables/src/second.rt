@@ -5,10 +5,12 @@ ghost use Rattle.portal_tables.specs.Base.{[], pos, Err, IfOk, HasCleanDisk, sta
 ghost use Rattle.portal_tables.specs.Tables.{second_tree, assigned2_tree};
 ghost use Rattle.portal_tables.specs.Schema.{IsCurrentSchema};
 ghost use Rattle.portal_tables.specs.Office.{number_of_phase, IsSecond};
-ghost use Rattle.portal_tables.specs.Putting.{PutsPlacements, RanksSecond};
-ghost use Rattle.portal_tables.specs.Reading.{RunsQueryIn, OverSound};
-ghost use Rattle.portal_tables.specs.Rows.{MovesSecond, pair_new, second_row};
-ghost use Rattle.portal_tables.specs.Steps.{Does, Made, GoesOn};
+ghost use Rattle.portal_tables.specs.inner.Putting.{PutsPlacements, RanksSecond};
+ghost use Rattle.portal_tables.specs.Reading.{RunsQueryIn};
+ghost use Rattle.portal_tables.specs.inner.Reading.{OverSound};
+ghost use Rattle.portal_tables.specs.Rows.{second_row};
+ghost use Rattle.portal_tables.specs.inner.Rows.{MovesSecond, pair_new};
+ghost use Rattle.portal_tables.specs.inner.Steps.{Does, Made, GoesOn};
 
 use crate::fault::TableFault;
 use crate::insert::{Target, add_all};

@@ -2,10 +2,11 @@
 
 ghost use Rattle.std.specs.Prelude.{◌≡◌};
 ghost use Rattle.portal_tables.specs.Base.{Err, IfOk, map, state, Cells, bound};
-ghost use Rattle.portal_tables.specs.Decoding.{ShowsAs, FindsAny};
-ghost use Rattle.portal_tables.specs.Queries.{Shows, round_asked, query_text, given};
-ghost use Rattle.portal_tables.specs.Reading.{RunsQueryIn, RunsQueriesIn, YieldsIn};
-ghost use Rattle.portal_tables.specs.Shown.{as_list};
+ghost use Rattle.portal_tables.specs.inner.Decoding.{ShowsAs, FindsAny};
+ghost use Rattle.portal_tables.specs.inner.Queries.{Shows, round_asked, query_text, given};
+ghost use Rattle.portal_tables.specs.Reading.{RunsQueryIn};
+ghost use Rattle.portal_tables.specs.inner.Reading.{RunsQueriesIn, YieldsIn};
+ghost use Rattle.portal_tables.specs.inner.Shown.{as_list};
 
 use crate::decode::FromCells;
 use crate::fault::TableFault;

@@ -2,7 +2,8 @@
 
 ghost use Rattle.std.specs.Prelude.{◌≡◌};
 ghost use Rattle.portal_tables.specs.Base.{false, Err, OnOk, OnErr, IsTrue, HasCleanDisk, Survives, state, Database};
-ghost use Rattle.portal_tables.specs.Steps.{Does, GoesOn, Commits, IsAfter, LeavesOnly, Stays};
+ghost use Rattle.portal_tables.specs.Steps.{Commits, IsAfter, LeavesOnly, Stays};
+ghost use Rattle.portal_tables.specs.inner.Steps.{Does, GoesOn};
 
 use crate::fault::TableFault;
 use sqlite::{Alter, Connection, Error, Transaction};

@@ -1,7 +1,7 @@
 //! One column of one row changes.
 
-ghost use Rattle.portal_tables.specs.Steps.{Does, Made};
-ghost use Rattle.portal_tables.specs.Rows.{IsOfVersion, MovesTo, Ranks};
+ghost use Rattle.portal_tables.specs.inner.Steps.{Does, Made};
+ghost use Rattle.portal_tables.specs.inner.Rows.{IsOfVersion, MovesTo, Ranks};
 
 use crate::run::write;
 use sqlite::types::{ToSql, ValueRef};

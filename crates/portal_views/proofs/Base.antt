@@ -4,17 +4,19 @@ pub use Rattle.portal_core.proofs.AllLaws.{all_map, all_weaker, any_map, filtere
 pub use Rattle.portal_core.proofs.Fills.{before_other, rise_kept}
 pub use Rattle.portal_core.proofs.Keys.{all_unmap, is_own, is_same}
 pub use Rattle.portal_core.specs.Words.{is_before}
-pub use Rattle.portal_tables.specs.Changes.{RowNumbersDiffer, ListsBy, columns, every, has_text}
-pub use Rattle.portal_tables.specs.Decoding.{ShowsAs}
+pub use Rattle.portal_tables.specs.Changes.{RowNumbersDiffer, has_text}
+pub use Rattle.portal_tables.specs.inner.Changes.{ListsBy, columns, every}
+pub use Rattle.portal_tables.specs.inner.Decoding.{ShowsAs}
 pub use Rattle.portal_tables.specs.ListTables.{choice_table, ranking_table, round_of, tree_of}
 pub use Rattle.portal_tables.specs.Lists.{by_place, chosen, named_by, of_key, place_key}
 pub use Rattle.portal_tables.specs.Schema.{HasRound, IsCurrentSchema, HasFirstSchema}
-pub use Rattle.portal_tables.specs.Owners.{AreOwned, IsFine, IsRead, entry, has_list, ranking_shown, with_list}
-pub use Rattle.portal_tables.specs.Placements.{HasPlacement, pair_shown, placement_before}
-pub use Rattle.portal_tables.specs.Queries.{columns_of, roll_tree}
-pub use Rattle.portal_tables.specs.Reading.{RunsQueriesIn}
-pub use Rattle.portal_tables.specs.Rolls.{by_key, lecturers_shown, projects_shown, roll_columns, row_key, students_shown}
-pub use Rattle.portal_tables.specs.Shown.{first_cell, shown_lecturer, shown_project}
+pub use Rattle.portal_tables.specs.inner.Owners.{AreOwned, IsFine, IsRead, entry, has_list, ranking_shown, with_list}
+pub use Rattle.portal_tables.specs.inner.Placements.{HasPlacement, pair_shown, placement_before}
+pub use Rattle.portal_tables.specs.inner.Queries.{columns_of, roll_tree}
+pub use Rattle.portal_tables.specs.inner.Reading.{RunsQueriesIn}
+pub use Rattle.portal_tables.specs.Rolls.{row_key}
+pub use Rattle.portal_tables.specs.inner.Rolls.{by_key, lecturers_shown, projects_shown, roll_columns, students_shown}
+pub use Rattle.portal_tables.specs.inner.Shown.{first_cell, shown_lecturer, shown_project}
 pub use Rattle.portal_tables.specs.Tables.{assigned2_tree, lecturer_tree, project_tree, student_tree}
 pub use Rattle.portal_tables.specs.declared.fault.TableFault.{TableFault}
 pub use Rattle.portal_tables.specs.declared.list_table.Lists.{Lists}
@@ -22,10 +24,10 @@ pub use Rattle.portal_tables.specs.declared.list_table.Lists.TheVariants.{Choice
 pub use Rattle.portal_tables.specs.declared.select.Roll.{Roll}
 pub use Rattle.portal_tables.specs.declared.select.Roll.TheVariants.{Lecturers, Projects, Students}
 pub use Rattle.portal_tables.specs.declared.select.Table.TheVariants.{OfLists, OfPlaces, OfRoll}
-pub use Rattle.portal_views.specs.Callers.{applicants_told, lecturer_shown, lines_shown, own_keys_shown, person_key, persons_at, persons_before, placed_at_shown, placed_told, with_persons}
-pub use Rattle.portal_views.specs.Contents.{AreFine}
-pub use Rattle.portal_views.specs.Lines.{HasTables, applicant_lines, in_round, applicant_at, shown_line, told_line}
-pub use Rattle.portal_views.specs.Catalogue.{IsCatalogue, catalogue_shown, name_of, offered, own_listed}
+pub use Rattle.portal_views.specs.inner.Callers.{applicants_told, lecturer_shown, lines_shown, own_keys_shown, person_key, persons_at, persons_before, placed_at_shown, placed_told, with_persons}
+pub use Rattle.portal_views.specs.inner.Contents.{AreFine}
+pub use Rattle.portal_views.specs.inner.Lines.{HasTables, applicant_lines, in_round, applicant_at, shown_line, told_line}
+pub use Rattle.portal_views.specs.inner.Catalogue.{IsCatalogue, catalogue_shown, name_of, offered, own_listed}
 pub use Rattle.portal_views.specs.declared.lines.Line.{Line}
 pub use Rattle.sqlite.specs.Collation.TheVariants.{Binary}
 pub use Rattle.sqlite.specs.Edit.{id_in}

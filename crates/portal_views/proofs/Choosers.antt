@@ -9,7 +9,7 @@ use Rattle.portal_tables.proofs.Parents.{OnRoll, owners_of, place_parents}
 use Rattle.portal_tables.proofs.Shapes.{IsPlace, has_text_of, place_rows_formed}
 use Rattle.portal_tables.proofs.Sorted.{permutes, all_permuted}
 
--- a key equals shown of the rows that pass where one of them equals its own
+-- a key is shown of the rows that pass where one of them is its own
 pub named_where : (t : Row → Bool) (table shown : List Row) → ListsBy (1 ∷ []) t (columns (1 ∷ [])) table shown → (k : Key) → has (map first_cell shown) k ≡ list_any (λ r. t r && equals k (row_key r)) table
 named_where t table shown lists k =
     let f : Row → Row = columns (1 ∷ []) in
@@ -26,14 +26,14 @@ module _ (round : Round) (db : Database) (tables : HasTables db) where
   pub choices_formed : AllByRecursion IsPlace (db.trees (tree_of (choice_table round)))
   choices_formed = place_rows_formed db (choice_table round) (has_round (round_of (choice_table round)) db.schema tables.current) tables.sound choices_apart
 
-  -- whose choices they are equals on the roll
+  -- whose choices they are is on the roll
   pub choices_parents : AllByRecursion (λ r. OnRoll (db.trees student_tree) (row_key r)) (db.trees (tree_of (choice_table round)))
   choices_parents =
       let lists = choice_table round in
       let owners : owners_of lists ≡ student_tree = elim round as (λ (r : Round). owners_of (choice_table r) ≡ student_tree) [ First ↦ refl | Second ↦ refl ] in
       all_weaker _ _ (λ r both. subst (λ t. OnRoll (db.trees t) (row_key r)) owners both.0) (db.trees (tree_of lists)) (place_parents db lists (has_round (round_of lists) db.schema tables.current) tables.sound choices_apart)
 
--- a student equals among those who name the project where the student's list names it
+-- a student is among those who name the project where the student's list names it
 module _ (round : Round) (db : Database) (tables : HasTables db) (p : Key) (shown : List Row) (lists : ListsBy (1 ∷ []) (has_text 3 p) (columns (1 ∷ [])) (db.trees (tree_of (choice_table round))) shown) where
   abbrev table : List Row
   table = db.trees (tree_of (choice_table round))
@@ -54,7 +54,7 @@ module _ (round : Round) (db : Database) (tables : HasTables db) (p : Key) (show
       ∙ filtered_any (λ r. equals p (named_by r)) (has_text 1 k) table in
       named_where (has_text 3 p) table shown lists k ∙ any_alike _ _ table (all_weaker IsPlace _ (alike k) table (choices_formed round db tables)) ∙ sym right
 
-  -- who names the project equals on the roll
+  -- who names the project is on the roll
   pub choosers_known : AllByRecursion (λ k. has (map first_cell (students_shown db.trees)) k ≡ true) (map first_cell shown)
   choosers_known =
       let Known : Key → Type 0 = λ k. has (map first_cell (students_shown db.trees)) k ≡ true in

@@ -8,7 +8,7 @@ use Rattle.portal_views.proofs.OneKey.{roll_keys_rise}
 use Rattle.portal_tables.proofs.Shapes.{IsStudentRow, student_test, student_rows_formed}
 use Rattle.portal_tables.proofs.Sorted.{at, has_of, one_order, map_alike_on, map_twice}
 
--- what equals found of what equals made of a list equals made of what equals found
+-- what is found of what is made of a list is made of what is found
 find_mapped : {X Y : Type 0} (t : Y → Bool) (f : X → Y) (xs : List X) → find t (map f xs) ≡ option_map f (find (λ x. t (f x)) xs)
 find_mapped t f [] = refl
 find_mapped t f (x ∷ xs) =
@@ -83,7 +83,7 @@ has_kept q (x ∷ ss) s h =
       | false ↦ λ h. inr (has_kept q ss s h)
     ]) h
 
--- where the keys rise, a student equals found by the own key
+-- where the keys rise, a student is found by the own key
 found_own : (ss : List Row) → Rise (map first_cell ss) → (s : Row) → Has ss s → find (λ t. equals (first_cell t) (first_cell s)) ss ≡ Some s
 found_own [] up s h = absurd h
 found_own (x ∷ ss) up s (inl e) =

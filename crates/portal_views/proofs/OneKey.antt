@@ -1,4 +1,4 @@
--- Each key of a roll equals of one row, and so equals a student's place in the second round, by the unique index of the table.
+-- Each key of a roll is of one row, and so is a student's place in the second round, by the unique index of the table.
 use Rattle.std.specs.Prelude.{◌≡◌, ◌≤◌, ◌&&◌, ◌∷◌}
 use Rattle.std.proofs.Common.{arith}
 use Rattle.portal_views.proofs.Base.{ℤ, Bool, true, false, not, cond, List, [], map, filter, length, refl, sym, ap, ap₂, subst, ◌∙◌, and_parts, or_parts, append-nil, AllByRecursion, IsDistinct, list_any, is_eq, is_ne, Ordering, Less, Equal, Greater, Some, Int, Words, Binary, Row, column, bytes, value_cmp, binary, is_true, from_truth, Trees, rowid, id_in, Database, IsDatabase, Unique, equal, differ, everything, Key, equals, is_sym, is_same, Rise, all_weaker, all_unmap, lecturer_tree, project_tree, student_tree, assigned2_tree, roll_tree, OfRoll, OfPlaces, Second, Keeps, passes, Roll, Lecturers, Projects, Students, IsCurrentSchema, RowNumbersDiffer, has_text, of_key, row_key, by_key}
@@ -55,7 +55,7 @@ distinct (r ∷ rows) apart all none = (
   distinct rows apart.2 all.1 (all_weaker _ _ (λ s h. (or_parts (is_twin r s) (list_any (λ q. is_twin q s) rows) h).1) rows none.1),
 )
 
--- a row of a table whose key equals unique has no twin; that equals looked for in the indexes of all tables
+-- a row of a table whose key is unique has no twin; that is looked for in the indexes of all tables
 abbrev IsAlone : Named → Open → Trees → Row → Type 0
 IsAlone t o db r = passes Unique (schema_with Second o) db (with_checks o.checks o.terms (form_of t)) r ≡ true
 

@@ -1,7 +1,7 @@
--- Each row of a list equals of an owner on the roll, and each project of a lecturer on the roll; a roll shows the keys of its rows.
+-- Each row of a list is of an owner on the roll, and each project of a lecturer on the roll; a roll shows the keys of its rows.
 use Rattle.std.specs.Prelude.{◌≡◌, ◌&&◌, ◌∷◌}
 use Rattle.portal_views.proofs.Base.{refl, Bool, true, List, [], ℕ, map, sym, ap, subst, ◌∙◌, and_parts, list_any-IsPermutation, Value, Null, Words, Database, IsDatabase, Row, column, bytes, Trees, ForeignKey, OfLists, everything, map-map, Key, equals, has, Rise, all_weaker, any_map, round_of, tree_of, Lists, Choices, Rankings, SecondChoices, SecondRankings, HasRound, Round, First, Second, choice_table, ranking_table, Students, Lecturers, columns_of, students_shown, lecturers_shown, columns, row_key, by_key, AreOwned, first_cell, AllByRecursion, RowNumbersDiffer, HasFirstSchema, OfRoll, Projects, lecturer_tree, project_tree}
-use Rattle.portal_tables.specs.Rolls.{RollRises}
+use Rattle.portal_tables.specs.inner.Rolls.{RollRises}
 use Rattle.portal_tables.proofs.Weak.{Open, own_is}
 use Rattle.portal_tables.proofs.Listed.{IsText}
 use Rattle.portal_tables.proofs.Parents.{OnRoll, Found, on_roll, owners_of}
@@ -9,7 +9,7 @@ use Rattle.portal_tables.proofs.Shapes.{Follows, followed, project_rows_formed}
 use Rattle.portal_tables.proofs.Sorted.{all_two, permutes}
 use Rattle.portal_tables.proofs.Texts.{key_texts}
 
--- a roll shows the keys of its rows, and whoever equals on it
+-- a roll shows the keys of its rows, and whoever is on it
 pub keys_shown : (cs : List ℕ) (roll : List Row) → map first_cell (map (columns (1 ∷ cs)) (by_key roll)) ≡ map row_key (by_key roll)
 keys_shown cs roll = map-map first_cell (columns (1 ∷ cs)) (by_key roll)
 
@@ -22,7 +22,7 @@ shown_there cs roll k h =
 no_text : (t : Key) → Null ≡ Words t → ⊥
 no_text t e = cc
 
--- by the first_cell foreign key of the table
+-- by the first foreign key of the table
 owner_found : (l : Lists) (o : Open) (db : Trees) (n : Value) (t : Key) (vs : Row) → (rest : Bool) × (Follows ForeignKey (OfLists l) o db (n ∷ Words t ∷ vs) ≡ (Found (db (owners_of l)) t && rest))
 unfolding everything
 owner_found Choices o db n t vs = (_, refl)
@@ -38,7 +38,7 @@ place_owner l o db (n ∷ v ∷ vs) text h =
     let parts = and_parts (Found (db (owners_of l)) text.0) rule.0 (sym rule.1 ∙ subst (λ x. Follows ForeignKey (OfLists l) o db (n ∷ x ∷ vs) ≡ true) text.1 h) in
     subst (OnRoll (db (owners_of l))) (sym (ap bytes text.1)) (on_roll (db (owners_of l)) text.0 parts.0)
 
--- the roll as it equals shown has the owners of the lists
+-- the roll as it is shown has the owners of the lists
 owned : (db : Database) (l : Lists) → HasRound (round_of l) db.schema → IsDatabase db → (cs : List ℕ) → Rise (map row_key (by_key (db.trees (owners_of l))))
     → AreOwned l db.trees (map (columns (1 ∷ cs)) (by_key (db.trees (owners_of l))))
 owned db l own sound cs up =
@@ -60,7 +60,7 @@ pub rankings_owned : (round : Round) (db : Database) → HasRound round db.schem
 rankings_owned First db own sound = owned db Rankings own sound (columns_of Lecturers)
 rankings_owned Second db own sound = owned db SecondRankings own sound (columns_of Lecturers)
 
--- the lecturer of a project equals on the roll, by the first_cell foreign key of the table
+-- the lecturer of a project is on the roll, by the first foreign key of the table
 lecturer_found : (o : Open) (db : Trees) (n k : Value) (t : Key) (vs : Row) → (rest : Bool) × (Follows ForeignKey (OfRoll Projects) o db (n ∷ k ∷ Words t ∷ vs) ≡ (Found (db lecturer_tree) t && rest))
 unfolding everything
 lecturer_found o db n k t vs = (_, refl)

@@ -2,9 +2,9 @@
 
 ghost use Rattle.std.specs.Prelude.{◌≡◌, ◌∷◌, ◌++◌};
 ghost use Rattle.portal_views.specs.Base.{[], IfOk, OnOk, map, state, is_at, is_from_ranking};
-ghost use Rattle.portal_views.specs.Callers.{with_persons, lines_shown, persons_at, placed_among, persons_before, placed_at_shown, applicants_told, placed_told};
-ghost use Rattle.portal_views.specs.Lines.{HasTables};
-ghost use Rattle.portal_tables.specs.Reading.{RunsQueriesIn, YieldsOf};
+ghost use Rattle.portal_views.specs.inner.Callers.{with_persons, lines_shown, persons_at, placed_among, persons_before, placed_at_shown, applicants_told, placed_told};
+ghost use Rattle.portal_views.specs.inner.Lines.{HasTables};
+ghost use Rattle.portal_tables.specs.inner.Reading.{RunsQueriesIn, YieldsOf};
 
 use crate::lines::{Line, lines_to, persons_of};
 use crate::persons::put_persons;

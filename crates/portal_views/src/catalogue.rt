@@ -2,9 +2,9 @@
 
 ghost use Rattle.std.specs.Prelude.{◌≡◌};
 ghost use Rattle.portal_views.specs.Base.{IfOk, option_map, map, state, listing_with};
-ghost use Rattle.portal_views.specs.Catalogue.{name_of, offered, catalogue_shown};
-ghost use Rattle.portal_tables.specs.Reading.{RunsQueries, Yields};
-ghost use Rattle.portal_tables.specs.Shown.{shown_lecturer, shown_project};
+ghost use Rattle.portal_views.specs.inner.Catalogue.{name_of, offered, catalogue_shown};
+ghost use Rattle.portal_tables.specs.inner.Reading.{RunsQueries, Yields};
+ghost use Rattle.portal_tables.specs.inner.Shown.{shown_lecturer, shown_project};
 
 use portal_core::{LecturerRow, Listing, Name, ProjectRow};
 use portal_tables::decode::decoded;

@@ -2,12 +2,12 @@
 
 ghost use Rattle.std.specs.Prelude.{◌≡◌};
 ghost use Rattle.portal_views.specs.Base.{false, Err, IfOk, OnOk, map, AllByRecursion, state, IsLecturer, IsProject, IsStudent};
-ghost use Rattle.portal_views.specs.Contents.{rows_held, rows_with, rows_from, AreRead, AreFine};
+ghost use Rattle.portal_views.specs.inner.Contents.{rows_held, rows_with, rows_from, AreRead, AreFine};
 ghost use Rattle.portal_tables.specs.ListTables.{choice_table, ranking_table};
-ghost use Rattle.portal_tables.specs.Owners.{AreOwned, with_list};
-ghost use Rattle.portal_tables.specs.Reading.{RunsQueriesIn, YieldsSound, OverSound};
-ghost use Rattle.portal_tables.specs.Rolls.{lecturers_shown, projects_shown, students_shown, RollsRise};
-ghost use Rattle.portal_tables.specs.Shown.{shown_lecturer, shown_project, shown_student};
+ghost use Rattle.portal_tables.specs.inner.Owners.{AreOwned, with_list};
+ghost use Rattle.portal_tables.specs.inner.Reading.{RunsQueriesIn, YieldsSound, OverSound};
+ghost use Rattle.portal_tables.specs.inner.Rolls.{lecturers_shown, projects_shown, students_shown, RollsRise};
+ghost use Rattle.portal_tables.specs.inner.Shown.{shown_lecturer, shown_project, shown_student};
 
 use portal_core::{LecturerRow, ProjectRow, Round, StudentRow};
 use portal_tables::list_table::Lists;

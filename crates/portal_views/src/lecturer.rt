@@ -2,12 +2,12 @@
 
 ghost use Rattle.std.specs.Prelude.{◌≡◌};
 ghost use Rattle.portal_views.specs.Base.{IfOk, option_map, map, column, bytes, state};
-ghost use Rattle.portal_views.specs.Callers.{with_persons, own_keys_shown, lecturer_sees_with, lecturer_shown};
-ghost use Rattle.portal_views.specs.Lines.{HasTables};
-ghost use Rattle.portal_views.specs.Catalogue.{IsCatalogue, own_listed};
-ghost use Rattle.portal_tables.specs.Owners.{with_list, ranking_shown};
-ghost use Rattle.portal_tables.specs.Reading.{RunsQueries, RunsQueriesIn, YieldsOf, YieldsSound};
-ghost use Rattle.portal_tables.specs.Shown.{first_cell};
+ghost use Rattle.portal_views.specs.inner.Callers.{with_persons, own_keys_shown, lecturer_sees_with, lecturer_shown};
+ghost use Rattle.portal_views.specs.inner.Lines.{HasTables};
+ghost use Rattle.portal_views.specs.inner.Catalogue.{IsCatalogue, own_listed};
+ghost use Rattle.portal_tables.specs.inner.Owners.{with_list, ranking_shown};
+ghost use Rattle.portal_tables.specs.inner.Reading.{RunsQueries, RunsQueriesIn, YieldsOf, YieldsSound};
+ghost use Rattle.portal_tables.specs.inner.Shown.{first_cell};
 
 use crate::applicants::{Told, told_in};
 use crate::lines::person_at;

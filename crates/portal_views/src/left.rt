@@ -2,8 +2,8 @@
 
 ghost use Rattle.std.specs.Prelude.{◌≡◌, ◌&&◌, is_none};
 ghost use Rattle.portal_views.specs.Base.{IfOk, not, map, filter, has, Rise};
-ghost use Rattle.portal_tables.specs.Placements.{placement_before};
-ghost use Rattle.portal_tables.specs.Shown.{first_cell};
+ghost use Rattle.portal_tables.specs.inner.Placements.{placement_before};
+ghost use Rattle.portal_tables.specs.inner.Shown.{first_cell};
 
 use portal_core::Round;
 use portal_tables::cells::{bytes_at, key_at};

@@ -3,9 +3,9 @@
 
 ghost use Rattle.std.specs.Prelude.{◌≡◌, ◌∷◌};
 ghost use Rattle.portal_views.specs.Base.{[], IfOk, Some, map, column, bytes, state};
-ghost use Rattle.portal_tables.specs.Reading.{RunsQueriesIn, YieldsOf, YieldsSound};
-ghost use Rattle.portal_tables.specs.Shown.{first_cell};
-ghost use Rattle.portal_views.specs.Lines.{HasTables, told_line, in_round, applicant_at, applicant_lines};
+ghost use Rattle.portal_tables.specs.inner.Reading.{RunsQueriesIn, YieldsOf, YieldsSound};
+ghost use Rattle.portal_tables.specs.inner.Shown.{first_cell};
+ghost use Rattle.portal_views.specs.inner.Lines.{HasTables, told_line, in_round, applicant_at, applicant_lines};
 
 use portal_core::{Person, Round};
 use portal_tables::cells::{assigned_at, bytes_at, key_at, name_at};

@@ -2,7 +2,7 @@
 
 ghost use Rattle.std.specs.Prelude.{◌≡◌, ◌≤◌, insert};
 ghost use Rattle.portal_views.specs.Base.{OnOk, length, Person as ThatPerson, put, put_all};
-ghost use Rattle.portal_views.specs.Callers.{person_key};
+ghost use Rattle.portal_views.specs.inner.Callers.{person_key};
 
 use portal_core::Person;
 use spa_rows::Key;

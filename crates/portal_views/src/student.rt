@@ -2,8 +2,8 @@
 
 ghost use Rattle.std.specs.Prelude.{◌≡◌};
 ghost use Rattle.portal_views.specs.Base.{IfOk, column, bytes, state};
-ghost use Rattle.portal_views.specs.Callers.{student_sees_with, student_shown};
-ghost use Rattle.portal_tables.specs.Reading.{RunsQueriesIn, YieldsSound};
+ghost use Rattle.portal_views.specs.inner.Callers.{student_sees_with, student_shown};
+ghost use Rattle.portal_tables.specs.inner.Reading.{RunsQueriesIn, YieldsSound};
 
 use crate::lines::person_at;
 use portal_core::{Listing, Phase, Round, StudentView};

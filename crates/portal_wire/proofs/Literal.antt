@@ -8,7 +8,8 @@ use Rattle.std.proofs.lemmas.Str.{IsUtf8-from_is_utf8, IsUtf8-from_ascii, is_utf
 use Rattle.matchit.specs.Rows.{RowsOf, param_token, catch_all_token}
 use Rattle.matchit.specs.Seek.{seek, step, own, or_else, param_step, has_slash}
 use Rattle.portal_wire.specs.declared.routes.Route.{Route}
-use Rattle.portal_wire.specs.Routes.{the_paths, look_up, route_at, row_of, the_rows}
+use Rattle.portal_wire.specs.Routes.{the_paths, look_up, route_at}
+use Rattle.portal_wire.specs.inner.Routes.{row_of, the_rows}
 
 module _ {K : Type 0} where
   -- the first row with this pattern

@@ -6,3 +6,4 @@ pub mod Wish
 pub mod Calls
 pub mod Text
 pub mod Conversation
+pub mod inner

@@ -21,7 +21,7 @@ abbrev pub bad_row : ℕ → Refuses
 bad_row row = record { status = 422; word = codes "bad_row"; allow = []; row = Some row }
 
 abbrev pub roll_full_reply : Refuses
-roll_full_reply = plain 422 (codes "roll_full_reply")
+roll_full_reply = plain 422 (codes "roll_full")
 
 abbrev pub no_memory : Refuses
 no_memory = plain 503 (codes "unavailable")

@@ -5,7 +5,7 @@ use Rattle.clap.specs.Words.{AddsArg, AddsSubcommand, App, Rule, rule_of, with_r
 use Rattle.clap.specs.declared.builder.arg.Arg.{Arg}
 use Rattle.clap.specs.declared.builder.command.Command.{Command}
 use Rattle.clap.specs.declared.builder.command.Command.TheViews.{out-Command}
-use Rattle.portal_words.specs.Line.{Reads}
+use Rattle.portal_words.specs.inner.Line.{Reads}
 
 pub Reads-arg : (old : Command) (arg : Arg) (new : Command) (a : App) (r : Rule) → Reads old a → rule_of arg ≡ r → arg.global ≡ false → AddsArg old arg new → Reads new (with_rule a r)
 Reads-arg old arg new a r h is local adds = record {

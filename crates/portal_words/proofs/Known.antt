@@ -8,7 +8,8 @@ use Rattle.clap.specs.Simple.{built, entered, names_of}
 use Rattle.clap.specs.Takes.{built_takes}
 use Rattle.clap.specs.Walk.{nothing_held, stop_after}
 use Rattle.clap.proofs.OnLiterals.{clap_on_literals}
-use Rattle.portal_words.specs.Line.{AsksFile, MeetsFile, TakesFile, is_file_word, portal_app}
+use Rattle.portal_words.specs.Line.{is_file_word}
+use Rattle.portal_words.specs.inner.Line.{AsksFile, MeetsFile, TakesFile, portal_app}
 
 pub simple : is_simple portal_app ≡ true
 unfolding clap_on_literals

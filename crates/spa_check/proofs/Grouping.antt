@@ -7,7 +7,7 @@ use Rattle.std.proofs.lemmas.Option.{same_Some}
 use Rattle.spa_model.specs.Spa.{Spa, IsWith, IsOn, IsBefore, IsLawful, IsMatching, SomeWorseWith, place, ranking_of, lecturer_of, project_of, is_project, is_lecturer, at_project, at_lecturer}
 use Rattle.spa_model.proofs.Counts.{off_project}
 use Rattle.spa_check.specs.declared.groups.Group.{Group}
-use Rattle.spa_check.specs.Groups.{IsGroup}
+use Rattle.spa_check.specs.inner.Groups.{IsGroup}
 
 -- the same students
 pub group_same : (list : List ℕ) (IsIn IsNow : ℕ → Type 0) (n k : ℕ) (g : Group) → ((t : ℕ) → IsIn t → IsNow t) → ((t : ℕ) → IsNow t → IsIn t) → k ≡ n → IsGroup list IsIn n g → IsGroup list IsNow k g

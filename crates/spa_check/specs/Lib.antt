@@ -1,3 +1,3 @@
 pub mod Listed
-pub mod Groups
 pub mod Better
+pub mod inner

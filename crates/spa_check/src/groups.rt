@@ -2,7 +2,7 @@
 
 ghost use Rattle.std.specs.Prelude.{◌≡◌, ◌+◌, ◌<◌, ◌^◌, IfOk, length, max};
 ghost use Rattle.spa_model.specs.Spa.{IsMatching, IsOn, place, ranking_of};
-ghost use Rattle.spa_check.specs.Groups.{AreProjectGroups, AreLecturerGroups};
+ghost use Rattle.spa_check.specs.inner.Groups.{AreProjectGroups, AreLecturerGroups};
 
 use spa_model::{Instance, Matching};
 use std::alloc::{AllocError, Global};

@@ -5,7 +5,7 @@ use Rattle.std.proofs.lemmas.Bool.{cases_eq}
 use Rattle.spa_model.specs.declared.letter.Letter.{Letter}
 use Rattle.spa_model.specs.declared.letter.Letter.TheVariants.{A, B, C}
 use Rattle.spa_model.specs.Spa.{Spa, is_lecturer, at_lecturer, project_of, choices_of, lecturer_of, ranking_of, capacity_of, limit_of, IsBefore, IsAcceptable, Improves, Wants, Blocks, IsStable}
-use Rattle.spa_student.specs.Machine.{IsRanked}
+use Rattle.spa_student.specs.inner.Machine.{IsRanked}
 use Rattle.spa_honest.specs.Honest.{DifferInOneList}
 
 module _ (i j : Spa) (s : ℕ) (m : List (Option ℕ)) (differ : DifferInOneList i j s) (law : IsRanked j) (stable : IsStable j m) (wants : (q : ℕ) → Wants i m s q → Wants j m s q) where

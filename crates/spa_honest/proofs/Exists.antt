@@ -5,7 +5,7 @@ use Rattle.std.proofs.lemmas.Bool.{eq-eqb, ne_eqb, cases_lt, cases_eq}
 use Rattle.spa_model.specs.Spa.{Spa, place, at_project, at_lecturer, project_of, choices_of, lecturer_of, capacity_of, limit_of, IsBefore, IsAcceptable, IsWith, IsBest}
 use Rattle.spa_model.proofs.Places.{place-injective, place-get_or}
 use Rattle.spa_model.proofs.Counts.{sum_below, sum_below-lt}
-use Rattle.spa_student.specs.Machine.{IsRanked, rank_of, IsSpent, Holds}
+use Rattle.spa_student.specs.inner.Machine.{IsRanked, rank_of, IsSpent, Holds}
 use Rattle.spa_student.proofs.Machine.{student_in_range, put_same, put_cases, place_holds, swap_at_project_holds, swap_at_lecturer_holds, delete_holds, best_at_end}
 use Rattle.spa_student.proofs.Start.{nobody_matches, none_there}
 use Rattle.spa_student.proofs.CutSteps.{acceptable_in_range}

@@ -3,7 +3,7 @@ use Rattle.std.proofs.Common.{◌≡◌, inl, inr, ℕ, ◌<◌, ◌≤◌, List
 use Rattle.std.proofs.lemmas.Bool.{cases_eq}
 use Rattle.spa_model.specs.Spa.{Spa, place, choices_of, project_of, IsOn, IsBefore, IsAcceptable, IsAsGood, Improves, Wants, IsStable, IsBest}
 use Rattle.spa_model.proofs.Places.{place-injective}
-use Rattle.spa_student.specs.Machine.{IsRanked}
+use Rattle.spa_student.specs.inner.Machine.{IsRanked}
 use Rattle.spa_student.proofs.CutSteps.{acceptable_in_range}
 use Rattle.spa_honest.specs.Honest.{DifferInOneList, IsNoWorse}
 use Rattle.spa_honest.proofs.Exists.{best_of}

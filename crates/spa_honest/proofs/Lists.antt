@@ -3,7 +3,7 @@ use Rattle.std.proofs.Common.{◌≡◌, ◌≢◌, inl, inr, ℕ, zero, suc, �
 use Rattle.std.proofs.lemmas.List.{get_or-set_same, get_or-set_other}
 use Rattle.std.proofs.lemmas.Bool.{eqb-true, eq-eqb, cases_eq}
 use Rattle.spa_model.specs.Spa.{Spa, place, choices_of, IsOn, IsAcceptable, IsDistinct}
-use Rattle.spa_student.specs.Machine.{IsRanked}
+use Rattle.spa_student.specs.inner.Machine.{IsRanked}
 
 -- the list up to p, with p
 abbrev pub up_to : List ℕ → ℕ → List ℕ

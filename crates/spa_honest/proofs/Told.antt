@@ -1,10 +1,10 @@
 -- What is best in the example, by the steps of the method.
 use Rattle.std.proofs.Common.{◌≡◌, ◌⊎◌, inl, inr, ℕ, zero, suc, ◌<◌, List, [], ◌∷◌, Some, None, refl, sym, arith}
 use Rattle.spa_model.specs.Spa.{project_of, IsBefore, IsAcceptable, IsBest}
-use Rattle.spa_student.specs.Machine.{ProjectSpent, rank_of, Holds}
+use Rattle.spa_student.specs.inner.Machine.{ProjectSpent, rank_of, Holds}
 use Rattle.spa_student.proofs.Machine.{ranked_of, place_holds, delete_holds, best_at_end}
 use Rattle.spa_student.proofs.Start.{nobody_matches}
-use Rattle.spa_honest.specs.Example.{ann, ben, cem, bells, kites, tides, example, honest_list, safe_list, short_list}
+use Rattle.spa_honest.specs.examples.Example.{ann, ben, cem, bells, kites, tides, example, honest_list, safe_list, short_list}
 use Rattle.spa_honest.proofs.Worked.{none_before, before_cons, honest_lawful, short_lawful}
 
 -- nothing is deleted; Tides from Ann's list; that and Kites from Cem's list; Kites from Cem's list

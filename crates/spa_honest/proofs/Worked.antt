@@ -6,7 +6,7 @@ use Rattle.std.specs.Ordering.{nat_cmp}
 use Rattle.std.specs.Cmp.Lexicographic.{slice_cmp}
 use Rattle.std.proofs.lemmas.Bool.{eqb-true, eq-eqb}
 use Rattle.spa_model.specs.Spa.{place, choices_of, lecturer_of, ranking_of, capacity_of, limit_of, IsOn, IsBefore, IsAcceptable, IsDistinct, IsLawful}
-use Rattle.spa_honest.specs.Example.{ann, ben, cem, bells, kites, tides, example, honest_list, safe_list, short_list}
+use Rattle.spa_honest.specs.examples.Example.{ann, ben, cem, bells, kites, tides, example, honest_list, safe_list, short_list}
 
 -- what stands on a list is its first entry or stands on the rest
 pub on_cons : (x : ℕ) (xs : List ℕ) (q : ℕ) → IsOn (x ∷ xs) q → (x ≡ q) ⊎ IsOn xs q

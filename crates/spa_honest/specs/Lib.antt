@@ -1,2 +1,2 @@
 pub mod Honest
-pub mod Example
+pub mod examples

@@ -3,7 +3,7 @@
 ghost use Rattle.std.specs.Prelude.{◌∷◌, [], Some};
 ghost use Rattle.spa_model.specs.Spa.{IsBest, IsLawful};
 ghost use Rattle.spa_honest.specs.Honest.{BestThereIs, HonestIsBest, SameAssigned};
-ghost use Rattle.spa_honest.specs.Example.{bells, example, honest_list, kites, safe_list, short_list, tides};
+ghost use Rattle.spa_honest.specs.examples.Example.{bells, example, honest_list, kites, safe_list, short_list, tides};
 
 /// In any two stable matchings of an instance the same students have a project, and each lecturer has
 /// as many. So nobody is left out by the choice of a stable matching.

@@ -15,7 +15,7 @@ use Rattle.spa_model.specs.declared.instance.Project.{Project}
 use Rattle.spa_model.specs.declared.instance.Lecturer.{Lecturer}
 use Rattle.spa_model.specs.Spa.{Rise}
 use Rattle.spa_model.specs.Built.{HasKey}
-use Rattle.spa_model.specs.Numbers.{student_keys, choices_at, lecturer_at, row_at, rank_at, Finds, IsApplicantOf, Misses, MissesBelow}
+use Rattle.spa_model.specs.inner.Numbers.{student_keys, choices_at, lecturer_at, row_at, rank_at, Finds, IsApplicantOf, Misses, MissesBelow}
 use Rattle.spa_model.proofs.Keys.{one_number, is_key_of}
 
 -- rows at a place

@@ -3,7 +3,7 @@ use Rattle.std.proofs.Common.{◌≡◌, ◌↔◌, inl, inr, ℕ, ◌<◌, ◌�
 use Rattle.std.specs.List.{IsAnyAnswer}
 use Rattle.std.proofs.lemmas.Bool.{eqb-true, eq-eqb, ne_eqb, cases_lt, true≢false}
 use Rattle.spa_model.specs.Spa.{Spa, place, IsOn, is_project, is_lecturer, at_project, at_lecturer, project_of, lecturer_of, capacity_of, limit_of, IsLawful}
-use Rattle.spa_model.specs.Fitting.{AreAcceptable}
+use Rattle.spa_model.specs.inner.Fitting.{AreAcceptable}
 use Rattle.spa_model.proofs.Places.{place-get_or-le, get_or-place}
 use Rattle.spa_model.proofs.Counts.{count_by-none}
 

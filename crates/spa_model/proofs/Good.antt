@@ -14,7 +14,7 @@ use Rattle.spa_rows.specs.Faults.{HasNoneBefore, IsBadCapacity, IsKeyOf, NamesNo
 use Rattle.spa_rows.specs.declared.faults.InstanceFault.TheVariants.{TooMany, BadKey, KeyTwice, BadCapacity, NoSuchLecturer, NoSuchProject, RepeatInList, ListTooLong, NotApplicant}
 use Rattle.spa_rows.proofs.Lists.{at_place, map_at}
 use Rattle.spa_model.specs.Spa.{Rise}
-use Rattle.spa_model.specs.Numbers.{student_keys, project_keys, lecturer_keys}
+use Rattle.spa_model.specs.inner.Numbers.{student_keys, project_keys, lecturer_keys}
 
 -- lines that are not bad
 none_bad : {X : Type 0} (lines : List X) (row : X → ℕ) (Bad : ℕ → X → Type 0) → ((r : ℕ) → BadAt lines row Bad r → ⊥) → (k : ℕ) (d : X) → k < length lines → Bad k (get_or lines k d) → ⊥

@@ -15,8 +15,8 @@ use Rattle.spa_model.specs.declared.instance.Project.{Project}
 use Rattle.spa_model.specs.declared.instance.Lecturer.{Lecturer}
 use Rattle.spa_model.specs.Spa.{Spa, place, IsOn, IsDistinct, IsLawful, capacity_of, limit_of}
 use Rattle.spa_model.specs.Built.{HasKey, keys_at, StandsFor, StandsStudent, StandsProject, StandsLecturer}
-use Rattle.spa_model.specs.Inside.{spa_of, AreRanks, HaveRanks}
-use Rattle.spa_model.specs.Numbers.{student_keys, project_keys, lecturer_keys, AreNumbers, IsStudentOf, IsProjectOf, IsLecturerOf, choices_at, lecturer_at, row_at, rank_at, Finds, MissesBelow}
+use Rattle.spa_model.specs.inner.Inside.{spa_of, AreRanks, HaveRanks}
+use Rattle.spa_model.specs.inner.Numbers.{student_keys, project_keys, lecturer_keys, AreNumbers, IsStudentOf, IsProjectOf, IsLecturerOf, choices_at, lecturer_at, row_at, rank_at, Finds, MissesBelow}
 use Rattle.spa_model.proofs.Places.{get_or-place, place-get_or-le}
 use Rattle.spa_model.proofs.Keys.{one_number, key_number}
 use Rattle.spa_model.proofs.Zips.{zip_at, zip_maps, zip_weaker, zip_all}

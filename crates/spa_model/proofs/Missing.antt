@@ -15,7 +15,7 @@ use Rattle.spa_model.specs.declared.instance.Project.{Project}
 use Rattle.spa_model.specs.declared.instance.Lecturer.{Lecturer}
 use Rattle.spa_model.specs.Spa.{place, rank_in, IsOn}
 use Rattle.spa_model.specs.Built.{HasKey}
-use Rattle.spa_model.specs.Numbers.{student_keys, IsLecturerOf, choices_at, lecturer_at, row_at, rank_at, Finds, MissesBelow}
+use Rattle.spa_model.specs.inner.Numbers.{student_keys, IsLecturerOf, choices_at, lecturer_at, row_at, rank_at, Finds, MissesBelow}
 use Rattle.spa_model.proofs.Places.{get_or-place, place-get_or-le}
 use Rattle.spa_model.proofs.Keys.{one_number, key_number}
 use Rattle.spa_model.proofs.Zips.{zip_at}

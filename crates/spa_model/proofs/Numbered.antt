@@ -13,7 +13,7 @@ use Rattle.spa_model.specs.declared.instance.Student.{Student}
 use Rattle.spa_model.specs.declared.instance.Project.{Project}
 use Rattle.spa_model.specs.Spa.{Rise}
 use Rattle.spa_model.specs.Built.{HasKey}
-use Rattle.spa_model.specs.Numbers.{student_keys, project_keys, lecturer_keys, AreNumbers, IsStudentOf, IsProjectOf, choices_at, lecturer_at, Finds, IsApplicantOf}
+use Rattle.spa_model.specs.inner.Numbers.{student_keys, project_keys, lecturer_keys, AreNumbers, IsStudentOf, IsProjectOf, choices_at, lecturer_at, Finds, IsApplicantOf}
 use Rattle.spa_model.proofs.Keys.{one_number, key_number}
 use Rattle.spa_model.proofs.Ranks.{numbers_below}
 use Rattle.spa_model.proofs.Zips.{zip_at}

@@ -12,7 +12,7 @@ use Rattle.spa_rows.specs.Lines.{Text}
 use Rattle.spa_rows.specs.Faults.{Repeats}
 use Rattle.spa_model.specs.Spa.{place}
 use Rattle.spa_model.specs.Built.{HasKey}
-use Rattle.spa_model.specs.Numbers.{AreNumbers}
+use Rattle.spa_model.specs.inner.Numbers.{AreNumbers}
 use Rattle.spa_model.proofs.Places.{place-injective, place-get_or}
 use Rattle.spa_model.proofs.Zips.{zip_at, zip_all}
 

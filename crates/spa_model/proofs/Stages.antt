@@ -10,7 +10,7 @@ use Rattle.spa_rows.specs.declared.faults.InstanceFault.TheVariants.{NotApplican
 use Rattle.spa_model.specs.declared.instance.Student.{Student}
 use Rattle.spa_model.specs.declared.instance.Project.{Project}
 use Rattle.spa_model.specs.declared.instance.Lecturer.{Lecturer}
-use Rattle.spa_model.specs.Numbers.{student_keys, project_keys, lecturer_keys, IsStudentOf, IsProjectOf, IsLecturerOf, MissesBelow}
+use Rattle.spa_model.specs.inner.Numbers.{student_keys, project_keys, lecturer_keys, IsStudentOf, IsProjectOf, IsLecturerOf, MissesBelow}
 use Rattle.spa_model.proofs.Keys.{is_key_of}
 use Rattle.spa_model.proofs.Zips.{zip_all}
 use Rattle.spa_model.proofs.Ranks.{numbers_below}

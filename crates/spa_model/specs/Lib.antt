@@ -4,9 +4,7 @@ pub use Rattle.spa_rows.specs.Least
 pub use Rattle.spa_rows.specs.Faults
 pub mod Spa
 pub mod Shown
-pub mod Inside
-pub mod Fitting
 pub mod Built
 pub mod Pairs
 pub mod Assigned
-pub mod Numbers
+pub mod inner

@@ -9,7 +9,7 @@ ghost use Rattle.std.specs.Cmp.Lexicographic.{slice_cmp};
 ghost use Rattle.spa_rows.specs.Faults.{HasNoneBefore, IsRefusal};
 ghost use Rattle.spa_rows.specs.declared.faults.InstanceFault.TheVariants.{NotApplicant, Memory};
 ghost use Rattle.spa_model.specs.Built.{StandsFor};
-ghost use Rattle.spa_model.specs.Numbers.{rows_of};
+ghost use Rattle.spa_model.specs.inner.Numbers.{rows_of};
 
 use crate::instance::Instance;
 use applicants::{applicant_missing, not_applicant};

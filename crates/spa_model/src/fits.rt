@@ -2,7 +2,7 @@
 
 ghost use Rattle.std.specs.Prelude.{◌≡◌, ◌<◌, ◌≤◌, ◌↔◌, ℕ, IsTrue, Some, length};
 ghost use Rattle.spa_model.specs.Spa.{IsOn, at_project, at_lecturer, project_of, is_project, is_lecturer, capacity_of, limit_of};
-ghost use Rattle.spa_model.specs.Fitting.{AreAcceptable};
+ghost use Rattle.spa_model.specs.inner.Fitting.{AreAcceptable};
 
 use crate::instance::Instance;
 

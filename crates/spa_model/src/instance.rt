@@ -48,7 +48,7 @@ impl Model for Instance {
 
     ghost use Rattle.std.specs.Prelude.{length};
     ghost use Rattle.spa_model.specs.Spa.{IsLawful};
-    ghost use Rattle.spa_model.specs.Inside.{spa_of, HaveRanks};
+    ghost use Rattle.spa_model.specs.inner.Inside.{spa_of, HaveRanks};
 
     ghost view = { λ a. spa_of a.students.items a.projects.items a.lecturers.items };
 

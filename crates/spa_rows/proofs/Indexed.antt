@@ -8,7 +8,7 @@ use Rattle.std.proofs.lemmas.List.{get_or_default}
 use Rattle.std.proofs.lemmas.Slice.Eq.{bytes_eq-Decides}
 use Rattle.spa_rows.specs.Lines.{Text}
 use Rattle.spa_rows.specs.Faults.{IsKeyOf}
-use Rattle.spa_rows.specs.Index.{IsIndexOf, HasPlace, text_eq}
+use Rattle.spa_rows.specs.inner.Index.{IsIndexOf, HasPlace, text_eq}
 use Rattle.std.proofs.Math.Seq.{take-length}
 use Rattle.spa_rows.proofs.Lists.{at_place}
 use Rattle.spa_rows.proofs.Seen.{more}

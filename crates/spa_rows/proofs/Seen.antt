@@ -16,7 +16,7 @@ use Rattle.std.proofs.lemmas.Map.Lookups.{exact_bytes}
 use Rattle.std.proofs.lemmas.Slice.Eq.{bytes_eq-Decides}
 use Rattle.spa_rows.specs.Lines.{Text}
 use Rattle.spa_rows.specs.Faults.{IsEarlierKey}
-use Rattle.spa_rows.specs.Index.{text_eq}
+use Rattle.spa_rows.specs.inner.Index.{text_eq}
 
 -- the order of slices
 abbrev pub text_cmp : Bor Text → Bor Text → Ordering

@@ -2,4 +2,4 @@ pub mod Form
 pub mod Lines
 pub mod Least
 pub mod Faults
-pub mod Index
+pub mod inner

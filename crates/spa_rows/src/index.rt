@@ -3,7 +3,7 @@
 ghost use Rattle.std.specs.Prelude.{◌≡◌, ◌<◌, ◌↔◌, IsTrue, IfNone, IfOk, IfSome, length, slice_index_or};
 ghost use Rattle.spa_rows.specs.Faults.{IsKeyOf};
 ghost use Rattle.std.specs.HashMap.{get};
-ghost use Rattle.spa_rows.specs.Index.{text_eq};
+ghost use Rattle.spa_rows.specs.inner.Index.{text_eq};
 
 use crate::kinds::Line;
 use std::alloc::{AllocError, Global};
@@ -27,7 +27,7 @@ pub struct Places<'a, L: Line> {
 
 impl<'a, L: Line> Model for Places<'a, L> {
     ghost use Rattle.std.specs.Prelude.{List, length};
-    ghost use Rattle.spa_rows.specs.Index.{IsIndexOf};
+    ghost use Rattle.spa_rows.specs.inner.Index.{IsIndexOf};
 
     ghost Value = { List L };
 

@@ -8,9 +8,9 @@ use Rattle.spa_model.specs.Spa.{Spa, place, is_project, is_lecturer, at_project,
 use Rattle.spa_model.proofs.Places.{place-injective, get_or-place, place-get_or, place-get_or-le}
 use Rattle.spa_model.proofs.Counts.{one_if, count_by-set}
 use Rattle.spa_student.specs.declared.cuts.Progress.{Progress}
-use Rattle.spa_student.specs.Machine.{rank_of, LecturerSpent, ProjectSpent, Holds}
-use Rattle.spa_student.specs.Cuts.{IsPastCut, IsCut, IsUncut, AreCounts, AreMarks, IsUnderWay, IsNextEntry, KeepsCuts, Puts, Leaves, IsSettled}
-use Rattle.spa_student.specs.Worst.{IsWorstAt, IsWorstWith}
+use Rattle.spa_student.specs.inner.Machine.{rank_of, LecturerSpent, ProjectSpent, Holds}
+use Rattle.spa_student.specs.inner.Cuts.{IsPastCut, IsCut, IsUncut, AreCounts, AreMarks, IsUnderWay, IsNextEntry, KeepsCuts, Puts, Leaves, IsSettled}
+use Rattle.spa_student.specs.inner.Worst.{IsWorstAt, IsWorstWith}
 use Rattle.spa_student.proofs.Machine.{ranked_of, student_in_range, delete_holds, place_holds, swap_at_project_holds, swap_at_lecturer_holds, best_at_end, put_cases, put_at_project, put_at_lecturer, one_here, none_there}
 use Rattle.spa_student.proofs.Start.{nobody_matches, none_counted, none_there as none_there_yet}
 

@@ -5,7 +5,7 @@ use Rattle.std.proofs.lemmas.Bool.{eqb-true, eq-eqb, ne_eqb, cases_Bool, cases_l
 use Rattle.spa_model.specs.declared.Letter.{Letter}
 use Rattle.spa_model.specs.declared.Letter.TheVariants.{A, B, C}
 use Rattle.spa_model.specs.Spa.{Spa, place, is_project, is_lecturer, at_project, at_lecturer, project_of, choices_of, lecturer_of, ranking_of, capacity_of, limit_of, IsOn, IsBefore, IsAcceptable, IsLawful, Improves, Wants, Blocks, IsStable, IsAsGood, IsBest}
-use Rattle.spa_student.specs.Machine.{IsRanked, rank_of, LecturerSpent, ProjectSpent, IsSpent, Holds}
+use Rattle.spa_student.specs.inner.Machine.{IsRanked, rank_of, LecturerSpent, ProjectSpent, IsSpent, Holds}
 use Rattle.spa_model.proofs.Places.{place-injective}
 use Rattle.spa_model.proofs.Counts.{one_if, off_project, count_by-set, count_by-le, sum_below, sum_below-lt, share, at_lecturer-sum}
 

@@ -1,3 +1,1 @@
-pub mod Machine
-pub mod Worst
-pub mod Cuts
+pub mod inner

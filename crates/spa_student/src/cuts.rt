@@ -2,9 +2,9 @@
 
 ghost use Rattle.std.specs.Prelude.{◌≡◌, ◌≢◌, ◌<◌, ◌≤◌, ◌+◌, ◌↔◌, ◌⊎◌, ℕ, IfOk, IfSome, MatchOption, IsTrue, Some, None, length, slice_set, slice_index, sum, map};
 ghost use Rattle.spa_model.specs.Spa.{IsBest, IsWith, IsAcceptable, choices_of, project_of, lecturer_of, ranking_of};
-ghost use Rattle.spa_student.specs.Cuts.{IsPastCut, IsUncut, IsUnderWay, AreCounts, AreMarks, IsNextEntry, KeepsCuts, Puts, Leaves, Exchanges, IsSettled};
-ghost use Rattle.spa_student.specs.Machine.{rank_of};
-ghost use Rattle.spa_student.specs.Worst.{IsWorstAt, IsWorstWith};
+ghost use Rattle.spa_student.specs.inner.Cuts.{IsPastCut, IsUncut, IsUnderWay, AreCounts, AreMarks, IsNextEntry, KeepsCuts, Puts, Leaves, Exchanges, IsSettled};
+ghost use Rattle.spa_student.specs.inner.Machine.{rank_of};
+ghost use Rattle.spa_student.specs.inner.Worst.{IsWorstAt, IsWorstWith};
 
 use spa_model::{Instance, Matching};
 use std::alloc::{AllocError, Global};

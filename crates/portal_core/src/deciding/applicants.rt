@@ -8,7 +8,7 @@ ghost use Rattle.portal_core.specs.Words.{equals};
 ghost use Rattle.portal_core.specs.Faults as fault;
 ghost use Rattle.portal_core.specs.Faults.{is_applicant};
 ghost use Rattle.portal_core.specs.Meaning.{by_project};
-ghost use Rattle.portal_core.specs.Tables.{HasKeys, HasTexts};
+ghost use Rattle.portal_core.specs.inner.Tables.{HasKeys, HasTexts};
 
 use crate::rows::Person;
 use spa_rows::Key;
@@ -29,7 +29,7 @@ impl<'a> Model for Applicants<'a> {
     ghost use Rattle.portal_core.specs.Words as words;
     ghost use Rattle.portal_core.specs.Faults.{is_applicant};
     ghost use Rattle.portal_core.specs.Meaning.{by_project};
-    ghost use Rattle.portal_core.specs.Tables.{HasKeys};
+    ghost use Rattle.portal_core.specs.inner.Tables.{HasKeys};
 
     ghost Value = { List (words.Key × List Person) };
 

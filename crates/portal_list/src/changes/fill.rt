@@ -1,8 +1,8 @@
 //! The missing rankings.
 
 ghost use Rattle.std.specs.Prelude.{◌≡◌, IfOk, OnOk, OnErr, map};
-ghost use Rattle.portal_list.specs.Parts.{applicant_keys};
-ghost use Rattle.portal_list.specs.Fill.{unless_empty, missing, with_missing, filled};
+ghost use Rattle.portal_list.specs.inner.Parts.{applicant_keys};
+ghost use Rattle.portal_list.specs.inner.Fill.{unless_empty, missing, with_missing, filled};
 
 use crate::entries::{LecturerEntry, StudentEntry};
 use crate::lists::applicants;

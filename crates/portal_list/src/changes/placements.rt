@@ -2,7 +2,7 @@
 
 ghost use Rattle.std.specs.Prelude.{◌≡◌, IfOk, OnOk, OnErr, map};
 ghost use Rattle.portal_core.specs.Change.{placement_in, with_place};
-ghost use Rattle.portal_list.specs.Played.{placed_now};
+ghost use Rattle.portal_list.specs.inner.Played.{placed_now};
 
 use crate::copies::place_copy;
 use crate::entries::StudentEntry;

@@ -4,7 +4,7 @@ ghost use Rattle.std.specs.Prelude.{◌≡◌, IfOk, map, option_map, filter, []
 ghost use Rattle.portal_core.specs.Words.{has};
 ghost use Rattle.portal_core.specs.World.{is_at, shown_placement};
 ghost use Rattle.portal_core.specs.View.{persons};
-ghost use Rattle.portal_list.specs.Shown.{applicants_shown, placements_shown};
+ghost use Rattle.portal_list.specs.inner.Shown.{applicants_shown, placements_shown};
 
 use super::placements::placement_shown;
 use crate::copies::{holds, person_of};

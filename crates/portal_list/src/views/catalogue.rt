@@ -2,7 +2,7 @@
 
 ghost use Rattle.std.specs.Prelude.{◌≡◌, IfOk, option_map};
 ghost use Rattle.portal_core.specs.View.{name_in, listing_with, listings};
-ghost use Rattle.portal_list.specs.Shown.{catalogue_in};
+ghost use Rattle.portal_list.specs.inner.Shown.{catalogue_in};
 
 use crate::entries::{Entries, LecturerEntry};
 use crate::played::played;

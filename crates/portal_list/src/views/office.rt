@@ -3,8 +3,8 @@
 ghost use Rattle.std.specs.Prelude.{◌≡◌, IfOk, map, filter, ◌&&◌, [], if◌then◌else◌};
 ghost use Rattle.std.specs.List.{list_any};
 ghost use Rattle.portal_core.specs.Words.{has, is_empty};
-ghost use Rattle.portal_list.specs.Played.{takes_part};
-ghost use Rattle.portal_list.specs.Shown.{is_wanted, is_waiting};
+ghost use Rattle.portal_list.specs.inner.Played.{takes_part};
+ghost use Rattle.portal_list.specs.inner.Shown.{is_wanted, is_waiting};
 
 use crate::copies::{holds, project_rows_of};
 use crate::entries::{LecturerEntry, StudentEntry};

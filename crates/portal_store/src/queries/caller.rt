@@ -5,9 +5,10 @@ ghost use Rattle.sqlite.specs.Held.{state};
 ghost use Rattle.portal_core.specs.View.{lecturer_with, student_with};
 ghost use Rattle.portal_core.specs.declared.phase.Round.{Round as ThatRound};
 ghost use Rattle.portal_store.specs.World.{world_in};
-ghost use Rattle.portal_tables.specs.Reading.{RunsQueries};
-ghost use Rattle.portal_store.specs.Reading.{OverRound, shown};
-ghost use Rattle.portal_store.specs.Queried.{lecturer_from, student_from};
+ghost use Rattle.portal_tables.specs.inner.Reading.{RunsQueries};
+ghost use Rattle.portal_store.specs.Reading.{shown};
+ghost use Rattle.portal_store.specs.inner.Reading.{OverRound};
+ghost use Rattle.portal_store.specs.inner.Queried.{lecturer_from, student_from};
 
 use portal_tables::TableFault;
 use portal_tables::decode::at_most_one;

@@ -3,10 +3,12 @@
 ghost use Rattle.std.specs.Prelude.{◌≡◌, false, IfOk};
 ghost use Rattle.sqlite.specs.Held.{state};
 ghost use Rattle.portal_core.specs.View as seen;
-ghost use Rattle.portal_core.specs.ViewCache.{IsCacheOf};
+ghost use Rattle.portal_core.specs.inner.ViewCache.{IsCacheOf};
 ghost use Rattle.portal_store.specs.World.{world_in};
-ghost use Rattle.portal_tables.specs.Reading.{RunsQueryIn, RunsQueriesIn};
-ghost use Rattle.portal_store.specs.Reading.{KeepsCacheIn, OverRound, shown};
+ghost use Rattle.portal_tables.specs.Reading.{RunsQueryIn};
+ghost use Rattle.portal_tables.specs.inner.Reading.{RunsQueriesIn};
+ghost use Rattle.portal_store.specs.Reading.{shown};
+ghost use Rattle.portal_store.specs.inner.Reading.{KeepsCacheIn, OverRound};
 ghost use Rattle.portal_core.specs.declared.phase.Round.TheVariants.{Second};
 
 use crate::sound::load_keeper;

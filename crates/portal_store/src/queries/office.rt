@@ -6,12 +6,13 @@ ghost use Rattle.sqlite.specs.Held.{state};
 ghost use Rattle.portal_core.specs.Words.{equals, has};
 ghost use Rattle.portal_core.specs.World.{is_from_ranking};
 ghost use Rattle.portal_core.specs.View as seen;
-ghost use Rattle.portal_list.specs.Shown.{is_wanted};
+ghost use Rattle.portal_list.specs.inner.Shown.{is_wanted};
 ghost use Rattle.portal_store.specs.World.{world_in};
-ghost use Rattle.portal_tables.specs.Reading.{RunsQueriesIn};
-ghost use Rattle.portal_tables.specs.Shown.{first_cell, shown_lecturer, shown_project, shown_student};
-ghost use Rattle.portal_store.specs.Queried.{unlisted, waiting_key, office_from};
-ghost use Rattle.portal_store.specs.Reading.{IsNow, OverRound, shown};
+ghost use Rattle.portal_tables.specs.inner.Reading.{RunsQueriesIn};
+ghost use Rattle.portal_tables.specs.inner.Shown.{first_cell, shown_lecturer, shown_project, shown_student};
+ghost use Rattle.portal_store.specs.inner.Queried.{unlisted, waiting_key, office_from};
+ghost use Rattle.portal_store.specs.Reading.{shown};
+ghost use Rattle.portal_store.specs.inner.Reading.{IsNow, OverRound};
 
 use portal_core::{Listing, OfficeView, Phase, Round};
 use portal_tables::cells::{bytes_at, key_at};

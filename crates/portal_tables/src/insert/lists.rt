@@ -1,7 +1,7 @@
 //! Rows of the lists.
 
 ghost use Rattle.portal_tables.specs.ListTables.{tree_of};
-ghost use Rattle.portal_tables.specs.Rows.{AddsBy, place_new};
+ghost use Rattle.portal_tables.specs.inner.Rows.{AddsBy, place_new};
 
 use super::Target;
 use crate::list_table::Lists;

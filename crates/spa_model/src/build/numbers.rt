@@ -4,8 +4,8 @@ ghost use Rattle.std.specs.Prelude.{◌≡◌, ◌<◌, ◌≤◌, All, IfOk, tr
 ghost use Rattle.spa_rows.specs.Form.{is_key};
 ghost use Rattle.spa_rows.specs.Faults.{IsKeyOf, NamesNone, Repeats};
 ghost use Rattle.spa_model.specs.Spa.{IsDistinct};
-ghost use Rattle.spa_model.specs.Inside.{AreRanks};
-ghost use Rattle.spa_model.specs.Numbers.{student_keys, project_keys, lecturer_keys, AreNumbers, IsStudentOf, IsProjectOf, IsLecturerOf};
+ghost use Rattle.spa_model.specs.inner.Inside.{AreRanks};
+ghost use Rattle.spa_model.specs.inner.Numbers.{student_keys, project_keys, lecturer_keys, AreNumbers, IsStudentOf, IsProjectOf, IsLecturerOf};
 ghost use Rattle.std.specs.List.{AllZip};
 
 use crate::instance::{Lecturer, Project, Student};

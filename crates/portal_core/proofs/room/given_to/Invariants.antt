@@ -1,5 +1,5 @@
 use Rattle.std.proofs.Common.{◌≡◌, take}
-use Rattle.portal_core.specs.Room.{pairs_to}
+use Rattle.portal_core.specs.inner.Room.{pairs_to}
 use Rattle.portal_core.proofs.room.given_to.Given as goal
 
 abbrev pub invariant-loop-pair : goal.invariant-loop-pair

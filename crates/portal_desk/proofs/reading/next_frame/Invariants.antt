@@ -1,6 +1,6 @@
 use Rattle.std.proofs.Common.{◌≡◌, ◌-◌, ◌+◌, ◌≤◌, length}
 use Rattle.std.specs.Prelude.{if◌then◌else◌}
-use Rattle.portal_desk.specs.Reading.{ReadsMore}
+use Rattle.portal_desk.specs.inner.Reading.{ReadsMore}
 use Rattle.portal_desk.proofs.reading.next_frame.Given as goal
 
 abbrev pub decreases-loop-found : goal.decreases-loop-found

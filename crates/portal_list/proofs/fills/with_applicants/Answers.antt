@@ -1,7 +1,7 @@
 use Rattle.std.proofs.Common.{List, ◌∷◌, [], ◌++◌, map, take, ◌∙◌, ap, sym}
 use Rattle.std.proofs.lemmas.List.{map_push}
 use Rattle.portal_core.specs.Words.{Key}
-use Rattle.portal_list.specs.Parts.{applicant_keys}
+use Rattle.portal_list.specs.inner.Parts.{applicant_keys}
 use Rattle.portal_list.proofs.Steps.{grown}
 use Rattle.portal_list.proofs.fills.with_applicants.Goals as goal
 

@@ -1,6 +1,6 @@
 use Rattle.std.proofs.Common.{take}
 use Rattle.std.specs.List.{AllByRecursion}
-use Rattle.portal_list.specs.Parts.{IsOutIfPlaced}
+use Rattle.portal_list.specs.inner.Parts.{IsOutIfPlaced}
 use Rattle.portal_list.proofs.lists.are_out_if_placed.Given as goal
 
 abbrev pub invariant-loop-student : goal.invariant-loop-student

@@ -4,8 +4,8 @@ use Rattle.std.specs.List.{list_any}
 use Rattle.portal_core.specs.Words.{Rise, has}
 use Rattle.portal_core.specs.World.{student_key}
 use Rattle.portal_core.proofs.Fills.{rise_kept}
-use Rattle.portal_core.specs.Room.{own_keys}
-use Rattle.portal_list.specs.Parts.{applicant_keys, HasRanking}
+use Rattle.portal_core.specs.inner.Room.{own_keys}
+use Rattle.portal_list.specs.inner.Parts.{applicant_keys, HasRanking}
 use Rattle.portal_list.proofs.lists.ranking_fits.Goals as goal
 
 pub is_ranked-requires : goal.is_ranked-requires

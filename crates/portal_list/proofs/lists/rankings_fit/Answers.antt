@@ -2,7 +2,7 @@ use Rattle.std.proofs.Common.{sym, ◌∙◌, subst, List}
 use Rattle.std.proofs.lemmas.Bool.{false≢true}
 use Rattle.portal_core.specs.World.{Lecturer, Student}
 use Rattle.portal_core.proofs.AllLaws.{all_at}
-use Rattle.portal_list.specs.Parts.{applicant_keys, HasRanking}
+use Rattle.portal_list.specs.inner.Parts.{applicant_keys, HasRanking}
 use Rattle.portal_list.proofs.Steps.{all_more}
 use Rattle.portal_list.proofs.lists.rankings_fit.Goals as goal
 

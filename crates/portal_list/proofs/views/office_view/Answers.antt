@@ -5,8 +5,8 @@ use Rattle.portal_core.specs.World.{World, Lecturer, Student, is_still_to_rank, 
 use Rattle.portal_core.specs.declared.rows.ProjectRow.{ProjectRow}
 use Rattle.portal_core.specs.View.{office_sees, catalogue}
 use Rattle.portal_list.specs.Entries.{world_with}
-use Rattle.portal_list.specs.Played.{takes_part}
-use Rattle.portal_list.specs.Shown.{is_waiting}
+use Rattle.portal_list.specs.inner.Played.{takes_part}
+use Rattle.portal_list.specs.inner.Shown.{is_waiting}
 use Rattle.portal_list.proofs.Plays.{part_and}
 use Rattle.portal_list.proofs.Waiting.{waiting_lecturers}
 use Rattle.portal_list.proofs.views.office_view.Goals as goal

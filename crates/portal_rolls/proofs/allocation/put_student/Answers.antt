@@ -3,7 +3,7 @@ use Rattle.portal_core.specs.declared.rows.ProjectRow.{ProjectRow}
 use Rattle.portal_core.specs.declared.rows.StudentRow.{StudentRow}
 use Rattle.portal_core.specs.Sight.{OfficeSees}
 use Rattle.portal_core.specs.Sheets.{project_given, project_fields, student_fields, csv_record}
-use Rattle.portal_rolls.specs.Written.{HasWritten}
+use Rattle.portal_rolls.specs.inner.Written.{HasWritten}
 use Rattle.portal_rolls.proofs.allocation.put_student.Goals as goal
 
 placed : (v : OfficeSees) (s : StudentRow) (p : ProjectRow) (key name project title lecturer : List ℕ)

@@ -6,7 +6,7 @@ use Rattle.std.proofs.lemmas.List.{take_all}
 use Rattle.portal_core.specs.declared.rows.StudentRow.{StudentRow}
 use Rattle.portal_core.specs.Sight.{OfficeSees}
 use Rattle.portal_core.specs.Sheets.{student_fields, csv_record, csv_header, csv_text}
-use Rattle.portal_rolls.specs.Written.{HasWritten}
+use Rattle.portal_rolls.specs.inner.Written.{HasWritten}
 use Rattle.portal_core.proofs.Pieces.{one_more}
 use Rattle.portal_rolls.proofs.allocation.write_allocation.Goals as goal
 

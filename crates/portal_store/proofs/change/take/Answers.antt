@@ -1,7 +1,8 @@
 use Rattle.std.proofs.Common.{rules}
 use Rattle.sqlite.specs.Held.{state}
 use Rattle.portal_core.specs.Meaning.{change_model}
-use Rattle.portal_store.specs.Kept.{IsTransition, IsTransitionFrom}
+use Rattle.portal_store.specs.Kept.{IsTransition}
+use Rattle.portal_store.specs.inner.Kept.{IsTransitionFrom}
 use Rattle.portal_store.proofs.Asked.{asks_err}
 use Rattle.portal_store.proofs.Ended.{ends_refused, ends_then}
 use Rattle.portal_store.proofs.Opened.{ends_any}

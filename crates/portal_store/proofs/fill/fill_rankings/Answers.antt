@@ -4,11 +4,12 @@ use Rattle.sqlite.specs.Held.{state}
 use Rattle.portal_core.specs.Words.{Key}
 use Rattle.portal_core.specs.Change.{Fill}
 use Rattle.portal_core.specs.Good.{Sound}
-use Rattle.portal_list.specs.Fill.{fill_missing}
+use Rattle.portal_list.specs.inner.Fill.{fill_missing}
 use Rattle.portal_tables.specs.Schema.{IsCurrentSchema}
 use Rattle.portal_store.specs.World.{world_in, world_of}
-use Rattle.portal_store.specs.Kept.{IsConsistentIn, IsTransitionIn}
-use Rattle.portal_store.specs.Putting.{TurnsAll}
+use Rattle.portal_store.specs.Kept.{IsConsistentIn}
+use Rattle.portal_store.specs.inner.Kept.{IsTransitionIn}
+use Rattle.portal_store.specs.inner.Putting.{TurnsAll}
 use Rattle.portal_store.proofs.Asked.{asks_err, asks_more}
 use Rattle.portal_store.proofs.Ended.{ends_asked, ends_refused}
 use Rattle.portal_store.proofs.Rounds.{world_told}

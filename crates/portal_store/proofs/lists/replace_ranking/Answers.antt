@@ -1,8 +1,8 @@
 use Rattle.std.proofs.Common.{rules, ◌≡◌, ◌≢◌, length}
 use Rattle.sqlite.specs.Held.{state}
 use Rattle.portal_core.specs.Change.{Ranks}
-use Rattle.portal_store.specs.Kept.{IsTransitionIn}
-use Rattle.portal_store.specs.Putting.{TurnsThere}
+use Rattle.portal_store.specs.inner.Kept.{IsTransitionIn}
+use Rattle.portal_store.specs.inner.Putting.{TurnsThere}
 use Rattle.portal_tables.proofs.Owned.{current_own}
 use Rattle.portal_store.proofs.Absent.{turns_shown, turns_none}
 use Rattle.portal_store.proofs.Asked.{asks_err}

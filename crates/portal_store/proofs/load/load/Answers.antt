@@ -5,7 +5,7 @@ use Rattle.portal_core.specs.declared.phase.Round.TheVariants.{First, Second}
 use Rattle.portal_tables.specs.Tables.{version}
 use Rattle.portal_tables.proofs.InTurn.{clean_before}
 use Rattle.portal_tables.proofs.Owned.{current_own}
-use Rattle.portal_store.specs.Loads.{Loads}
+use Rattle.portal_store.specs.inner.Loads.{Loads}
 use Rattle.portal_store.proofs.Asked.{asks_then, asks_all}
 use Rattle.portal_store.proofs.Loaded.{loads_first, same_error}
 use Rattle.portal_store.proofs.ViewCache.{told_start}

@@ -1,6 +1,6 @@
 use Rattle.sqlite.specs.Held.{state}
 use Rattle.portal_core.specs.declared.phase.Round.TheVariants.{First}
-use Rattle.portal_views.specs.Contents.{rows_held}
+use Rattle.portal_views.specs.inner.Contents.{rows_held}
 use Rattle.portal_store.specs.Kept.{HasGoodFirst}
 use Rattle.portal_tables.proofs.InTurn.{clean_before, reads_handed, reads_more}
 use Rattle.portal_store.proofs.Asked.{asks_err, asks_reads}

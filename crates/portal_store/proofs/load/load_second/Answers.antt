@@ -2,14 +2,14 @@ use Rattle.std.proofs.Common.{sym, subst}
 use Rattle.sqlite.specs.Effect.{Database}
 use Rattle.sqlite.specs.Held.{state}
 use Rattle.portal_core.specs.declared.phase.Round.TheVariants.{First, Second}
-use Rattle.portal_views.specs.Contents.{rows_held}
+use Rattle.portal_views.specs.inner.Contents.{rows_held}
 use Rattle.portal_tables.specs.Tables.{version}
 use Rattle.portal_tables.proofs.InTurn.{clean_before, reads_handed, reads_more}
 use Rattle.portal_views.proofs.OneKey.{one_place}
 use Rattle.portal_tables.proofs.Owned.{current_own}
-use Rattle.portal_store.specs.Asked.{NumbersDiffer}
+use Rattle.portal_store.specs.inner.Asked.{NumbersDiffer}
 use Rattle.portal_store.specs.Kept.{HasGoodFirst, HasGoodWorldIn}
-use Rattle.portal_store.specs.Loads.{Loads, LoadsIn}
+use Rattle.portal_store.specs.inner.Loads.{Loads, LoadsIn}
 use Rattle.portal_store.proofs.Asked.{asks_all, asks_err, asks_reads, asks_then}
 use Rattle.portal_store.proofs.Fine.{all_fine, rolls_rise, stands_before}
 use Rattle.portal_store.proofs.Loaded.{HasRead, loads_after, same_error}

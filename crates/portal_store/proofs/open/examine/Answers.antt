@@ -7,7 +7,8 @@ use Rattle.portal_tables.specs.Schema.{IsCurrentSchema}
 use Rattle.portal_tables.specs.Reading.{RunsQueryIn}
 use Rattle.portal_tables.proofs.InTurn.{clean_before}
 use Rattle.portal_tables.proofs.Owned.{current_own}
-use Rattle.portal_store.specs.Asked.{Denies, Refutes, Admits}
+use Rattle.portal_store.specs.Asked.{Refutes}
+use Rattle.portal_store.specs.inner.Asked.{Denies, Admits}
 use Rattle.portal_store.specs.Kept.{HasGoodWorld}
 use Rattle.portal_store.proofs.Asked.{asks_then, asks_err, asks_all, blames_more, handed, live_still, refuted}
 use Rattle.portal_store.proofs.open.examine.Goals as goal

@@ -5,7 +5,7 @@ use Rattle.sqlite.specs.Held.{state}
 use Rattle.sqlite.specs.State.{IsUnchanged}
 use Rattle.portal_tables.specs.Schema.{IsCurrentSchema}
 use Rattle.portal_tables.proofs.InTurn.{clean_before, unchanged_then}
-use Rattle.portal_store.specs.Asked.{IsJudged}
+use Rattle.portal_store.specs.inner.Asked.{IsJudged}
 use Rattle.portal_store.specs.Kept.{HasSecond}
 use Rattle.portal_store.specs.World.{round_in}
 use Rattle.portal_store.proofs.Asked.{asks_then, asks_err, apart_both, live_still}

@@ -5,7 +5,7 @@ use Rattle.portal_core.specs.declared.phase.Phase.TheVariants.{Published}
 use Rattle.portal_core.specs.declared.phase.Round.TheVariants.{First, Second}
 use Rattle.portal_tables.proofs.InTurn.{clean_before}
 use Rattle.portal_tables.proofs.Owned.{current_own}
-use Rattle.portal_store.specs.Asked.{Denies}
+use Rattle.portal_store.specs.inner.Asked.{Denies}
 use Rattle.portal_store.specs.Kept.{AreEmpty, HasGoodWorld, HasGoodWorldIn}
 use Rattle.portal_store.specs.World.{phase_in}
 use Rattle.portal_store.proofs.Asked.{asks_then, asks_all, denied_of, denies_more, if_err_weaker}

@@ -2,7 +2,7 @@ use Rattle.std.proofs.Common.{Err, ap, sym, subst, ◌∙◌}
 use Rattle.sqlite.specs.Held.{state}
 use Rattle.portal_core.specs.Good.{Good}
 use Rattle.portal_list.specs.Entries.{HasEntries}
-use Rattle.portal_store.specs.Asked.{Denies}
+use Rattle.portal_store.specs.inner.Asked.{Denies}
 use Rattle.portal_store.specs.Kept.{HasGoodWorld}
 use Rattle.portal_store.specs.World.{world_of}
 use Rattle.portal_store.proofs.Asked.{denied_by, handed}

@@ -1,8 +1,8 @@
 use Rattle.std.proofs.Common.{rules, sym, ◌∙◌}
 use Rattle.sqlite.specs.Held.{state}
 use Rattle.portal_core.specs.Change.{SecondRound}
-use Rattle.portal_store.specs.Kept.{IsTransitionFrom}
-use Rattle.portal_store.specs.Opening.{OpensSecondRound}
+use Rattle.portal_store.specs.inner.Kept.{IsTransitionFrom}
+use Rattle.portal_store.specs.inner.Opening.{OpensSecondRound}
 use Rattle.portal_store.proofs.Asked.{asks_err}
 use Rattle.portal_store.proofs.Ended.{ends_asked, ends_none, ends_refused}
 use Rattle.portal_store.proofs.Opened.{opens_in, opens_none}

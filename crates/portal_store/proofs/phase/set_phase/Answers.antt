@@ -2,7 +2,7 @@ use Rattle.std.proofs.Common.{rules, arith}
 use Rattle.sqlite.specs.State.{HasCleanDisk}
 use Rattle.sqlite.specs.Held.{state}
 use Rattle.portal_core.specs.Change.{To}
-use Rattle.portal_store.specs.Kept.{IsTransitionIn}
+use Rattle.portal_store.specs.inner.Kept.{IsTransitionIn}
 use Rattle.portal_store.proofs.Asked.{asks_err}
 use Rattle.portal_store.proofs.Ended.{ends_asked, ends_refused}
 use Rattle.portal_store.proofs.phase.set_phase.Goals as goal

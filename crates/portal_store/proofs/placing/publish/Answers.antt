@@ -4,9 +4,9 @@ use Rattle.portal_core.specs.declared.phase.Round.{Round}
 use Rattle.portal_core.specs.declared.phase.Round.TheVariants.{First, Second}
 use Rattle.portal_core.specs.Change.{Placements}
 use Rattle.portal_tables.proofs.Owned.{current_own}
-use Rattle.portal_store.specs.Ending.{CommitsChange}
-use Rattle.portal_store.specs.Kept.{IsTransitionIn}
-use Rattle.portal_store.specs.Placing.{ShowsRoll, TurnsShown, TurnsLeft}
+use Rattle.portal_store.specs.inner.Ending.{CommitsChange}
+use Rattle.portal_store.specs.inner.Kept.{IsTransitionIn}
+use Rattle.portal_store.specs.inner.Placing.{ShowsRoll, TurnsShown, TurnsLeft}
 use Rattle.portal_store.proofs.Asked.{asks_err, asks_more}
 use Rattle.portal_store.proofs.Ended.{ends_asked, ends_refused}
 use Rattle.portal_store.proofs.placing.publish.Goals as goal

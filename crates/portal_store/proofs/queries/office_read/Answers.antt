@@ -2,7 +2,7 @@ use Rattle.std.proofs.Common.{◌≡◌, IfOk}
 use Rattle.sqlite.specs.Effect.{Database}
 use Rattle.sqlite.specs.Held.{state}
 use Rattle.portal_core.specs.View.{catalogue, office_sees}
-use Rattle.portal_store.specs.Reading.{IsNow}
+use Rattle.portal_store.specs.inner.Reading.{IsNow}
 use Rattle.portal_store.specs.World.{world_in}
 use Rattle.portal_tables.proofs.InTurn.{reads_then, clean_before}
 use Rattle.portal_store.proofs.ViewCache.{at_start, round_held}

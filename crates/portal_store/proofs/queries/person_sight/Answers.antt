@@ -7,11 +7,11 @@ use Rattle.portal_core.specs.View.{catalogue, sight_of, caller_among, lecturer_w
 use Rattle.portal_core.specs.World.{Lecturer}
 use Rattle.portal_core.specs.declared.phase.Round.{Round}
 use Rattle.portal_core.specs.declared.view.View.TheVariants.{Lecturer as LecturerSight}
-use Rattle.portal_views.specs.Callers.{lecturer_shown}
-use Rattle.portal_views.specs.Lines.{HasTables}
-use Rattle.portal_views.specs.Catalogue.{IsCatalogue}
+use Rattle.portal_views.specs.inner.Callers.{lecturer_shown}
+use Rattle.portal_views.specs.inner.Lines.{HasTables}
+use Rattle.portal_views.specs.inner.Catalogue.{IsCatalogue}
 use Rattle.portal_tables.proofs.InTurn.{reads_in, reads_then, reads_more, reads_handed, clean_before}
-use Rattle.portal_store.specs.Queried.{lecturer_from}
+use Rattle.portal_store.specs.inner.Queried.{lecturer_from}
 use Rattle.portal_store.specs.World.{world_in}
 use Rattle.portal_store.proofs.Applying.{lecturer_told}
 use Rattle.portal_store.proofs.Holding.{has_tables}

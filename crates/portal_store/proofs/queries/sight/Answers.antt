@@ -8,7 +8,7 @@ use Rattle.portal_core.specs.declared.phase.Round.{Round}
 use Rattle.portal_core.specs.declared.phase.Round.TheVariants.{Second}
 use Rattle.portal_core.specs.Good.{Good}
 use Rattle.portal_core.specs.View.{view, sight_of, caller_among, lecturer_with, student_with, OfficeCaller}
-use Rattle.portal_core.specs.ViewCache.{IsCacheOf}
+use Rattle.portal_core.specs.inner.ViewCache.{IsCacheOf}
 use Rattle.portal_core.specs.Words.{Key, equals}
 use Rattle.portal_core.specs.World.{World}
 use Rattle.portal_tables.specs.Schema.{IsCurrentSchema}
@@ -16,14 +16,14 @@ use Rattle.portal_tables.specs.Reading.{RunsQueryIn}
 use Rattle.portal_tables.specs.declared.office.Office.{Office}
 use Rattle.portal_tables.proofs.InTurn.{clean_before}
 use Rattle.portal_store.specs.Kept.{IsConsistent, IsConsistentIn}
-use Rattle.portal_store.specs.Reading.{IsNow}
+use Rattle.portal_store.specs.inner.Reading.{IsNow}
 use Rattle.portal_store.specs.World.{world_in, world_of}
 use Rattle.portal_store.proofs.Asked.{asks_err, asks_reads, reads_all}
 use Rattle.portal_store.proofs.ViewCache.{at_start}
 use Rattle.portal_store.proofs.Rounds.{now_in}
 use Rattle.portal_store.proofs.queries.sight.Goals as goal
 
--- what equals so in the round that was read equals so of the world
+-- what is so in the round that was read is so of the world
 module _ {U E : Type 0} (u : U) (round : Round) (office : Office) (a b d : State) (asks : RunsQueryIn Second {V = U} {E = E} (Ok u) a b) (now : IsCurrentSchema a.now.schema → IsDatabase a.now → HasCleanDisk b → IsNow (world_of a.now.trees) round office)
     (early : HasCleanDisk d → HasCleanDisk b) where
   so_of_world : (P : World → Type 0) → (IsConsistentIn round b.now → HasCleanDisk d → IsNow (world_in round b.now.trees) round office → P (world_in round b.now.trees)) → IsConsistent a.now → HasCleanDisk d → P (world_of a.now.trees)

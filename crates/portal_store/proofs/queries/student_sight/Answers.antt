@@ -6,10 +6,10 @@ use Rattle.sqlite.specs.State.{HasCleanDisk}
 use Rattle.portal_core.specs.View.{sight_of, caller_among}
 use Rattle.portal_core.specs.World.{Student}
 use Rattle.portal_core.specs.declared.view.View.TheVariants.{Student as StudentSight}
-use Rattle.portal_views.specs.Callers.{student_shown}
+use Rattle.portal_views.specs.inner.Callers.{student_shown}
 use Rattle.portal_tables.specs.Schema.{HasRound}
 use Rattle.portal_tables.proofs.InTurn.{reads_in, reads_then, reads_more, reads_handed, clean_before}
-use Rattle.portal_store.specs.Queried.{student_from}
+use Rattle.portal_store.specs.inner.Queried.{student_from}
 use Rattle.portal_store.specs.World.{world_in}
 use Rattle.portal_store.proofs.Queried.{student_told}
 use Rattle.portal_store.proofs.ViewCache.{listed_then, cache_start, round_held, row_then}

@@ -12,7 +12,7 @@ use Rattle.portal_tables.specs.Rows.{portal_row}
 use Rattle.portal_tables.specs.Tables.{portal_tree, version}
 use Rattle.portal_tables.proofs.InTurn.{clean_before}
 use Rattle.portal_tables.proofs.Owned.{current_own}
-use Rattle.portal_store.specs.Reading.{IsNow}
+use Rattle.portal_store.specs.inner.Reading.{IsNow}
 use Rattle.portal_store.specs.World.{world_of}
 use Rattle.portal_store.proofs.Asked.{asks_then, asks_more, asks_err, asks_all}
 use Rattle.portal_store.proofs.Rounds.{now_first, now_second}

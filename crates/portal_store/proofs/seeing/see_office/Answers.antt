@@ -2,7 +2,7 @@ use Rattle.std.proofs.Common.{[], ◌∷◌, sym, subst}
 use Rattle.std.proofs.lemmas.Result.{on_ok_weaker}
 use Rattle.sqlite.specs.Held.{state}
 use Rattle.portal_tables.specs.Tables.{portal_tree}
-use Rattle.portal_tables.specs.Changes.{ListsBy, every, columns}
+use Rattle.portal_tables.specs.inner.Changes.{ListsBy, every, columns}
 use Rattle.portal_store.proofs.Asked.{office_refuted, office_version}
 use Rattle.portal_store.proofs.seeing.see_office.Goals as goal
 

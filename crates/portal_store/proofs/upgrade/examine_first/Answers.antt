@@ -4,7 +4,8 @@ use Rattle.sqlite.specs.Held.{state}
 use Rattle.sqlite.specs.State.{IsUnchanged}
 use Rattle.portal_tables.specs.Tables.{first_version}
 use Rattle.portal_tables.proofs.InTurn.{clean_before, still_own}
-use Rattle.portal_store.specs.Asked.{RefusalSays, Denies}
+use Rattle.portal_store.specs.Asked.{RefusalSays}
+use Rattle.portal_store.specs.inner.Asked.{Denies}
 use Rattle.portal_store.specs.Kept.{HasGoodFirst}
 use Rattle.portal_store.proofs.Asked.{blames_more, asks_then, asks_err, blamed, handed, if_err_weaker, live_still}
 use Rattle.portal_store.proofs.upgrade.examine_first.Goals as goal

@@ -1,6 +1,6 @@
 use Rattle.std.specs.Prelude.{◌≡◌}
 use Rattle.portal_views.proofs.Base.{Err, IfOk, OnOk, List, ap, sym, subst, subst₂, Database, IsDatabase, HasCleanDisk, state, Cells, HasRound, choice_table, ranking_table, AreOwned, AreFine, lecturers_shown, projects_shown, students_shown}
-use Rattle.portal_views.specs.Contents.{rows_held, rows_from, AreRead}
+use Rattle.portal_views.specs.inner.Contents.{rows_held, rows_from, AreRead}
 use Rattle.portal_tables.specs.declared.fault.TableFault.TheVariants.{Damaged}
 use Rattle.std.proofs.Common.{rules}
 use Rattle.portal_tables.proofs.Owned.{round_own}

@@ -1,8 +1,8 @@
 use Rattle.std.specs.Prelude.{◌≡◌}
 use Rattle.portal_views.proofs.Base.{Ok, Err, None, IfOk-weaker, refl, sym, ap, subst, subst₂, ◌∙◌, map, AllByRecursion, Database, IsDatabase, HasCleanDisk, state, HasRound, entry, filter_map, with_list, AreOwned, IsRead, IsFine, HasPlacement, pair_shown, RunsQueriesIn, TableFault}
 use Rattle.portal_views.specs.Base.{IsStudent}
-use Rattle.portal_views.specs.Contents.{rows_from}
-use Rattle.portal_tables.specs.Shown.{shown_student}
+use Rattle.portal_views.specs.inner.Contents.{rows_from}
+use Rattle.portal_tables.specs.inner.Shown.{shown_student}
 use Rattle.portal_tables.specs.declared.fault.TableFault.TheVariants.{Damaged}
 use Rattle.std.proofs.Common.{rules}
 use Rattle.portal_tables.proofs.InTurn.{reads_then, reads_more, reads_handed, reads_shifted, shifted, on_ok, clean_before}

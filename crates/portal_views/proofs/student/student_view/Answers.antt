@@ -1,7 +1,7 @@
 use Rattle.std.specs.Prelude.{◌≡◌}
 use Rattle.portal_views.proofs.Base.{◌∙◌, Ok, IfOk-weaker, refl, subst, Database, IsDatabase, HasCleanDisk, state, HasRound, tree_of, chosen, RunsQueriesIn, TableFault}
-use Rattle.portal_views.specs.Callers.{student_shown}
-use Rattle.portal_tables.specs.Placements.{result_shown}
+use Rattle.portal_views.specs.inner.Callers.{student_shown}
+use Rattle.portal_tables.specs.inner.Placements.{result_shown}
 use Rattle.portal_tables.proofs.InTurn.{reads_then, reads_more, reads_handed, reads_shifted, shifted, clean_before}
 use Rattle.portal_views.proofs.student.student_view.Goals as goal
 

@@ -4,7 +4,8 @@ use Rattle.matchit.specs.Rows.{RowsOf}
 use Rattle.matchit.specs.Router.{RouteOf}
 use Rattle.matchit.specs.Seek.{first}
 use Rattle.portal_wire.specs.declared.routes.Route.{Route}
-use Rattle.portal_wire.specs.Routes.{the_rows, route_at}
+use Rattle.portal_wire.specs.Routes.{route_at}
+use Rattle.portal_wire.specs.inner.Routes.{the_rows}
 use Rattle.portal_wire.proofs.Literal.{first_is, none_at}
 use Rattle.portal_wire.proofs.routes.route_in.Goals as goal
 

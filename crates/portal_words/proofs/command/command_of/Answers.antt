@@ -2,7 +2,7 @@ use Rattle.std.proofs.Common.{◌≡◌, Some, None, inl, inr, refl, codes, rule
 use Rattle.portal_words.specs.declared.command.Asked.TheVariants.{Do}
 use Rattle.portal_words.specs.declared.command.Command.{Command}
 use Rattle.portal_words.specs.declared.command.Command.TheVariants.{Check, Solve}
-use Rattle.portal_words.specs.Asks.{ChecksFile, SolvesFile}
+use Rattle.portal_words.specs.inner.Asks.{ChecksFile, SolvesFile}
 use Rattle.portal_words.proofs.command.command_of.Goals as goal
 
 checks_none : (command : Command) → ChecksFile None command → Do command ≡ Do (Check None)

@@ -2,7 +2,7 @@ use Rattle.std.proofs.Common.{◌≡◌, ◌⊎◌, inl, inr, sym, ◌∙◌, ar
 use Rattle.std.proofs.lemmas.Bool.{ltb-true}
 use Rattle.spa_model.specs.Spa.{IsWith, SomeWorseWith, ranking_of, at_lecturer, limit_of}
 use Rattle.spa_check.specs.declared.groups.Group.{Group}
-use Rattle.spa_check.specs.Groups.{IsGroup}
+use Rattle.spa_check.specs.inner.Groups.{IsGroup}
 use Rattle.spa_check.proofs.Grouping.{worse_with}
 use Rattle.spa_check.proofs.list.letter_of.Goals as goal
 use Rattle.spa_check.proofs.list.letter_of.Goals.{then-is_with, else-is_with}

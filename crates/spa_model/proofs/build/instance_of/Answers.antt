@@ -4,7 +4,7 @@ use Rattle.spa_rows.specs.Least.{IsLeastOf}
 use Rattle.spa_rows.specs.Faults.{HasNoneBefore, HasFault, IsRefusal}
 use Rattle.spa_rows.specs.declared.faults.InstanceFault.TheVariants.{NotApplicant, ApplicantMissing, Memory}
 use Rattle.spa_rows.proofs.FirstFault.{refuse_ok, refuse_err, handed_on}
-use Rattle.spa_model.specs.Numbers.{rows_of}
+use Rattle.spa_model.specs.inner.Numbers.{rows_of}
 use Rattle.spa_model.specs.declared.instance.Student.{Student}
 use Rattle.spa_model.specs.declared.instance.Project.{Project}
 use Rattle.spa_model.specs.declared.instance.Lecturer.{Lecturer}

@@ -3,7 +3,7 @@ use Rattle.std.specs.Slice.Iter.{iter_rest}
 use Rattle.std.proofs.lemmas.List.{reverse-reverse}
 use Rattle.std.proofs.lemmas.Iterator.Adapters.{YieldsList-from_rev_slice}
 use Rattle.std.proofs.lemmas.Iterator.Consumers.{YieldsList-at, YieldsList-end}
-use Rattle.portal_core.specs.Tables.{HasRows, HasTexts}
+use Rattle.portal_core.specs.inner.Tables.{HasRows, HasTexts}
 use Rattle.portal_core.proofs.Tables.{before_seen}
 use Rattle.portal_core.proofs.deciding.rolls.register_of.Goals as goal
 

@@ -1,5 +1,5 @@
 use Rattle.std.proofs.Common.{map, reverse}
-use Rattle.portal_core.specs.Tables.{HasRows, HasTexts}
+use Rattle.portal_core.specs.inner.Tables.{HasRows, HasTexts}
 use Rattle.portal_core.proofs.deciding.rolls.register_of.Given as goal
 
 -- the rows from the last one on are there

@@ -8,7 +8,7 @@ use Rattle.portal_core.specs.World.{World}
 use Rattle.portal_core.proofs.Acts.{catalogue_chosen, catalogue_ranked, catalogue_joined, catalogue_placed}
 use Rattle.portal_core.proofs.Fills.{catalogue_filled}
 use Rattle.portal_core.specs.declared.view_cache.ViewCache.{ViewCache}
-use Rattle.portal_core.specs.ViewCache.{IsCacheOf}
+use Rattle.portal_core.specs.inner.ViewCache.{IsCacheOf}
 use Rattle.portal_core.proofs.view_cache.ViewCache.refresh.Goals as goal
 
 -- what the office sees afterwards is told by what it saw

@@ -1,5 +1,5 @@
 use Rattle.std.proofs.Common.{◌≡◌, ◌++◌, take, drop, map}
-use Rattle.portal_list.specs.Fill.{missing, filled}
+use Rattle.portal_list.specs.inner.Fill.{missing, filled}
 use Rattle.portal_list.proofs.changes.fill.fill_rankings.Given as goal
 
 abbrev pub invariant-loop-i : goal.invariant-loop-i

@@ -4,8 +4,8 @@ use Rattle.std.proofs.lemmas.Result.{IfOk-weaker}
 use Rattle.portal_core.specs.Words.{Key}
 use Rattle.portal_core.specs.World.{Lecturer}
 use Rattle.portal_list.specs.Entries.{AllEntries}
-use Rattle.portal_list.specs.Shown.{is_waiting}
-use Rattle.portal_list.specs.Parts.{applicant_keys}
+use Rattle.portal_list.specs.inner.Shown.{is_waiting}
+use Rattle.portal_list.specs.inner.Parts.{applicant_keys}
 use Rattle.portal_list.proofs.Missing.{fills_are}
 use Rattle.portal_list.proofs.entries.Entries.fills.Goals as goal
 

@@ -5,7 +5,7 @@ use Rattle.portal_core.specs.World.{Lecturer, Student, lecturer_key, student_key
 use Rattle.portal_core.specs.Change.{Choices, Ranks}
 use Rattle.portal_core.specs.Meaning.{change_model}
 use Rattle.portal_list.specs.Entries.{AllEntries}
-use Rattle.portal_list.specs.Fill.{filled}
+use Rattle.portal_list.specs.inner.Fill.{filled}
 use Rattle.portal_list.proofs.Followed.{list_followed, ranking_followed, fill_followed}
 use Rattle.portal_list.proofs.entries.Entries.follow.Goals as goal
 

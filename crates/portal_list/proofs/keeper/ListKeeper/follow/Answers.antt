@@ -4,7 +4,7 @@ use Rattle.portal_core.specs.World.{World}
 use Rattle.portal_core.specs.Change.{changed}
 use Rattle.portal_core.specs.Meaning.{change_model}
 use Rattle.portal_list.specs.Entries.{HasEntries, entries_in}
-use Rattle.portal_list.specs.Shown.{catalogue_in}
+use Rattle.portal_list.specs.inner.Shown.{catalogue_in}
 use Rattle.portal_list.proofs.Followed.{catalogue_after}
 use Rattle.portal_list.proofs.keeper.ListKeeper.follow.Goals as goal
 

@@ -4,7 +4,7 @@ use Rattle.spa_model.specs.Pairs.{number_in}
 use Rattle.portal_core.specs.World.{World, is_published}
 use Rattle.portal_core.specs.Instance.{instance}
 use Rattle.portal_list.specs.Entries.{AllEntries, entries_in}
-use Rattle.portal_list.specs.Played.{takes_part}
+use Rattle.portal_list.specs.inner.Played.{takes_part}
 use Rattle.portal_list.proofs.Stable.{settled_if}
 use Rattle.portal_list.proofs.keeper.ListKeeper.is_settled.Goals as goal
 

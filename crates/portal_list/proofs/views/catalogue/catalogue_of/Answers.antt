@@ -4,7 +4,7 @@ use Rattle.portal_core.specs.World.{lecturers_left, projects_left}
 use Rattle.portal_core.specs.View.{listings}
 use Rattle.portal_core.specs.declared.phase.Round.TheVariants.{Second}
 use Rattle.portal_list.specs.Entries.{AllEntries}
-use Rattle.portal_list.specs.Shown.{catalogue_in}
+use Rattle.portal_list.specs.inner.Shown.{catalogue_in}
 use Rattle.portal_list.proofs.Plays.{listings_alone}
 use Rattle.portal_list.proofs.views.catalogue.catalogue_of.Goals as goal
 

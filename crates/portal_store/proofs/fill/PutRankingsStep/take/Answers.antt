@@ -2,9 +2,9 @@ use Rattle.std.proofs.Common.{List, map, Ok, subst, arith}
 use Rattle.std.proofs.lemmas.List.{take_all}
 use Rattle.sqlite.specs.Held.{state}
 use Rattle.portal_core.specs.Words.{Key}
-use Rattle.portal_tables.specs.Steps.{Does, GoesOn}
+use Rattle.portal_tables.specs.inner.Steps.{Does, GoesOn}
 use Rattle.portal_tables.proofs.Runs.{does_none, does_then, goes_nowhere}
-use Rattle.portal_store.specs.Putting.{TurnsAll, TurnsThere}
+use Rattle.portal_store.specs.inner.Putting.{TurnsAll, TurnsThere}
 use Rattle.portal_store.proofs.FillTurns.{none_ranked, rankings_go_on}
 use Rattle.portal_store.proofs.fill.PutRankingsStep.take.Goals as goal
 

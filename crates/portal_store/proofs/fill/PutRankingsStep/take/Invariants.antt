@@ -1,7 +1,7 @@
 use Rattle.std.proofs.Common.{List, map, take, Ok}
 use Rattle.portal_core.specs.Words.{Key}
-use Rattle.portal_tables.specs.Steps.{Does, GoesOn}
-use Rattle.portal_store.specs.Putting.{TurnsAll}
+use Rattle.portal_tables.specs.inner.Steps.{Does, GoesOn}
+use Rattle.portal_store.specs.inner.Putting.{TurnsAll}
 use Rattle.portal_store.proofs.fill.PutRankingsStep.take.Given as goal
 
 abbrev pub invariant-rows : goal.invariant-rows

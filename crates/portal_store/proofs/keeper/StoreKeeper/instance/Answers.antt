@@ -5,7 +5,8 @@ use Rattle.portal_tables.proofs.Runs.{clean_if_open}
 use Rattle.portal_core.specs.Good.{Good}
 use Rattle.portal_core.specs.Instance.{instance}
 use Rattle.std.proofs.lemmas.Result.{IfOk-weaker}
-use Rattle.portal_store.specs.Kept.{AreEntries, IsCleanStore, kept_world}
+use Rattle.portal_store.specs.Kept.{IsCleanStore, kept_world}
+use Rattle.portal_store.specs.inner.Kept.{AreEntries}
 use Rattle.portal_store.proofs.Keeps.{lasts_by, read_keeps, read_shown, read_still, read_clean, read_same, read_holds, when_ok}
 use Rattle.portal_store.proofs.keeper.StoreKeeper.instance.Given.{Over}
 use Rattle.portal_store.proofs.keeper.StoreKeeper.instance.Goals as goal

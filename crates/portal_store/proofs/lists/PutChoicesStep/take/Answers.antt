@@ -1,7 +1,7 @@
 use Rattle.std.proofs.Common.{subst}
 use Rattle.portal_tables.specs.ListTables.{tree_of}
-use Rattle.portal_tables.specs.Putting.{PutsList}
-use Rattle.portal_tables.specs.Steps.{Does, GoesOn}
+use Rattle.portal_tables.specs.inner.Putting.{PutsList}
+use Rattle.portal_tables.specs.inner.Steps.{Does, GoesOn}
 use Rattle.portal_tables.proofs.Runs.{does_more}
 use Rattle.portal_store.proofs.ChoiceTurns.{choice_made}
 use Rattle.portal_store.proofs.lists.PutChoicesStep.take.Goals as goal

@@ -1,12 +1,12 @@
 use Rattle.std.proofs.Common.{Ok, subst, ◌∙◌, ap, sym}
 use Rattle.portal_core.specs.declared.phase.Round.{Round}
 use Rattle.portal_tables.specs.ListTables.{tree_of}
-use Rattle.portal_tables.specs.Putting.{PutsList, RanksSecond}
-use Rattle.portal_tables.specs.Rows.{Ranks}
-use Rattle.portal_tables.specs.Steps.{Does, Made, GoesOn}
+use Rattle.portal_tables.specs.inner.Putting.{PutsList, RanksSecond}
+use Rattle.portal_tables.specs.inner.Rows.{Ranks}
+use Rattle.portal_tables.specs.inner.Steps.{Does, Made, GoesOn}
 use Rattle.portal_tables.proofs.Runs.{does_then}
 use Rattle.portal_store.specs.World.{ranking_table}
-use Rattle.portal_store.specs.Putting.{TurnsThere}
+use Rattle.portal_store.specs.inner.Putting.{TurnsThere}
 use Rattle.portal_store.proofs.RankTurns.{rank_made}
 use Rattle.portal_store.proofs.SecondRanks.{second_made}
 use Rattle.portal_store.proofs.lists.PutRankingStep.take.Goals as goal

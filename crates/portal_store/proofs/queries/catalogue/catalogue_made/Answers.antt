@@ -2,7 +2,7 @@ use Rattle.std.proofs.Common.{◌≡◌, IfOk, ◌∙◌, sym, subst}
 use Rattle.std.proofs.lemmas.Result.{IfOk-weaker}
 use Rattle.sqlite.specs.Held.{state}
 use Rattle.portal_core.specs.View.{catalogue}
-use Rattle.portal_tables.specs.Reading.{RunsQueriesIn}
+use Rattle.portal_tables.specs.inner.Reading.{RunsQueriesIn}
 use Rattle.portal_tables.proofs.InTurn.{reads_of}
 use Rattle.portal_store.specs.Kept.{IsConsistentIn}
 use Rattle.portal_store.specs.World.{world_in}

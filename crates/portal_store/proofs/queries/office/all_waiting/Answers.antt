@@ -3,8 +3,8 @@ use Rattle.std.proofs.lemmas.List.Elements.{filter_map-append}
 use Rattle.std.proofs.lemmas.Grind.{common_steps}
 use Rattle.sqlite.specs.Effect.{Database}
 use Rattle.sqlite.specs.Held.{state}
-use Rattle.portal_store.specs.Queried.{waiting_key}
-use Rattle.portal_tables.specs.Shown.{shown_project}
+use Rattle.portal_store.specs.inner.Queried.{waiting_key}
+use Rattle.portal_tables.specs.inner.Shown.{shown_project}
 use Rattle.portal_tables.proofs.InTurn.{reads_then, reads_more, reads_handed, clean_before}
 use Rattle.portal_store.proofs.ViewCache.{at_start, round_held}
 use Rattle.portal_store.proofs.queries.office.all_waiting.Goals.{in-Some+in_ok-push, in_default}

@@ -3,9 +3,9 @@ use Rattle.std.specs.List.{filter_map}
 use Rattle.sqlite.specs.State.{HasCleanDisk}
 use Rattle.sqlite.specs.Held.{state}
 use Rattle.portal_store.specs.Kept.{IsConsistentIn}
-use Rattle.portal_store.specs.Queried.{waiting_key}
-use Rattle.portal_tables.specs.Shown.{shown_project}
-use Rattle.portal_tables.specs.Reading.{RunsQueriesIn}
+use Rattle.portal_store.specs.inner.Queried.{waiting_key}
+use Rattle.portal_tables.specs.inner.Shown.{shown_project}
+use Rattle.portal_tables.specs.inner.Reading.{RunsQueriesIn}
 use Rattle.portal_tables.specs.declared.fault.TableFault.{TableFault}
 use Rattle.portal_store.proofs.queries.office.all_waiting.Given as goal
 

@@ -5,7 +5,7 @@ use Rattle.sqlite.specs.Effect.{Database}
 use Rattle.sqlite.specs.Held.{state}
 use Rattle.portal_core.specs.Words.{equals, has}
 use Rattle.portal_store.specs.World.{world_in}
-use Rattle.portal_tables.specs.Shown.{first_cell, shown_project}
+use Rattle.portal_tables.specs.inner.Shown.{first_cell, shown_project}
 use Rattle.portal_tables.proofs.InTurn.{reads_self, reads_then, reads_more, reads_handed, clean_before}
 use Rattle.portal_store.proofs.ViewCache.{at_start, round_held}
 use Rattle.portal_store.proofs.queries.office.has_applicant.Goals as goal

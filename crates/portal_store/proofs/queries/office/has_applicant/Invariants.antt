@@ -1,11 +1,11 @@
 use Rattle.std.proofs.Common.{◌≡◌, Ok, map, drop, false}
 use Rattle.sqlite.specs.State.{HasCleanDisk}
 use Rattle.sqlite.specs.Held.{state}
-use Rattle.portal_list.specs.Shown.{is_wanted}
+use Rattle.portal_list.specs.inner.Shown.{is_wanted}
 use Rattle.portal_store.specs.Kept.{IsConsistentIn}
 use Rattle.portal_store.specs.World.{world_in}
-use Rattle.portal_tables.specs.Shown.{first_cell, shown_project}
-use Rattle.portal_tables.specs.Reading.{RunsQueriesIn}
+use Rattle.portal_tables.specs.inner.Shown.{first_cell, shown_project}
+use Rattle.portal_tables.specs.inner.Reading.{RunsQueriesIn}
 use Rattle.portal_tables.specs.declared.fault.TableFault.{TableFault}
 use Rattle.portal_store.proofs.queries.office.has_applicant.Given as goal
 

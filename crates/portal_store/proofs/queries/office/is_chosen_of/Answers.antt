@@ -4,10 +4,11 @@ use Rattle.sqlite.specs.declared.error.Error.{Error}
 use Rattle.sqlite.specs.Held.{state}
 use Rattle.portal_core.specs.Words.{Key, equals, has}
 use Rattle.portal_core.specs.World.{Student}
-use Rattle.portal_tables.specs.Changes.{ListsBy, columns, has_text}
-use Rattle.portal_tables.specs.Decoding.{FindsAny}
+use Rattle.portal_tables.specs.Changes.{has_text}
+use Rattle.portal_tables.specs.inner.Changes.{ListsBy, columns}
+use Rattle.portal_tables.specs.inner.Decoding.{FindsAny}
 use Rattle.portal_tables.specs.ListTables.{choice_table, tree_of}
-use Rattle.portal_tables.specs.Shown.{first_cell, shown_project}
+use Rattle.portal_tables.specs.inner.Shown.{first_cell, shown_project}
 use Rattle.portal_tables.proofs.InTurn.{reads_self, reads_more, reads_failed}
 use Rattle.portal_store.specs.World.{world_in}
 use Rattle.portal_store.proofs.OfficeSeen.{some_chooser}

@@ -3,7 +3,7 @@ use Rattle.std.proofs.lemmas.Result.{IfOk-weaker}
 use Rattle.sqlite.specs.Effect.{Database}
 use Rattle.sqlite.specs.Held.{state}
 use Rattle.portal_tables.proofs.InTurn.{reads_in, reads_then, reads_handed, clean_before}
-use Rattle.portal_store.specs.Queried.{office_from}
+use Rattle.portal_store.specs.inner.Queried.{office_from}
 use Rattle.portal_store.proofs.OfficeSeen.{office_told}
 use Rattle.portal_store.proofs.ViewCache.{at_start}
 use Rattle.portal_store.proofs.queries.office.office_view.Goals as goal

@@ -8,10 +8,10 @@ use Rattle.sqlite.specs.Order.{Row}
 use Rattle.sqlite.specs.State.{HasCleanDisk}
 use Rattle.portal_core.specs.World.{is_from_ranking}
 use Rattle.portal_tables.specs.Schema.{HasRound}
-use Rattle.portal_tables.specs.Placements.{pair_shown}
-use Rattle.portal_tables.specs.Shown.{shown_project}
+use Rattle.portal_tables.specs.inner.Placements.{pair_shown}
+use Rattle.portal_tables.specs.inner.Shown.{shown_project}
 use Rattle.portal_tables.proofs.InTurn.{reads_then, reads_more, reads_handed, clean_before}
-use Rattle.portal_store.specs.Queried.{unlisted, waiting_key, office_from}
+use Rattle.portal_store.specs.inner.Queried.{unlisted, waiting_key, office_from}
 use Rattle.portal_store.proofs.ViewCache.{at_start, round_held}
 use Rattle.portal_store.proofs.queries.office.view_of_rolls.Goals as goal
 

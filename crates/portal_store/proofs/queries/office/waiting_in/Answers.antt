@@ -4,11 +4,11 @@ use Rattle.std.proofs.lemmas.Result.{IfOk-weaker}
 use Rattle.sqlite.specs.Effect.{Database, IsDatabase}
 use Rattle.sqlite.specs.Held.{state}
 use Rattle.sqlite.specs.State.{HasCleanDisk}
-use Rattle.portal_list.specs.Shown.{is_wanted}
+use Rattle.portal_list.specs.inner.Shown.{is_wanted}
 use Rattle.portal_tables.specs.Schema.{HasRound}
-use Rattle.portal_tables.specs.Owners.{has_list}
-use Rattle.portal_tables.specs.Reading.{RunsQueriesIn}
-use Rattle.portal_tables.specs.Shown.{first_cell, shown_project}
+use Rattle.portal_tables.specs.inner.Owners.{has_list}
+use Rattle.portal_tables.specs.inner.Reading.{RunsQueriesIn}
+use Rattle.portal_tables.specs.inner.Shown.{first_cell, shown_project}
 use Rattle.portal_tables.specs.declared.fault.TableFault.{TableFault}
 use Rattle.portal_tables.proofs.InTurn.{reads_then, reads_more, reads_handed, reads_shifted, shifted, clean_before}
 use Rattle.portal_store.specs.World.{world_in}

@@ -1,7 +1,7 @@
 use Rattle.std.proofs.Common.{[], ◌∷◌, ◌∙◌, sym, subst}
 use Rattle.std.proofs.lemmas.Result.{IfOk-weaker}
 use Rattle.sqlite.specs.Held.{state}
-use Rattle.portal_tables.specs.Changes.{ListsBy, has_number, columns}
+use Rattle.portal_tables.specs.inner.Changes.{ListsBy, has_number, columns}
 use Rattle.portal_tables.specs.ListTables.{choice_table, tree_of}
 use Rattle.portal_tables.specs.declared.fault.TableFault.{TableFault}
 use Rattle.portal_tables.proofs.InTurn.{reads_more, reads_handed}

@@ -1,5 +1,5 @@
 use Rattle.std.proofs.Common.{◌≡◌, ℕ, ◌<◌, get_or}
-use Rattle.spa_model.specs.Numbers.{lecturer_at}
+use Rattle.spa_model.specs.inner.Numbers.{lecturer_at}
 use Rattle.spa_model.proofs.build.applicants.finds.Given as goal
 
 -- none so far

@@ -1,7 +1,7 @@
 use Rattle.std.proofs.Common.{◌≡◌, inl, get_or, set, refl, sym, ◌∙◌, ap, arith}
 use Rattle.std.proofs.lemmas.List.{get_or-set_same}
 use Rattle.spa_model.specs.Spa.{ranking_of, lecturer_of}
-use Rattle.spa_student.specs.Machine.{rank_of}
+use Rattle.spa_student.specs.inner.Machine.{rank_of}
 use Rattle.spa_student.proofs.CutSteps.{rank_found, rank_at_below, fallen_project_marks}
 use Rattle.spa_student.proofs.cuts.Progress.let_go_at.Goals as goal
 

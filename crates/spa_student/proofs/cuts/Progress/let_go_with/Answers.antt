@@ -2,8 +2,8 @@ use Rattle.std.proofs.Common.{◌≡◌, inr, ◌<◌, length, get_or, set, Some
 use Rattle.std.proofs.lemmas.List.{get_or-set_same, get_or_read}
 use Rattle.std.proofs.lemmas.Option.{same_Some}
 use Rattle.spa_model.specs.Spa.{ranking_of, lecturer_of, project_of}
-use Rattle.spa_student.specs.Machine.{rank_of}
-use Rattle.spa_student.specs.Worst.{IsWorstWith}
+use Rattle.spa_student.specs.inner.Machine.{rank_of}
+use Rattle.spa_student.specs.inner.Worst.{IsWorstWith}
 use Rattle.spa_student.proofs.CutSteps.{rank_found, rank_with_below, fallen_lecturer_marks}
 use Rattle.spa_student.proofs.Machine.{student_in_range}
 use Rattle.spa_student.proofs.cuts.Progress.let_go_with.Goals as goal

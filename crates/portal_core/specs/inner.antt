@@ -1,0 +1,3 @@
+pub mod ViewCache
+pub mod Tables
+pub mod Room

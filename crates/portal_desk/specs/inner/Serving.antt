@@ -1,0 +1,35 @@
+-- What a desk did for a stream.
+use Rattle.std.specs.Prelude.{◌≡◌, ℕ, Bool, true, ◌||◌, List, [], take, Option}
+use Rattle.std.specs.Io.KnownBytes.{Appends}
+use Rattle.portal_core.specs.World.{World}
+use Rattle.portal_core.specs.Answer.{Answer}
+use Rattle.portal_core.specs.Run.{Request, Serves, unavailable}
+use Rattle.portal_desk.specs.declared.served.Cause.{Cause}
+use Rattle.portal_desk.specs.declared.served.Cause.TheVariants as cause
+use Rattle.portal_wire.specs.Text.{reply_text}
+use Rattle.portal_wire.specs.Conversation.{more, Exchange, text}
+use Rattle.portal_desk.specs.Serving.{Deals}
+
+-- so far, with the bytes that are left
+abbrev pub ServesPart : Type 0 → World → World → Option (List ℕ) → Option (List ℕ) → List ℕ → List ℕ → ℕ → Type 0
+ServesPart clean old new before after bytes left count =
+    (es : List Exchange) × Deals clean old new bytes count es (more left) × Appends before after (text es)
+
+-- a first part of a text that could not be written whole
+abbrev pub Partly : Cause → Option (List ℕ) → Option (List ℕ) → List ℕ → Type 0
+Partly cause.Write before after text = (k : ℕ) × Appends before after (take k text)
+Partly cause.Memory before after text = Appends before after []
+Partly _ before after text = ⊥
+
+-- some reply, as the step of the run, with a fact
+abbrev pub Replied : Type 0 → World → World → Request → (Answer → Type 0) → Type 0
+Replied clean old new r P = (reply : Answer) × (clean → Serves old r reply new) × P reply
+
+-- what one answer that failed wrote
+abbrev pub Broke : Cause → Bool → Answer → Bool → Bool → Option (List ℕ) → Option (List ℕ) → Type 0
+Broke cause.Read failed reply head closes before after = ⊥
+Broke cause.Write failed reply head closes before after =
+    (k : ℕ) × Appends before after (take k (reply_text reply head (closes || failed)))
+Broke cause.Memory failed reply head closes before after = Appends before after []
+Broke cause.Store failed reply head closes before after =
+    (failed ≡ true) × (reply ≡ unavailable) × Appends before after (reply_text unavailable head true)

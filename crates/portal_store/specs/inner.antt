@@ -1,0 +1,11 @@
+pub mod Adding
+pub mod Asked
+pub mod Ending
+pub mod Found
+pub mod Kept
+pub mod Loads
+pub mod Opening
+pub mod Placing
+pub mod Putting
+pub mod Reading
+pub mod Queried

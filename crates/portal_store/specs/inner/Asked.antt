@@ -1,0 +1,43 @@
+-- What a refusal to open or to upgrade says of the tables.
+use Rattle.std.specs.Prelude.{ℕ, ◌++◌}
+use Rattle.sqlite.specs.Tree.{Trees}
+use Rattle.portal_core.specs.Good.{Good}
+use Rattle.portal_tables.specs.Tables.{portal_tree, first_trees, own_trees, version}
+use Rattle.portal_tables.specs.Office.{HasOffice}
+use Rattle.portal_store.specs.World.{round_in, world_of}
+use Rattle.portal_store.specs.Kept.{AllNumbersDiffer, AreWhole, HasGoodWorld, HasGoodFirst, later_trees}
+use Rattle.portal_store.specs.inner.Kept.{early_trees}
+use Rattle.portal_store.specs.declared.store.OpenFault.{OpenFault}
+use Rattle.portal_store.specs.declared.store.OpenFault.TheVariants as opening
+
+-- a refusal is for the store or for want of memory, or it says that this is not so
+abbrev pub Denies : OpenFault → Type 0 → Type 0
+Denies opening.NotPortal so = ⊥
+Denies opening.OtherVersion so = ⊥
+Denies opening.Damaged so = so → ⊥
+Denies opening.Store so = Unit {0}
+Denies opening.Memory so = Unit {0}
+
+-- a refusal is for the store or for want of memory: of the tables it says nothing
+abbrev pub SaysNothing : OpenFault → Type 0
+SaysNothing fault = Denies fault (Unit {0})
+
+-- row numbers of the tables of many rows differ
+abbrev pub NumbersDiffer : Trees → Type 0
+NumbersDiffer = AllNumbersDiffer (early_trees ++ later_trees)
+
+-- the lists of the tables' rounds are whole, and their world is good
+pub record IsJudged (db : Trees) : Type 0 where
+  pub office : HasOffice version (db portal_tree)
+  pub whole : AreWhole (round_in db) db
+  pub good : Good (world_of db)
+
+-- row numbers of the first round's tables differ, and as tables of this version they stand for a good world
+pub record AdmitsAs (of : ℕ) (db : Trees) : Type 0 where
+  pub apart : AllNumbersDiffer first_trees db
+  pub stands : HasGoodFirst of db
+
+-- the same of the tables of both rounds
+pub record Admits (db : Trees) : Type 0 where
+  pub apart : AllNumbersDiffer own_trees db
+  pub stands : HasGoodWorld db

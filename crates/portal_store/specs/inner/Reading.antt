@@ -1,0 +1,65 @@
+-- What is known of the tables while they are read, and what is remembered.
+use Rattle.std.specs.Prelude.{◌≡◌, List, Option, IsTrue}
+use Rattle.sqlite.specs.Order.{Row}
+use Rattle.sqlite.specs.Effect.{IsDatabase}
+use Rattle.sqlite.specs.Held.{Held, state}
+use Rattle.sqlite.specs.State.{State, HasCleanDisk, IsLive}
+use Rattle.sqlite.specs.Store.{Ghosts}
+use Rattle.sqlite.specs.Tree.{Trees}
+use Rattle.portal_core.specs.declared.phase.Round.{Round}
+use Rattle.portal_core.specs.World.{World}
+use Rattle.portal_core.specs.inner.ViewCache.{IsCacheOf}
+use Rattle.portal_core.specs.declared.view_cache.ViewCache.{ViewCache}
+use Rattle.portal_core.specs.Good.{Good}
+use Rattle.portal_list.specs.Entries.{AllEntries}
+use Rattle.portal_tables.specs.Schema.{HasRound, HasFirstSchema, IsCurrentSchema}
+use Rattle.portal_tables.specs.inner.Changes.{every}
+use Rattle.portal_tables.specs.inner.Queries.{selection}
+use Rattle.portal_tables.specs.declared.office.Office.{Office}
+use Rattle.portal_tables.specs.declared.select.Query.{Query}
+use Rattle.portal_store.specs.Kept.{IsConsistent, IsConsistentIn}
+use Rattle.portal_store.specs.inner.Kept.{AreEntries}
+use Rattle.portal_store.specs.World.{world_in, world_of}
+
+-- a query of all rows of a table, and these rows
+abbrev pub ReadsAll : Query → Type 0
+ReadsAll query = (selection query).passes ≡ every
+
+abbrev pub queried_rows : Query → Trees → List Row
+queried_rows query db = db (selection query).tree
+
+-- this holds where the first round's tables are the portal's own in a sound database, and the disk is clean
+abbrev pub OverOwn : {S : Type 0} → Ghosts S → Held S → Held S → Type 0 → Type 0
+OverOwn g old new So = HasFirstSchema old.schema → IsDatabase (state g old).now → HasCleanDisk (state g new) → So
+
+-- the same of the tables of both rounds
+abbrev pub OverBoth : {S : Type 0} → Ghosts S → Held S → Held S → Type 0 → Type 0
+OverBoth g old new So = IsCurrentSchema old.schema → IsDatabase (state g old).now → HasCleanDisk (state g new) → So
+
+-- the same of the tables of a round, where the database is sound if it is open
+abbrev pub OverLive : Round → {S : Type 0} → Ghosts S → Held S → Held S → Type 0 → Type 0
+OverLive round g old new So = HasRound round old.schema → IsLive (state g old) → HasCleanDisk (state g new) → So
+
+-- this holds where the tables of a round are what a store keeps, and the disk is clean
+abbrev pub OverRound : Round → {S : Type 0} → Ghosts S → Held S → Held S → Type 0 → Type 0
+OverRound round g old new So = IsConsistentIn round (state g old).now → HasCleanDisk (state g new) → So
+
+-- the round, its phase and the code of the office are the world's
+pub record IsNow (w : World) (round : Round) (office : Office) : Type 0 where
+  pub round_is : w.round ≡ round
+  pub phase_is : w.phase ≡ office.phase
+  pub code_is : w.office ≡ office.code
+
+-- what was remembered before was right, so what is remembered after is
+abbrev pub KeepsCache : ViewCache → ViewCache → State → State → Type 0
+KeepsCache before after old new = IsConsistent old.now → HasCleanDisk new → IsTrue old.is_open → IsCacheOf before (world_of old.now.trees) → IsCacheOf after (world_of old.now.trees)
+
+-- the same of tables of a round
+abbrev pub KeepsCacheIn : Round → ViewCache → ViewCache → State → State → Type 0
+KeepsCacheIn round before after old new =
+    IsConsistentIn round old.now → HasCleanDisk new → IsCacheOf before (world_in round old.now.trees) → IsCacheOf after (world_in round old.now.trees)
+
+-- the entries before were those of the world, so those after are
+abbrev pub KeepsEntries : Option AllEntries → Option AllEntries → State → State → Type 0
+KeepsEntries before after old new =
+    IsConsistent old.now → Good (world_of old.now.trees) → HasCleanDisk new → AreEntries before (world_of old.now.trees) → AreEntries after (world_of old.now.trees)

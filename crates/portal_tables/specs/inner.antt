@@ -1,0 +1,14 @@
+pub mod Tables
+pub mod Changes
+pub mod Steps
+pub mod Making
+pub mod Rows
+pub mod Rising
+pub mod Reading
+pub mod Queries
+pub mod Decoding
+pub mod Rolls
+pub mod Shown
+pub mod Placements
+pub mod Owners
+pub mod Putting

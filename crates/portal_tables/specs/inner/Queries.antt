@@ -1,0 +1,123 @@
+-- What each query reads of the tables, and shows.
+use Rattle.std.specs.Prelude.{◌∷◌, ◌++◌}
+use Rattle.portal_tables.specs.Base.{codes, ℕ, List, [], Bool, Words, Row, Trees, Round, First, InSecond}
+use Rattle.portal_tables.specs.declared.select.Query.{Query}
+use Rattle.portal_tables.specs.declared.select.Query.TheVariants.{Office, Whole, LecturerByCode, StudentByCode, LecturerByKey, StudentTold, AllLists, ListOf, Choosers, Listed, ProjectsOf, Numbers, Second, SecondRanked, SecondRankedBy, SecondPlacements, SecondPlaceOf}
+use Rattle.portal_tables.specs.declared.select.Roll.{Roll}
+use Rattle.portal_tables.specs.declared.select.Roll.TheVariants.{Lecturers, Projects, Students}
+use Rattle.portal_tables.specs.declared.select.Table.{Table}
+use Rattle.portal_tables.specs.declared.select.Table.TheVariants.{OfRoll, OfLists, OfRanked, OfPlaces}
+use Rattle.portal_tables.specs.Changes.{has_text}
+use Rattle.portal_tables.specs.inner.Changes.{ListsBy, every, columns, has_number}
+use Rattle.portal_tables.specs.ListTables.{round_of, names, tree_of, choice_table}
+use Rattle.portal_tables.specs.Tables.{portal_tree, lecturer_tree, project_tree, student_tree, second_tree, ranked2_tree, assigned2_tree}
+
+abbrev pub roll_tree : Roll → ℕ
+roll_tree Lecturers = lecturer_tree
+roll_tree Projects = project_tree
+roll_tree Students = student_tree
+
+-- the columns of a roll, behind the key
+abbrev pub columns_of : Roll → List ℕ
+columns_of Lecturers = 2 ∷ 3 ∷ 4 ∷ 5 ∷ []
+columns_of Projects = 2 ∷ 3 ∷ 4 ∷ []
+columns_of Students = 2 ∷ 3 ∷ 4 ∷ []
+
+abbrev pub table_tree : Table → ℕ
+table_tree (OfRoll roll) = roll_tree roll
+table_tree (OfLists lists) = tree_of lists
+table_tree OfRanked = ranked2_tree
+table_tree OfPlaces = assigned2_tree
+
+-- the round of a table, and of the tables that a query reads
+abbrev pub table_round : Table → Round
+table_round (OfRoll roll) = First
+table_round (OfLists lists) = round_of lists
+table_round OfRanked = InSecond
+table_round OfPlaces = InSecond
+
+abbrev pub round_asked : Query → Round
+round_asked (AllLists lists) = round_of lists
+round_asked (ListOf lists owner) = round_of lists
+round_asked (Choosers round project) = round
+round_asked (Listed round) = round
+round_asked (Numbers table) = table_round table
+round_asked Second = InSecond
+round_asked SecondRanked = InSecond
+round_asked (SecondRankedBy lecturer) = InSecond
+round_asked SecondPlacements = InSecond
+round_asked (SecondPlaceOf student) = InSecond
+round_asked _ = First
+
+-- of the table with this tree the rows that pass, by rising values of some columns, each shown by some columns
+pub record Selection : Type 0 where
+  pub tree : ℕ
+  pub passes : Row → Bool
+  pub by : List ℕ
+  pub shown : List ℕ
+
+abbrev pub selection : Query → Selection
+selection Office = record { tree = portal_tree; passes = every; by = 0 ∷ []; shown = 0 ∷ 2 ∷ 3 ∷ 4 ∷ [] }
+selection (Whole roll) = record { tree = roll_tree roll; passes = every; by = 1 ∷ []; shown = 1 ∷ columns_of roll }
+selection (LecturerByCode code) = record { tree = lecturer_tree; passes = has_text 3 code.now; by = 1 ∷ []; shown = 1 ∷ columns_of Lecturers }
+selection (StudentByCode code) = record { tree = student_tree; passes = has_text 3 code.now; by = 1 ∷ []; shown = 1 ∷ columns_of Students }
+selection (LecturerByKey key) = record { tree = lecturer_tree; passes = has_text 1 key.now; by = 1 ∷ []; shown = 1 ∷ [] }
+selection (StudentTold key) = record { tree = student_tree; passes = has_text 1 key.now; by = 1 ∷ []; shown = 1 ∷ 2 ∷ 4 ∷ [] }
+selection (AllLists lists) = record { tree = tree_of lists; passes = every; by = []; shown = 1 ∷ 2 ∷ 3 ∷ [] }
+selection (ListOf lists owner) = record { tree = tree_of lists; passes = has_text 1 owner.now; by = 2 ∷ []; shown = 2 ∷ 3 ∷ [] }
+selection (Choosers round project) = record { tree = tree_of (choice_table round); passes = has_text 3 project.now; by = 1 ∷ []; shown = 1 ∷ [] }
+selection (ProjectsOf lecturer) = record { tree = project_tree; passes = has_text 2 lecturer.now; by = 1 ∷ []; shown = 1 ∷ [] }
+selection (Listed round) = record { tree = tree_of (choice_table round); passes = has_number 2 1; by = 1 ∷ []; shown = 1 ∷ [] }
+selection Second = record { tree = second_tree; passes = every; by = 0 ∷ []; shown = 0 ∷ 2 ∷ [] }
+selection SecondRanked = record { tree = ranked2_tree; passes = every; by = 1 ∷ []; shown = 1 ∷ [] }
+selection (SecondRankedBy lecturer) = record { tree = ranked2_tree; passes = has_text 1 lecturer.now; by = 1 ∷ []; shown = 1 ∷ [] }
+selection SecondPlacements = record { tree = assigned2_tree; passes = every; by = 1 ∷ []; shown = 1 ∷ 2 ∷ [] }
+selection (SecondPlaceOf student) = record { tree = assigned2_tree; passes = has_text 1 student.now; by = 1 ∷ []; shown = 1 ∷ 2 ∷ [] }
+selection (Numbers table) = record { tree = table_tree table; passes = every; by = 0 ∷ []; shown = 0 ∷ [] }
+
+-- the query shows these rows of the tables
+abbrev pub Shows : Query → Trees → List Row → Type 0
+Shows q db rows = ListsBy (selection q).by (selection q).passes (columns (selection q).shown) (db (selection q).tree) rows
+
+-- the texts, and the value that each asks for
+
+abbrev pub table_name : Table → List ℕ
+table_name (OfRoll Lecturers) = codes "lecturer"
+table_name (OfRoll Projects) = codes "project"
+table_name (OfRoll Students) = codes "student"
+table_name (OfLists lists) = (names lists).name
+table_name OfRanked = codes "ranked2"
+table_name OfPlaces = codes "assigned2"
+
+abbrev pub query_text : Query → List ℕ
+query_text Office = codes "SELECT id, version, phase, office FROM portal ORDER BY id"
+query_text (Whole Lecturers) = codes "SELECT key, name, code, capacity, ranked FROM lecturer ORDER BY key"
+query_text (Whole Projects) = codes "SELECT key, lecturer, title, capacity FROM project ORDER BY key"
+query_text (Whole Students) = codes "SELECT key, name, code, assigned FROM student ORDER BY key"
+query_text (LecturerByCode code) = codes "SELECT key, name, code, capacity, ranked FROM lecturer WHERE code = ?1 ORDER BY key"
+query_text (StudentByCode code) = codes "SELECT key, name, code, assigned FROM student WHERE code = ?1 ORDER BY key"
+query_text (LecturerByKey key) = codes "SELECT key FROM lecturer WHERE key = ?1 ORDER BY key"
+query_text (StudentTold key) = codes "SELECT key, name, assigned FROM student WHERE key = ?1 ORDER BY key"
+query_text (AllLists lists) = let t = names lists in codes "SELECT " ++ t.owner ++ codes ", place, " ++ t.item ++ codes " FROM " ++ t.name
+query_text (ListOf lists owner) = let t = names lists in codes "SELECT place, " ++ t.item ++ codes " FROM " ++ t.name ++ codes " WHERE " ++ t.owner ++ codes " = ?1 ORDER BY place"
+query_text (Choosers round project) = codes "SELECT student FROM " ++ (names (choice_table round)).name ++ codes " WHERE project = ?1 ORDER BY student"
+query_text (ProjectsOf lecturer) = codes "SELECT key FROM project WHERE lecturer = ?1 ORDER BY key"
+query_text (Listed round) = codes "SELECT student FROM " ++ (names (choice_table round)).name ++ codes " WHERE place = 1 ORDER BY student"
+query_text Second = codes "SELECT id, phase FROM second ORDER BY id"
+query_text SecondRanked = codes "SELECT lecturer FROM ranked2 ORDER BY lecturer"
+query_text (SecondRankedBy lecturer) = codes "SELECT lecturer FROM ranked2 WHERE lecturer = ?1 ORDER BY lecturer"
+query_text SecondPlacements = codes "SELECT student, project FROM assigned2 ORDER BY student"
+query_text (SecondPlaceOf student) = codes "SELECT student, project FROM assigned2 WHERE student = ?1 ORDER BY student"
+query_text (Numbers table) = codes "SELECT rowid FROM " ++ table_name table ++ codes " ORDER BY rowid"
+
+abbrev pub given : Query → Row
+given (LecturerByCode code) = Words code.now ∷ []
+given (StudentByCode code) = Words code.now ∷ []
+given (LecturerByKey key) = Words key.now ∷ []
+given (StudentTold key) = Words key.now ∷ []
+given (ListOf lists owner) = Words owner.now ∷ []
+given (Choosers round project) = Words project.now ∷ []
+given (ProjectsOf lecturer) = Words lecturer.now ∷ []
+given (SecondRankedBy lecturer) = Words lecturer.now ∷ []
+given (SecondPlaceOf student) = Words student.now ∷ []
+given _ = []

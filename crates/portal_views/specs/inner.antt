@@ -1,0 +1,4 @@
+pub mod Lines
+pub mod Contents
+pub mod Catalogue
+pub mod Callers

@@ -1,0 +1,69 @@
+-- The rows of the rolls and lists, of the rolls that queries show and the lists in the tables.
+use Rattle.portal_views.specs.Base.{List, None, map, AllByRecursion, filter_map, Row, Trees, Round, IsLecturer, IsProject, IsStudent, Key, LecturerRow, ProjectRow, StudentRow}
+use Rattle.portal_tables.specs.inner.Owners.{entry, with_list, IsRead, IsFine}
+use Rattle.portal_tables.specs.ListTables.{choice_table, ranking_table}
+use Rattle.portal_tables.specs.inner.Placements.{pair_shown, HasPlacement}
+use Rattle.portal_tables.specs.inner.Shown.{shown_lecturer, shown_project, shown_student}
+use Rattle.portal_tables.specs.declared.rolls.Rolls.{Rolls}
+use Rattle.portal_views.specs.declared.contents.Contents.{Contents}
+
+pub record AllRows : Type 0 where
+  pub lecturers : List LecturerRow
+  pub projects : List ProjectRow
+  pub students : List StudentRow
+  -- each student's list, by student
+  pub choices : List (Key × List Key)
+  -- the rankings that are there, by lecturer
+  pub rankings : List (Key × List Key)
+  -- the result, by student
+  pub pairs : List (Key × Key)
+
+-- those that were read
+abbrev pub rows_held : Contents → AllRows
+rows_held c =
+    record {
+      lecturers = c.lecturers.items;
+      projects = c.projects.items;
+      students = c.students.items;
+      choices = map with_list c.choices.items;
+      rankings = map with_list c.rankings.items;
+      pairs = c.pairs.items;
+    }
+
+-- those of rolls that were read, decoded, with lists and a result
+abbrev pub rows_with : Rolls → List (Key × List Key) → List (Key × List Key) → List (Key × Key) → AllRows
+rows_with rolls choices rankings pairs =
+    record {
+      lecturers = map shown_lecturer rolls.lecturers.items;
+      projects = map shown_project rolls.projects.items;
+      students = map shown_student rolls.students.items;
+      choices = choices;
+      rankings = rankings;
+      pairs = pairs;
+    }
+
+-- those of shown rows, with the lists and places of a round in the tables
+abbrev pub rows_from : Round → Trees → List Row → List Row → List Row → AllRows
+rows_from round db lecturers projects students =
+    record {
+      lecturers = map shown_lecturer lecturers;
+      projects = map shown_project projects;
+      students = map shown_student students;
+      choices = filter_map (entry (choice_table round) db) students;
+      rankings = filter_map (entry (ranking_table round) db) lecturers;
+      pairs = filter_map (pair_shown round None db) students;
+    }
+
+-- what was found while they were read
+pub record AreRead (round : Round) (db : Trees) (lecturers students : List Row) : Type 0 where
+  pub choices : AllByRecursion (IsRead (choice_table round) db) students
+  pub rankings : AllByRecursion (IsRead (ranking_table round) db) lecturers
+
+-- what the decoding of shown rows asks
+pub record AreFine (round : Round) (db : Trees) (lecturers projects students : List Row) : Type 0 where
+  pub lecturer_forms : AllByRecursion (λ c. IsLecturer (shown_lecturer c)) lecturers
+  pub project_forms : AllByRecursion (λ c. IsProject (shown_project c)) projects
+  pub student_forms : AllByRecursion (λ c. IsStudent (shown_student c)) students
+  pub places : AllByRecursion (HasPlacement round db) students
+  pub choices : AllByRecursion (IsFine (choice_table round) db) students
+  pub rankings : AllByRecursion (IsFine (ranking_table round) db) lecturers

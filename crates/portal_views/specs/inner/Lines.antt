@@ -1,0 +1,40 @@
+-- What may be told of students, of the rows of the tables.
+use Rattle.portal_views.specs.Base.{Round, First, Second, List, map, filter, Option, option_map, AllByRecursion, find, Row, column, bytes, Trees, Database, IsDatabase, Key, equals, has}
+use Rattle.portal_tables.specs.Tables.{own_trees}
+use Rattle.portal_tables.specs.Placements.{second_placement}
+use Rattle.portal_tables.specs.inner.Placements.{placement_shown}
+use Rattle.portal_tables.specs.Schema.{HasFirstSchema, IsCurrentSchema}
+use Rattle.portal_tables.specs.Changes.{RowNumbersDiffer}
+use Rattle.portal_tables.specs.inner.Owners.{choice_shown}
+use Rattle.portal_tables.specs.inner.Rolls.{students_shown}
+use Rattle.portal_tables.specs.Shown.{text_or_none}
+use Rattle.portal_tables.specs.inner.Shown.{first_cell}
+use Rattle.portal_views.specs.declared.lines.Line.{Line}
+
+-- the tables are the portal's own and sound, and no two rows of one have one number
+pub record HasTables (db : Database) : Type 0 where
+  pub own : HasFirstSchema db.schema
+  pub current : IsCurrentSchema db.schema
+  pub sound : IsDatabase db
+  pub apart : AllByRecursion (λ t. RowNumbersDiffer (db.trees t)) own_trees
+
+-- what is told of the student whose row is shown, with the place in a round
+abbrev pub shown_line : Round → Trees → Row → Line
+shown_line round db c = record { person = record { key = first_cell c; name = bytes (column c 1) }; placed = placement_shown round db c }
+
+-- and of the student whose key, name and assigned project are shown alone, with that project
+abbrev pub told_line : Row → Line
+told_line c = record { person = record { key = first_cell c; name = bytes (column c 1) }; placed = text_or_none (column c 2) }
+
+-- the line with the place in a round, in place of the assigned project
+abbrev pub in_round : Round → Trees → Line → Line
+in_round First db l = l
+in_round Second db l = record l { placed = second_placement db l.person.key }
+
+-- of the student on the roll with this key, where there is one
+abbrev pub applicant_at : Round → Trees → Key → Option Line
+applicant_at round db k = option_map (shown_line round db) (find (λ c. equals (first_cell c) k) (students_shown db))
+
+-- of the students whose list of the round holds the project, by their keys
+abbrev pub applicant_lines : Round → Trees → Key → List Line
+applicant_lines round db project = map (shown_line round db) (filter (λ c. has (choice_shown round db c) project) (students_shown db))
