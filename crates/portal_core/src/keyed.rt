@@ -6,13 +6,13 @@ ghost use Rattle.spa_rows.specs.inner.Index.{text_eq};
 ghost use Rattle.portal_core.specs.Words as words;
 ghost use Rattle.portal_core.specs.inner.Tables.{HasRows};
 
-use crate::rows::ProjectRow;
+use crate::rows::{LecturerRow, ProjectRow, StudentRow};
 use spa_rows::Key;
 use std::alloc::{AllocError, Global};
 use std::collections::HashMap;
 
 /// A row that is found by a key.
-pub(crate) trait Keyed {
+pub trait Keyed {
     /// The key.
     ghost key_of: { Self → words.Key };
 
@@ -21,7 +21,23 @@ pub(crate) trait Keyed {
         ensures { result.now ≡ key_of self.now };
 }
 
+impl Keyed for LecturerRow {
+    ghost key_of = { λ row. row.key };
+
+    fn key(&self) -> &Key {
+        &self.key
+    }
+}
+
 impl Keyed for ProjectRow {
+    ghost key_of = { λ row. row.key };
+
+    fn key(&self) -> &Key {
+        &self.key
+    }
+}
+
+impl Keyed for StudentRow {
     ghost key_of = { λ row. row.key };
 
     fn key(&self) -> &Key {
@@ -35,6 +51,14 @@ impl Keyed for (Key, Key) {
 
     fn key(&self) -> &Key {
         &self.0
+    }
+}
+
+impl Keyed for &Key {
+    ghost key_of = { λ key. key.now };
+
+    fn key(&self) -> &Key {
+        self
     }
 }
 

@@ -58,6 +58,36 @@ impl Phase {
         }
     }
 
+    /// Whether nobody may choose yet.
+    pub fn is_setup(self) -> bool
+        ensures { result ≡ world.is_setup self }
+    {
+        match self {
+            Phase::Setup => true,
+            Phase::Choosing | Phase::Ranking | Phase::Published => false,
+        }
+    }
+
+    /// Whether the students' lists are closed, and lecturers see who applied.
+    pub fn is_from_ranking(self) -> bool
+        ensures { result ≡ world.is_from_ranking self }
+    {
+        match self {
+            Phase::Setup | Phase::Choosing => false,
+            Phase::Ranking | Phase::Published => true,
+        }
+    }
+
+    /// Whether the round's result is published.
+    pub fn is_published(self) -> bool
+        ensures { result ≡ world.is_published self }
+    {
+        match self {
+            Phase::Setup | Phase::Choosing | Phase::Ranking => false,
+            Phase::Published => true,
+        }
+    }
+
     /// Its word.
     pub fn word(&self) -> &'static str
         ensures { result.now ≡ phase_word self.now }

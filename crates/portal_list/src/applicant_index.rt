@@ -82,7 +82,10 @@ fn mark(marks: &mut [bool], places: &[usize])
 
 impl<'a> ApplicantIndex<'a> {
     /// This roll.
-    pub(crate) fn of(alloc: Global, students: &'a [StudentEntry]) -> Result<ApplicantIndex<'a>, AllocError>
+    pub(crate) fn of(
+        alloc: Global,
+        students: &'a [StudentEntry],
+    ) -> Result<ApplicantIndex<'a>, AllocError>
         ensures { IfOk result (λ w. w ≡ students.now) }
     {
         let mut places = HashMap::new(alloc);

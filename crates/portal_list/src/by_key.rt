@@ -4,7 +4,7 @@ ghost use Rattle.std.specs.Prelude.{◌≡◌, ◌<◌, ◌≤◌, ◌+◌, true
 ghost use Rattle.std.specs.List.{list_any};
 ghost use Rattle.portal_core.specs.Words.{equals, put, put_all};
 
-use crate::keyed::Keyed;
+use portal_core::Keyed;
 use spa_rows::Key;
 
 /// Where the row with this key stands.

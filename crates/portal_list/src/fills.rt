@@ -7,10 +7,10 @@ ghost use Rattle.portal_list.specs.Entries.{HasEntries};
 ghost use Rattle.portal_list.specs.inner.Parts.{applicant_keys};
 ghost use Rattle.portal_list.specs.inner.Fill.{fill_missing};
 
+use crate::applicant_index::ApplicantIndex;
 use crate::changes::applicants_by_key;
 use crate::entries::{Entries, StudentEntry};
 use crate::views::waiting;
-use crate::applicant_index::ApplicantIndex;
 use portal_core::ProjectRow;
 use spa_rows::Key;
 use std::alloc::{AllocError, Global};

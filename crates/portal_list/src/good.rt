@@ -12,7 +12,7 @@ use crate::copies::{place_copy, project_rows_of, ranking_copy};
 use crate::entries::{Entries, LecturerEntry, StudentEntry};
 use crate::instance::instance_of;
 use crate::keeper::ListKeeper;
-use crate::lists::{is_published, lists_fit};
+use crate::lists::lists_fit;
 use crate::played::takes_part;
 use portal_core::{Phase, Round, copy_keys};
 use spa_check::is_stable;
@@ -113,7 +113,7 @@ impl ListKeeper {
         requires { Sound self.now }
         ensures { IfOk result (λ yes. IsTrue yes ↔ IsStableIfPublished self.now) }
     {
-        if !is_published(self.phase) {
+        if !self.phase.is_published() {
             return Ok(true);
         }
         let entries = &self.entries;

@@ -7,41 +7,9 @@ ghost use Rattle.portal_core.specs.Words.{Rise, has};
 ghost use Rattle.portal_core.specs.World.{lecturer_key, student_key};
 
 use crate::entries::{LecturerEntry, StudentEntry};
-use portal_core::{LecturerRow, ProjectRow, StudentRow};
+use portal_core::Keyed;
 use spa_rows::Key;
 use std::cmp::Ordering;
-
-/// A row with a key.
-pub(crate) trait Keyed {
-    ghost key_of: { Self → List ℕ };
-
-    fn key(&self) -> &Key
-        ensures { result.now ≡ key_of self.now };
-}
-
-impl Keyed for LecturerRow {
-    ghost key_of = { λ r. r.key };
-
-    fn key(&self) -> &Key {
-        &self.key
-    }
-}
-
-impl Keyed for ProjectRow {
-    ghost key_of = { λ r. r.key };
-
-    fn key(&self) -> &Key {
-        &self.key
-    }
-}
-
-impl Keyed for StudentRow {
-    ghost key_of = { λ r. r.key };
-
-    fn key(&self) -> &Key {
-        &self.key
-    }
-}
 
 impl Keyed for LecturerEntry {
     ghost key_of = { lecturer_key };
@@ -56,14 +24,6 @@ impl Keyed for StudentEntry {
 
     fn key(&self) -> &Key {
         &self.row.key
-    }
-}
-
-impl Keyed for &Key {
-    ghost key_of = { λ k. k.now };
-
-    fn key(&self) -> &Key {
-        self
     }
 }
 

@@ -1,6 +1,7 @@
 //! A keeper of the world in plain vectors of rows.
 #![tactic(auto)]
 
+mod applicant_index;
 mod by_key;
 mod changes;
 mod copies;
@@ -17,7 +18,6 @@ mod lists;
 mod played;
 mod rolls;
 mod views;
-mod applicant_index;
 
 pub use entries::Entries;
 pub use from_rows::{RowsFault, WorldRows};

@@ -3,17 +3,18 @@
 ghost use Rattle.std.specs.Prelude.{◌≡◌, ◌↔◌, IfOk, IsTrue, true, map, option_map, [], None};
 ghost use Rattle.std.specs.List.{AllByRecursion};
 ghost use Rattle.portal_core.specs.Words.{has, Rise};
-ghost use Rattle.portal_core.specs.World.{project_key, student_key, is_published};
+ghost use Rattle.portal_core.specs.World.{project_key, student_key};
 ghost use Rattle.portal_core.specs.Good.{IsChoice, IsRanking};
 ghost use Rattle.portal_list.specs.inner.Parts.{PhaseFits, HasNothingEarlier, IsOutIfPlaced, RoundFits, HasChoices, applicant_keys, HasRanking, ListsFit};
 
+use crate::applicant_index::ApplicantIndex;
 use crate::distinct::keys_are_distinct;
 use crate::entries::{Entries, LecturerEntry, StudentEntry};
 use crate::keyed::is_known;
 use crate::played::played;
-use crate::applicant_index::ApplicantIndex;
 use portal_core::{Phase, ProjectRow, Round, own_keys};
 use spa_rows::Key;
+use spa_rows::limits::LONGEST_CHOICE;
 use std::alloc::{AllocError, Global};
 
 fn have_no_choices(students: &[StudentEntry]) -> bool
@@ -47,12 +48,6 @@ fn have_no_placements(students: &[StudentEntry]) -> bool
         }
     }
     true
-}
-
-pub(crate) fn is_published(phase: Phase) -> bool
-    ensures { result ≡ is_published phase }
-{
-    phase == Phase::Published
 }
 
 /// Whether nothing is there that is made in a later phase.
@@ -146,7 +141,7 @@ fn is_choice(alloc: Global, projects: &[ProjectRow], choice: &[Key]) -> Result<b
     requires { Rise (map project_key projects.now) }
     ensures { IfOk result (λ yes. IsTrue yes ↔ IsChoice (map project_key projects.now) choice.now) }
 {
-    if choice.len() > 20 {
+    if choice.len() > LONGEST_CHOICE {
         return Ok(false);
     }
     if !are_projects(projects, choice) {
@@ -302,7 +297,7 @@ pub(crate) fn lists_fit(alloc: Global, phase: Phase, entries: &Entries) -> Resul
     }
     rankings_fit(
         alloc,
-        is_published(phase),
+        phase.is_published(),
         &entries.lecturers,
         &entries.projects,
         &entries.students,

@@ -9,6 +9,7 @@ ghost use Rattle.portal_list.specs.inner.Parts.{codes_in, lecturer_row_keys, Key
 use crate::distinct::are_distinct;
 use crate::keyed::{is_known, keys_rise};
 use portal_core::{Code, LecturerRow, ProjectRow, StudentRow};
+use spa_rows::limits::{MOST_LECTURERS, MOST_PROJECTS, MOST_STUDENTS, is_capacity};
 use std::alloc::{AllocError, Global};
 
 /// Whether the row has its form; its texts have theirs by their types.
@@ -18,7 +19,7 @@ fn is_lecturer(row: &LecturerRow) -> bool
     let _key = row.key.as_bytes();
     let _name = row.name.as_bytes();
     let _code = row.code.as_bytes();
-    1 <= row.capacity && row.capacity <= 200
+    is_capacity(row.capacity)
 }
 
 /// Whether the row has its form; its texts have theirs by their types.
@@ -28,7 +29,7 @@ fn is_project(row: &ProjectRow) -> bool
     let _key = row.key.as_bytes();
     let _lecturer = row.lecturer.as_bytes();
     let _title = row.title.as_bytes();
-    1 <= row.capacity && row.capacity <= 200
+    is_capacity(row.capacity)
 }
 
 /// A row has its form, since its texts have theirs by their types.
@@ -134,7 +135,9 @@ fn rolls_rise(lecturers: &[LecturerRow], projects: &[ProjectRow], students: &[St
 fn are_few(lecturers: &[LecturerRow], projects: &[ProjectRow], students: &[StudentRow]) -> bool
     ensures { IsTrue result ↔ AreFew lecturers.now projects.now students.now }
 {
-    lecturers.len() <= 300 && projects.len() <= 1000 && students.len() <= 2000
+    lecturers.len() <= MOST_LECTURERS
+        && projects.len() <= MOST_PROJECTS
+        && students.len() <= MOST_STUDENTS
 }
 
 /// Whether the rows of the rolls are those of a world.

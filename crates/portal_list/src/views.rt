@@ -3,7 +3,6 @@
 ghost use Rattle.std.specs.Prelude.{◌≡◌, IfOk, option_map};
 ghost use Rattle.std.specs.List.{find};
 ghost use Rattle.portal_core.specs.Words.{equals};
-ghost use Rattle.portal_core.specs.World.{is_from_ranking};
 ghost use Rattle.portal_core.specs.View.{student_sees, lecturer_sees, office_sees};
 
 mod by_project;
@@ -52,16 +51,6 @@ pub(crate) fn student_with<'a>(
     None
 }
 
-/// Whether the students' lists are closed.
-fn are_closed(phase: Phase) -> bool
-    ensures { result ≡ is_from_ranking phase }
-{
-    match phase {
-        Phase::Setup | Phase::Choosing => false,
-        Phase::Ranking | Phase::Published => true,
-    }
-}
-
 pub(crate) fn student_view(
     alloc: Global,
     keeper: &ListKeeper,
@@ -87,7 +76,7 @@ pub(crate) fn lecturer_view(
     ensures { IfOk result (λ v. v ≡ lecturer_sees keeper.now lecturer.now) }
 {
     let row = &lecturer.row;
-    let closed = are_closed(keeper.phase);
+    let closed = keeper.phase.is_from_ranking();
     let entries = &keeper.entries;
     Ok(LecturerView {
         round: entries.round,
@@ -116,7 +105,7 @@ pub(crate) fn lecturer_view(
 pub(crate) fn office_view(alloc: Global, keeper: &ListKeeper) -> Result<OfficeView, AllocError>
     ensures { IfOk result (λ v. v ≡ office_sees keeper.now) }
 {
-    let closed = are_closed(keeper.phase);
+    let closed = keeper.phase.is_from_ranking();
     let entries = &keeper.entries;
     Ok(OfficeView {
         round: entries.round,

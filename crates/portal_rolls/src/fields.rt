@@ -15,6 +15,7 @@ ghost use Rattle.portal_rolls.specs.Views as view;
 use crate::fault::RollFault;
 use csv::ByteRecord;
 use portal_core::{Code, CodeFault, Name, NameFault};
+use spa_rows::limits::is_capacity;
 use spa_rows::{Key, KeyFault};
 use std::alloc::{AllocError, Global};
 use std::{mem, str};
@@ -132,7 +133,7 @@ pub(crate) fn limited(row: u32, column: u32, field: &[u8]) -> Result<u32, RollFa
     ensures { result ≡ spec.limited row column field.now }
 {
     match capacity_of(field) {
-        Some(n) if 1 <= n && n <= 200 => Ok(n),
+        Some(n) if is_capacity(n) => Ok(n),
         _ => Err(RollFault::BadField(row, column)),
     }
 }

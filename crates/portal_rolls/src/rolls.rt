@@ -13,6 +13,7 @@ use crate::fields::{code_at, four, key_at, limited, name_at, three};
 use crate::reading::{Kind, read_text};
 use csv::ByteRecord;
 use portal_core::{LecturerRow, ProjectRow, StudentRow};
+use spa_rows::limits::{MOST_LECTURERS, MOST_PROJECTS, MOST_STUDENTS};
 use std::alloc::Global;
 
 /// The roll of lecturers.
@@ -28,7 +29,7 @@ impl Kind for LecturerRoll {
     }
 
     fn limit() -> u32 {
-        300
+        MOST_LECTURERS as u32
     }
 
     fn says(alloc: Global, number: u32, row: &ByteRecord) -> Result<LecturerRow, RollFault> {
@@ -59,7 +60,7 @@ impl Kind for ProjectRoll {
     }
 
     fn limit() -> u32 {
-        1000
+        MOST_PROJECTS as u32
     }
 
     fn says(alloc: Global, number: u32, row: &ByteRecord) -> Result<ProjectRow, RollFault> {
@@ -90,7 +91,7 @@ impl Kind for StudentRoll {
     }
 
     fn limit() -> u32 {
-        2000
+        MOST_STUDENTS as u32
     }
 
     fn says(alloc: Global, number: u32, row: &ByteRecord) -> Result<StudentRow, RollFault> {

@@ -4,7 +4,6 @@ use Rattle.sqlite.specs.Order.{Row, column, bytes}
 use Rattle.sqlite.specs.Tree.{Trees}
 use Rattle.sqlite_trees.specs.Objects.{number_in}
 use Rattle.portal_core.specs.declared.phase.Phase.{Phase}
-use Rattle.portal_core.specs.declared.phase.Phase.TheVariants.{Setup, Choosing, Ranking, Published}
 use Rattle.portal_core.specs.declared.phase.Round.{Round}
 use Rattle.portal_core.specs.declared.phase.Round.TheVariants.{First, Second}
 use Rattle.portal_core.specs.declared.rows.LecturerRow.{LecturerRow}
@@ -13,15 +12,13 @@ use Rattle.portal_core.specs.declared.rows.StudentRow.{StudentRow}
 use Rattle.portal_core.specs.Words.{Key, has, put_all}
 use Rattle.portal_core.specs.World.{World, Lecturer, Student, lecturer_key, project_key, student_key}
 pub use Rattle.portal_tables.specs.ListTables.{choice_table, ranking_table}
+pub use Rattle.portal_tables.specs.Office.{phase_numbered}
 use Rattle.portal_tables.specs.ListTables.{tree_of}
 use Rattle.portal_tables.specs.Placements.{second_placement}
 use Rattle.portal_tables.specs.Tables.{portal_tree, lecturer_tree, project_tree, student_tree, second_tree, ranked2_tree}
 use Rattle.portal_tables.specs.Lists.{chosen}
 use Rattle.portal_tables.specs.Rolls.{row_key}
 use Rattle.portal_tables.specs.Shown.{text_or_none}
-
-abbrev pub phase_numbered : ℕ → Phase
-phase_numbered n = if n == 1 then Choosing else (if n == 2 then Ranking else (if n == 3 then Published else Setup))
 
 abbrev pub lecturer_row : Row → LecturerRow
 lecturer_row r = record { key = row_key r; name = bytes (column r 2); code = bytes (column r 3); capacity = number_in (column r 4) }

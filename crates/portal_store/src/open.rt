@@ -106,16 +106,6 @@ fn see_published<S: Alter>(alloc: Global, conn: &mut Connection<S>) -> Result<()
     }
 }
 
-/// Whether a phase of `second` says that there is no second round.
-fn tells_none(phase: Phase) -> bool
-    ensures { result ≡ is_setup phase }
-{
-    match phase {
-        Phase::Setup => true,
-        Phase::Choosing | Phase::Ranking | Phase::Published => false,
-    }
-}
-
 /// Whether what `second` tells is so: of no second round nothing is there, and the first is published before it.
 fn see_second<S: Alter>(alloc: Global, conn: &mut Connection<S>) -> Result<(), OpenFault>
     requires idle { conn.old.in_transaction ≡ false }
@@ -130,7 +120,7 @@ fn see_second<S: Alter>(alloc: Global, conn: &mut Connection<S>) -> Result<(), O
         Ok(phase) => phase,
         Err(fault) => return Err(load_open_fault_of(fault)),
     };
-    if tells_none(phase) {
+    if phase.is_setup() {
         see_nothing(conn)
     } else {
         see_published(alloc, conn)

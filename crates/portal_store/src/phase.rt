@@ -3,7 +3,6 @@
 ghost use Rattle.std.specs.Prelude.{◌≡◌, false};
 ghost use Rattle.sqlite.specs.Held.{state};
 ghost use Rattle.portal_core.specs.Change.{To};
-ghost use Rattle.portal_tables.specs.Office.{number_of_phase};
 ghost use Rattle.portal_tables.specs.Schema.{IsCurrentSchema};
 ghost use Rattle.portal_store.specs.inner.Kept.{IsTransitionIn};
 ghost use Rattle.portal_store.specs.inner.Ending.{CommitsChange};
@@ -13,21 +12,9 @@ use crate::load::load_entries;
 use portal_core::{Phase, Round};
 use portal_list::Entries;
 use portal_tables::update::set_phase as set_phase_number;
-use portal_tables::{Step, TableFault, commit, set_second};
+use portal_tables::{Step, TableFault, commit, phase_number, set_second};
 use sqlite::{Alter, Connection, Error, Transaction};
 use std::alloc::Global;
-
-/// The number that stands for a phase in the table.
-fn phase_number(phase: Phase) -> u32
-    ensures { result ≡ number_of_phase phase }
-{
-    match phase {
-        Phase::Setup => 0,
-        Phase::Choosing => 1,
-        Phase::Ranking => 2,
-        Phase::Published => 3,
-    }
-}
 
 /// The portal moves to this phase.
 struct SetPhase {

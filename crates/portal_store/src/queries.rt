@@ -27,7 +27,7 @@ use crate::round::round_now;
 use caller::{lecturer_in, student_in};
 use catalogue::shared_catalogue;
 use office::office_view;
-use portal_core::{KeepFault, OfficeView, Phase, ViewCache, Round, View};
+use portal_core::{KeepFault, OfficeView, Phase, Round, View, ViewCache};
 use portal_tables::{Office, TableFault};
 use portal_views::{lecturer_view, student_view};
 use sqlite::{Alter, Connection};

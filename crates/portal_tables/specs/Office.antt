@@ -1,13 +1,18 @@
 -- The rows of the office and of the second round.
-use Rattle.std.specs.Prelude.{◌≡◌, ◌∷◌}
+use Rattle.std.specs.Prelude.{◌≡◌, ◌∷◌, if◌then◌else◌, ◌==◌}
 use Rattle.portal_tables.specs.Base.{ℕ, pos, List, [], Int, Words, Row, column, Key, Phase, Setup, Choosing, Ranking, Published}
 use Rattle.portal_tables.specs.Rows.{portal_row}
 
+-- the number that stands for a phase
 abbrev pub number_of_phase : Phase → ℕ
 number_of_phase Setup = 0
 number_of_phase Choosing = 1
 number_of_phase Ranking = 2
 number_of_phase Published = 3
+
+-- and the phase of a number
+abbrev pub phase_numbered : ℕ → Phase
+phase_numbered n = if n == 1 then Choosing else (if n == 2 then Ranking else (if n == 3 then Published else Setup))
 
 -- the one row of `portal`, of this version
 pub record HasOffice (version : ℕ) (rows : List Row) : Type 0 where

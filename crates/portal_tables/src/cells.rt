@@ -6,6 +6,7 @@ ghost use Rattle.portal_tables.specs.Shown.{text_or_none};
 
 use crate::fault::TableFault;
 use portal_core::{Code, CodeFault, Name, NameFault};
+use spa_rows::limits::MOST_PLACES;
 use spa_rows::{Key, KeyFault};
 use sqlite::Row;
 use sqlite::types::ValueRef;
@@ -76,7 +77,7 @@ pub fn capacity_at(row: &Row, at: usize) -> Result<u32, TableFault>
         → number_in (column row.now at) ≤ 200 → ⊥ }
 {
     let number = number_at(row, at);
-    if number < 1 || 200 < number {
+    if number < 1 || u64::from(MOST_PLACES) < number {
         return Err(TableFault::Damaged);
     }
     Ok(number as u32)

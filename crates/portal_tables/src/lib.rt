@@ -3,7 +3,6 @@
 //! the row of the office. It knows rows and numbers of trees and no world.
 #![tactic(auto)]
 
-mod row_numbers;
 mod assign;
 pub mod cells;
 pub mod decode;
@@ -15,28 +14,29 @@ mod make;
 mod named;
 pub mod names;
 mod office;
-mod schema;
 mod placements;
 mod put;
 mod rolls;
+mod row_numbers;
 mod run;
+mod schema;
 mod second;
 pub mod select;
 mod step;
 pub mod update;
 mod upgrade;
 
-pub use row_numbers::row_numbers_differ;
 pub use assign::{Assignment, assign_all};
 pub use entries::{entries_in, entry_in, has_list_in, list_in};
 pub use fault::TableFault;
 pub use make::create_portal;
 pub use named::is_named;
-pub use office::{FIRST_VERSION, Office, VERSION, office_in};
-pub use schema::PortalSchema;
+pub use office::{FIRST_VERSION, Office, VERSION, office_in, phase_number};
 pub use placements::{pairs_in, result_in, second_placement_in, takes_part};
 pub use put::{clear_list, put_list};
 pub use rolls::{Rolls, parts_of, rising, roll_in, rolls_in};
+pub use row_numbers::row_numbers_differ;
+pub use schema::PortalSchema;
 pub use second::{put_placements, rank_second, second_in, set_second};
 pub use step::{Step, commit};
 pub use upgrade::upgrade_tables;

@@ -40,6 +40,19 @@ pub(crate) fn is_number(row: &Row, at: usize, number: u32) -> bool
     }
 }
 
+/// The number that stands for a phase in a table.
+pub fn phase_number(phase: Phase) -> u32
+    ensures { result ≡ number_of_phase phase }
+{
+    match phase {
+        Phase::Setup => 0,
+        Phase::Choosing => 1,
+        Phase::Ranking => 2,
+        Phase::Published => 3,
+    }
+}
+
+/// The phase that the number in a cell stands for.
 pub(crate) fn phase_at(row: &Row, at: usize) -> Option<Phase>
     ensures some { IfSome result (λ phase. column row.now at ≡ Int (pos (number_of_phase phase))) }
     ensures none { IfNone result

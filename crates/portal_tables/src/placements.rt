@@ -11,7 +11,7 @@ ghost use Rattle.portal_tables.specs.Placements.{second_placement};
 ghost use Rattle.portal_tables.specs.inner.Placements.{placement_shown, placement_before, result_shown, pair_shown, HasPlacement};
 
 use crate::cells::{assigned_at, bytes_at, is_null, key_at};
-use crate::decode::{decoded, at_most_one};
+use crate::decode::{at_most_one, decoded};
 use crate::fault::TableFault;
 use crate::select::{Query, read_rows};
 use portal_core::{Phase, Round};

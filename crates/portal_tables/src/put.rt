@@ -11,12 +11,10 @@ use crate::insert::{NewPlace, add_all};
 use crate::list_table::Lists;
 use crate::run::write;
 use spa_rows::Key;
+use spa_rows::limits::MOST_STUDENTS;
 use sqlite::types::ValueRef;
 use sqlite::{Alter, Error, ErrorCode, Transaction};
 use std::alloc::{AllocError, Global};
-
-/// No list is longer: there are at most 1,000 projects and 2,000 students.
-const LONGEST: usize = 2000;
 
 /// Takes the rows of an owner's list away.
 pub fn clear_list<S: Alter>(
@@ -63,7 +61,7 @@ pub fn put_list<S: Alter>(
     ensures { Does S.Store (GoesOn
         (PutsList (tree_of lists) owner.now items.now)) result tx.old tx.new }
 {
-    if items.len() > LONGEST {
+    if items.len() > MOST_STUDENTS {
         return Err(Error::SqliteFailure(ErrorCode::TooBig));
     }
     clear_list(tx, lists, owner.as_bytes())?;

@@ -14,16 +14,6 @@ use spa_rows::Key;
 use sqlite::{Alter, Connection};
 use std::alloc::{AllocError, Global};
 
-/// Whether the students' lists are closed.
-pub fn are_closed(phase: Phase) -> bool
-    ensures { result ≡ is_from_ranking phase }
-{
-    match phase {
-        Phase::Setup | Phase::Choosing => false,
-        Phase::Ranking | Phase::Published => true,
-    }
-}
-
 /// The lines of the project's applicants that the phase shows.
 fn lines_in<S: Alter>(
     alloc: Global,
@@ -36,7 +26,7 @@ fn lines_in<S: Alter>(
         (λ db v. v.items ≡ lines_shown round db.trees phase project.now) }
     ensures reads { RunsQueriesIn round result (state S.Store conn.old) (state S.Store conn.new) }
 {
-    if are_closed(phase) {
+    if phase.is_from_ranking() {
         return lines_to(alloc, conn, round, project);
     }
     Ok(Vec::new(alloc))

@@ -3,18 +3,17 @@
 #![tactic(auto)]
 
 mod applicants;
+mod catalogue;
 mod contents;
 mod lecturer;
 mod left;
 mod lines;
-mod catalogue;
 mod persons;
 mod student;
 
-pub use applicants::are_closed;
+pub use catalogue::catalogue_in;
 pub use contents::{Contents, contents_in};
 pub use lecturer::lecturer_view;
 pub use left::keys_left;
 pub use lines::Line;
-pub use catalogue::catalogue_in;
 pub use student::student_view;

@@ -232,13 +232,6 @@ fn refusal_of(fault: CallFault) -> Refusal
     }
 }
 
-/// The same bytes in a vector of their own.
-fn copied(alloc: Global, bytes: &[u8]) -> Result<Vec<u8>, AllocError>
-    ensures { IfOk result (λ copy. copy.items ≡ bytes.now) }
-{
-    Vec::from_slice(alloc, bytes)
-}
-
 /// The caller's code and the call that a request makes.
 ///
 /// # Errors
@@ -252,7 +245,7 @@ pub fn call_of(alloc: Global, request: &Request) -> Result<(Vec<u8>, Call), Refu
     ensures refused { IfErr result (λ refusal. (refused refusal ≡ no_memory)
         ⊎ (wish_of (seen request.now) ≡ turned_away (refused refusal))) }
 {
-    let Ok(code) = copied(alloc, request.code.as_slice()) else {
+    let Ok(code) = Vec::from_slice(alloc, request.code.as_slice()) else {
         return Err(refusal_of(CallFault::Memory));
     };
     match routed_call(alloc, request) {

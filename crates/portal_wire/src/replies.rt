@@ -56,13 +56,6 @@ fn unavailable_bytes(alloc: Global) -> Result<Vec<u8>, AllocError>
     Vec::from_slice(alloc, b"{\"error\":\"unavailable\"}")
 }
 
-/// The same bytes in a vector of their own.
-fn copied(alloc: Global, bytes: &[u8]) -> Result<Vec<u8>, AllocError>
-    ensures { IfOk result (λ copy. copy.items ≡ bytes.now) }
-{
-    Vec::from_slice(alloc, bytes)
-}
-
 /// The bytes of a body.
 fn bytes_of(alloc: Global, body: &Body) -> Result<Vec<u8>, AllocError>
     ensures { IfOk result (λ bytes. HasWholeNumbers (body_model body.now)
@@ -70,8 +63,8 @@ fn bytes_of(alloc: Global, body: &Body) -> Result<Vec<u8>, AllocError>
 {
     match body {
         Body::Json(value) => value.to_vec(alloc),
-        Body::Csv(bytes) => copied(alloc, bytes.as_slice()),
-        Body::Plain(bytes) => copied(alloc, bytes.as_slice()),
+        Body::Csv(bytes) => Vec::from_slice(alloc, bytes.as_slice()),
+        Body::Plain(bytes) => Vec::from_slice(alloc, bytes.as_slice()),
         Body::Unavailable => unavailable_bytes(alloc),
     }
 }

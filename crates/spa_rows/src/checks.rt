@@ -10,6 +10,7 @@ use crate::least::{
     bad_capacity, bad_key, key_twice, least, list_too_long, no_such_lecturer, no_such_project,
     repeat_in_list,
 };
+use crate::limits::{MOST_LECTURERS, MOST_PROJECTS, MOST_STUDENTS};
 use crate::lines::InstanceRows;
 use std::alloc::{AllocError, Global};
 
@@ -26,7 +27,10 @@ fn lesser(a: Option<u32>, b: Option<u32>) -> Option<u32>
 fn too_many(rows: &InstanceRows) -> Option<u32>
     ensures { IsLeastOf (HasFault rows.now InstanceFault.TooMany) result }
 {
-    if rows.lecturers.len() > 300 || rows.projects.len() > 1000 || rows.students.len() > 2000 {
+    if rows.lecturers.len() > MOST_LECTURERS
+        || rows.projects.len() > MOST_PROJECTS
+        || rows.students.len() > MOST_STUDENTS
+    {
         return Some(0);
     }
     None

@@ -10,6 +10,7 @@ ghost use Rattle.spa_rows.specs.Least.{IsLeastOf, BadAt, least_row};
 use crate::index::Places;
 use crate::key::is_key_text;
 use crate::kinds::{Limited, Line, Listing};
+use crate::limits::{LONGEST_CHOICE, is_capacity};
 use crate::lines::{LecturerLine, ProjectLine, StudentLine};
 use std::alloc::{AllocError, Global};
 use std::collections::{BTreeSet, HashSet};
@@ -34,7 +35,7 @@ pub fn least_with(best: Option<u32>, row: u32, is_bad: bool) -> Option<u32>
 fn is_bad_capacity(capacity: u32) -> bool
     ensures { IsTrue result ↔ IsBadCapacity capacity }
 {
-    capacity < 1 || capacity > 200
+    !is_capacity(capacity)
 }
 
 /// The least row of a line whose key has not the form of one.
@@ -172,7 +173,7 @@ pub(crate) fn list_too_long(students: &[StudentLine]) -> Option<u32>
 {
     let mut best = None;
     for student in students {
-        best = least_with(best, student.row, student.list().len() > 20);
+        best = least_with(best, student.row, student.list().len() > LONGEST_CHOICE);
     }
     best
 }

@@ -7,6 +7,7 @@ mod index;
 mod key;
 mod kinds;
 mod least;
+pub mod limits;
 mod lines;
 mod order;
 

@@ -6,8 +6,8 @@ use portal_tables::list_table::Lists;
 use portal_tables::names::{Names, is_there};
 use portal_tables::select::{Query, Roll, Table, read, read_rows};
 use portal_tables::{
-    FIRST_VERSION, PortalSchema, TableFault, VERSION, row_numbers_differ, office_in, put_list, put_placements,
-    rank_second, result_in, second_in, set_second, upgrade_tables,
+    FIRST_VERSION, PortalSchema, TableFault, VERSION, office_in, put_list, put_placements,
+    rank_second, result_in, row_numbers_differ, second_in, set_second, upgrade_tables,
 };
 use portal_views::{catalogue_in, lecturer_view};
 use spa_rows::Key;

@@ -6,8 +6,8 @@ use portal_tables::list_table::Lists;
 use portal_tables::select::{Query, Roll, Table, finds_any, read, read_each, read_rows};
 use portal_tables::update::{set_phase, set_ranked};
 use portal_tables::{
-    Assignment, PortalSchema, TableFault, row_numbers_differ, assign_all, clear_list, create_portal, entries_in,
-    put_list,
+    Assignment, PortalSchema, TableFault, assign_all, clear_list, create_portal, entries_in,
+    put_list, row_numbers_differ,
 };
 use portal_views::Line;
 use spa_rows::Key;

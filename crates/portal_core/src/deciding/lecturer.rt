@@ -116,21 +116,11 @@ fn ranking_body(alloc: Global, students: Value) -> Result<Value, AllocError>
     json!(in alloc; {"students": students})
 }
 
-/// Whether the students' lists are closed.
-fn is_from_ranking(phase: Phase) -> bool
-    ensures { result ≡ world.is_from_ranking phase }
-{
-    match phase {
-        Phase::Setup | Phase::Choosing => false,
-        Phase::Ranking | Phase::Published => true,
-    }
-}
-
 /// A lecturer asks for the applicants.
 fn show_applicants(alloc: Global, view: &LecturerView) -> Result<Decision, AllocError>
     ensures { IfOk result (λ decision. decision_model decision ≡ to_lecturer view.now AbstractCall.Applicants) }
 {
-    if is_from_ranking(view.phase) {
+    if view.phase.is_from_ranking() {
         Ok(shows(applicants_body(alloc, &view.applicants)?))
     } else {
         wrong_phase(alloc)
@@ -141,7 +131,7 @@ fn show_applicants(alloc: Global, view: &LecturerView) -> Result<Decision, Alloc
 fn show_ranking(alloc: Global, view: &LecturerView) -> Result<Decision, AllocError>
     ensures { IfOk result (λ decision. decision_model decision ≡ to_lecturer view.now AbstractCall.ShowRanking) }
 {
-    if is_from_ranking(view.phase) {
+    if view.phase.is_from_ranking() {
         let students = ranking_value(alloc, &view.ranking)?;
         Ok(shows(ranking_body(alloc, students)?))
     } else {

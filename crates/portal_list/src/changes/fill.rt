@@ -4,9 +4,9 @@ ghost use Rattle.std.specs.Prelude.{◌≡◌, IfOk, OnOk, OnErr, map};
 ghost use Rattle.portal_list.specs.inner.Parts.{applicant_keys};
 ghost use Rattle.portal_list.specs.inner.Fill.{unless_empty, missing, with_missing, filled};
 
+use crate::applicant_index::ApplicantIndex;
 use crate::entries::{LecturerEntry, StudentEntry};
 use crate::lists::applicants;
-use crate::applicant_index::ApplicantIndex;
 use portal_core::ProjectRow;
 use spa_rows::Key;
 use std::alloc::{AllocError, Global};

@@ -6,8 +6,7 @@ ghost use Rattle.portal_core.specs.Change.{new_lecturer, new_student};
 
 use crate::by_key::put_rows;
 use crate::entries::{LecturerEntry, StudentEntry};
-use crate::keyed::Keyed;
-use portal_core::{LecturerRow, StudentRow};
+use portal_core::{Keyed, LecturerRow, StudentRow};
 use std::alloc::{AllocError, Global};
 
 /// Entries of new lecturers, who have no ranking.

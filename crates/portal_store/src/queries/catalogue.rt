@@ -12,7 +12,7 @@ ghost use Rattle.portal_store.specs.inner.Reading.{KeepsCacheIn, OverRound};
 ghost use Rattle.portal_core.specs.declared.phase.Round.TheVariants.{Second};
 
 use crate::sound::load_keeper;
-use portal_core::{Keeper, Listing, ViewCache, Round, View};
+use portal_core::{Keeper, Listing, Round, View, ViewCache};
 use portal_list::ListKeeper;
 use portal_tables::{TableFault, VERSION, office_in};
 use portal_views::catalogue_in;

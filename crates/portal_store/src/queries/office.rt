@@ -19,7 +19,7 @@ use portal_tables::cells::{bytes_at, key_at};
 use portal_tables::list_table::Lists;
 use portal_tables::select::{Query, finds_any, read_rows};
 use portal_tables::{Office, Rolls, TableFault, has_list_in, pairs_in, parts_of, rolls_in};
-use portal_views::{are_closed, keys_left};
+use portal_views::keys_left;
 use spa_rows::Key;
 use sqlite::{Alter, Connection, Row};
 use std::alloc::Global;
@@ -159,7 +159,7 @@ fn still_to_rank<S: Alter>(
         (map shown_project rolls.now.projects.items)) rolls.now.lecturers.items else []))) }
     ensures reads { RunsQueriesIn round result (state S.Store conn.old) (state S.Store conn.new) }
 {
-    if are_closed(phase) {
+    if phase.is_from_ranking() {
         return all_waiting(alloc, conn, round, &rolls.projects, &rolls.lecturers);
     }
     Ok(Vec::new(alloc))

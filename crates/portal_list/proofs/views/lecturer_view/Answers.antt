@@ -17,7 +17,7 @@ returns c =
       me = c.in_ok-person_of.ensures i;
       capacity = c.lecturer.inside.row.capacity;
       catalogue = (c.in_ok-catalogue.ensures ∙ ap catalogue (sym there)) i;
-      applicants = (c.in_ok-applicants_by_project.ensures ∙ λ j. applicants_shown (c.are_closed-closed.ensures j) (c.deref.ensures.value j) c.lecturer.inside.row.key (c.deref-2.ensures.value j)) i;
+      applicants = (c.in_ok-applicants_by_project.ensures ∙ λ j. applicants_shown (c.is_from_ranking-closed.ensures j) (c.deref.ensures.value j) c.lecturer.inside.row.key (c.deref-2.ensures.value j)) i;
       ranking = c.in_ok-ranking_copy.ensures i;
       placed = (c.in_ok-placed_by_project.ensures ∙ λ j. placements_shown keeper.phase (c.deref-3.ensures.value j) c.lecturer.inside.row.key (c.deref-4.ensures.value j)) i;
     })

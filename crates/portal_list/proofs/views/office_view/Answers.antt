@@ -32,7 +32,7 @@ returns c =
       students = (c.in_ok-student_rows.ensures ∙ ap (map (λ (s : Student). s.row)) c.deref-3.ensures.value) i;
       catalogue = (c.in_ok-catalogue.ensures ∙ ap catalogue (sym there)) i;
       without_list = (c.in_ok-without_list.ensures ∙ ap (λ ss. map (λ (s : Student). s.row.key) (filter (λ s. takes_part e.round s && is_empty s.choice) ss)) c.deref-4.ensures.value ∙ ap (map (λ (s : Student). s.row.key)) (part_and (λ s. is_empty s.choice) e.round e.students.items)) i;
-      still_to_rank = (c.in_ok-still_to_rank.ensures ∙ waiting w _ _ _ _ c.are_closed-closed.ensures c.deref-5.ensures.value c.deref-6.ensures.value c.deref-7.ensures.value) i;
+      still_to_rank = (c.in_ok-still_to_rank.ensures ∙ waiting w _ _ _ _ c.is_from_ranking-closed.ensures c.deref-5.ensures.value c.deref-6.ensures.value c.deref-7.ensures.value) i;
       pairs = (c.in_ok-pairs_of.ensures ∙ ap (pairs_with (shown_placement keeper.phase)) c.deref-8.ensures.value) i;
     })
     ∙ ap office_sees there

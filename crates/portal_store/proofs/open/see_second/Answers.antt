@@ -18,34 +18,34 @@ returns-in-Err-clause-refused g c own sound clean =
     denied_of c.load_open_fault_of.result c.in-Err.fault (HasGoodWorld (state g.S.Store c.args.conn.now).now.trees) c.load_open_fault_of.ensures.damaged.1 c.load_open_fault_of.ensures.nothing
     (λ e stands. let told = tells_phase stands.0 _ stands.1.second in c.in-Err.ensures.damaged own clean (ap Err e) told.0 told.1)
 
-pub returns-then-tells_none-clause-asks : goal.returns-then-tells_none-clause-asks
-returns-then-tells_none-clause-asks g c =
+pub returns-then-is_setup-clause-asks : goal.returns-then-is_setup-clause-asks
+returns-then-is_setup-clause-asks g c =
     asks_then c.in-Ok.phase c.see_nothing.result _ _ _ c.in-Ok.ensures.asks c.see_nothing.ensures.asks
 
-pub returns-else-tells_none-clause-asks : goal.returns-else-tells_none-clause-asks
-returns-else-tells_none-clause-asks g c = asks_then c.in-Ok.phase c.see_published.result _ _ _ c.in-Ok.ensures.asks (asks_all First c.see_published.result _ _ c.see_published.ensures.asks)
+pub returns-else-is_setup-clause-asks : goal.returns-else-is_setup-clause-asks
+returns-else-is_setup-clause-asks g c = asks_then c.in-Ok.phase c.see_published.result _ _ _ c.in-Ok.ensures.asks (asks_all First c.see_published.result _ _ c.see_published.ensures.asks)
 
-pub returns-then-tells_none-clause-refused : goal.returns-then-tells_none-clause-refused
-returns-then-tells_none-clause-refused g c =
+pub returns-then-is_setup-clause-refused : goal.returns-then-is_setup-clause-refused
+returns-then-is_setup-clause-refused g c =
     let db = (state g.S.Store c.args.conn.now).now.trees in
     told_start Second c.in-Ok.phase _ _ (state g.S.Store c.see_nothing.new.conn) (λ x. IfErr c.see_nothing.result (λ f. Denies f (AreEmpty x.trees))) c.in-Ok.ensures.asks c.in-Ok.ensures.row (clean_before _ _ _ c.see_nothing.ensures.asks.crash) (λ own sound. c.see_nothing.ensures.refused own)
     (λ row. if_err_weaker (λ f. Denies f (AreEmpty db)) (λ f. Denies f (HasGoodWorld db)) c.see_nothing.result
-    (λ f. denies_more f (AreEmpty db) (HasGoodWorld db) (λ s. (stands_in First db s (first_by db c.in-Ok.phase row (sym c.tells_none.ensures ∙ c.if-tells_none.true))).second.says)))
+    (λ f. denies_more f (AreEmpty db) (HasGoodWorld db) (λ s. (stands_in First db s (first_by db c.in-Ok.phase row (sym c.is_setup.ensures ∙ c.if-is_setup.true))).second.says)))
 
-pub returns-else-tells_none-clause-refused : goal.returns-else-tells_none-clause-refused
-returns-else-tells_none-clause-refused g c =
+pub returns-else-is_setup-clause-refused : goal.returns-else-is_setup-clause-refused
+returns-else-is_setup-clause-refused g c =
     let db = (state g.S.Store c.args.conn.now).now.trees in
     told_start Second c.in-Ok.phase _ _ (state g.S.Store c.see_published.new.conn) (λ x. IfErr c.see_published.result (λ f. Denies f (HasGoodWorldIn Second x.trees))) c.in-Ok.ensures.asks c.in-Ok.ensures.row (clean_before _ _ _ c.see_published.ensures.asks.crash)
     (λ own. c.see_published.ensures.refused (current_own _ own))
     (λ row. if_err_weaker (λ f. Denies f (HasGoodWorldIn Second db)) (λ f. Denies f (HasGoodWorld db)) c.see_published.result
-    (λ f. denies_more f (HasGoodWorldIn Second db) (HasGoodWorld db) (λ s. stands_in Second db s (second_by db c.in-Ok.phase row (sym c.tells_none.ensures ∙ c.if-tells_none.false)))))
+    (λ f. denies_more f (HasGoodWorldIn Second db) (HasGoodWorld db) (λ s. stands_in Second db s (second_by db c.in-Ok.phase row (sym c.is_setup.ensures ∙ c.if-is_setup.false)))))
 
-pub returns-then-tells_none-clause-second : goal.returns-then-tells_none-clause-second
-returns-then-tells_none-clause-second g c =
+pub returns-then-is_setup-clause-second : goal.returns-then-is_setup-clause-second
+returns-then-is_setup-clause-second g c =
     told_start Second c.in-Ok.phase _ _ (state g.S.Store c.see_nothing.new.conn) (λ x. OnOk c.see_nothing.result (AreEmpty x.trees)) c.in-Ok.ensures.asks c.in-Ok.ensures.row (clean_before _ _ _ c.see_nothing.ensures.asks.crash) (λ own sound. c.see_nothing.ensures.none own)
-    (λ row. on_ok_weaker c.see_nothing.result (none_told (state g.S.Store c.args.conn.now).now.trees c.in-Ok.phase row (sym c.tells_none.ensures ∙ c.if-tells_none.true)))
+    (λ row. on_ok_weaker c.see_nothing.result (none_told (state g.S.Store c.args.conn.now).now.trees c.in-Ok.phase row (sym c.is_setup.ensures ∙ c.if-is_setup.true)))
 
-pub returns-else-tells_none-clause-second : goal.returns-else-tells_none-clause-second
-returns-else-tells_none-clause-second g c =
+pub returns-else-is_setup-clause-second : goal.returns-else-is_setup-clause-second
+returns-else-is_setup-clause-second g c =
     told_start Second c.in-Ok.phase _ _ (state g.S.Store c.see_published.new.conn) (λ x. OnOk c.see_published.result (phase_in First x.trees ≡ Published)) c.in-Ok.ensures.asks c.in-Ok.ensures.row (clean_before _ _ _ c.see_published.ensures.asks.crash)
-    (λ own. c.see_published.ensures.published (current_own _ own)) (λ row. on_ok_weaker c.see_published.result (one_told (state g.S.Store c.args.conn.now).now.trees c.in-Ok.phase row (sym c.tells_none.ensures ∙ c.if-tells_none.false)))
+    (λ own. c.see_published.ensures.published (current_own _ own)) (λ row. on_ok_weaker c.see_published.result (one_told (state g.S.Store c.args.conn.now).now.trees c.in-Ok.phase row (sym c.is_setup.ensures ∙ c.if-is_setup.false)))

@@ -1,0 +1,25 @@
+//! How many there may be of each thing.
+
+ghost use Rattle.std.specs.Prelude.{◌↔◌, ◌≤◌, IsTrue};
+
+/// The most lecturers.
+pub const MOST_LECTURERS: usize = 300;
+
+/// The most projects.
+pub const MOST_PROJECTS: usize = 1000;
+
+/// The most students.
+pub const MOST_STUDENTS: usize = 2000;
+
+/// The most projects on a student's list.
+pub const LONGEST_CHOICE: usize = 20;
+
+/// The greatest capacity, in students.
+pub const MOST_PLACES: u32 = 200;
+
+/// Whether this many students can be the capacity of a project or a lecturer.
+pub fn is_capacity(students: u32) -> bool
+    ensures { IsTrue result ↔ ((1 ≤ students) × (students ≤ 200)) }
+{
+    1 <= students && students <= MOST_PLACES
+}
