@@ -130,11 +130,14 @@ impl<K: Keeper> Desk<K> {
         ensures clean { K.clean self.new.keeper → K.clean self.old.keeper }
         ensures ok { OnOk result (Replied (K.clean self.new.keeper) (K.world self.old.keeper)
             (K.world self.new.keeper) (request_of closes (seen request.now))
-            (λ reply. (self.new.failed ≡ false) × Appends (W.contents sink.old) (W.contents sink.new) (reply_text reply (is_head request.now.method.items) closes))) }
+            (λ reply. (self.new.failed ≡ false)
+            × Appends (W.contents sink.old) (W.contents sink.new)
+            (reply_text reply (is_head request.now.method.items) closes))) }
         ensures err { IfErr result (λ cause. Replied (K.clean self.new.keeper)
             (K.world self.old.keeper) (K.world self.new.keeper)
             (request_of closes (seen request.now))
-            (λ reply. Broke cause self.new.failed reply (is_head request.now.method.items) closes (W.contents sink.old) (W.contents sink.new))) }
+            (λ reply. Broke cause self.new.failed reply (is_head request.now.method.items) closes
+            (W.contents sink.old) (W.contents sink.new))) }
         ensures stays { self.old.failed ≡ true → self.new ≡ self.old }
         ensures calm { OnOk result (W.failed sink.new ≡ W.failed sink.old) }
         ensures blames { IfErr result (λ cause. cause ≡ WriteFailed
@@ -172,9 +175,13 @@ impl<K: Keeper> Desk<K> {
     ) -> Result<Served, ServeFault>
         ensures clean { K.clean self.new.keeper → K.clean self.old.keeper }
         ensures served { IfOk result (λ served. IfSome (R.remaining source.old) (λ bytes.
-            ServesWhole (K.clean self.new.keeper) (K.world self.old.keeper) (K.world self.new.keeper) (W.contents sink.old) (W.contents sink.new) bytes served.requests (last served.ending))) }
+            ServesWhole (K.clean self.new.keeper) (K.world self.old.keeper)
+            (K.world self.new.keeper) (W.contents sink.old) (W.contents sink.new) bytes
+            served.requests (last served.ending))) }
         ensures stopped { IfErr result (λ fault. IfSome (R.remaining source.old) (λ bytes.
-            Stops fault.cause self.new.failed (K.clean self.new.keeper) (K.world self.old.keeper) (K.world self.new.keeper) (R.remaining source.new) (W.contents sink.old) (W.contents sink.new) bytes fault.requests)) }
+            Stops fault.cause self.new.failed (K.clean self.new.keeper) (K.world self.old.keeper)
+            (K.world self.new.keeper) (R.remaining source.new) (W.contents sink.old)
+            (W.contents sink.new) bytes fault.requests)) }
         ensures blames { IfErr result (λ fault. Blames fault.cause (R.failed source.old)
             (R.failed source.new) (W.failed sink.old) (W.failed sink.new)) }
         ensures taken { TakesAtMost (256 * 1064960) (R.remaining source.old)

@@ -47,7 +47,20 @@ impl Model for WorldRows {
 
     ghost Value = { RowsOfWorld };
 
-    ghost view = { λ x. record { round = x.round; phase = x.phase; office = x.office; lecturers = x.lecturers.items; projects = x.projects.items; students = x.students.items; choices = map (λ c. (c.0, c.1.items)) x.choices.items; rankings = map (λ r. (r.0, r.1.items)) x.rankings.items; pairs = x.pairs.items; earlier_choices = map (λ c. (c.0, c.1.items)) x.earlier_choices.items; earlier_rankings = map (λ r. (r.0, r.1.items)) x.earlier_rankings.items; earlier_pairs = x.earlier_pairs.items } };
+    ghost view = { λ x. record {
+      round = x.round;
+      phase = x.phase;
+      office = x.office;
+      lecturers = x.lecturers.items;
+      projects = x.projects.items;
+      students = x.students.items;
+      choices = map (λ c. (c.0, c.1.items)) x.choices.items;
+      rankings = map (λ r. (r.0, r.1.items)) x.rankings.items;
+      pairs = x.pairs.items;
+      earlier_choices = map (λ c. (c.0, c.1.items)) x.earlier_choices.items;
+      earlier_rankings = map (λ r. (r.0, r.1.items)) x.earlier_rankings.items;
+      earlier_pairs = x.earlier_pairs.items;
+    } };
 }
 
 /// Why rows give no keeper.

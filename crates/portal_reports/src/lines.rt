@@ -62,7 +62,9 @@ pub(crate) fn project_line(
     students: usize,
 ) -> Result<String, AllocError>
     ensures { IfOk result (λ line. string_bytes line
-        ≡ sheet.padded_left 16 project.now.key ++ sheet.padded_right 4 (decimal students) ++ codes " of " ++ sheet.padded_right 4 (decimal project.now.capacity) ++ sheet.line_feed) }
+        ≡ sheet.padded_left 16 project.now.key ++ sheet.padded_right 4 (decimal students)
+        ++ codes " of " ++ sheet.padded_right 4 (decimal project.now.capacity)
+        ++ sheet.line_feed) }
 {
     let key = short(&project.key);
     format!(in alloc; "{key:<16}{students:>4} of {:>4}\n", project.capacity)

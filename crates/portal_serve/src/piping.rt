@@ -26,9 +26,13 @@ pub fn pipe<K: Keeper, R: Read, W: Write>(
 ) -> Result<Served, ServeFault>
     ensures clean { K.clean desk.new.keeper → K.clean desk.old.keeper }
     ensures served { IfOk result (λ served. IfSome (R.remaining reader.old) (λ bytes.
-        ServesWhole (K.clean desk.new.keeper) (K.world desk.old.keeper) (K.world desk.new.keeper) (W.contents writer.old) (W.contents writer.new) bytes served.requests (last served.ending))) }
+        ServesWhole (K.clean desk.new.keeper) (K.world desk.old.keeper) (K.world desk.new.keeper)
+        (W.contents writer.old) (W.contents writer.new) bytes served.requests
+        (last served.ending))) }
     ensures stopped { IfErr result (λ fault. IfSome (R.remaining reader.old) (λ bytes.
-        Stops fault.cause desk.new.failed (K.clean desk.new.keeper) (K.world desk.old.keeper) (K.world desk.new.keeper) (R.remaining reader.new) (W.contents writer.old) (W.contents writer.new) bytes fault.requests)) }
+        Stops fault.cause desk.new.failed (K.clean desk.new.keeper) (K.world desk.old.keeper)
+        (K.world desk.new.keeper) (R.remaining reader.new) (W.contents writer.old)
+        (W.contents writer.new) bytes fault.requests)) }
     ensures taken { TakesAtMost (256 * 1064960) (R.remaining reader.old) (R.remaining reader.new) }
     ensures stays { desk.old.failed ≡ true → desk.new ≡ desk.old }
     ensures none { IfOk result (λ served. desk.old.failed ≡ true → served.requests ≡ 0) }

@@ -77,7 +77,8 @@ pub(crate) fn letter_of(
     requires student { s < length instance.now.choices }
     requires project { p < length instance.now.lecturers }
     requires wants { Wants instance.now matching.now s p }
-    ensures { MatchOption result ((x : Letter) → Blocks instance.now matching.now s p x → ⊥) (λ x. Blocks instance.now matching.now s p x) }
+    ensures { MatchOption result ((x : Letter) → Blocks instance.now matching.now s p x → ⊥)
+        (λ x. Blocks instance.now matching.now s p x) }
 {
     let l = instance.lecturer_of(p);
     if instance.students_at(matching, p) < instance.project_capacity(p) as usize {

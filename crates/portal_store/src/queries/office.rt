@@ -177,7 +177,18 @@ fn put_together(
     pairs: Vec<(Key, Key)>,
 ) -> Result<OfficeView, TableFault>
     ensures { IfOk result (λ v. v
-        ≡ record { round = round; phase = office.phase; office_code = office.code; lecturers = map shown_lecturer rolls.now.lecturers.items; projects = map shown_project rolls.now.projects.items; students = map shown_student rolls.now.students.items; catalogue = catalogue.value.items; without_list = without_list.items; still_to_rank = still_to_rank.items; pairs = pairs.items }) }
+        ≡ record {
+          round = round;
+          phase = office.phase;
+          office_code = office.code;
+          lecturers = map shown_lecturer rolls.now.lecturers.items;
+          projects = map shown_project rolls.now.projects.items;
+          students = map shown_student rolls.now.students.items;
+          catalogue = catalogue.value.items;
+          without_list = without_list.items;
+          still_to_rank = still_to_rank.items;
+          pairs = pairs.items;
+        }) }
 {
     let parts = parts_of(alloc, rolls)?;
     Ok(OfficeView {
@@ -205,7 +216,9 @@ fn view_of_rolls<S: Alter>(
 ) -> Result<OfficeView, TableFault>
     ensures shows { OverRound round S.Store conn.old conn.new
         (IfOk result (λ v. v
-        ≡ office_from round (shown S.Store conn.old) office.phase office.code catalogue.value.items rolls.now.lecturers.items rolls.now.projects.items rolls.now.students.items)) }
+        ≡ office_from round (shown S.Store conn.old) office.phase office.code
+        catalogue.value.items rolls.now.lecturers.items rolls.now.projects.items
+        rolls.now.students.items)) }
     ensures reads { RunsQueriesIn round result (state S.Store conn.old) (state S.Store conn.new) }
 {
     let unlisted = without_list(alloc, conn, round, &rolls.students)?;

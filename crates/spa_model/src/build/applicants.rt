@@ -56,7 +56,9 @@ fn lists_other(
     requires rise { Rise (student_keys lines.now) }
     requires count { length students.now ≡ length lines.now }
     requires choices { HaveChoicesBelow (length projects.now) students.now }
-    ensures { IsTrue result ↔ Any (λ text. IsApplicantOf lines.now students.now projects.now lecturer text → ⊥) (map (λ text. text.items) list.now) }
+    ensures { IsTrue result ↔ Any
+        (λ text. IsApplicantOf lines.now students.now projects.now lecturer text → ⊥)
+        (map (λ text. text.items) list.now) }
 {
     for text in list {
         if !is_applicant(lines, students, projects, lecturer, text) {
@@ -77,7 +79,9 @@ pub(crate) fn not_applicant(
     requires rise { Rise (student_keys lines.now) }
     requires count { length students.now ≡ length lines.now }
     requires choices { HaveChoicesBelow (length projects.now) students.now }
-    ensures { IfOk result (IsLeastOf (BadAt lecturers.now (λ x. x.row) (λ l x. Any (λ text. IsApplicantOf lines.now students.now projects.now l text → ⊥) x.list))) }
+    ensures { IfOk result (IsLeastOf (BadAt lecturers.now (λ x. x.row)
+        (λ l x. Any (λ text. IsApplicantOf lines.now students.now projects.now l text → ⊥)
+        x.list))) }
 {
     let places = Places::of(alloc, lines)?;
     let mut best = None;
