@@ -27,7 +27,7 @@ use Rattle.portal_tables.specs.Changes.{has_text}
 use Rattle.portal_tables.specs.inner.Changes.{ListsBy, columns}
 use Rattle.portal_tables.specs.ListTables.{choice_table, tree_of}
 use Rattle.portal_tables.specs.Tables.{project_tree, student_tree}
-use Rattle.portal_views.specs.declared.lines.Line.{Line}
+use Rattle.portal_views.specs.declared.lines.ApplicantLine.{ApplicantLine}
 use Rattle.portal_store.specs.Kept.{HasSecond, IsConsistentIn}
 use Rattle.portal_views.specs.inner.Lines.{shown_line, applicant_lines}
 use Rattle.portal_tables.specs.inner.Owners.{choice_shown}
@@ -68,7 +68,7 @@ abbrev person_of : Student → Person
 person_of s = record { key = s.row.key; name = s.row.name }
 
 -- what a lecturer may be told of a student
-abbrev line_of : Student → Line
+abbrev line_of : Student → ApplicantLine
 line_of s = record { person = record { key = s.row.key; name = s.row.name }; placed = s.placed }
 
 line_is : (round : Round) (db : Trees) (r : Row) → shown_line round db (roll_columns r) ≡ line_of (student_stored round db r)
@@ -86,8 +86,8 @@ lines_told round db p =
     ap (map (shown_line round db)) (filter-map (λ c. has (choice_shown round db c) p) roll_columns rows) ∙ map-map (shown_line round db) roll_columns mine ∙ map_alike _ _ mine (line_is round db)
     ∙ sym (ap (λ ss. map line_of (filter q ss)) (students_by_key round db) ∙ ap (map line_of) (filter-map q of rows) ∙ map-map line_of of mine)
 
-persons_of : (p : Line → Bool) (ss : List Student) → map (λ (l : Line). l.person) (filter p (map line_of ss)) ≡ persons (filter (λ s. p (line_of s)) ss)
-persons_of p ss = ap (map (λ (l : Line). l.person)) (filter-map p line_of ss) ∙ map-map (λ (l : Line). l.person) line_of (filter (λ s. p (line_of s)) ss)
+persons_of : (p : ApplicantLine → Bool) (ss : List Student) → map (λ (l : ApplicantLine). l.person) (filter p (map line_of ss)) ≡ persons (filter (λ s. p (line_of s)) ss)
+persons_of p ss = ap (map (λ (l : ApplicantLine). l.person)) (filter-map p line_of ss) ∙ map-map (λ (l : ApplicantLine). l.person) line_of (filter (λ s. p (line_of s)) ss)
 
 -- who passes a test passes one before it, too
 filter_twice : (p q : Student → Bool) (ss : List Student) → AllByRecursion (λ s. p s ≡ true → q s ≡ true) ss → filter p (filter q ss) ≡ filter p ss
@@ -108,15 +108,15 @@ at_listed k choice (Some p) on e = subst (λ x. has choice x ≡ true) (is_same 
 
 placed_by_lines : (w : World) → Good w → (k : Key) → persons_at k (map line_of (applicants_to w k)) ≡ persons (filter (λ s. is_at k s.placed) w.students)
 placed_by_lines w good k =
-    persons_of (λ (l : Line). is_at k l.placed) (applicants_to w k)
+    persons_of (λ (l : ApplicantLine). is_at k l.placed) (applicants_to w k)
     ∙ ap persons (filter_twice (λ s. is_at k s.placed) (λ s. has s.choice k) w.students (all_weaker _ _ (λ s on. at_listed k s.choice s.placed on) w.students (placed_on_lists w good)))
 
 -- told of one project, by the lines that the phase shows
 
-persons_shown : (w : World) (k : Key) → map (λ (l : Line). l.person) (if is_from_ranking w.phase then map line_of (applicants_to w k) else []) ≡ (if is_from_ranking w.phase then persons (applicants_to w k) else [])
+persons_shown : (w : World) (k : Key) → map (λ (l : ApplicantLine). l.person) (if is_from_ranking w.phase then map line_of (applicants_to w k) else []) ≡ (if is_from_ranking w.phase then persons (applicants_to w k) else [])
 persons_shown w k =
-    elim (is_from_ranking w.phase) as (λ b. map (λ (l : Line). l.person) (if b then map line_of (applicants_to w k) else []) ≡ (if b then persons (applicants_to w k) else [])) [
-      | true ↦ map-map (λ (l : Line). l.person) line_of (applicants_to w k)
+    elim (is_from_ranking w.phase) as (λ b. map (λ (l : ApplicantLine). l.person) (if b then map line_of (applicants_to w k) else []) ≡ (if b then persons (applicants_to w k) else [])) [
+      | true ↦ map-map (λ (l : ApplicantLine). l.person) line_of (applicants_to w k)
       | false ↦ refl
     ]
 
@@ -222,11 +222,11 @@ lecturer_told round db second good row phase offers at_phase all =
     let w = world_in round db in
     let own = projects_of w (first_cell row) in
     let listed : own_keys_shown db (first_cell row) ≡ map project_key own = own_told round db (first_cell row) in
-    let shown : List Line → List Line = λ ls. if is_from_ranking w.phase then ls else [] in
+    let shown : List ApplicantLine → List ApplicantLine = λ ls. if is_from_ranking w.phase then ls else [] in
     let placed_of : (k : Key) → placed_at_shown round db w.phase k (shown (map line_of (applicants_to w k))) ≡ persons (placed_at w k) =
     λ k. (λ i. put_all person_key (now_told w good k i) (before_told round db second good k i)) ∙ placed_all w good k in
-    let applicants = ap (applicants_told round db w.phase) listed ∙ map-map (λ k. (k, map (λ (l : Line). l.person) (lines_shown round db w.phase k))) project_key own
-    ∙ (λ i. map (λ (p : ProjectRow). (p.key, map (λ (l : Line). l.person) (shown (lines_told round db p.key i)))) own)
+    let applicants = ap (applicants_told round db w.phase) listed ∙ map-map (λ k. (k, map (λ (l : ApplicantLine). l.person) (lines_shown round db w.phase k))) project_key own
+    ∙ (λ i. map (λ (p : ProjectRow). (p.key, map (λ (l : ApplicantLine). l.person) (shown (lines_told round db p.key i)))) own)
     ∙ (λ i. map (λ (p : ProjectRow). (p.key, persons_shown w p.key i)) own) in
     let placed = ap (placed_told round db w.phase) listed ∙ map-map (λ k. (k, placed_at_shown round db w.phase k (lines_shown round db w.phase k))) project_key own
     ∙ (λ i. map (λ (p : ProjectRow). (p.key, placed_at_shown round db w.phase p.key (shown (lines_told round db p.key i)))) own)

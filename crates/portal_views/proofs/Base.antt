@@ -28,7 +28,7 @@ pub use Rattle.portal_views.specs.inner.Callers.{applicants_told, lecturer_shown
 pub use Rattle.portal_views.specs.inner.Contents.{AreFine}
 pub use Rattle.portal_views.specs.inner.Lines.{HasTables, applicant_lines, in_round, applicant_at, shown_line, told_line}
 pub use Rattle.portal_views.specs.inner.Catalogue.{IsCatalogue, catalogue_shown, name_of, offered, own_listed}
-pub use Rattle.portal_views.specs.declared.lines.Line.{Line}
+pub use Rattle.portal_views.specs.declared.lines.ApplicantLine.{ApplicantLine}
 pub use Rattle.sqlite.specs.Collation.TheVariants.{Binary}
 pub use Rattle.sqlite.specs.Edit.{id_in}
 unfoldable pub use Rattle.sqlite.specs.Ops.{binary}

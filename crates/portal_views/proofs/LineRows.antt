@@ -1,6 +1,6 @@
 -- The lines that are found by the keys of who names a project are those of its applicants.
 use Rattle.std.specs.Prelude.{◌≡◌, ◌||◌, ◌∷◌}
-use Rattle.portal_views.proofs.Base.{inl, inr, Bool, true, false, cond, Option, Some, None, option_map, List, [], map, filter, refl, sym, ap, subst, ◌∙◌, AllByRecursion, find, filter_map, cases_Bool, map-id, Row, Trees, Database, Round, First, Second, Students, choice_table, tree_of, Has, Key, equals, has, is_before, Rise, all_map, all_weaker, before_other, rise_kept, is_same, is_own, all_unmap, row_key, by_key, roll_columns, students_shown, student_tree, ListsBy, columns, has_text, chosen, ShowsAs, first_cell, HasTables, in_round, shown_line, told_line, applicant_at, applicant_lines, Line, all_of}
+use Rattle.portal_views.proofs.Base.{inl, inr, Bool, true, false, cond, Option, Some, None, option_map, List, [], map, filter, refl, sym, ap, subst, ◌∙◌, AllByRecursion, find, filter_map, cases_Bool, map-id, Row, Trees, Database, Round, First, Second, Students, choice_table, tree_of, Has, Key, equals, has, is_before, Rise, all_map, all_weaker, before_other, rise_kept, is_same, is_own, all_unmap, row_key, by_key, roll_columns, students_shown, student_tree, ListsBy, columns, has_text, chosen, ShowsAs, first_cell, HasTables, in_round, shown_line, told_line, applicant_at, applicant_lines, ApplicantLine, all_of}
 use Rattle.portal_views.proofs.Choosers.{chooser, choosers_known}
 use Rattle.portal_views.proofs.Owners.{keys_shown}
 use Rattle.portal_tables.proofs.OneFound.{found}
@@ -14,20 +14,20 @@ find_mapped t f [] = refl
 find_mapped t f (x ∷ xs) =
     elim (t (f x)) as (λ b. cond b (Some (f x)) (find t (map f xs)) ≡ option_map f (cond b (Some x) (find (λ y. t (f y)) xs))) [ true ↦ refl | false ↦ find_mapped t f xs ]
 
-only_told : (shown : List Row) (l : Line) → map told_line shown ≡ l ∷ [] → (c : Row) × (shown ≡ c ∷ []) × (told_line c ≡ l)
+only_told : (shown : List Row) (l : ApplicantLine) → map told_line shown ≡ l ∷ [] → (c : Row) × (shown ≡ c ∷ []) × (told_line c ≡ l)
 only_told [] l e = absurd (cc)
 only_told (c ∷ []) l e = (c, refl, cc)
 only_told (c ∷ d ∷ more) l e = absurd (cc)
 
 -- the only row of a key tells the line of its student
-first_told : (db : Database) → HasTables db → (key : Key) (lines : List Line) → ShowsAs told_line (ListsBy (1 ∷ []) (has_text 1 key) (columns (1 ∷ 2 ∷ 4 ∷ [])) (db.trees student_tree)) lines
-    → (l : Line) → lines ≡ l ∷ [] → Some l ≡ applicant_at First db.trees key
+first_told : (db : Database) → HasTables db → (key : Key) (lines : List ApplicantLine) → ShowsAs told_line (ListsBy (1 ∷ []) (has_text 1 key) (columns (1 ∷ 2 ∷ 4 ∷ [])) (db.trees student_tree)) lines
+    → (l : ApplicantLine) → lines ≡ l ∷ [] → Some l ≡ applicant_at First db.trees key
 first_told db tables key lines shows l only =
     let one = only_told shows.rows l (sym shows.decoded ∙ only) in
     let table = db.trees student_tree in
-    let told = found (1 ∷ []) (has_text 1 key) (columns (1 ∷ 2 ∷ 4 ∷ [])) (λ r. shown_line First db.trees (roll_columns r)) told_line (λ (x : Line). equals x.person.key key) (λ r. refl) table shows.rows
+    let told = found (1 ∷ []) (has_text 1 key) (columns (1 ∷ 2 ∷ 4 ∷ [])) (λ r. shown_line First db.trees (roll_columns r)) told_line (λ (x : ApplicantLine). equals x.person.key key) (λ r. refl) table shows.rows
     (all_weaker IsStudentRow (λ r. has_text 1 key r ≡ equals (row_key r) key) (student_test key) table (student_rows_formed db tables.own tables.sound tables.apart.1.1.1.0)) shows.shown (Some one.0) (sym one.1) in
-    ap Some (sym one.2) ∙ told ∙ ap (find (λ (x : Line). equals x.person.key key)) (map_twice (shown_line First db.trees) roll_columns (by_key table)) ∙ find_mapped (λ (x : Line). equals x.person.key key) (shown_line First db.trees) (students_shown db.trees)
+    ap Some (sym one.2) ∙ told ∙ ap (find (λ (x : ApplicantLine). equals x.person.key key)) (map_twice (shown_line First db.trees) roll_columns (by_key table)) ∙ find_mapped (λ (x : ApplicantLine). equals x.person.key key) (shown_line First db.trees) (students_shown db.trees)
 
 -- of either round, with its place
 by_round : (round : Round) (db : Trees) (o : Option Row) → option_map (in_round round db) (option_map (shown_line First db) o) ≡ option_map (shown_line round db) o
@@ -36,12 +36,12 @@ by_round First db (Some c) = refl
 by_round Second db None = refl
 by_round Second db (Some c) = refl
 
-pub line_told : (round : Round) (db : Database) → HasTables db → (key : Key) (lines : List Line) → ShowsAs told_line (ListsBy (1 ∷ []) (has_text 1 key) (columns (1 ∷ 2 ∷ 4 ∷ [])) (db.trees student_tree)) lines
-    → (l : Line) → lines ≡ l ∷ [] → Some (in_round round db.trees l) ≡ applicant_at round db.trees key
+pub line_told : (round : Round) (db : Database) → HasTables db → (key : Key) (lines : List ApplicantLine) → ShowsAs told_line (ListsBy (1 ∷ []) (has_text 1 key) (columns (1 ∷ 2 ∷ 4 ∷ [])) (db.trees student_tree)) lines
+    → (l : ApplicantLine) → lines ≡ l ∷ [] → Some (in_round round db.trees l) ≡ applicant_at round db.trees key
 line_told round db tables key lines shows l only =
     ap (option_map (in_round round db.trees)) (first_told db tables key lines shows l only) ∙ by_round round db.trees (find (λ c. equals (first_cell c) key) (students_shown db.trees))
 
-some_back : (ls : List Line) → filter_map (λ o. o) (map Some ls) ≡ ls
+some_back : (ls : List ApplicantLine) → filter_map (λ o. o) (map Some ls) ≡ ls
 some_back [] = refl
 some_back (l ∷ ls) = ap (λ r. l ∷ r) (some_back ls)
 
@@ -92,7 +92,7 @@ found_own (x ∷ ss) up s (inr h) =
     ap (λ b. cond b (Some x) (find (λ t. equals (first_cell t) (first_cell s)) ss)) (before_other (first_cell x) (first_cell s) (at (λ t. is_before (first_cell x) (first_cell t) ≡ true) ss s (all_unmap (λ l. is_before (first_cell x) l ≡ true) first_cell ss up.0) h))
     ∙ found_own ss up.1 s h
 
-pub lines_are : (round : Round) (db : Database) → HasTables db → (p : Key) (shown : List Row) → ListsBy (1 ∷ []) (has_text 3 p) (columns (1 ∷ [])) (db.trees (tree_of (choice_table round))) shown → (lines : List Line) → Rise (map first_cell shown)
+pub lines_are : (round : Round) (db : Database) → HasTables db → (p : Key) (shown : List Row) → ListsBy (1 ∷ []) (has_text 3 p) (columns (1 ∷ [])) (db.trees (tree_of (choice_table round))) shown → (lines : List ApplicantLine) → Rise (map first_cell shown)
     → map Some lines ≡ map (λ c. applicant_at round db.trees (first_cell c)) shown → lines ≡ applicant_lines round db.trees p
 lines_are round db tables p shown lists lines up told =
     let roll : List Row = students_shown db.trees in

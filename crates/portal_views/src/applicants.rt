@@ -6,7 +6,7 @@ ghost use Rattle.portal_views.specs.inner.Callers.{with_persons, lines_shown, pe
 ghost use Rattle.portal_views.specs.inner.Lines.{HasTables};
 ghost use Rattle.portal_tables.specs.inner.Reading.{RunsQueriesIn, YieldsOf};
 
-use crate::lines::{Line, lines_to, persons_of};
+use crate::lines::{ApplicantLine, lines_to, persons_of};
 use crate::persons::put_persons;
 use portal_core::{Person, Phase, Round};
 use portal_tables::TableFault;
@@ -21,7 +21,7 @@ fn lines_in<S: Alter>(
     round: Round,
     phase: Phase,
     project: &Key,
-) -> Result<Vec<Line>, TableFault>
+) -> Result<Vec<ApplicantLine>, TableFault>
     ensures told { YieldsOf HasTables S.Store conn.old conn.new result
         (λ db v. v.items ≡ lines_shown round db.trees phase project.now) }
     ensures reads { RunsQueriesIn round result (state S.Store conn.old) (state S.Store conn.new) }
@@ -43,7 +43,11 @@ fn is_placed_at(placed: &Option<Key>, project: &Key) -> bool
 }
 
 /// The students on the lines whom the result places at the project.
-fn placed_at(alloc: Global, lines: &[Line], project: &Key) -> Result<Vec<Person>, AllocError>
+fn placed_at(
+    alloc: Global,
+    lines: &[ApplicantLine],
+    project: &Key,
+) -> Result<Vec<Person>, AllocError>
     ensures { IfOk result (λ v. v.items ≡ persons_at project.now lines.now) }
 {
     let mut found = Vec::new(alloc);
@@ -59,7 +63,7 @@ fn placed_at(alloc: Global, lines: &[Line], project: &Key) -> Result<Vec<Person>
 fn placed_in(
     alloc: Global,
     phase: Phase,
-    lines: &[Line],
+    lines: &[ApplicantLine],
     project: &Key,
 ) -> Result<Vec<Person>, AllocError>
     ensures { IfOk result (λ v. v.items ≡ placed_among phase project.now lines.now) }
@@ -97,7 +101,7 @@ fn placed_with<S: Alter>(
     round: Round,
     phase: Phase,
     project: &Key,
-    lines: &[Line],
+    lines: &[ApplicantLine],
 ) -> Result<Vec<Person>, TableFault>
     ensures told { YieldsOf HasTables S.Store conn.old conn.new result
         (λ db v. v.items ≡ placed_at_shown round db.trees phase project.now lines.now) }
@@ -111,18 +115,18 @@ fn placed_with<S: Alter>(
 
 /// What is told of a lecturer's projects.
 #[derive(Drop)]
-pub(crate) struct Told {
+pub(crate) struct ProjectStudents {
     pub applicants: Vec<(Key, Vec<Person>)>,
     pub placed: Vec<(Key, Vec<Person>)>,
 }
 
-impl Told {
+impl ProjectStudents {
     /// Tells of one project more, by the lines of its applicants and who is placed at it.
     fn add(
         &mut self,
         alloc: Global,
         project: &Key,
-        lines: &[Line],
+        lines: &[ApplicantLine],
         placed: Vec<Person>,
     ) -> Result<(), AllocError>
         ensures applicants { OnOk result (map with_persons self.new.applicants.items
@@ -139,13 +143,13 @@ impl Told {
 }
 
 /// What is told in the phase of the projects with these keys.
-pub(crate) fn told_in<S: Alter>(
+pub(crate) fn project_students<S: Alter>(
     alloc: Global,
     conn: &mut Connection<S>,
     round: Round,
     phase: Phase,
     projects: &[Key],
-) -> Result<Told, TableFault>
+) -> Result<ProjectStudents, TableFault>
     ensures applicants { YieldsOf HasTables S.Store conn.old conn.new result
         (λ db t. map with_persons t.applicants.items
         ≡ applicants_told round db.trees phase projects.now) }
@@ -154,7 +158,7 @@ pub(crate) fn told_in<S: Alter>(
         ≡ placed_told round db.trees phase projects.now) }
     ensures reads { RunsQueriesIn round result (state S.Store conn.old) (state S.Store conn.new) }
 {
-    let mut told = Told {
+    let mut told = ProjectStudents {
         applicants: Vec::new(alloc),
         placed: Vec::new(alloc),
     };

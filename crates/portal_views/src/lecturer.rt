@@ -9,7 +9,7 @@ ghost use Rattle.portal_tables.specs.inner.Owners.{with_list, ranking_shown};
 ghost use Rattle.portal_tables.specs.inner.Reading.{RunsQueries, RunsQueriesIn, YieldsOf, YieldsSound};
 ghost use Rattle.portal_tables.specs.inner.Shown.{first_cell};
 
-use crate::applicants::{Told, told_in};
+use crate::applicants::{ProjectStudents, project_students};
 use crate::lines::person_at;
 use portal_core::{LecturerView, Listing, Phase, Round};
 use portal_tables::cells::{bytes_at, capacity_at, key_at};
@@ -115,7 +115,7 @@ fn put_together(
     row: &Row,
     catalogue: Rc<Vec<Listing>>,
     ranking: Option<Vec<Key>>,
-    told: Told,
+    told: ProjectStudents,
 ) -> Result<LecturerView, TableFault>
     ensures { IfOk result (λ v. v
         ≡ lecturer_sees_with round phase row.now catalogue.value.items
@@ -152,6 +152,6 @@ pub fn lecturer_view<S: Alter>(
 {
     let own = own_projects(alloc, conn, round, bytes_at(row, 0), &catalogue)?;
     let ranking = ranking_in(alloc, conn, round, row)?;
-    let told = told_in(alloc, conn, round, phase, &own)?;
+    let told = project_students(alloc, conn, round, phase, &own)?;
     put_together(alloc, round, phase, row, catalogue, ranking, told)
 }

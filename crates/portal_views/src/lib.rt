@@ -15,5 +15,5 @@ pub use catalogue::catalogue_in;
 pub use contents::{Contents, contents_in};
 pub use lecturer::lecturer_view;
 pub use left::keys_left;
-pub use lines::Line;
+pub use lines::ApplicantLine;
 pub use student::student_view;

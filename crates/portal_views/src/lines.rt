@@ -30,21 +30,21 @@ pub(crate) fn person_at(alloc: Global, row: &Row) -> Result<Person, TableFault>
 
 /// What a lecturer may be told of a student.
 #[derive(Drop)]
-pub struct Line {
+pub struct ApplicantLine {
     /// Key and name.
     pub person: Person,
     /// The assigned project, if there is one.
     pub placed: Option<Key>,
 }
 
-impl FromCells for Line {
+impl FromCells for ApplicantLine {
     ghost shown = { told_line };
 
     // which rows are refused is left open
     ghost is_fine = { λ c. ⊥ };
 
-    fn from_cells(alloc: Global, row: &Row) -> Result<Line, TableFault> {
-        Ok(Line {
+    fn from_cells(alloc: Global, row: &Row) -> Result<ApplicantLine, TableFault> {
+        Ok(ApplicantLine {
             person: person_at(alloc, row)?,
             placed: assigned_at(alloc, row, 2)?,
         })
@@ -52,7 +52,7 @@ impl FromCells for Line {
 }
 
 /// The only line.
-fn only_line(lines: Vec<Line>) -> Result<Line, TableFault>
+fn only_line(lines: Vec<ApplicantLine>) -> Result<ApplicantLine, TableFault>
     ensures { IfOk result (λ l. lines.items ≡ l ∷ []) }
 {
     match at_most_one(lines)? {
@@ -66,8 +66,8 @@ fn line_of_round<S: Alter>(
     alloc: Global,
     conn: &mut Connection<S>,
     round: Round,
-    line: Line,
-) -> Result<Line, TableFault>
+    line: ApplicantLine,
+) -> Result<ApplicantLine, TableFault>
     ensures told { YieldsSound round S.Store conn.old conn.new result
         (λ db l. l ≡ in_round round db.trees line) }
     ensures reads { RunsQueriesIn round result (state S.Store conn.old) (state S.Store conn.new) }
@@ -76,7 +76,7 @@ fn line_of_round<S: Alter>(
         Round::First => Ok(line),
         Round::Second => {
             let placed = second_placement_in(alloc, conn, line.person.key.as_bytes())?;
-            Ok(Line {
+            Ok(ApplicantLine {
                 person: line.person,
                 placed,
             })
@@ -90,7 +90,7 @@ fn line_in<S: Alter>(
     conn: &mut Connection<S>,
     round: Round,
     key: &[u8],
-) -> Result<Line, TableFault>
+) -> Result<ApplicantLine, TableFault>
     ensures told { YieldsOf HasTables S.Store conn.old conn.new result
         (λ db l. Some l ≡ applicant_at round db.trees key.now) }
     ensures reads { RunsQueriesIn round result (state S.Store conn.old) (state S.Store conn.new) }
@@ -106,7 +106,7 @@ fn lines_from<S: Alter>(
     conn: &mut Connection<S>,
     round: Round,
     rows: &[Row],
-) -> Result<Vec<Line>, TableFault>
+) -> Result<Vec<ApplicantLine>, TableFault>
     ensures told { YieldsOf HasTables S.Store conn.old conn.new result
         (λ db v. map Some v.items ≡ map (λ c. applicant_at round db.trees (first_cell c)) rows.now) }
     ensures reads { RunsQueriesIn round result (state S.Store conn.old) (state S.Store conn.new) }
@@ -125,7 +125,7 @@ pub(crate) fn lines_to<S: Alter>(
     conn: &mut Connection<S>,
     round: Round,
     project: &Key,
-) -> Result<Vec<Line>, TableFault>
+) -> Result<Vec<ApplicantLine>, TableFault>
     ensures told { YieldsOf HasTables S.Store conn.old conn.new result
         (λ db v. v.items ≡ applicant_lines round db.trees project.now) }
     ensures reads { RunsQueriesIn round result (state S.Store conn.old) (state S.Store conn.new) }
@@ -135,7 +135,7 @@ pub(crate) fn lines_to<S: Alter>(
 }
 
 /// The persons of the lines, in their order. The error is want of memory.
-pub(crate) fn persons_of(alloc: Global, lines: &[Line]) -> Result<Vec<Person>, AllocError>
+pub(crate) fn persons_of(alloc: Global, lines: &[ApplicantLine]) -> Result<Vec<Person>, AllocError>
     ensures { IfOk result (λ v. v.items ≡ map (λ l. l.person) lines.now) }
 {
     let mut found = Vec::with_capacity(alloc, lines.len())?;

@@ -9,7 +9,7 @@ use portal_tables::{
     Assignment, PortalSchema, TableFault, assign_all, clear_list, create_portal, entries_in,
     put_list, row_numbers_differ,
 };
-use portal_views::Line;
+use portal_views::ApplicantLine;
 use spa_rows::Key;
 use sqlite::types::ValueRef;
 use sqlite::{Connection, Error, MemStore, Row, Transaction};
@@ -50,7 +50,11 @@ pub(crate) fn shows<E: Drop>(
 }
 
 /// These students are told of, each by key, name and assigned project, with a stroke behind each.
-fn are_told(rt: &(impl Abort + AllocGlobal), lines: Result<Vec<Line>, TableFault>, wanted: &str) {
+fn are_told(
+    rt: &(impl Abort + AllocGlobal),
+    lines: Result<Vec<ApplicantLine>, TableFault>,
+    wanted: &str,
+) {
     let Ok(lines) = lines else {
         panic!(rt; "no lines");
     };

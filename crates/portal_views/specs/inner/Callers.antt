@@ -1,7 +1,7 @@
 -- What a lecturer or a student sees, of the own row and of what the tables hold.
 use Rattle.std.specs.Prelude.{if◌then◌else◌}
 use Rattle.portal_views.specs.Base.{Vec, List, [], map, filter, Option, Global, Row, column, bytes, Trees, number_in, Phase, Round, First, Second, Listing, Person, StudentSees, LecturerSees, Key, equals, is_at, is_from_ranking, is_published, put_all}
-use Rattle.portal_views.specs.declared.lines.Line.{Line}
+use Rattle.portal_views.specs.declared.lines.ApplicantLine.{ApplicantLine}
 use Rattle.portal_views.specs.inner.Lines.{applicant_lines}
 use Rattle.portal_tables.specs.inner.Owners.{choice_shown, ranking_shown}
 use Rattle.portal_tables.specs.inner.Placements.{result_shown}
@@ -20,15 +20,15 @@ abbrev pub own_keys_shown : Trees → Key → List Key
 own_keys_shown db lecturer = map first_cell (filter (λ c. equals (bytes (column c 1)) lecturer) (projects_shown db))
 
 -- the lines of the project's applicants in a round, once the phase shows them
-abbrev pub lines_shown : Round → Trees → Phase → Key → List Line
+abbrev pub lines_shown : Round → Trees → Phase → Key → List ApplicantLine
 lines_shown round db phase k = if is_from_ranking phase then applicant_lines round db k else []
 
 -- of these lines the persons who are placed at the project
-abbrev pub persons_at : Key → List Line → List Person
+abbrev pub persons_at : Key → List ApplicantLine → List Person
 persons_at k lines = map (λ l. l.person) (filter (λ l. is_at k l.placed) lines)
 
 -- those whom a published result places there
-abbrev pub placed_among : Phase → Key → List Line → List Person
+abbrev pub placed_among : Phase → Key → List ApplicantLine → List Person
 placed_among phase k lines = if is_published phase then persons_at k lines else []
 
 -- the persons whom the round before placed at the project
@@ -37,7 +37,7 @@ persons_before First db k = []
 persons_before Second db k = persons_at k (applicant_lines First db k)
 
 -- the persons whom the results that are shown place at the project, of the lines of its applicants, by key
-abbrev pub placed_at_shown : Round → Trees → Phase → Key → List Line → List Person
+abbrev pub placed_at_shown : Round → Trees → Phase → Key → List ApplicantLine → List Person
 placed_at_shown round db phase k lines = put_all person_key (placed_among phase k lines) (persons_before round db k)
 
 -- applicants and placed students of the projects with these keys

@@ -9,7 +9,7 @@ use Rattle.portal_tables.specs.inner.Owners.{choice_shown}
 use Rattle.portal_tables.specs.inner.Rolls.{students_shown}
 use Rattle.portal_tables.specs.Shown.{text_or_none}
 use Rattle.portal_tables.specs.inner.Shown.{first_cell}
-use Rattle.portal_views.specs.declared.lines.Line.{Line}
+use Rattle.portal_views.specs.declared.lines.ApplicantLine.{ApplicantLine}
 
 -- the tables are the portal's own and sound, and no two rows of one have one number
 pub record HasTables (db : Database) : Type 0 where
@@ -19,22 +19,22 @@ pub record HasTables (db : Database) : Type 0 where
   pub apart : AllByRecursion (λ t. RowNumbersDiffer (db.trees t)) own_trees
 
 -- what is told of the student whose row is shown, with the place in a round
-abbrev pub shown_line : Round → Trees → Row → Line
+abbrev pub shown_line : Round → Trees → Row → ApplicantLine
 shown_line round db c = record { person = record { key = first_cell c; name = bytes (column c 1) }; placed = placement_shown round db c }
 
 -- and of the student whose key, name and assigned project are shown alone, with that project
-abbrev pub told_line : Row → Line
+abbrev pub told_line : Row → ApplicantLine
 told_line c = record { person = record { key = first_cell c; name = bytes (column c 1) }; placed = text_or_none (column c 2) }
 
 -- the line with the place in a round, in place of the assigned project
-abbrev pub in_round : Round → Trees → Line → Line
+abbrev pub in_round : Round → Trees → ApplicantLine → ApplicantLine
 in_round First db l = l
 in_round Second db l = record l { placed = second_placement db l.person.key }
 
 -- of the student on the roll with this key, where there is one
-abbrev pub applicant_at : Round → Trees → Key → Option Line
+abbrev pub applicant_at : Round → Trees → Key → Option ApplicantLine
 applicant_at round db k = option_map (shown_line round db) (find (λ c. equals (first_cell c) k) (students_shown db))
 
 -- of the students whose list of the round holds the project, by their keys
-abbrev pub applicant_lines : Round → Trees → Key → List Line
+abbrev pub applicant_lines : Round → Trees → Key → List ApplicantLine
 applicant_lines round db project = map (shown_line round db) (filter (λ c. has (choice_shown round db c) project) (students_shown db))

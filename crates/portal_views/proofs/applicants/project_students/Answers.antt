@@ -1,8 +1,8 @@
 use Rattle.std.specs.Prelude.{◌≡◌, ◌+◌, ◌∷◌, ◌++◌}
-use Rattle.portal_views.proofs.Base.{[], sym, ap, subst, ◌∙◌, map, map-append, take, take_more, List, Database, HasCleanDisk, state, HasTables, Line, lines_shown, placed_at_shown, applicants_told, placed_told}
+use Rattle.portal_views.proofs.Base.{[], sym, ap, subst, ◌∙◌, map, map-append, take, take_more, List, Database, HasCleanDisk, state, HasTables, ApplicantLine, lines_shown, placed_at_shown, applicants_told, placed_told}
 use Rattle.portal_tables.proofs.InTurn.{reads_then, reads_more, reads_handed, clean_before}
 use Rattle.portal_tables.proofs.Owned.{has_round}
-use Rattle.portal_views.proofs.applicants.told_in.Goals as goal
+use Rattle.portal_views.proofs.applicants.project_students.Goals as goal
 
 pub returns-in_err-lines-clause-reads : goal.returns-in_err-lines-clause-reads
 returns-in_err-lines-clause-reads g c = reads_handed c.in_err-lines.field-0.0 c.from_residual.result _ _ c.from_residual.ensures.0 (reads_then c.loop-project.told _ _ _ _ c.loop-project.invariant.reads c.in_err-lines.ensures.reads)
@@ -37,12 +37,12 @@ loop-project-preserved g c =
     λ tables clean. subst (λ (x : Database). HasTables x → HasCleanDisk d → c.in_ok-lines.lines.items ≡ lines_shown round x.trees phase key) (inv.reads.now (has_round round _ tables.current) (clean_b clean)) c.in_ok-lines.ensures.told tables clean in
     let placed : HasTables a.now → HasCleanDisk e → c.in_ok-placed.placed.items ≡ placed_at_shown round a.now.trees phase key (lines_shown round a.now.trees phase key) =
     λ tables clean. subst (λ (x : Database). HasTables x → HasCleanDisk e → c.in_ok-placed.placed.items ≡ placed_at_shown round x.trees phase key c.deref.result.now) (both.now (has_round round _ tables.current) (clean_d clean)) c.in_ok-placed.ensures.told tables clean
-    ∙ ap (λ (ls : List Line). placed_at_shown round a.now.trees phase key ls) (c.deref.ensures.value ∙ lines tables (clean_d clean)) in
+    ∙ ap (λ (ls : List ApplicantLine). placed_at_shown round a.now.trees phase key ls) (c.deref.ensures.value ∙ lines tables (clean_d clean)) in
     record {
       applicants = λ tables clean.
           c.in_ok-add.ensures.applicants
-          ∙ (λ i. inv.applicants tables (clean_b (clean_d clean)) i ++ (key, map (λ (l : Line). l.person) ((c.deref-in-loop-project.ensures.value ∙ lines tables (clean_d clean)) i)) ∷ [])
-          ∙ sym (ap (applicants_told round a.now.trees phase) next ∙ map-append (λ k. (k, map (λ (l : Line). l.person) (lines_shown round a.now.trees phase k))) (take at keys) (key ∷ []));
+          ∙ (λ i. inv.applicants tables (clean_b (clean_d clean)) i ++ (key, map (λ (l : ApplicantLine). l.person) ((c.deref-in-loop-project.ensures.value ∙ lines tables (clean_d clean)) i)) ∷ [])
+          ∙ sym (ap (applicants_told round a.now.trees phase) next ∙ map-append (λ k. (k, map (λ (l : ApplicantLine). l.person) (lines_shown round a.now.trees phase k))) (take at keys) (key ∷ []));
       placed = λ tables clean.
           c.in_ok-add.ensures.placed
           ∙ (λ i. inv.placed tables (clean_b (clean_d clean)) i ++ (key, placed tables clean i) ∷ [])
