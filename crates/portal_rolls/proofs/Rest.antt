@@ -6,8 +6,7 @@ use Rattle.csv.specs.declared.parser.State.{State}
 use Rattle.csv.specs.declared.parser.State.TheVariants as st
 use Rattle.csv.specs.declared.parser.Config.{Config}
 use Rattle.csv.specs.declared.reader.Reader.{Reader}
-use Rattle.portal_rolls.specs.Records.{Record}
-use Rattle.portal_rolls.specs.inner.Records.{Has, TakesRecord, rest_of}
+use Rattle.portal_rolls.specs.Records.{Record, Has, TakesRecord, rest_of}
 
 -- a record takes a byte at least, or ends the text
 abbrev Shrinks : List ℕ → Read → Type 0

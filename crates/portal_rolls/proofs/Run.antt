@@ -7,8 +7,7 @@ use Rattle.std.proofs.lemmas.List.{append-nil}
 use Rattle.csv.specs.declared.reader.Reader.{Reader}
 use Rattle.portal_rolls.specs.Gives.{Fails}
 use Rattle.portal_rolls.specs.Reading.{Format, first_or, line_of, lines_of, reading, same_record}
-use Rattle.portal_rolls.specs.Records.{Record}
-use Rattle.portal_rolls.specs.inner.Records.{Has, TakesRecord}
+use Rattle.portal_rolls.specs.Records.{Record, Has, TakesRecord}
 use Rattle.portal_rolls.specs.declared.fault.RollFault.{RollFault}
 use Rattle.portal_rolls.specs.declared.fault.RollFault.TheVariants as fault
 

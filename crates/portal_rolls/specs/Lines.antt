@@ -1,8 +1,7 @@
 -- What the records of an instance file say.
 use Rattle.std.specs.Prelude.{◌==◌, ℕ, List, [], ◌∷◌, length, Option, Some, None, Result, Ok, Err, if◌then◌else◌, codes}
 use Rattle.std.specs.List.{filter_map}
-use Rattle.portal_rolls.specs.Records.{Record}
-use Rattle.portal_rolls.specs.inner.Records.{records_of}
+use Rattle.portal_rolls.specs.Records.{Record, records_of}
 use Rattle.portal_rolls.specs.Fields.{is_number, digits_value, list_of}
 use Rattle.portal_rolls.specs.Reading.{Format, unless, lines_of}
 use Rattle.spa_rows.specs.Lines.{Text, Lecturer, Project, Student, Pair}

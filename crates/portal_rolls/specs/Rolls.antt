@@ -6,8 +6,7 @@ use Rattle.portal_core.specs.Form.{is_code, is_name}
 use Rattle.portal_core.specs.declared.rows.LecturerRow.{LecturerRow}
 use Rattle.portal_core.specs.declared.rows.ProjectRow.{ProjectRow}
 use Rattle.portal_core.specs.declared.rows.StudentRow.{StudentRow}
-use Rattle.portal_rolls.specs.Records.{Record}
-use Rattle.portal_rolls.specs.inner.Records.{records_of}
+use Rattle.portal_rolls.specs.Records.{Record, records_of}
 use Rattle.portal_rolls.specs.Fields.{is_capacity, digits_value, by_columns}
 use Rattle.portal_rolls.specs.Reading.{Format, lines_of}
 use Rattle.portal_rolls.specs.declared.fault.RollFault.{RollFault}

@@ -4,8 +4,7 @@ ghost use Rattle.std.specs.Prelude.{◌≡◌, ◌<◌, List, length, map};
 ghost use Rattle.csv.specs.Records.{fields_of};
 ghost use Rattle.portal_rolls.specs.Gives.{Gives};
 ghost use Rattle.portal_rolls.specs.Reading.{Format, same_record, line_of as line_in, lines_of};
-ghost use Rattle.portal_rolls.specs.Records.{Record};
-ghost use Rattle.portal_rolls.specs.inner.Records.{Has, IsSetUp, records_of};
+ghost use Rattle.portal_rolls.specs.Records.{Record, Has, IsSetUp, records_of};
 ghost use Rattle.portal_rolls.specs.Views as view;
 
 use crate::fault::RollFault;

@@ -1,5 +1,5 @@
 -- Names from below that the proofs use.
-pub use Rattle.portal_views.specs.Base.{AllByRecursion, Database, Err, First, Global, HasCleanDisk, IfOk, IsDatabase, Key, LecturerRow, List, Listing, None, OnOk, Option, ProjectRow, Rise, Round, Row, Second, Some, Trees, Vec, [], bytes, column, false, filter, filter_map, find, has, equals, is_at, is_from_ranking, length, listing_with, map, not, option_map, put, state}
+pub use Rattle.portal_views.specs.inner.Base.{AllByRecursion, Database, Err, First, Global, HasCleanDisk, IfOk, IsDatabase, Key, LecturerRow, List, Listing, None, OnOk, Option, ProjectRow, Rise, Round, Row, Second, Some, Trees, Vec, [], bytes, column, false, filter, filter_map, find, has, equals, is_at, is_from_ranking, length, listing_with, map, not, option_map, put, state}
 pub use Rattle.portal_core.proofs.AllLaws.{all_map, all_weaker, any_map, filtered_any, is_sym}
 pub use Rattle.portal_core.proofs.Fills.{before_other, rise_kept}
 pub use Rattle.portal_core.proofs.Keys.{all_unmap, is_own, is_same}

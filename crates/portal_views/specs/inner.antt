@@ -1,3 +1,4 @@
+pub mod Base
 pub mod Lines
 pub mod Contents
 pub mod Catalogue

@@ -1,7 +1,7 @@
 //! Applicants and placed students of a lecturer's projects.
 
 ghost use Rattle.std.specs.Prelude.{◌≡◌, ◌∷◌, ◌++◌};
-ghost use Rattle.portal_views.specs.Base.{[], IfOk, OnOk, map, state, is_at, is_from_ranking};
+ghost use Rattle.portal_views.specs.inner.Base.{[], IfOk, OnOk, map, state, is_at, is_from_ranking};
 ghost use Rattle.portal_views.specs.inner.Callers.{with_persons, lines_shown, persons_at, placed_among, persons_before, placed_at_shown, applicants_told, placed_told};
 ghost use Rattle.portal_views.specs.inner.Lines.{HasTables};
 ghost use Rattle.portal_tables.specs.inner.Reading.{RunsQueriesIn, YieldsOf};

@@ -1,7 +1,7 @@
 //! The catalogue of the projects: each with its lecturer's name.
 
 ghost use Rattle.std.specs.Prelude.{◌≡◌};
-ghost use Rattle.portal_views.specs.Base.{IfOk, option_map, map, state, listing_with};
+ghost use Rattle.portal_views.specs.inner.Base.{IfOk, option_map, map, state, listing_with};
 ghost use Rattle.portal_views.specs.inner.Catalogue.{name_of, offered, catalogue_shown};
 ghost use Rattle.portal_tables.specs.inner.Reading.{RunsQueries, Yields};
 ghost use Rattle.portal_tables.specs.inner.Shown.{shown_lecturer, shown_project};

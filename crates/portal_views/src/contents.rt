@@ -1,7 +1,7 @@
 //! The rows of the rolls and of a round's lists and result, read and decoded.
 
 ghost use Rattle.std.specs.Prelude.{◌≡◌};
-ghost use Rattle.portal_views.specs.Base.{false, Err, IfOk, OnOk, map, AllByRecursion, state, IsLecturer, IsProject, IsStudent};
+ghost use Rattle.portal_views.specs.inner.Base.{false, Err, IfOk, OnOk, map, AllByRecursion, state, IsLecturer, IsProject, IsStudent};
 ghost use Rattle.portal_views.specs.inner.Contents.{rows_held, rows_with, rows_from, AreRead, AreFine};
 ghost use Rattle.portal_tables.specs.ListTables.{choice_table, ranking_table};
 ghost use Rattle.portal_tables.specs.inner.Owners.{AreOwned, with_list};

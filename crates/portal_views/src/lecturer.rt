@@ -1,7 +1,7 @@
 //! What a lecturer sees, by queries of the own ranking, the own projects and their applicants.
 
 ghost use Rattle.std.specs.Prelude.{◌≡◌};
-ghost use Rattle.portal_views.specs.Base.{IfOk, option_map, map, column, bytes, state};
+ghost use Rattle.portal_views.specs.inner.Base.{IfOk, option_map, map, column, bytes, state};
 ghost use Rattle.portal_views.specs.inner.Callers.{with_persons, own_keys_shown, lecturer_sees_with, lecturer_shown};
 ghost use Rattle.portal_views.specs.inner.Lines.{HasTables};
 ghost use Rattle.portal_views.specs.inner.Catalogue.{IsCatalogue, own_listed};

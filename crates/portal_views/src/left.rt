@@ -1,7 +1,7 @@
 //! Who is left of the students that take part, when others are taken away.
 
 ghost use Rattle.std.specs.Prelude.{◌≡◌, ◌&&◌, is_none};
-ghost use Rattle.portal_views.specs.Base.{IfOk, not, map, filter, has, Rise};
+ghost use Rattle.portal_views.specs.inner.Base.{IfOk, not, map, filter, has, Rise};
 ghost use Rattle.portal_tables.specs.inner.Placements.{placement_before};
 ghost use Rattle.portal_tables.specs.inner.Shown.{first_cell};
 

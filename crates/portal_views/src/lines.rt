@@ -2,7 +2,7 @@
 //! asked for by key.
 
 ghost use Rattle.std.specs.Prelude.{◌≡◌, ◌∷◌};
-ghost use Rattle.portal_views.specs.Base.{[], IfOk, Some, map, column, bytes, state};
+ghost use Rattle.portal_views.specs.inner.Base.{[], IfOk, Some, map, column, bytes, state};
 ghost use Rattle.portal_tables.specs.inner.Reading.{RunsQueriesIn, YieldsOf, YieldsSound};
 ghost use Rattle.portal_tables.specs.inner.Shown.{first_cell};
 ghost use Rattle.portal_views.specs.inner.Lines.{HasTables, told_line, in_round, applicant_at, applicant_lines};

@@ -1,7 +1,7 @@
 //! Persons put by their keys.
 
 ghost use Rattle.std.specs.Prelude.{◌≡◌, ◌≤◌, insert};
-ghost use Rattle.portal_views.specs.Base.{OnOk, length, Person as ThatPerson, put, put_all};
+ghost use Rattle.portal_views.specs.inner.Base.{OnOk, length, Person as ThatPerson, put, put_all};
 ghost use Rattle.portal_views.specs.inner.Callers.{person_key};
 
 use portal_core::Person;

@@ -1,7 +1,7 @@
 //! What a student sees, by queries of the own list and place.
 
 ghost use Rattle.std.specs.Prelude.{◌≡◌};
-ghost use Rattle.portal_views.specs.Base.{IfOk, column, bytes, state};
+ghost use Rattle.portal_views.specs.inner.Base.{IfOk, column, bytes, state};
 ghost use Rattle.portal_views.specs.inner.Callers.{student_sees_with, student_shown};
 ghost use Rattle.portal_tables.specs.inner.Reading.{RunsQueriesIn, YieldsSound};
 

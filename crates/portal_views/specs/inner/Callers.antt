@@ -1,6 +1,6 @@
 -- What a lecturer or a student sees, of the own row and of what the tables hold.
 use Rattle.std.specs.Prelude.{if◌then◌else◌}
-use Rattle.portal_views.specs.Base.{Vec, List, [], map, filter, Option, Global, Row, column, bytes, Trees, number_in, Phase, Round, First, Second, Listing, Person, StudentSees, LecturerSees, Key, equals, is_at, is_from_ranking, is_published, put_all}
+use Rattle.portal_views.specs.inner.Base.{Vec, List, [], map, filter, Option, Global, Row, column, bytes, Trees, number_in, Phase, Round, First, Second, Listing, Person, StudentSees, LecturerSees, Key, equals, is_at, is_from_ranking, is_published, put_all}
 use Rattle.portal_views.specs.declared.lines.ApplicantLine.{ApplicantLine}
 use Rattle.portal_views.specs.inner.Lines.{applicant_lines}
 use Rattle.portal_tables.specs.inner.Owners.{choice_shown, ranking_shown}

@@ -1,6 +1,6 @@
 -- The catalogue of the projects, of the rows of the rolls.
 use Rattle.std.specs.Prelude.{◌≡◌}
-use Rattle.portal_views.specs.Base.{List, map, filter, Option, option_map, find, filter_map, Trees, Round, First, LecturerRow, Listing, ProjectRow, listing_with, Key, equals}
+use Rattle.portal_views.specs.inner.Base.{List, map, filter, Option, option_map, find, filter_map, Trees, Round, First, LecturerRow, Listing, ProjectRow, listing_with, Key, equals}
 use Rattle.portal_tables.specs.inner.Rolls.{lecturers_shown, projects_shown}
 use Rattle.portal_tables.specs.inner.Shown.{shown_lecturer, shown_project}
 

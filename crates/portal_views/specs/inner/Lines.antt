@@ -1,5 +1,5 @@
 -- What may be told of students, of the rows of the tables.
-use Rattle.portal_views.specs.Base.{Round, First, Second, List, map, filter, Option, option_map, AllByRecursion, find, Row, column, bytes, Trees, Database, IsDatabase, Key, equals, has}
+use Rattle.portal_views.specs.inner.Base.{Round, First, Second, List, map, filter, Option, option_map, AllByRecursion, find, Row, column, bytes, Trees, Database, IsDatabase, Key, equals, has}
 use Rattle.portal_tables.specs.Tables.{own_trees}
 use Rattle.portal_tables.specs.Placements.{second_placement}
 use Rattle.portal_tables.specs.inner.Placements.{placement_shown}

@@ -1,6 +1,5 @@
 use Rattle.std.proofs.Common.{List}
-use Rattle.portal_rolls.specs.Records.{Record}
-use Rattle.portal_rolls.specs.inner.Records.{Has, IsSetUp}
+use Rattle.portal_rolls.specs.Records.{Record, Has, IsSetUp}
 use Rattle.portal_rolls.proofs.Run.{Progress}
 use Rattle.portal_rolls.proofs.reading.read_lines.Given as goal
 

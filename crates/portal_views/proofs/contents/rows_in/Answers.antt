@@ -1,6 +1,6 @@
 use Rattle.std.specs.Prelude.{◌≡◌}
 use Rattle.portal_views.proofs.Base.{Ok, Err, None, IfOk-weaker, refl, sym, ap, subst, subst₂, ◌∙◌, map, AllByRecursion, Database, IsDatabase, HasCleanDisk, state, HasRound, entry, filter_map, with_list, AreOwned, IsRead, IsFine, HasPlacement, pair_shown, RunsQueriesIn, TableFault}
-use Rattle.portal_views.specs.Base.{IsStudent}
+use Rattle.portal_views.specs.inner.Base.{IsStudent}
 use Rattle.portal_views.specs.inner.Contents.{rows_from}
 use Rattle.portal_tables.specs.inner.Shown.{shown_student}
 use Rattle.portal_tables.specs.declared.fault.TableFault.TheVariants.{Damaged}

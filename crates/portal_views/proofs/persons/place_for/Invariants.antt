@@ -1,6 +1,6 @@
 use Rattle.std.specs.Prelude.{◌≡◌, ◌++◌}
 use Rattle.portal_views.proofs.Base.{take, drop, put}
-use Rattle.portal_views.specs.Base.{Person}
+use Rattle.portal_views.specs.inner.Base.{Person}
 use Rattle.portal_views.specs.inner.Callers.{person_key}
 use Rattle.portal_views.proofs.persons.place_for.Given as goal
 
