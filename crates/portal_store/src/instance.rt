@@ -11,7 +11,7 @@ ghost use Rattle.portal_list.specs.Entries.{HasEntries};
 ghost use Rattle.portal_tables.specs.Reading.{RunsQueryIn};
 ghost use Rattle.portal_store.specs.World.{world_of};
 ghost use Rattle.portal_store.specs.Reading.{shown};
-ghost use Rattle.portal_store.specs.inner.Reading.{OverBoth};
+ghost use Rattle.portal_tables.specs.inner.Reading.{OverSound};
 
 use crate::fault::{rows_fault_of, told};
 use crate::load::load_entries;
@@ -46,7 +46,7 @@ pub(crate) fn instance_in<S: Alter>(
 ) -> Result<Instance, KeepFault>
     requires idle { conn.old.in_transaction ≡ false }
     ensures idle { conn.new.in_transaction ≡ false }
-    ensures instance { OverBoth S.Store conn.old conn.new
+    ensures instance { OverSound Second S.Store conn.old conn.new
         (IfOk result (λ i. Sound (world_of (shown S.Store conn.old))
         → i ≡ meant_by.instance (world_of (shown S.Store conn.old)))) }
     ensures asks { RunsQueryIn Second result (state S.Store conn.old) (state S.Store conn.new) }

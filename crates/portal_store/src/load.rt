@@ -3,18 +3,17 @@
 ghost use Rattle.std.specs.Prelude.{◌≡◌, false, Err, IfOk};
 ghost use Rattle.sqlite.specs.Held.{state};
 ghost use Rattle.portal_core.specs.Good.{Sound};
-ghost use Rattle.portal_core.specs.declared.phase.Round.TheVariants.{Second};
+ghost use Rattle.portal_core.specs.declared.phase.Round.TheVariants.{Second, First};
 ghost use Rattle.portal_list.specs.Entries.{HasEntries};
 ghost use Rattle.portal_views.specs.inner.Contents.{rows_held};
 ghost use Rattle.portal_tables.specs.Reading.{RunsQueryIn};
-ghost use Rattle.portal_tables.specs.inner.Reading.{RunsQuery};
+ghost use Rattle.portal_tables.specs.inner.Reading.{RunsQuery, OverSound};
 ghost use Rattle.portal_store.specs.inner.Asked.{NumbersDiffer};
 ghost use Rattle.portal_store.specs.Kept.{HasGoodWorld, HasGoodFirst, HasGoodWorldIn};
 ghost use Rattle.portal_store.specs.inner.Loads as meant_by;
 ghost use Rattle.portal_store.specs.inner.Loads.{Loads, LoadsIn};
 ghost use Rattle.portal_store.specs.World.{round_in, world_of};
 ghost use Rattle.portal_store.specs.Reading.{shown};
-ghost use Rattle.portal_store.specs.inner.Reading.{OverBoth, OverOwn};
 
 use crate::fault::rows_fault_of;
 use crate::round::round_in;
@@ -33,9 +32,9 @@ pub(crate) fn load_first<S: Alter>(
 ) -> Result<WorldRows, TableFault>
     requires idle { conn.old.in_transaction ≡ false }
     ensures idle { conn.new.in_transaction ≡ false }
-    ensures rows { OverOwn S.Store conn.old conn.new
+    ensures rows { OverSound First S.Store conn.old conn.new
         (IfOk result (λ rows. Loads version (shown S.Store conn.old) rows)) }
-    ensures damaged { OverOwn S.Store conn.old conn.new
+    ensures damaged { OverSound First S.Store conn.old conn.new
         (result ≡ Err TableFault.Damaged → HasGoodFirst version (shown S.Store conn.old) → ⊥) }
     ensures asks { RunsQuery result (state S.Store conn.old) (state S.Store conn.new) }
 {
@@ -81,9 +80,9 @@ fn after_first(first: WorldRows, phase: Phase, contents: Contents) -> WorldRows
 fn load_second<S: Alter>(alloc: Global, conn: &mut Connection<S>) -> Result<WorldRows, TableFault>
     requires idle { conn.old.in_transaction ≡ false }
     ensures idle { conn.new.in_transaction ≡ false }
-    ensures rows { OverBoth S.Store conn.old conn.new
+    ensures rows { OverSound Second S.Store conn.old conn.new
         (IfOk result (λ rows. LoadsIn Second (shown S.Store conn.old) rows)) }
-    ensures damaged { OverBoth S.Store conn.old conn.new
+    ensures damaged { OverSound Second S.Store conn.old conn.new
         (result ≡ Err TableFault.Damaged → NumbersDiffer (shown S.Store conn.old)
         → HasGoodWorldIn Second (shown S.Store conn.old) → ⊥) }
     ensures asks { RunsQueryIn Second result (state S.Store conn.old) (state S.Store conn.new) }
@@ -101,10 +100,10 @@ pub(crate) fn load<S: Alter>(
 ) -> Result<WorldRows, TableFault>
     requires idle { conn.old.in_transaction ≡ false }
     ensures idle { conn.new.in_transaction ≡ false }
-    ensures rows { OverBoth S.Store conn.old conn.new
+    ensures rows { OverSound Second S.Store conn.old conn.new
         (IfOk result (λ rows. LoadsIn (round_in (shown S.Store conn.old))
         (shown S.Store conn.old) rows)) }
-    ensures damaged { OverBoth S.Store conn.old conn.new
+    ensures damaged { OverSound Second S.Store conn.old conn.new
         (result ≡ Err TableFault.Damaged → NumbersDiffer (shown S.Store conn.old)
         → HasGoodWorld (shown S.Store conn.old) → ⊥) }
     ensures asks { RunsQueryIn Second result (state S.Store conn.old) (state S.Store conn.new) }
@@ -123,7 +122,7 @@ pub(crate) fn load_entries<S: Alter>(
 ) -> Result<Entries, TableFault>
     requires idle { conn.old.in_transaction ≡ false }
     ensures idle { conn.new.in_transaction ≡ false }
-    ensures entries { OverBoth S.Store conn.old conn.new
+    ensures entries { OverSound Second S.Store conn.old conn.new
         (IfOk result (λ e. Sound (world_of (shown S.Store conn.old))
         → HasEntries e (world_of (shown S.Store conn.old)))) }
     ensures asks { RunsQueryIn Second result (state S.Store conn.old) (state S.Store conn.new) }

@@ -3,10 +3,10 @@
 ghost use Rattle.std.specs.Prelude.{◌≡◌, false, IfOk};
 ghost use Rattle.portal_core.specs.Counting.{CountsFaults};
 ghost use Rattle.sqlite.specs.Held.{state};
-ghost use Rattle.portal_tables.specs.inner.Reading.{RunsQuery};
+ghost use Rattle.portal_tables.specs.inner.Reading.{RunsQuery, OverSound};
 ghost use Rattle.portal_store.specs.World.{world_of};
 ghost use Rattle.portal_store.specs.Reading.{shown};
-ghost use Rattle.portal_store.specs.inner.Reading.{OverOwn};
+ghost use Rattle.portal_core.specs.declared.phase.Round.TheVariants.{First};
 
 use crate::fault::told;
 use portal_core::{Code, KeepFault};
@@ -22,7 +22,7 @@ pub(crate) fn office_of<S: Alter>(
 ) -> Result<Code, KeepFault>
     requires idle { conn.old.in_transaction ≡ false }
     ensures idle { conn.new.in_transaction ≡ false }
-    ensures code { OverOwn S.Store conn.old conn.new
+    ensures code { OverSound First S.Store conn.old conn.new
         (IfOk result (λ code. code ≡ (world_of (shown S.Store conn.old)).office)) }
     ensures asks { RunsQuery result (state S.Store conn.old) (state S.Store conn.new) }
     ensures counts { CountsFaults result faults.old faults.new }

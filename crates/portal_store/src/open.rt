@@ -10,7 +10,7 @@ ghost use Rattle.portal_core.specs.declared.phase.Phase.TheVariants.{Published};
 ghost use Rattle.portal_tables.specs.Schema.{HasRound, IsCurrentSchema};
 ghost use Rattle.portal_tables.specs.inner.Queries.{round_asked};
 ghost use Rattle.portal_tables.specs.Reading.{RunsQueryIn};
-ghost use Rattle.portal_tables.specs.inner.Reading.{RunsQuery};
+ghost use Rattle.portal_tables.specs.inner.Reading.{RunsQuery, OverSound};
 ghost use Rattle.portal_tables.specs.Steps.{Stays};
 ghost use Rattle.portal_list.specs.Entries.{HasEntries};
 ghost use Rattle.portal_store.specs.Kept.{AllNumbersDiffer, AreEmpty, HasSecond, HasGoodWorld, HasGoodWorldIn, IsCleanStore, kept_world, later_trees};
@@ -18,7 +18,7 @@ ghost use Rattle.portal_store.specs.World.{phase_in, round_in, world_of};
 ghost use Rattle.portal_store.specs.Asked.{Refutes};
 ghost use Rattle.portal_store.specs.inner.Asked.{NumbersDiffer, Denies, IsJudged, SaysNothing, Admits};
 ghost use Rattle.portal_store.specs.Reading.{shown};
-ghost use Rattle.portal_store.specs.inner.Reading.{ReadsAll, OverBoth, OverLive, OverOwn, queried_rows};
+ghost use Rattle.portal_store.specs.inner.Reading.{ReadsAll, OverLive, queried_rows};
 
 use crate::fault::{load_open_fault_of, open_fault_of};
 use crate::round::first_phase;
@@ -94,9 +94,9 @@ fn see_published<S: Alter>(alloc: Global, conn: &mut Connection<S>) -> Result<()
     requires idle { conn.old.in_transaction ≡ false }
     ensures idle { conn.new.in_transaction ≡ false }
     ensures asks { RunsQuery result (state S.Store conn.old) (state S.Store conn.new) }
-    ensures refused { OverOwn S.Store conn.old conn.new
+    ensures refused { OverSound First S.Store conn.old conn.new
         (IfErr result (λ fault. Denies fault (HasGoodWorldIn Second (shown S.Store conn.old)))) }
-    ensures published { OverOwn S.Store conn.old conn.new
+    ensures published { OverSound First S.Store conn.old conn.new
         (OnOk result (phase_in First (shown S.Store conn.old) ≡ Published)) }
 {
     match first_phase(alloc, conn) {
@@ -111,9 +111,9 @@ fn see_second<S: Alter>(alloc: Global, conn: &mut Connection<S>) -> Result<(), O
     requires idle { conn.old.in_transaction ≡ false }
     ensures idle { conn.new.in_transaction ≡ false }
     ensures asks { RunsQueryIn Second result (state S.Store conn.old) (state S.Store conn.new) }
-    ensures refused { OverBoth S.Store conn.old conn.new
+    ensures refused { OverSound Second S.Store conn.old conn.new
         (IfErr result (λ fault. Denies fault (HasGoodWorld (shown S.Store conn.old)))) }
-    ensures second { OverBoth S.Store conn.old conn.new
+    ensures second { OverSound Second S.Store conn.old conn.new
         (OnOk result (HasSecond (round_in (shown S.Store conn.old)) (shown S.Store conn.old))) }
 {
     let phase = match second_in(alloc, conn) {
@@ -160,12 +160,12 @@ fn see_world<S: Alter>(alloc: Global, conn: &mut Connection<S>) -> Result<Entrie
     requires idle { conn.old.in_transaction ≡ false }
     ensures idle { conn.new.in_transaction ≡ false }
     ensures asks { RunsQueryIn Second result (state S.Store conn.old) (state S.Store conn.new) }
-    ensures refused { OverBoth S.Store conn.old conn.new
+    ensures refused { OverSound Second S.Store conn.old conn.new
         (NumbersDiffer (shown S.Store conn.old)
         → IfErr result (λ fault. Denies fault (HasGoodWorld (shown S.Store conn.old)))) }
-    ensures judged { OverBoth S.Store conn.old conn.new
+    ensures judged { OverSound Second S.Store conn.old conn.new
         (OnOk result (IsJudged (shown S.Store conn.old))) }
-    ensures entries { OverBoth S.Store conn.old conn.new
+    ensures entries { OverSound Second S.Store conn.old conn.new
         (IfOk result (λ e. HasEntries e (world_of (shown S.Store conn.old)))) }
 {
     match load_keeper(alloc, conn) {

@@ -6,10 +6,10 @@ ghost use Rattle.portal_core.specs.declared.phase.Round.{Round as ThatRound};
 ghost use Rattle.portal_core.specs.declared.phase.Round.TheVariants.{First, Second};
 ghost use Rattle.portal_core.specs.World.{is_setup};
 ghost use Rattle.portal_tables.specs.Reading.{RunsQueryIn};
-ghost use Rattle.portal_tables.specs.inner.Reading.{RunsQuery};
+ghost use Rattle.portal_tables.specs.inner.Reading.{RunsQuery, OverSound};
 ghost use Rattle.portal_store.specs.World as meant_by;
 ghost use Rattle.portal_store.specs.Reading.{shown};
-ghost use Rattle.portal_store.specs.inner.Reading.{IsNow, OverBoth, OverOwn};
+ghost use Rattle.portal_store.specs.inner.Reading.{IsNow};
 ghost use Rattle.portal_store.specs.Kept.{HasSecond, HasGoodWorldIn};
 
 use portal_core::{Phase, Round};
@@ -24,9 +24,9 @@ pub(crate) fn round_in<S: Alter>(
 ) -> Result<Round, TableFault>
     requires idle { conn.old.in_transaction ≡ false }
     ensures idle { conn.new.in_transaction ≡ false }
-    ensures round { OverBoth S.Store conn.old conn.new
+    ensures round { OverSound Second S.Store conn.old conn.new
         (IfOk result (λ round. meant_by.round_in (shown S.Store conn.old) ≡ round)) }
-    ensures damaged { OverBoth S.Store conn.old conn.new
+    ensures damaged { OverSound Second S.Store conn.old conn.new
         (result ≡ Err TableFault.Damaged → (round : ThatRound)
         → HasSecond round (shown S.Store conn.old) → ⊥) }
     ensures asks { RunsQueryIn Second result (state S.Store conn.old) (state S.Store conn.new) }
@@ -62,7 +62,7 @@ pub(crate) fn round_now<S: Alter>(
 ) -> Result<(Round, Office), TableFault>
     requires idle { conn.old.in_transaction ≡ false }
     ensures idle { conn.new.in_transaction ≡ false }
-    ensures now { OverBoth S.Store conn.old conn.new
+    ensures now { OverSound Second S.Store conn.old conn.new
         (IfOk result (λ now. IsNow (meant_by.world_of (shown S.Store conn.old)) now.0 now.1)) }
     ensures asks { RunsQueryIn Second result (state S.Store conn.old) (state S.Store conn.new) }
 {
@@ -78,9 +78,9 @@ pub(crate) fn first_phase<S: Alter>(
 ) -> Result<Phase, TableFault>
     requires idle { conn.old.in_transaction ≡ false }
     ensures idle { conn.new.in_transaction ≡ false }
-    ensures phase { OverOwn S.Store conn.old conn.new
+    ensures phase { OverSound First S.Store conn.old conn.new
         (IfOk result (λ phase. meant_by.phase_in First (shown S.Store conn.old) ≡ phase)) }
-    ensures damaged { OverOwn S.Store conn.old conn.new
+    ensures damaged { OverSound First S.Store conn.old conn.new
         (result ≡ Err TableFault.Damaged → (round : ThatRound)
         → HasGoodWorldIn round (shown S.Store conn.old) → ⊥) }
     ensures asks { RunsQuery result (state S.Store conn.old) (state S.Store conn.new) }

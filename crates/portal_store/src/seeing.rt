@@ -9,7 +9,7 @@ ghost use Rattle.portal_core.specs.Good.{Good, Sound};
 ghost use Rattle.portal_core.specs.declared.phase.Round.TheVariants.{First};
 ghost use Rattle.portal_tables.specs.Tables.{lecturer_tree, project_tree, student_tree, choice_tree, ranking_tree};
 ghost use Rattle.portal_tables.specs.Schema.{HasFirstSchema};
-ghost use Rattle.portal_tables.specs.inner.Reading.{RunsQuery};
+ghost use Rattle.portal_tables.specs.inner.Reading.{RunsQuery, OverSound};
 ghost use Rattle.portal_list.specs.Entries.{HasEntries};
 ghost use Rattle.portal_store.specs.Kept.{AllNumbersDiffer, HasGoodFirst};
 ghost use Rattle.portal_store.specs.inner.Kept.{early_trees};
@@ -17,7 +17,7 @@ ghost use Rattle.portal_store.specs.World.{world_in};
 ghost use Rattle.portal_store.specs.Asked.{HasVersion, RefusalSays};
 ghost use Rattle.portal_store.specs.inner.Asked.{Denies, SaysNothing, AdmitsAs};
 ghost use Rattle.portal_store.specs.Reading.{shown};
-ghost use Rattle.portal_store.specs.inner.Reading.{OverOwn, OverLive};
+ghost use Rattle.portal_store.specs.inner.Reading.{OverLive};
 
 use crate::fault::{load_open_fault_of, open_fault_of, table_fault_of};
 use crate::sound::first_keeper;
@@ -191,11 +191,11 @@ fn see_world<S: Alter>(
     requires idle { conn.old.in_transaction ≡ false }
     ensures idle { conn.new.in_transaction ≡ false }
     ensures asks { RunsQuery result (state S.Store conn.old) (state S.Store conn.new) }
-    ensures refused { OverOwn S.Store conn.old conn.new
+    ensures refused { OverSound First S.Store conn.old conn.new
         (IfErr result (λ fault. Denies fault (HasGoodFirst version (shown S.Store conn.old)))) }
-    ensures stands { OverOwn S.Store conn.old conn.new
+    ensures stands { OverSound First S.Store conn.old conn.new
         (OnOk result (HasGoodFirst version (shown S.Store conn.old))) }
-    ensures entries { OverOwn S.Store conn.old conn.new
+    ensures entries { OverSound First S.Store conn.old conn.new
         (IfOk result (λ e. HasEntries e (world_in First (shown S.Store conn.old)))) }
 {
     match first_keeper(alloc, conn, version) {

@@ -3,15 +3,14 @@
 ghost use Rattle.std.specs.Prelude.{◌≡◌, false, Err, IfOk};
 ghost use Rattle.sqlite.specs.Held.{state};
 ghost use Rattle.portal_core.specs.Good.{Sound};
-ghost use Rattle.portal_core.specs.declared.phase.Round.TheVariants.{Second};
+ghost use Rattle.portal_core.specs.declared.phase.Round.TheVariants.{Second, First};
 ghost use Rattle.portal_tables.specs.Reading.{RunsQueryIn};
-ghost use Rattle.portal_tables.specs.inner.Reading.{RunsQuery};
+ghost use Rattle.portal_tables.specs.inner.Reading.{RunsQuery, OverSound};
 ghost use Rattle.portal_store.specs.inner.Asked.{NumbersDiffer};
 ghost use Rattle.portal_store.specs.Kept.{HasGoodWorld, HasGoodFirst};
 ghost use Rattle.portal_store.specs.World.{round_in};
 ghost use Rattle.portal_store.specs.inner.Found.{ShowsWorld, FindsIn};
 ghost use Rattle.portal_store.specs.Reading.{shown};
-ghost use Rattle.portal_store.specs.inner.Reading.{OverBoth, OverOwn};
 
 use crate::fault::rows_fault_of;
 use crate::load::{load, load_first};
@@ -29,9 +28,9 @@ pub(crate) fn first_keeper<S: Alter>(
     requires idle { conn.old.in_transaction ≡ false }
     ensures idle { conn.new.in_transaction ≡ false }
     ensures sound { IfOk result (λ keeper. Sound keeper) }
-    ensures found { OverOwn S.Store conn.old conn.new
+    ensures found { OverSound First S.Store conn.old conn.new
         (IfOk result (λ keeper. ShowsWorld version (shown S.Store conn.old) keeper)) }
-    ensures damaged { OverOwn S.Store conn.old conn.new
+    ensures damaged { OverSound First S.Store conn.old conn.new
         (result ≡ Err TableFault.Damaged → HasGoodFirst version (shown S.Store conn.old) → ⊥) }
     ensures asks { RunsQuery result (state S.Store conn.old) (state S.Store conn.new) }
 {
@@ -50,10 +49,10 @@ pub(crate) fn load_keeper<S: Alter>(
     requires idle { conn.old.in_transaction ≡ false }
     ensures idle { conn.new.in_transaction ≡ false }
     ensures sound { IfOk result (λ keeper. Sound keeper) }
-    ensures found { OverBoth S.Store conn.old conn.new
+    ensures found { OverSound Second S.Store conn.old conn.new
         (IfOk result (λ keeper. FindsIn (round_in (shown S.Store conn.old))
         (shown S.Store conn.old) keeper)) }
-    ensures damaged { OverBoth S.Store conn.old conn.new
+    ensures damaged { OverSound Second S.Store conn.old conn.new
         (result ≡ Err TableFault.Damaged → NumbersDiffer (shown S.Store conn.old)
         → HasGoodWorld (shown S.Store conn.old) → ⊥) }
     ensures asks { RunsQueryIn Second result (state S.Store conn.old) (state S.Store conn.new) }

@@ -1,7 +1,6 @@
 -- What is known of the tables while they are read, and what is remembered.
 use Rattle.std.specs.Prelude.{◌≡◌, List, Option, IsTrue}
 use Rattle.sqlite.specs.Order.{Row}
-use Rattle.sqlite.specs.Effect.{IsDatabase}
 use Rattle.sqlite.specs.Held.{Held, state}
 use Rattle.sqlite.specs.State.{State, HasCleanDisk, IsLive}
 use Rattle.sqlite.specs.Store.{Ghosts}
@@ -12,7 +11,7 @@ use Rattle.portal_core.specs.inner.ViewCache.{IsCacheOf}
 use Rattle.portal_core.specs.declared.view_cache.ViewCache.{ViewCache}
 use Rattle.portal_core.specs.Good.{Good}
 use Rattle.portal_list.specs.Entries.{AllEntries}
-use Rattle.portal_tables.specs.Schema.{HasRound, HasFirstSchema, IsCurrentSchema}
+use Rattle.portal_tables.specs.Schema.{HasRound}
 use Rattle.portal_tables.specs.inner.Changes.{every}
 use Rattle.portal_tables.specs.inner.Queries.{selection}
 use Rattle.portal_tables.specs.declared.office.Office.{Office}
@@ -28,15 +27,7 @@ ReadsAll query = (selection query).passes ≡ every
 abbrev pub queried_rows : Query → Trees → List Row
 queried_rows query db = db (selection query).tree
 
--- this holds where the first round's tables are the portal's own in a sound database, and the disk is clean
-abbrev pub OverOwn : {S : Type 0} → Ghosts S → Held S → Held S → Type 0 → Type 0
-OverOwn g old new So = HasFirstSchema old.schema → IsDatabase (state g old).now → HasCleanDisk (state g new) → So
-
--- the same of the tables of both rounds
-abbrev pub OverBoth : {S : Type 0} → Ghosts S → Held S → Held S → Type 0 → Type 0
-OverBoth g old new So = IsCurrentSchema old.schema → IsDatabase (state g old).now → HasCleanDisk (state g new) → So
-
--- the same of the tables of a round, where the database is sound if it is open
+-- this holds where the tables of a round are the portal's own, the database is sound if it is open, and the disk is clean
 abbrev pub OverLive : Round → {S : Type 0} → Ghosts S → Held S → Held S → Type 0 → Type 0
 OverLive round g old new So = HasRound round old.schema → IsLive (state g old) → HasCleanDisk (state g new) → So
 
