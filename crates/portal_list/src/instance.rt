@@ -24,8 +24,8 @@ fn text_of(alloc: Global, key: &Key) -> Result<Vec<u8>, AllocError>
     key.as_bytes().to_vec(alloc)
 }
 
-/// The bytes of each key.
-fn texts_of(alloc: Global, keys: &[Key]) -> Result<Vec<Vec<u8>>, AllocError>
+/// The bytes of each key, for a line of an instance.
+fn key_texts(alloc: Global, keys: &[Key]) -> Result<Vec<Vec<u8>>, AllocError>
     ensures { IfOk result (λ texts. map (λ text. text.items) texts.items ≡ keys.now) }
 {
     let mut texts = Vec::new(alloc);
@@ -39,7 +39,7 @@ fn lecturer_line(alloc: Global, entry: &LecturerEntry) -> Result<LecturerLine, A
     ensures { IfOk result (λ line. line ≡ instance_lecturer entry.now) }
 {
     let list = match &entry.ranking {
-        Some(ranking) => texts_of(alloc, ranking)?,
+        Some(ranking) => key_texts(alloc, ranking)?,
         None => Vec::new(alloc),
     };
     Ok(LecturerLine {
@@ -67,7 +67,7 @@ fn student_line(alloc: Global, entry: &StudentEntry) -> Result<StudentLine, Allo
     Ok(StudentLine {
         row: 0,
         key: text_of(alloc, &entry.row.key)?,
-        list: texts_of(alloc, &entry.choice)?,
+        list: key_texts(alloc, &entry.choice)?,
     })
 }
 

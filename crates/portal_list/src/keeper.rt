@@ -75,7 +75,7 @@ impl ListKeeper {
         }
     }
 
-    /// The catalogue of the round, shared where it is kept.
+    /// The catalogue of the keeper's round, shared where it is kept.
     pub(crate) fn catalogue(&self, alloc: Global) -> Result<Rc<Vec<Listing>>, AllocError>
         ensures { IfOk result (λ shared. shared.value.items ≡ seen.catalogue self.now) }
     {

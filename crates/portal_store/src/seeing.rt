@@ -220,8 +220,8 @@ pub(crate) fn see_first_apart<S: Alter>(conn: &mut Connection<S>) -> Result<(), 
     see_lists_apart(conn)
 }
 
-/// What is tested of the first round's tables, of this version, in this order: the numbers of rows, and the world, whose entries come.
-pub(crate) fn judge<S: Alter>(
+/// What is tested of the first round's tables, of a version, in this order: the numbers of rows, and the world, whose entries come.
+pub(crate) fn judge_first<S: Alter>(
     alloc: Global,
     conn: &mut Connection<S>,
     version: u32,

@@ -21,7 +21,7 @@ ghost use Rattle.portal_store.specs.Reading.{shown};
 ghost use Rattle.portal_store.specs.inner.Reading.{OverLive};
 
 use crate::fault::{open_fault_of, upgrade_fault_of, upgrading_fault_of};
-use crate::seeing::{judge, see_first};
+use crate::seeing::{judge_first, see_first};
 use crate::store::{NotOpened, OpenFault, Store, UpgradeFault};
 use portal_core::ViewCache;
 use portal_list::Entries;
@@ -49,7 +49,7 @@ fn examine_first<S: Alter>(
         (IfOk result (λ e. HasEntries e (world_in First (shown S.Store conn.old)))) }
 {
     see_first(conn, own, FIRST_VERSION)?;
-    judge(alloc, conn, FIRST_VERSION)
+    judge_first(alloc, conn, FIRST_VERSION)
 }
 
 /// Upgrades the tables where they pass and no name is taken; the entries of their world come. `own` says that they are the portal's own.

@@ -30,8 +30,8 @@ pub struct Contents {
     pub pairs: Vec<(Key, Key)>,
 }
 
-/// The rolls decoded, with the lists and the result.
-fn put_together(
+/// The rows of the rolls with the lists and the result, of what was read.
+fn contents_of(
     alloc: Global,
     rolls: &Rolls,
     choices: Vec<(Key, Vec<Key>)>,
@@ -79,7 +79,7 @@ fn rows_in<S: Alter>(
     let choices = entries_in(alloc, conn, Lists::choices_of(round), &rolls.students)?;
     let rankings = entries_in(alloc, conn, Lists::rankings_of(round), &rolls.lecturers)?;
     let pairs = pairs_in(alloc, conn, round, None, &rolls.students)?;
-    put_together(alloc, &rolls, choices, rankings, pairs)
+    contents_of(alloc, &rolls, choices, rankings, pairs)
 }
 
 /// The rows of the rolls, and of the lists and the result of a round, by a query of each roll and table of lists and one for

@@ -107,8 +107,8 @@ fn ranking_in<S: Alter>(
     Ok(list_of(entry))
 }
 
-/// What was read, put together.
-fn put_together(
+/// What a lecturer sees, of what was read.
+fn lecturer_view_of(
     alloc: Global,
     round: Round,
     phase: Phase,
@@ -153,5 +153,5 @@ pub fn lecturer_view<S: Alter>(
     let own = own_projects(alloc, conn, round, bytes_at(row, 0), &catalogue)?;
     let ranking = ranking_in(alloc, conn, round, row)?;
     let told = project_students(alloc, conn, round, phase, &own)?;
-    put_together(alloc, round, phase, row, catalogue, ranking, told)
+    lecturer_view_of(alloc, round, phase, row, catalogue, ranking, told)
 }

@@ -15,8 +15,8 @@ use sqlite::{Alter, Connection, Row};
 use std::alloc::Global;
 use std::rc::Rc;
 
-/// What was read, put together.
-fn put_together(
+/// What a student sees, of what was read.
+fn student_view_of(
     alloc: Global,
     round: Round,
     phase: Phase,
@@ -55,5 +55,5 @@ pub fn student_view<S: Alter>(
     let student = key_at(alloc, row, 0)?;
     let choices = list_in(alloc, conn, Lists::choices_of(round), &student)?;
     let place = result_in(alloc, conn, round, phase, row)?;
-    put_together(alloc, round, phase, row, catalogue, choices, place)
+    student_view_of(alloc, round, phase, row, catalogue, choices, place)
 }

@@ -51,8 +51,8 @@ pub(crate) fn applicants_by_key(
     copies(alloc, &applicants)
 }
 
-/// A ranking of these keys, where there are any.
-fn ranking_of(keys: Vec<Key>) -> Option<Ranking>
+/// The ranking that a fill gives a lecturer with these applicants, where there are any.
+fn filled_ranking(keys: Vec<Key>) -> Option<Ranking>
     ensures { result ≡ unless_empty keys.items }
 {
     if keys.is_empty() {
@@ -74,7 +74,7 @@ fn missing_ranking(
         return Ok(None);
     }
     let keys = applicants_by_key(alloc, projects, wanted, &lecturer.row.key)?;
-    Ok(ranking_of(keys))
+    Ok(filled_ranking(keys))
 }
 
 /// The ranking that each lecturer gets, or none.

@@ -165,8 +165,8 @@ fn still_to_rank<S: Alter>(
     Ok(Vec::new(alloc))
 }
 
-/// What was read, put together.
-fn put_together(
+/// What the office sees, of what was read.
+fn office_view_of(
     alloc: Global,
     round: Round,
     office: Office,
@@ -224,7 +224,7 @@ fn view_of_rolls<S: Alter>(
     let unlisted = without_list(alloc, conn, round, &rolls.students)?;
     let waiting = still_to_rank(alloc, conn, round, office.phase, rolls)?;
     let pairs = pairs_in(alloc, conn, round, Some(office.phase), &rolls.students)?;
-    put_together(
+    office_view_of(
         alloc, round, office, catalogue, rolls, unlisted, waiting, pairs,
     )
 }

@@ -21,16 +21,16 @@ returns-in_err-see_first-clause-refused g c mine own live clean =
 
 pub returns-clause-asks : goal.returns-clause-asks
 returns-clause-asks g c mine =
-    asks_then c.in_ok-see_first.field-0 c.judge.result _ _ _ (c.in_ok-see_first.ensures.asks mine) c.judge.ensures.asks
+    asks_then c.in_ok-see_first.field-0 c.judge_first.result _ _ _ (c.in_ok-see_first.ensures.asks mine) c.judge_first.ensures.asks
 
 pub returns-clause-refused : goal.returns-clause-refused
 returns-clause-refused g c mine own live clean =
     let a = state g.S.Store c.args.conn.now in
     let b = state g.S.Store c.see_first.new.conn in
-    let d = state g.S.Store c.judge.new.conn in
-    let before = clean_before b d _ c.judge.ensures.asks.crash clean in
+    let d = state g.S.Store c.judge_first.new.conn in
+    let before = clean_before b d _ c.judge_first.ensures.asks.crash clean in
     let m : IsUnchanged a b = (c.in_ok-see_first.ensures.asks mine).same own before in
     let db = a.now.trees in
-    if_err_weaker (λ f. Denies f (HasGoodFirst first_version b.now.trees)) (λ f. RefusalSays f first_version (HasGoodFirst first_version db) db) c.judge.result
+    if_err_weaker (λ f. Denies f (HasGoodFirst first_version b.now.trees)) (λ f. RefusalSays f first_version (HasGoodFirst first_version db) db) c.judge_first.result
     (λ f h. blamed f first_version (HasGoodFirst first_version db) db (c.in_ok-see_first.ensures.version mine own before) (subst (λ (x : Database). Denies f (HasGoodFirst first_version x.trees)) m.0.now_is h))
-    (c.judge.ensures.refused (still_own a b m own) (live_still a b m live) clean)
+    (c.judge_first.ensures.refused (still_own a b m own) (live_still a b m live) clean)

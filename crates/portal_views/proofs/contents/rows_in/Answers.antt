@@ -26,7 +26,7 @@ returns-in_err-pairs-clause-reads g c =
 
 pub returns-clause-reads : goal.returns-clause-reads
 returns-clause-reads g c =
-    reads_more c.in_ok-pairs.pairs c.put_together.result _ _
+    reads_more c.in_ok-pairs.pairs c.contents_of.result _ _
     (reads_then c.in_ok-rankings.rankings _ _ _ _
     (reads_then c.in_ok-choices.choices _ _ _ _ (reads_shifted _ _ _ c.choices_of.ensures.round c.in_ok-choices.ensures.reads) (reads_shifted _ _ _ c.rankings_of.ensures.round c.in_ok-rankings.ensures.reads))
     c.in_ok-pairs.ensures.reads)
@@ -91,7 +91,7 @@ returns-clause-rows g c own sound clean =
     let pairs = subst₂ (λ (x : Database) rows. HasRound c.args.round x.schema → IsDatabase x → HasCleanDisk e → c.in_ok-pairs.pairs.items ≡ filter_map (pair_shown c.args.round None x.trees) rows)
     (both.now own clean_d) c.deref-3.ensures.value c.in_ok-pairs.ensures.ok own sound clean in
     let from = rows_from c.args.round a.now.trees c.args.rolls.lecturers.items c.args.rolls.projects.items c.args.rolls.students.items in
-    IfOk-weaker c.put_together.result _ _ (λ v is. is ∙ (λ i. record from { choices = choices i; rankings = rankings i; pairs = pairs i })) c.put_together.ensures.rows
+    IfOk-weaker c.contents_of.result _ _ (λ v is. is ∙ (λ i. record from { choices = choices i; rankings = rankings i; pairs = pairs i })) c.contents_of.ensures.rows
 
 pub returns-clause-read : goal.returns-clause-read
 returns-clause-read g c own sound clean =
@@ -102,7 +102,7 @@ returns-clause-read g c own sound clean =
     let clean_d = clean_before d (state g.S.Store c.pairs_in.new.conn) _ c.in_ok-pairs.ensures.reads.crash clean in
     let clean_b = clean_before b d _ c.in_ok-rankings.ensures.reads.crash clean_d in
     let same : a.now ≡ a.now = refl in
-    on_ok c.put_together.result (record {
+    on_ok c.contents_of.result (record {
       choices = shifted (λ r l x rows. HasRound r x.schema → IsDatabase x → HasCleanDisk b → AllByRecursion (IsRead l x.trees) rows)
           c.choices_of.ensures.round c.choices_of.ensures.is same c.deref.ensures.value c.in_ok-choices.ensures.read own sound clean_b;
       rankings = shifted (λ r l x rows. HasRound r x.schema → IsDatabase x → HasCleanDisk d → AllByRecursion (IsRead l x.trees) rows)

@@ -20,7 +20,7 @@ returns-in_err-told-clause-reads g c =
 pub returns-clause-reads : goal.returns-clause-reads
 returns-clause-reads g c =
     reads_then c.in_ok-own.own _ _ _ _ c.in_ok-own.ensures.reads
-    (reads_then c.in_ok-ranking.ranking _ _ _ _ c.in_ok-ranking.ensures.reads (reads_more c.in_ok-told.told c.put_together.result _ _ c.in_ok-told.ensures.reads))
+    (reads_then c.in_ok-ranking.ranking _ _ _ _ c.in_ok-ranking.ensures.reads (reads_more c.in_ok-told.told c.lecturer_view_of.result _ _ c.in_ok-told.ensures.reads))
 
 pub returns-clause-shows : goal.returns-clause-shows
 returns-clause-shows g c tables clean =
@@ -46,6 +46,6 @@ returns-clause-shows g c tables clean =
     let applicants = subst (λ (x : Database). HasTables x → HasCleanDisk e → map with_persons told.applicants.items ≡ applicants_told round x.trees phase keys) same_d c.in_ok-told.ensures.applicants tables clean in
     let placed = subst (λ (x : Database). HasTables x → HasCleanDisk e → map with_persons told.placed.items ≡ placed_told round x.trees phase keys) same_d c.in_ok-told.ensures.placed tables clean in
     let from = lecturer_shown round db phase row c.args.catalogue.value.items in
-    IfOk-weaker c.put_together.result _ _ (λ v is offered.
+    IfOk-weaker c.lecturer_view_of.result _ _ (λ v is offered.
     let of = own offered in
-    is ∙ (λ i. record from { applicants = (applicants ∙ ap (applicants_told round db phase) of) i; ranking = ranking i; placed = (placed ∙ ap (placed_told round db phase) of) i })) c.put_together.ensures
+    is ∙ (λ i. record from { applicants = (applicants ∙ ap (applicants_told round db phase) of) i; ranking = ranking i; placed = (placed ∙ ap (placed_told round db phase) of) i })) c.lecturer_view_of.ensures

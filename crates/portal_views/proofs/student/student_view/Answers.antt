@@ -16,7 +16,7 @@ returns-in_err-place-clause-reads g c =
 
 pub returns-clause-reads : goal.returns-clause-reads
 returns-clause-reads g c =
-    reads_more c.in_ok-place.place c.put_together.result _ _
+    reads_more c.in_ok-place.place c.student_view_of.result _ _
     (reads_then c.in_ok-choices.choices _ _ _ _ (reads_shifted _ _ _ c.choices_of.ensures.round c.in_ok-choices.ensures.reads) c.in_ok-place.ensures.reads)
 
 pub returns-clause-shows : goal.returns-clause-shows
@@ -34,4 +34,4 @@ returns-clause-shows g c own sound clean =
     c.choices_of.ensures.round c.choices_of.ensures.is same c.in_ok-student.ensures.ok c.in_ok-choices.ensures.names own before in
     let place = subst (λ (x : Database). HasRound round x.schema → IsDatabase x → HasCleanDisk d → c.in_ok-place.place ≡ result_shown round x.trees phase row) (first.now own before) c.in_ok-place.ensures.ok own sound clean in
     let from = student_shown round a.now.trees phase row c.args.catalogue.value.items in
-    IfOk-weaker c.put_together.result _ _ (λ v is. is ∙ (λ i. record from { choices = choices i; result = place i })) c.put_together.ensures
+    IfOk-weaker c.student_view_of.result _ _ (λ v is. is ∙ (λ i. record from { choices = choices i; result = place i })) c.student_view_of.ensures

@@ -27,7 +27,7 @@ returns-in_err-pairs-clause-reads g c =
 pub returns-clause-reads : goal.returns-clause-reads
 returns-clause-reads g c =
     reads_then c.in_ok-unlisted.unlisted _ _ _ _ c.in_ok-unlisted.ensures.reads
-    (reads_then c.in_ok-waiting.waiting _ _ _ _ c.in_ok-waiting.ensures.reads (reads_more c.in_ok-pairs.pairs c.put_together.result _ _ c.in_ok-pairs.ensures.reads))
+    (reads_then c.in_ok-waiting.waiting _ _ _ _ c.in_ok-waiting.ensures.reads (reads_more c.in_ok-pairs.pairs c.office_view_of.result _ _ c.in_ok-pairs.ensures.reads))
 
 pub returns-clause-shows : goal.returns-clause-shows
 returns-clause-shows g c holds clean =
@@ -47,4 +47,4 @@ returns-clause-shows g c holds clean =
     let still = at_start a b d same_b (λ (x : Database). c.in_ok-waiting.waiting.items ≡ (if is_from_ranking phase then filter_map (waiting_key round x.trees (map shown_project rolls.projects.items)) rolls.lecturers.items else [])) c.in_ok-waiting.ensures.told holds clean_d in
     let pairs = subst₂ (λ (x : Database) (rows : List Row). HasRound round x.schema → IsDatabase x → HasCleanDisk e → c.in_ok-pairs.pairs.items ≡ filter_map (pair_shown round (Some phase) x.trees) rows) same_d c.deref-2.ensures.value c.in_ok-pairs.ensures.ok own holds.sound clean in
     let from = office_from round a.now.trees phase c.args.office.code c.args.catalogue.value.items rolls.lecturers.items rolls.projects.items rolls.students.items in
-    IfOk-weaker c.put_together.result _ _ (λ v is. is ∙ (λ i. record from { without_list = without i; still_to_rank = still i; pairs = pairs i })) c.put_together.ensures
+    IfOk-weaker c.office_view_of.result _ _ (λ v is. is ∙ (λ i. record from { without_list = without i; still_to_rank = still i; pairs = pairs i })) c.office_view_of.ensures

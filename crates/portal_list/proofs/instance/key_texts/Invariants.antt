@@ -1,5 +1,5 @@
 use Rattle.std.proofs.Common.{◌≡◌, map, take}
-use Rattle.portal_list.proofs.instance.texts_of.Given as goal
+use Rattle.portal_list.proofs.instance.key_texts.Given as goal
 
 abbrev pub invariant-loop-key : goal.invariant-loop-key
 invariant-loop-key l = map (λ text. text.items) l.texts.items ≡ take l.key-index l.keys
