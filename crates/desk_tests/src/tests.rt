@@ -10,7 +10,7 @@ mod order;
 mod portal;
 mod reopening;
 mod requests;
-mod second;
+mod second_sheets;
 mod streams;
 mod trials;
 mod wire;
