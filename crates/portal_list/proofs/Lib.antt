@@ -22,3 +22,4 @@ pub mod Noted
 pub mod Stable
 pub mod Plays
 pub mod Second
+pub mod Listings

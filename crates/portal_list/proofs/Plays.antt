@@ -1,18 +1,16 @@
 -- Who takes part in the second round, from the rows and the pairs of the first round's result.
 use Rattle.std.proofs.Common.{◌≡◌, Bool, true, false, cond, List, [], ◌∷◌, map, refl, sym, ◌∙◌, ap, subst}
 use Rattle.std.specs.Prelude.{filter, nat_lt, ◌&&◌, Option, Some, None, option_map}
-use Rattle.std.specs.List.{filter_map, find}
+use Rattle.std.specs.List.{filter_map}
 use Rattle.portal_core.specs.declared.phase.Round.{Round}
 use Rattle.portal_core.specs.declared.phase.Round.TheVariants.{First, Second}
 use Rattle.portal_core.specs.declared.rows.LecturerRow.{LecturerRow}
 use Rattle.portal_core.specs.declared.rows.ProjectRow.{ProjectRow}
 use Rattle.portal_core.specs.Words.{Key, equals, has, Rise}
 use Rattle.portal_core.specs.World.{Lecturer, Student, lecturer_key, project_key, pairs_with, lowered_lecturer, lowered_project, lecturers_left, projects_left, students_in, alone_lecturer}
-use Rattle.portal_core.specs.View.{name_in, listing_with, listings}
 use Rattle.portal_core.proofs.AllLaws.{map_same, any_map}
 use Rattle.portal_core.proofs.Fills.{rise_kept}
 use Rattle.portal_core.proofs.InPlay.{filter_kept}
-use Rattle.portal_core.proofs.Keys.{find_map}
 use Rattle.portal_core.proofs.Rooms.{project_left_is, lecturer_left_is, each_left}
 use Rattle.portal_list.specs.inner.Played.{lecturer_played, project_played, takes_part}
 use Rattle.portal_list.proofs.Rising.{map_map}
@@ -61,19 +59,6 @@ module _ (ls : List Lecturer) (ps : List ProjectRow) (ss : List Student) where
   left_rise rise =
       rise_kept project_key (λ p. nat_lt 0 p.capacity && has (map lecturer_key (lecturers_left ls ps ss)) p.lecturer) (map (lowered_project ss) ps)
       (subst Rise (sym (map_same project_key (lowered_project ss) (λ p. refl) ps)) rise)
-
--- the catalogue reads nothing of an earlier round
-name_alone : (ls : List Lecturer) (k : Key) → name_in (map alone_lecturer ls) k ≡ name_in ls k
-name_alone ls k =
-    ap (option_map (λ (l : Lecturer). l.row.name)) (find_map alone_lecturer (λ l. equals l.row.key k) (λ l. equals l.row.key k) (λ l. refl) ls)
-    ∙ again (find (λ l. equals l.row.key k) ls)
-  where
-    again : (o : Option Lecturer) → option_map (λ (l : Lecturer). l.row.name) (option_map alone_lecturer o) ≡ option_map (λ l. l.row.name) o
-    again None = refl
-    again (Some l) = refl
-
-pub listings_alone : (ls : List Lecturer) (ps : List ProjectRow) → listings (map alone_lecturer ls) ps ≡ listings ls ps
-listings_alone ls ps = λ i. filter_map (λ p. option_map (listing_with p) (name_alone ls p.lecturer i)) ps
 
 -- the students who take part
 filter_true : {X : Type 0} (xs : List X) → filter (λ (x : X). true) xs ≡ xs

@@ -14,8 +14,8 @@ use std::alloc::{AllocError, Global};
 use std::collections::HashMap;
 use std::marker::Model;
 
-/// A roll of students, to be asked whose list holds a project. Keys can be made that its table tells apart one by one; a search then looks at
-/// each project once at most.
+/// A roll of students, to be asked whose list holds a project. Keys can be made that its table tells apart one by one; a search then
+/// looks at each project once at most.
 #[derive(Drop)]
 pub(crate) struct ApplicantIndex<'a> {
     students: &'a [StudentEntry],

@@ -1,4 +1,4 @@
-//! Rows found and put by their keys.
+//! Finds rows by their keys, and puts rows where their keys belong.
 
 ghost use Rattle.std.specs.Prelude.{◌≡◌, ◌<◌, ◌≤◌, ◌+◌, true, false, length, IfSome, IfNone, slice_index_or, insert, vec_len, vec_capacity};
 ghost use Rattle.std.specs.List.{list_any};

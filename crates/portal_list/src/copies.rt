@@ -1,4 +1,4 @@
-//! Copies of keys and rows.
+//! Copies of keys, persons and rows, and whether a list holds a key.
 
 ghost use Rattle.std.specs.Prelude.{◌≡◌, IfOk, option_map};
 ghost use Rattle.portal_core.specs.Words.{has};

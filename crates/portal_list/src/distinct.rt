@@ -1,4 +1,4 @@
-//! Whether texts differ.
+//! Whether the codes or the keys of many rows differ.
 
 ghost use Rattle.std.specs.Prelude.{◌≡◌, ◌↔◌, IfOk, IsTrue, map};
 ghost use Rattle.portal_core.specs.Words.{AreDistinct};

@@ -1,4 +1,4 @@
-//! The rows of a keeper, each with what its owner has made.
+//! The entries: the rows of the rolls, each with what its owner has made, and how they follow a change.
 
 ghost use Rattle.std.specs.Prelude.{◌≡◌, true, false, Ok, IfOk, OnOk, OnErr, map};
 ghost use Rattle.portal_core.specs.World.{World};
@@ -27,7 +27,11 @@ impl Model for LecturerEntry {
 
     ghost Value = { Lecturer };
 
-    ghost view = { λ e. record { row = e.row; ranking = option_map (λ r. r.items) e.ranking; earlier_ranking = option_map (λ r. r.items) e.earlier_ranking } };
+    ghost view = { λ e. record {
+      row = e.row;
+      ranking = option_map (λ r. r.items) e.ranking;
+      earlier_ranking = option_map (λ r. r.items) e.earlier_ranking;
+    } };
 }
 
 /// A student's row, the list of projects, and the project that the result gives, of the round; in the second round also those
@@ -46,7 +50,13 @@ impl Model for StudentEntry {
 
     ghost Value = { Student };
 
-    ghost view = { λ e. record { row = e.row; choice = e.choice.items; placed = e.placed; earlier_choice = e.earlier_choice.items; earlier_placement = e.earlier_placement } };
+    ghost view = { λ e. record {
+      row = e.row;
+      choice = e.choice.items;
+      placed = e.placed;
+      earlier_choice = e.earlier_choice.items;
+      earlier_placement = e.earlier_placement;
+    } };
 }
 
 /// The entries of a world, in the order of its rolls.
@@ -63,7 +73,12 @@ impl Model for Entries {
 
     ghost Value = { AllEntries };
 
-    ghost view = { λ e. record { round = e.round; lecturers = e.lecturers.items; projects = e.projects.items; students = e.students.items } };
+    ghost view = { λ e. record {
+      round = e.round;
+      lecturers = e.lecturers.items;
+      projects = e.projects.items;
+      students = e.students.items;
+    } };
 }
 
 impl Entries {

@@ -1,4 +1,4 @@
-//! What a fill would put.
+//! The rankings that a fill would put, before it is made.
 
 ghost use Rattle.std.specs.Prelude.{◌≡◌, IfOk, List, map};
 ghost use Rattle.portal_core.specs.Words as words;

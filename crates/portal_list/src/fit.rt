@@ -1,4 +1,4 @@
-//! Rows put together to entries.
+//! Puts rows, lists and pairs together to the entries of lecturers and of students.
 
 ghost use Rattle.std.specs.Prelude.{◌≡◌, IfOk, map, option_map};
 ghost use Rattle.portal_list.specs.inner.Fit.{next_for, rest_for, earlier_for, earlier_rest, lecturers_fitting, students_fitting};

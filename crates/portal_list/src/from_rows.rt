@@ -1,4 +1,4 @@
-//! A keeper of the rows of tables.
+//! Makes a keeper of the rows of tables, where these are those of a sound world.
 
 ghost use Rattle.std.specs.Prelude.{◌≡◌, ◌↔◌, Err, IfOk, IsTrue, MatchOption};
 ghost use Rattle.portal_core.specs.World.{World};

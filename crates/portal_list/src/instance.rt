@@ -1,4 +1,4 @@
-//! The instance of entries.
+//! The instance of the allocation that entries stand for: its lines, and what is built of them.
 
 ghost use Rattle.std.specs.Prelude.{◌≡◌, false, Err, IfOk, map};
 ghost use Rattle.std.specs.List.{AllByRecursion};

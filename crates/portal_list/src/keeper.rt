@@ -1,4 +1,4 @@
-//! The keeper.
+//! `ListKeeper`: what it shows, and how it applies each change.
 
 ghost use Rattle.std.specs.Prelude.{◌≡◌, true, [], IfOk, IfErr, OnOk, OnErr};
 ghost use Rattle.portal_core.specs.View as seen;

@@ -1,4 +1,4 @@
-//! What rows with a key share.
+//! The keys of entries: whether they rise, and whether one is there.
 
 ghost use Rattle.std.specs.Prelude.{◌≡◌, ◌↔◌, ℕ, List, IsTrue, map};
 ghost use Rattle.std.specs.Ordering.{nat_cmp};

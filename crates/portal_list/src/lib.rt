@@ -1,4 +1,4 @@
-//! A keeper of the world in plain vectors of rows.
+//! A keeper of the world in plain vectors of rows, and the catalogue that rows of the rolls make.
 #![tactic(auto)]
 
 mod applicant_index;
@@ -22,3 +22,4 @@ mod views;
 pub use entries::Entries;
 pub use from_rows::{RowsFault, WorldRows};
 pub use keeper::ListKeeper;
+pub use views::{HasLecturerRow, listings_of};

@@ -1,4 +1,4 @@
-//! Who takes part in a round.
+//! Who and what takes part in a round: in the second who has no project yet, and what room is left.
 
 ghost use Rattle.std.specs.Prelude.{◌≡◌, IfOk, map, filter, option_map};
 ghost use Rattle.std.specs.List.{list_any, filter_map};

@@ -1,4 +1,4 @@
-//! What each caller sees.
+//! What a student, a lecturer and the office see of a keeper in lists.
 
 ghost use Rattle.std.specs.Prelude.{◌≡◌, IfOk, option_map};
 ghost use Rattle.std.specs.List.{find};
@@ -15,6 +15,7 @@ use crate::entries::{LecturerEntry, StudentEntry};
 use crate::keeper::ListKeeper;
 use by_project::{applicants_by_project, placed_by_project};
 pub(crate) use catalogue::catalogue_of;
+pub use catalogue::{HasLecturerRow, listings_of};
 pub(crate) use office::waiting;
 use office::{lecturer_rows, project_rows, still_to_rank, student_rows, without_list};
 use placements::{pairs_of, placement_shown};

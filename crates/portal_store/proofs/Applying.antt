@@ -7,7 +7,6 @@ use Rattle.std.specs.List.Sorted.{IsPermutation}
 use Rattle.std.proofs.lemmas.List.Sorted.{IsPermutation-cons, IsPermutation-middle, IsPermutation-refl, IsPermutation-sym, IsPermutation-trans}
 use Rattle.sqlite.specs.Order.{Row, column, bytes}
 use Rattle.sqlite.specs.Tree.{Trees}
-use Rattle.sqlite.specs.Effect.{Database}
 use Rattle.sqlite_trees.proofs.ListLemmas.{filter-map, map-map, all_of}
 use Rattle.portal_core.specs.declared.phase.Phase.{Phase}
 use Rattle.portal_core.specs.declared.phase.Phase.TheVariants.{Setup, Choosing, Ranking, Published}
@@ -22,35 +21,20 @@ use Rattle.portal_core.specs.View.{persons, catalogue, lecturer_sees}
 use Rattle.portal_core.specs.Good.{Good}
 use Rattle.portal_core.proofs.Keys.{is_same}
 use Rattle.portal_core.proofs.Fills.{rise_kept}
-use Rattle.portal_core.proofs.AllLaws.{all_weaker, all_map}
-use Rattle.portal_tables.specs.Changes.{has_text}
-use Rattle.portal_tables.specs.inner.Changes.{ListsBy, columns}
-use Rattle.portal_tables.specs.ListTables.{choice_table, tree_of}
+use Rattle.portal_core.proofs.AllLaws.{all_weaker}
 use Rattle.portal_tables.specs.Tables.{project_tree, student_tree}
 use Rattle.portal_views.specs.declared.lines.ApplicantLine.{ApplicantLine}
-use Rattle.portal_store.specs.Kept.{HasSecond, IsConsistentIn}
+use Rattle.portal_store.specs.Kept.{HasSecond}
 use Rattle.portal_views.specs.inner.Lines.{shown_line, applicant_lines}
 use Rattle.portal_tables.specs.inner.Owners.{choice_shown}
-use Rattle.portal_tables.specs.Rolls.{row_key}
 use Rattle.portal_tables.specs.inner.Rolls.{by_key, roll_columns}
 use Rattle.portal_store.specs.World.{world_in, student_stored, project_row}
 use Rattle.portal_tables.specs.inner.Shown.{first_cell}
 use Rattle.portal_views.specs.inner.Callers.{person_key, lines_shown, persons_at, persons_before, placed_among, placed_at_shown, applicants_told, placed_told, own_keys_shown, lecturer_shown}
 use Rattle.portal_store.specs.inner.Queried.{lecturer_from}
-use Rattle.portal_views.proofs.Choosers.{chooser}
 use Rattle.portal_tables.proofs.Sorted.{distinct_permuted, map_alike, one_rise, permutes_more, put_all_map, rise_distinct, rise_put_all}
-use Rattle.portal_store.proofs.Holding.{has_tables}
 use Rattle.portal_store.proofs.Loaded.{none_earlier, projects_by_key, students_by_key}
 use Rattle.portal_store.proofs.Fine.{first_left, good_before, placed_on_lists}
-
--- a student of the world is among those who name the project where the student's list names it
-pub choosers : (round : Round) (db : Database) → IsConsistentIn round db → (p : Key) (shown : List Row) → ListsBy (1 ∷ []) (has_text 3 p) (columns (1 ∷ [])) (db.trees (tree_of (choice_table round))) shown
-    → AllByRecursion (λ (s : Student). has (map first_cell shown) s.row.key ≡ has s.choice p) (world_in round db.trees).students
-unfolding world_in
-choosers round db holds p shown lists =
-    subst (AllByRecursion (λ (s : Student). has (map first_cell shown) s.row.key ≡ has s.choice p)) (sym (students_by_key round db.trees))
-    (all_map (λ (s : Student). has (map first_cell shown) s.row.key ≡ has s.choice p) (student_stored round db.trees) (by_key (db.trees student_tree))
-    (all_of _ (λ r. chooser round db (has_tables db holds) p shown lists (row_key r)) (by_key (db.trees student_tree))))
 
 -- the own projects
 

@@ -1,18 +1,15 @@
 -- From what queries show of one caller to what the world says.
-use Rattle.std.proofs.Common.{◌≡◌, Option, Some, None, option_map, List, [], ◌∷◌, map, refl, sym, ap, ap₂, ◌∙◌}
+use Rattle.std.proofs.Common.{◌≡◌, Option, option_map, List, [], ◌∷◌, refl, sym, ap, ap₂, ◌∙◌}
 use Rattle.std.specs.List.{find}
 use Rattle.sqlite.specs.Order.{Row, column, bytes}
 use Rattle.sqlite.specs.Tree.{Trees}
 use Rattle.sqlite.specs.Effect.{Database}
-use Rattle.portal_core.specs.declared.rows.LecturerRow.{LecturerRow}
 use Rattle.portal_core.specs.declared.rows.Listing.{Listing}
-use Rattle.portal_core.specs.declared.rows.ProjectRow.{ProjectRow}
 use Rattle.portal_core.specs.Words.{Key, equals}
 use Rattle.portal_core.specs.World.{World, Lecturer, Student}
 use Rattle.portal_core.specs.declared.phase.Phase.{Phase}
-use Rattle.portal_core.specs.View.{name_in, listing_with, listings, catalogue, student_sees, lecturer_with, student_with}
+use Rattle.portal_core.specs.View.{listings, catalogue, student_sees, lecturer_with, student_with}
 use Rattle.portal_core.proofs.AllLaws.{all_weaker}
-use Rattle.portal_core.proofs.Keys.{find_map}
 use Rattle.portal_core.proofs.Capacities.{first_plays}
 use Rattle.portal_core.specs.declared.phase.Round.{Round}
 use Rattle.portal_core.specs.declared.phase.Round.TheVariants.{First, Second}
@@ -24,11 +21,13 @@ use Rattle.portal_store.specs.Kept.{IsConsistentIn}
 use Rattle.portal_tables.specs.inner.Rolls.{lecturer_columns, roll_columns}
 use Rattle.portal_store.specs.World.{world_in, lecturer_stored, student_stored}
 use Rattle.portal_tables.specs.inner.Shown.{as_list}
-use Rattle.portal_views.specs.inner.Catalogue.{name_of, offered, catalogue_shown}
+use Rattle.portal_list.specs.inner.Shown.{offered}
+use Rattle.portal_list.proofs.Listings.{offered_rows}
+use Rattle.portal_views.specs.inner.Catalogue.{catalogue_shown}
 use Rattle.portal_views.specs.inner.Callers.{student_shown}
 use Rattle.portal_store.specs.inner.Queried.{lecturer_from, student_from}
 use Rattle.portal_tables.proofs.OneFound.{found}
-use Rattle.portal_store.proofs.Loaded.{lecturers_by_key, students_by_key, round_rows, world_first, some_alike}
+use Rattle.portal_store.proofs.Loaded.{lecturers_by_key, students_by_key, round_rows, world_first}
 use Rattle.portal_tables.proofs.Shapes.{IsLecturerRow, IsStudentRow, has_text_of, lecturer_rows_formed, student_rows_formed}
 
 -- a row of a roll, and as it is shown, stand for one lecturer or student
@@ -71,18 +70,8 @@ student_told round db row phase offers at_phase all = λ i. student_shown round 
 
 -- the catalogue of the first round
 
-name_row : (o : Option Lecturer) → option_map (λ (r : LecturerRow). r.name) (option_map (λ (l : Lecturer). l.row) o) ≡ option_map (λ (l : Lecturer). l.row.name) o
-name_row None = refl
-name_row (Some l) = refl
-
-all_offered : (ls : List Lecturer) (ps : List ProjectRow) → offered (map (λ (l : Lecturer). l.row) ls) ps ≡ listings ls ps
-all_offered ls ps =
-    some_alike (λ p. option_map (listing_with p) (name_of (map (λ (l : Lecturer). l.row) ls) p.lecturer)) (λ p. option_map (listing_with p) (name_in ls p.lecturer)) ps (λ p.
-    ap (option_map (listing_with p)) (ap (option_map (λ (r : LecturerRow). r.name)) (find_map (λ (l : Lecturer). l.row) (λ (l : Lecturer). equals l.row.key p.lecturer) (λ (r : LecturerRow). equals r.key p.lecturer) (λ l. refl) ls)
-    ∙ name_row (find (λ (l : Lecturer). equals l.row.key p.lecturer) ls)))
-
 pub catalogue_told : (db : Trees) → catalogue_shown db ≡ catalogue (world_in First db)
 catalogue_told db =
     let rows = round_rows First db in
-    ap₂ offered (ap (λ (r : AllRows). r.lecturers) rows) (ap (λ (r : AllRows). r.projects) rows) ∙ all_offered (world_in First db).lecturers (world_in First db).projects
+    ap₂ offered (ap (λ (r : AllRows). r.lecturers) rows) (ap (λ (r : AllRows). r.projects) rows) ∙ offered_rows (world_in First db).lecturers (world_in First db).projects
     ∙ ap (λ (u : World). listings u.lecturers u.projects) (sym (first_plays (world_in First db) (world_first db)))

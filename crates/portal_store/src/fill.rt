@@ -1,4 +1,4 @@
-//! The missing rankings, put in one transaction.
+//! Fills the missing rankings, in one transaction.
 
 ghost use Rattle.std.specs.Prelude.{◌≡◌, false, List, map};
 ghost use Rattle.sqlite.specs.Held.{state};

@@ -1,4 +1,4 @@
-//! The entries that a store remembers, after a change.
+//! What becomes of the entries that a store remembers, after a change.
 
 ghost use Rattle.std.specs.Prelude.{◌≡◌, OnOk, OnErr};
 ghost use Rattle.portal_core.specs.Change.{changed};

@@ -14,8 +14,9 @@ pub fn opens_fresh()
     ensures { OpensFresh }
 {}
 
-/// What a crash of `Store::upgrade` left shows the tables of version 1 and a good world, which `upgrade` refuses for a fault of the store or
-/// want of memory alone, or the portal's own tables, which `open` refuses for these alone: with the world that was there before.
+/// What a crash of `Store::upgrade` left shows the tables of version 1 and a good world, which `upgrade` refuses for a fault of the
+/// store or want of memory alone, or the portal's own tables, which `open` refuses for these alone: with the world that was there
+/// before.
 pub fn upgrades_again()
     ensures { UpgradesAgain }
 {}

@@ -1,4 +1,4 @@
-//! A student's list and a lecturer's ranking, each put in place of any other.
+//! Puts a student's list, or a lecturer's ranking, in place of the one before, in one transaction.
 
 ghost use Rattle.std.specs.Prelude.{◌≡◌, false};
 ghost use Rattle.sqlite.specs.Held.{state};

@@ -1,4 +1,4 @@
-//! The world that the tables stand for, by its rows and by its entries.
+//! Loads the world that the tables stand for: its rows, in lists or as entries.
 
 ghost use Rattle.std.specs.Prelude.{◌≡◌, false, Err, IfOk};
 ghost use Rattle.sqlite.specs.Held.{state};

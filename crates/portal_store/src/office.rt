@@ -1,4 +1,4 @@
-//! The code of the office, of its row.
+//! Reads the code of the office.
 
 ghost use Rattle.std.specs.Prelude.{◌≡◌, false, IfOk};
 ghost use Rattle.portal_core.specs.Counting.{CountsFaults};

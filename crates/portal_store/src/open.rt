@@ -1,4 +1,4 @@
-//! Opens a store over tables that are there.
+//! Opens a store over tables that are there, once they are seen to be those of a good world.
 
 ghost use Rattle.std.specs.Prelude.{◌≡◌, ◌≢◌, ◌↔◌, false, [], Err, IfOk, IfErr, OnOk, IsTrue, ◌∷◌};
 ghost use Rattle.sqlite.specs.State.{HasCleanDisk, IsUnchanged, Survives};
@@ -22,7 +22,7 @@ ghost use Rattle.portal_store.specs.inner.Reading.{ReadsAll, OverLive, queried_r
 
 use crate::fault::{load_open_fault_of, open_fault_of};
 use crate::round::first_phase;
-use crate::seeing::{apart, judge_world, see_first, see_first_apart, seen};
+use crate::seeing::{judge_numbers, judge_world, see_first, see_first_numbers, seen};
 use crate::sound::load_keeper;
 use crate::store::{NotOpened, OpenFault, Store};
 use portal_core::{Phase, ViewCache};
@@ -128,7 +128,7 @@ fn see_second<S: Alter>(alloc: Global, conn: &mut Connection<S>) -> Result<(), O
 }
 
 /// Whether the rows of the second round have numbers of their own.
-fn see_second_apart<S: Alter>(conn: &mut Connection<S>) -> Result<(), OpenFault>
+fn see_second_numbers<S: Alter>(conn: &mut Connection<S>) -> Result<(), OpenFault>
     requires idle { conn.old.in_transaction ≡ false }
     ensures idle { conn.new.in_transaction ≡ false }
     ensures asks { RunsQueryIn Second result (state S.Store conn.old) (state S.Store conn.new) }
@@ -136,14 +136,14 @@ fn see_second_apart<S: Alter>(conn: &mut Connection<S>) -> Result<(), OpenFault>
     ensures apart { IsCurrentSchema conn.old.schema → HasCleanDisk (state S.Store conn.new)
         → OnOk result (AllNumbersDiffer later_trees (shown S.Store conn.old)) }
 {
-    apart(row_numbers_differ(conn, Table::OfLists(Lists::SecondChoices)))?;
-    apart(row_numbers_differ(conn, Table::OfRanked))?;
-    apart(row_numbers_differ(conn, Table::OfLists(Lists::SecondRankings)))?;
-    apart(row_numbers_differ(conn, Table::OfPlaces))
+    judge_numbers(row_numbers_differ(conn, Table::OfLists(Lists::SecondChoices)))?;
+    judge_numbers(row_numbers_differ(conn, Table::OfRanked))?;
+    judge_numbers(row_numbers_differ(conn, Table::OfLists(Lists::SecondRankings)))?;
+    judge_numbers(row_numbers_differ(conn, Table::OfPlaces))
 }
 
 /// Whether the rows of all tables have numbers of their own.
-fn see_apart<S: Alter>(conn: &mut Connection<S>) -> Result<(), OpenFault>
+fn see_numbers<S: Alter>(conn: &mut Connection<S>) -> Result<(), OpenFault>
     requires idle { conn.old.in_transaction ≡ false }
     ensures idle { conn.new.in_transaction ≡ false }
     ensures asks { RunsQueryIn Second result (state S.Store conn.old) (state S.Store conn.new) }
@@ -151,8 +151,8 @@ fn see_apart<S: Alter>(conn: &mut Connection<S>) -> Result<(), OpenFault>
     ensures apart { IsCurrentSchema conn.old.schema → HasCleanDisk (state S.Store conn.new)
         → OnOk result (NumbersDiffer (shown S.Store conn.old)) }
 {
-    see_first_apart(conn)?;
-    see_second_apart(conn)
+    see_first_numbers(conn)?;
+    see_second_numbers(conn)
 }
 
 /// The entries of the world that the rows stand for, where it is good.
@@ -189,7 +189,7 @@ fn judge_both<S: Alter>(alloc: Global, conn: &mut Connection<S>) -> Result<Entri
     ensures entries { OverLive Second S.Store conn.old conn.new
         (IfOk result (λ e. HasEntries e (world_of (shown S.Store conn.old)))) }
 {
-    see_apart(conn)?;
+    see_numbers(conn)?;
     see_second(alloc, conn)?;
     see_world(alloc, conn)
 }

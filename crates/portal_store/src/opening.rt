@@ -1,4 +1,4 @@
-//! The second round is opened.
+//! Opens the second round, in one transaction.
 
 ghost use Rattle.std.specs.Prelude.{◌≡◌, ◌&&◌, false, not};
 ghost use Rattle.sqlite.specs.Held.{state};

@@ -1,4 +1,4 @@
-//! The phase of the portal, in the row of the office.
+//! Moves the phase of a round, in one transaction.
 
 ghost use Rattle.std.specs.Prelude.{◌≡◌, false};
 ghost use Rattle.sqlite.specs.Held.{state};

@@ -20,16 +20,14 @@ ghost use Rattle.portal_store.specs.inner.Reading.{KeepsCache, KeepsCacheIn, IsN
 
 mod caller;
 mod catalogue;
-mod office;
 
 use crate::fault::told;
 use crate::round::round_now;
 use caller::{lecturer_in, student_in};
 use catalogue::shared_catalogue;
-use office::office_view;
 use portal_core::{KeepFault, OfficeView, Phase, Round, View, ViewCache};
 use portal_tables::{Office, TableFault};
-use portal_views::{lecturer_view, student_view};
+use portal_views::{lecturer_view, office_view, student_view};
 use sqlite::{Alter, Connection};
 use std::alloc::Global;
 

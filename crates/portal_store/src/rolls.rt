@@ -1,4 +1,4 @@
-//! New rows of the rolls.
+//! Adds rows to a roll, in one transaction.
 
 ghost use Rattle.std.specs.Prelude.{◌≡◌, false};
 ghost use Rattle.sqlite.specs.Held.{state};

@@ -1,4 +1,4 @@
-//! The round of the tables, and the phase of the first.
+//! Reads which round the tables are in, and its phase.
 
 ghost use Rattle.std.specs.Prelude.{◌≡◌, true, false, Err, IfOk};
 ghost use Rattle.sqlite.specs.Held.{state};

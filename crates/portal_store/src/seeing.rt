@@ -1,4 +1,4 @@
-//! What is seen of tables that are there, of either version.
+//! Looks at tables before a store is opened over them: that each can be queried, the version, the numbers of rows, and the world.
 
 ghost use Rattle.std.specs.Prelude.{◌≡◌, ◌≢◌, ◌↔◌, ◌⊎◌, false, true, [], ◌∷◌, pos, Ok, Err, List, IfOk, IfErr, OnOk, IsTrue};
 ghost use Rattle.sqlite.specs.declared.types.Value.TheVariants.{Int};
@@ -128,7 +128,7 @@ pub(crate) fn see_first<S: Alter>(
 }
 
 /// What the answer on the numbers of rows means: those of a sound store differ, so that all else is a fault of the store.
-pub(crate) fn apart(answer: Result<bool, Error>) -> Result<(), OpenFault>
+pub(crate) fn judge_numbers(answer: Result<bool, Error>) -> Result<(), OpenFault>
     ensures ok { OnOk result (answer ≡ Ok true) }
     ensures refused { IfErr result SaysNothing }
 {
@@ -140,7 +140,7 @@ pub(crate) fn apart(answer: Result<bool, Error>) -> Result<(), OpenFault>
 }
 
 /// Whether the rows of the three rolls have numbers of their own.
-fn see_rolls_apart<S: Alter>(conn: &mut Connection<S>) -> Result<(), OpenFault>
+fn see_rolls_numbers<S: Alter>(conn: &mut Connection<S>) -> Result<(), OpenFault>
     requires idle { conn.old.in_transaction ≡ false }
     ensures idle { conn.new.in_transaction ≡ false }
     ensures asks { RunsQuery result (state S.Store conn.old) (state S.Store conn.new) }
@@ -149,13 +149,13 @@ fn see_rolls_apart<S: Alter>(conn: &mut Connection<S>) -> Result<(), OpenFault>
         → OnOk result (AllNumbersDiffer (lecturer_tree ∷ project_tree ∷ student_tree ∷ [])
         (shown S.Store conn.old)) }
 {
-    apart(row_numbers_differ(conn, Table::OfRoll(Roll::Lecturers)))?;
-    apart(row_numbers_differ(conn, Table::OfRoll(Roll::Projects)))?;
-    apart(row_numbers_differ(conn, Table::OfRoll(Roll::Students)))
+    judge_numbers(row_numbers_differ(conn, Table::OfRoll(Roll::Lecturers)))?;
+    judge_numbers(row_numbers_differ(conn, Table::OfRoll(Roll::Projects)))?;
+    judge_numbers(row_numbers_differ(conn, Table::OfRoll(Roll::Students)))
 }
 
 /// Whether the rows of the lists of the first round have numbers of their own.
-fn see_lists_apart<S: Alter>(conn: &mut Connection<S>) -> Result<(), OpenFault>
+fn see_lists_numbers<S: Alter>(conn: &mut Connection<S>) -> Result<(), OpenFault>
     requires idle { conn.old.in_transaction ≡ false }
     ensures idle { conn.new.in_transaction ≡ false }
     ensures asks { RunsQuery result (state S.Store conn.old) (state S.Store conn.new) }
@@ -163,8 +163,8 @@ fn see_lists_apart<S: Alter>(conn: &mut Connection<S>) -> Result<(), OpenFault>
     ensures apart { HasFirstSchema conn.old.schema → HasCleanDisk (state S.Store conn.new)
         → OnOk result (AllNumbersDiffer (choice_tree ∷ ranking_tree ∷ []) (shown S.Store conn.old)) }
 {
-    apart(row_numbers_differ(conn, Table::OfLists(Lists::Choices)))?;
-    apart(row_numbers_differ(conn, Table::OfLists(Lists::Rankings)))
+    judge_numbers(row_numbers_differ(conn, Table::OfLists(Lists::Choices)))?;
+    judge_numbers(row_numbers_differ(conn, Table::OfLists(Lists::Rankings)))
 }
 
 /// Whether the keeper's world is good.
@@ -208,7 +208,7 @@ fn see_world<S: Alter>(
 }
 
 /// Whether the rows of the first round have numbers of their own.
-pub(crate) fn see_first_apart<S: Alter>(conn: &mut Connection<S>) -> Result<(), OpenFault>
+pub(crate) fn see_first_numbers<S: Alter>(conn: &mut Connection<S>) -> Result<(), OpenFault>
     requires idle { conn.old.in_transaction ≡ false }
     ensures idle { conn.new.in_transaction ≡ false }
     ensures asks { RunsQuery result (state S.Store conn.old) (state S.Store conn.new) }
@@ -216,8 +216,8 @@ pub(crate) fn see_first_apart<S: Alter>(conn: &mut Connection<S>) -> Result<(), 
     ensures apart { HasFirstSchema conn.old.schema → HasCleanDisk (state S.Store conn.new)
         → OnOk result (AllNumbersDiffer early_trees (shown S.Store conn.old)) }
 {
-    see_rolls_apart(conn)?;
-    see_lists_apart(conn)
+    see_rolls_numbers(conn)?;
+    see_lists_numbers(conn)
 }
 
 /// What is tested of the first round's tables, of a version, in this order: the numbers of rows, and the world, whose entries come.
@@ -236,6 +236,6 @@ pub(crate) fn judge_first<S: Alter>(
     ensures entries { OverLive First S.Store conn.old conn.new
         (IfOk result (λ e. HasEntries e (world_in First (shown S.Store conn.old)))) }
 {
-    see_first_apart(conn)?;
+    see_first_numbers(conn)?;
     see_world(alloc, conn, version)
 }

@@ -1,4 +1,4 @@
-//! The world of the tables, in lists.
+//! Loads the world of the tables into a keeper in lists.
 
 ghost use Rattle.std.specs.Prelude.{◌≡◌, false, Err, IfOk};
 ghost use Rattle.sqlite.specs.Held.{state};

@@ -27,7 +27,8 @@ pub use Rattle.portal_tables.specs.declared.select.Table.TheVariants.{OfLists, O
 pub use Rattle.portal_views.specs.inner.Callers.{applicants_told, lecturer_shown, lines_shown, own_keys_shown, person_key, persons_at, persons_before, placed_at_shown, placed_told, with_persons}
 pub use Rattle.portal_views.specs.inner.Contents.{AreFine}
 pub use Rattle.portal_views.specs.inner.Lines.{HasTables, applicant_lines, in_round, applicant_at, shown_line, told_line}
-pub use Rattle.portal_views.specs.inner.Catalogue.{IsCatalogue, catalogue_shown, name_of, offered, own_listed}
+pub use Rattle.portal_list.specs.inner.Shown.{name_of, offered}
+pub use Rattle.portal_views.specs.inner.Catalogue.{IsCatalogue, catalogue_shown, own_listed}
 pub use Rattle.portal_views.specs.declared.lines.ApplicantLine.{ApplicantLine}
 pub use Rattle.sqlite.specs.Collation.TheVariants.{Binary}
 pub use Rattle.sqlite.specs.Edit.{id_in}

@@ -1,5 +1,5 @@
 -- Who names a project, of the keys that a query of the lists shows.
-use Rattle.std.specs.Prelude.{◌≡◌, ◌&&◌, ◌||◌, ◌∷◌}
+use Rattle.std.specs.Prelude.{◌≡◌, ◌&&◌, ◌∷◌}
 use Rattle.portal_views.proofs.Base.{Bool, true, List, [], map, filter, refl, sym, ap, ap₂, subst, ◌∙◌, AllByRecursion, list_any, and_comm, list_any-IsPermutation, Row, column, bytes, Database, all-filter, Key, equals, has, all_weaker, all_map, any_map, filtered_any, is_sym, student_tree, Round, First, Second, choice_table, round_of, tree_of, RowNumbersDiffer, ListsBy, columns, has_text, of_key, named_by, place_key, by_place, chosen, row_key, students_shown, first_cell, HasTables}
 use Rattle.portal_tables.proofs.Listed.{permuted}
 use Rattle.portal_tables.proofs.Lists.{any_alike}

@@ -4,3 +4,4 @@ pub mod Owners
 pub mod Choosers
 pub mod LineRows
 pub mod OwnProjects
+pub mod OfficeLists

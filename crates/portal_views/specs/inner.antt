@@ -3,3 +3,4 @@ pub mod Lines
 pub mod Contents
 pub mod Catalogue
 pub mod Callers
+pub mod Office

@@ -1,58 +1,20 @@
 //! The catalogue of the projects: each with its lecturer's name.
 
 ghost use Rattle.std.specs.Prelude.{◌≡◌};
-ghost use Rattle.portal_views.specs.inner.Base.{IfOk, option_map, map, state, listing_with};
-ghost use Rattle.portal_views.specs.inner.Catalogue.{name_of, offered, catalogue_shown};
+ghost use Rattle.portal_list.specs.inner.Shown.{offered};
+ghost use Rattle.portal_views.specs.inner.Base.{IfOk, map, state};
+ghost use Rattle.portal_views.specs.inner.Catalogue.{catalogue_shown};
 ghost use Rattle.portal_tables.specs.inner.Reading.{RunsQueries, Yields};
 ghost use Rattle.portal_tables.specs.inner.Shown.{shown_lecturer, shown_project};
 
-use portal_core::{LecturerRow, Listing, Name, ProjectRow};
+use portal_core::{LecturerRow, Listing, ProjectRow};
+use portal_list::listings_of;
 use portal_tables::decode::decoded;
 use portal_tables::select::Roll;
 use portal_tables::{TableFault, roll_in};
-use spa_rows::Key;
 use sqlite::{Alter, Connection, Row};
-use std::alloc::{AllocError, Global};
+use std::alloc::Global;
 use std::rc::Rc;
-
-/// The name of the lecturer with this key.
-fn name_among<'a>(lecturers: &'a [LecturerRow], key: &Key) -> Option<&'a Name>
-    ensures { option_map (λ n. n.now) result ≡ name_of lecturers.now key.now }
-{
-    let found = lecturers.iter().find(|lecturer| lecturer.key == *key)?;
-    Some(&found.name)
-}
-
-fn listing_among(
-    alloc: Global,
-    lecturers: &[LecturerRow],
-    project: &ProjectRow,
-) -> Result<Option<Listing>, AllocError>
-    ensures { IfOk result (λ o. o
-        ≡ option_map (listing_with project.now) (name_of lecturers.now project.now.lecturer)) }
-{
-    match name_among(lecturers, &project.lecturer) {
-        Some(name) => Ok(Some(Listing::of(alloc, project, name)?)),
-        None => Ok(None),
-    }
-}
-
-/// Each project with its lecturer's name.
-fn listings_of(
-    alloc: Global,
-    lecturers: &[LecturerRow],
-    projects: &[ProjectRow],
-) -> Result<Vec<Listing>, AllocError>
-    ensures { IfOk result (λ v. v.items ≡ offered lecturers.now projects.now) }
-{
-    let mut found = Vec::with_capacity(alloc, projects.len())?;
-    for project in projects {
-        if let Some(listing) = listing_among(alloc, lecturers, project)? {
-            found.push(listing)?;
-        }
-    }
-    Ok(found)
-}
 
 /// The catalogue of the rows that the rolls show.
 fn catalogue_of(

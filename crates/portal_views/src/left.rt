@@ -1,4 +1,4 @@
-//! Who is left of the students that take part, when others are taken away.
+//! The students who take part, but for those of other rows.
 
 ghost use Rattle.std.specs.Prelude.{◌≡◌, ◌&&◌, is_none};
 ghost use Rattle.portal_views.specs.inner.Base.{IfOk, not, map, filter, has, Rise};
@@ -37,7 +37,7 @@ fn keys_but(
 /// The keys of the students whose rows these are, who take part in the round, in their order, but for those that the others begin with. The
 /// fault is `Damaged` where the keys of the others do not rise or one of the rows does not begin with a key, `Memory` where there is not
 /// enough memory.
-pub fn keys_left(
+pub(crate) fn keys_left(
     alloc: Global,
     round: Round,
     students: &[Row],

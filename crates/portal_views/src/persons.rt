@@ -1,4 +1,4 @@
-//! Persons put by their keys.
+//! Puts persons among others by their keys.
 
 ghost use Rattle.std.specs.Prelude.{◌≡◌, ◌≤◌, insert};
 ghost use Rattle.portal_views.specs.inner.Base.{OnOk, length, Person as ThatPerson, put, put_all};

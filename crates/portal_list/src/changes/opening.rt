@@ -1,4 +1,4 @@
-//! What there is becomes the first round's, where the second opens.
+//! Opens the second round: the lists and rankings that there are become those of the first.
 
 ghost use Rattle.std.specs.Prelude.{◌≡◌, map};
 ghost use Rattle.portal_core.specs.Change.{ranked_before, placed_before};

@@ -1,4 +1,4 @@
-//! The result.
+//! Puts a result: each student who takes part gets the project of the pairs, or none.
 
 ghost use Rattle.std.specs.Prelude.{◌≡◌, IfOk, OnOk, OnErr, map};
 ghost use Rattle.portal_core.specs.Change.{placement_in, with_place};

@@ -1,4 +1,4 @@
-//! New rows of the rolls.
+//! Adds rows to the rolls: each new row as an entry that has made nothing yet.
 
 ghost use Rattle.std.specs.Prelude.{◌≡◌, IfOk, OnOk, OnErr, map};
 ghost use Rattle.portal_core.specs.Words.{put_all};

@@ -1,34 +1,63 @@
-//! The catalogue.
+//! The catalogue: each project with its lecturer's name.
 
-ghost use Rattle.std.specs.Prelude.{◌≡◌, IfOk, option_map};
-ghost use Rattle.portal_core.specs.View.{name_in, listing_with, listings};
-ghost use Rattle.portal_list.specs.inner.Shown.{catalogue_in};
+ghost use Rattle.std.specs.Prelude.{◌≡◌, IfOk, map, option_map};
+ghost use Rattle.portal_core.specs.View.{listing_with};
+ghost use Rattle.portal_core.specs.declared.rows.LecturerRow as rows;
+ghost use Rattle.portal_list.specs.inner.Shown.{name_of, offered, catalogue_in};
 
 use crate::entries::{Entries, LecturerEntry};
 use crate::played::played;
-use portal_core::{Listing, Name, ProjectRow, Round};
+use portal_core::{LecturerRow, Listing, Name, ProjectRow, Round};
 use spa_rows::Key;
 use std::alloc::{AllocError, Global};
 
+/// A row of the roll of lecturers, or what has one.
+pub trait HasLecturerRow {
+    /// The row.
+    ghost row_of: { Self → rows.LecturerRow };
+
+    /// The row.
+    fn lecturer_row(&self) -> &LecturerRow
+        ensures { result.now ≡ row_of self.now };
+}
+
+impl HasLecturerRow for LecturerRow {
+    ghost row_of = { λ row. row };
+
+    fn lecturer_row(&self) -> &LecturerRow {
+        self
+    }
+}
+
+impl HasLecturerRow for LecturerEntry {
+    ghost row_of = { λ entry. entry.row };
+
+    fn lecturer_row(&self) -> &LecturerRow {
+        &self.row
+    }
+}
+
 /// The name of the lecturer with this key.
-fn name_among<'a>(lecturers: &'a [LecturerEntry], key: &Key) -> Option<&'a Name>
-    ensures { option_map (λ n. n.now) result ≡ name_in lecturers.now key.now }
+fn name_among<'a, L: HasLecturerRow>(lecturers: &'a [L], key: &Key) -> Option<&'a Name>
+    ensures { option_map (λ n. n.now) result ≡ name_of (map L.row_of lecturers.now) key.now }
 {
     for lecturer in lecturers {
-        if lecturer.row.key == *key {
-            return Some(&lecturer.row.name);
+        let row = lecturer.lecturer_row();
+        if row.key == *key {
+            return Some(&row.name);
         }
     }
     None
 }
 
-fn listing_among(
+fn listing_among<L: HasLecturerRow>(
     alloc: Global,
-    lecturers: &[LecturerEntry],
+    lecturers: &[L],
     project: &ProjectRow,
 ) -> Result<Option<Listing>, AllocError>
     ensures { IfOk result (λ o. o
-        ≡ option_map (listing_with project.now) (name_in lecturers.now project.now.lecturer)) }
+        ≡ option_map (listing_with project.now)
+        (name_of (map L.row_of lecturers.now) project.now.lecturer)) }
 {
     match name_among(lecturers, &project.lecturer) {
         Some(name) => Ok(Some(Listing::of(alloc, project, name)?)),
@@ -36,13 +65,17 @@ fn listing_among(
     }
 }
 
-/// Each project with its lecturer's name.
-fn listings_of(
+/// Each project with the name of its lecturer; one whose lecturer is not among these is left out.
+///
+/// # Errors
+///
+/// Memory ran out.
+pub fn listings_of<L: HasLecturerRow>(
     alloc: Global,
-    lecturers: &[LecturerEntry],
+    lecturers: &[L],
     projects: &[ProjectRow],
 ) -> Result<Vec<Listing>, AllocError>
-    ensures { IfOk result (λ v. v.items ≡ listings lecturers.now projects.now) }
+    ensures { IfOk result (λ v. v.items ≡ offered (map L.row_of lecturers.now) projects.now) }
 {
     let mut found = Vec::with_capacity(alloc, projects.len())?;
     for project in projects {

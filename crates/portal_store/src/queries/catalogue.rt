@@ -1,4 +1,4 @@
-//! The catalogue of the projects, shared by all who are shown it.
+//! The catalogue, made of the tables once and shared by all who are shown it.
 
 ghost use Rattle.std.specs.Prelude.{◌≡◌, false, IfOk};
 ghost use Rattle.sqlite.specs.Held.{state};

@@ -1,18 +1,11 @@
 -- The catalogue of the projects, of the rows of the rolls.
 use Rattle.std.specs.Prelude.{◌≡◌}
-use Rattle.portal_views.specs.inner.Base.{List, map, filter, Option, option_map, find, filter_map, Trees, Round, First, LecturerRow, Listing, ProjectRow, listing_with, Key, equals}
+use Rattle.portal_list.specs.inner.Shown.{offered}
+use Rattle.portal_views.specs.inner.Base.{List, map, filter, Trees, Round, First, Listing, Key, equals}
 use Rattle.portal_tables.specs.inner.Rolls.{lecturers_shown, projects_shown}
 use Rattle.portal_tables.specs.inner.Shown.{shown_lecturer, shown_project}
 
--- the name of the lecturer with this key
-abbrev pub name_of : List LecturerRow → Key → Option Key
-name_of ls k = option_map (λ (l : LecturerRow). l.name) (find (λ l. equals l.key k) ls)
-
--- each project with its lecturer's name
-abbrev pub offered : List LecturerRow → List ProjectRow → List Listing
-offered ls ps = filter_map (λ p. option_map (listing_with p) (name_of ls p.lecturer)) ps
-
--- of the rolls in the tables
+-- each project with its lecturer's name, of the rolls in the tables
 abbrev pub catalogue_shown : Trees → List Listing
 catalogue_shown db = offered (map shown_lecturer (lecturers_shown db)) (map shown_project (projects_shown db))
 

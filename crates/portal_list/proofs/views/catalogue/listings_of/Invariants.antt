@@ -1,6 +1,6 @@
-use Rattle.std.proofs.Common.{◌≡◌, take}
-use Rattle.portal_core.specs.View.{listings}
+use Rattle.std.proofs.Common.{◌≡◌, map, take}
+use Rattle.portal_list.specs.inner.Shown.{offered}
 use Rattle.portal_list.proofs.views.catalogue.listings_of.Given as goal
 
 abbrev pub invariant-loop-project : goal.invariant-loop-project
-invariant-loop-project l = l.found.items ≡ listings l.lecturers (take l.project-index l.projects)
+invariant-loop-project g l = l.found.items ≡ offered (map g.L.HasLecturerRow.row_of l.lecturers) (take l.project-index l.projects)

@@ -1,6 +1,6 @@
-use Rattle.std.proofs.Common.{◌≡◌, drop}
-use Rattle.portal_core.specs.View.{name_in}
+use Rattle.std.proofs.Common.{◌≡◌, map, drop}
+use Rattle.portal_list.specs.inner.Shown.{name_of}
 use Rattle.portal_list.proofs.views.catalogue.name_among.Given as goal
 
 abbrev pub invariant-loop-lecturer : goal.invariant-loop-lecturer
-invariant-loop-lecturer l = name_in (drop l.lecturer-index l.lecturers) l.key ≡ name_in l.lecturers l.key
+invariant-loop-lecturer g l = name_of (map g.L.HasLecturerRow.row_of (drop l.lecturer-index l.lecturers)) l.key ≡ name_of (map g.L.HasLecturerRow.row_of l.lecturers) l.key

@@ -1,0 +1,25 @@
+-- The catalogue of lecturers is that of their rows.
+use Rattle.std.proofs.Common.{◌≡◌, Option, Some, None, option_map, List, map, refl, ap, ◌∙◌}
+use Rattle.std.specs.List.{find, filter_map}
+use Rattle.portal_core.specs.declared.rows.LecturerRow.{LecturerRow}
+use Rattle.portal_core.specs.declared.rows.ProjectRow.{ProjectRow}
+use Rattle.portal_core.specs.Words.{Key, equals}
+use Rattle.portal_core.specs.World.{Lecturer}
+use Rattle.portal_core.specs.View.{name_in, listing_with, listings}
+use Rattle.portal_core.proofs.Keys.{find_map}
+use Rattle.portal_list.specs.inner.Shown.{name_of, offered}
+
+abbrev pub row_of : Lecturer → LecturerRow
+row_of l = l.row
+
+name_row : (o : Option Lecturer) → option_map (λ (r : LecturerRow). r.name) (option_map row_of o) ≡ option_map (λ (l : Lecturer). l.row.name) o
+name_row None = refl
+name_row (Some l) = refl
+
+name_is : (ls : List Lecturer) (k : Key) → name_of (map row_of ls) k ≡ name_in ls k
+name_is ls k =
+    ap (option_map (λ (r : LecturerRow). r.name)) (find_map row_of (λ (l : Lecturer). equals l.row.key k) (λ (r : LecturerRow). equals r.key k) (λ l. refl) ls)
+    ∙ name_row (find (λ (l : Lecturer). equals l.row.key k) ls)
+
+pub offered_rows : (ls : List Lecturer) (ps : List ProjectRow) → offered (map row_of ls) ps ≡ listings ls ps
+offered_rows ls ps = λ i. filter_map (λ p. option_map (listing_with p) (name_is ls p.lecturer i)) ps

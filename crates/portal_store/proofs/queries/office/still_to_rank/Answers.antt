@@ -1,6 +1,0 @@
-use Rattle.sqlite.specs.Held.{state}
-use Rattle.portal_tables.proofs.InTurn.{reads_self}
-use Rattle.portal_store.proofs.queries.office.still_to_rank.Goals as goal
-
-pub returns-clause-reads : goal.returns-clause-reads
-returns-clause-reads g c = reads_self c.new.result (state g.S.Store c.args.conn.now)

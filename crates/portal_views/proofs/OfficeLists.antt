@@ -1,0 +1,111 @@
+-- Who has a list, and whether some list holds a project, of what queries of the lists show.
+use Rattle.std.specs.Prelude.{◌≡◌, ◌&&◌, ◌||◌, ◌∷◌, is_none}
+use Rattle.std.proofs.Common.{pos, negsuc}
+use Rattle.std.proofs.Math.Bool.{or-true}
+use Rattle.sqlite.specs.State.{State, HasCleanDisk}
+use Rattle.sqlite_trees.specs.Objects.{number_in}
+use Rattle.portal_core.specs.Words.{is_empty}
+use Rattle.portal_core.proofs.AllLaws.{any_nowhere}
+use Rattle.portal_core.proofs.Kept.{empty_map}
+use Rattle.portal_list.proofs.Members.{has_all}
+use Rattle.portal_tables.specs.inner.Changes.{has_number}
+use Rattle.portal_tables.specs.inner.Owners.{choice_shown}
+use Rattle.portal_tables.specs.Lists.{CountUp, IsWhole, place_of}
+use Rattle.portal_tables.proofs.Lists.{any_alike, eq_self}
+use Rattle.portal_tables.proofs.OneFound.{filter_alike}
+use Rattle.portal_tables.proofs.Owned.{has_round}
+use Rattle.portal_tables.proofs.Parents.{none_of}
+use Rattle.portal_tables.proofs.Shapes.{IsPlace, has_text_of}
+use Rattle.portal_tables.proofs.Sorted.{permutes, all_permuted}
+use Rattle.portal_views.specs.inner.Office.{HasWholeLists, is_chosen_shown, unlisted}
+use Rattle.portal_views.proofs.Base.{Bool, true, false, ℤ, List, [], map, filter, inl, inr, refl, sym, ap, subst, ◌∙◌, not, AllByRecursion, list_any, and_comm, list_any-IsPermutation, cases_Bool, Row, column, bytes, Database, value_cmp, Int, is_eq, all-filter, all_of, Key, equals, has, all_weaker, all_map, any_map, filtered_any, is_sym, student_tree, Round, choice_table, tree_of, ListsBy, columns, has_text, of_key, named_by, place_key, by_place, chosen, row_key, HasRound, students_shown, first_cell, placement_before}
+use Rattle.portal_views.proofs.Choosers.{named_where, choices_formed, choices_parents, chooser, choosers_known}
+
+-- somebody names the project
+
+some_more : {X : Type 0} (f g : X → Bool) (xs : List X) → ((x : X) → f x ≡ true → g x ≡ true) → list_any f xs ≡ true → list_any g xs ≡ true
+some_more f g [] more h = absurd (cc)
+some_more f g (x ∷ xs) more h = elim (cases_Bool (f x)) [
+  | inl passes ↦ ap (λ b. b || list_any g xs) (more x passes)
+  | inr fails ↦ ap (λ b. g x || b) (some_more f g xs more (sym (ap (λ b. b || list_any f xs) fails) ∙ h)) ∙ or-true (g x)
+]
+
+-- of rows that begin with these keys there is one, where there is a key
+anyone : (ks : List Key) (rows : List Row) → AllByRecursion (λ k. has (map first_cell rows) k ≡ true) ks → list_any (λ c. has ks (first_cell c)) rows ≡ not (is_empty ks)
+anyone [] rows all = any_nowhere rows
+anyone (k ∷ ks) rows all =
+    some_more (λ c. equals k (first_cell c)) (λ c. equals (first_cell c) k || has ks (first_cell c)) rows (λ c e. ap (λ b. b || has ks (first_cell c)) (is_sym (first_cell c) k ∙ e)) (sym (any_map (equals k) first_cell rows) ∙ all.0)
+
+module _ (round : Round) (db : Database) (lists : HasWholeLists round db) (p : Key) (shown : List Row) (told : ListsBy (1 ∷ []) (has_text 3 p) (columns (1 ∷ [])) (db.trees (tree_of (choice_table round))) shown) where
+  pub some_chooser : not (is_empty shown) ≡ is_chosen_shown round db.trees p
+  some_chooser =
+      let roll : List Row = students_shown db.trees in
+      ap not (sym (empty_map first_cell shown)) ∙ sym (anyone (map first_cell shown) roll (choosers_known round db lists.tables p shown told))
+      ∙ any_alike (λ c. has (map first_cell shown) (first_cell c)) (λ c. has (choice_shown round db.trees c) p) roll (all_of _ (λ c. chooser round db lists.tables p shown told (first_cell c)) roll)
+
+-- who has a list
+
+-- each list of the table is whole: its owner is on the roll, or it is empty
+every_whole : (round : Round) (db : Database) → HasWholeLists round db → (k : Key) → IsWhole (of_key k (db.trees (tree_of (choice_table round))))
+every_whole round db lists k =
+    let table = db.trees (tree_of (choice_table round)) in
+    let roll = db.trees student_tree in
+    elim (cases_Bool (has (map row_key roll) k)) [
+      | inl known ↦ has_all (λ k. IsWhole (of_key k table)) (map row_key roll) k (all_map (λ k. IsWhole (of_key k table)) row_key roll lists.whole) known
+      | inr off ↦ subst IsWhole (sym (none_of (λ r. Unit {0}) roll k table (all_weaker _ _ (λ r there. (there, tt)) table (choices_parents round db lists.tables)) off)) tt
+    ]
+
+one_is : (place : ℤ) → number_in (Int place) ≡ 1 → is_eq (value_cmp (Int place) (Int (pos 1))) ≡ true
+one_is (pos n) e = ap (λ m. is_eq (value_cmp (Int (pos m)) (Int (pos 1)))) e ∙ eq_self (Int (pos 1))
+one_is (negsuc n) e = cc
+
+is_first : (r : Row) → IsPlace r → place_of r ≡ 1 → has_number 2 1 r ≡ true
+is_first r x e =
+    ap (λ s. is_eq (value_cmp (column s 2) (Int (pos 1)))) x.is ∙ one_is x.place (sym (ap place_of x.is) ∙ e)
+
+-- rows with the places 1, 2 and so on begin with the first, if there are any
+begins : (rows : List Row) → AllByRecursion IsPlace rows → CountUp 1 (map place_of rows) → list_any (has_number 2 1) rows ≡ not (is_empty (map named_by rows))
+begins [] shapes up = refl
+begins (r ∷ rs) shapes up = ap (λ b. b || list_any (has_number 2 1) rs) (is_first r shapes.0 up.0)
+
+module _ (round : Round) (db : Database) (lists : HasWholeLists round db) (shown : List Row) (told : ListsBy (1 ∷ []) (has_number 2 1) (columns (1 ∷ [])) (db.trees (tree_of (choice_table round))) shown) where
+  abbrev table : List Row
+  table = db.trees (tree_of (choice_table round))
+
+  formed : AllByRecursion IsPlace table
+  formed = choices_formed round db lists.tables
+
+  alike : (k : Key) (r : Row) → IsPlace r → (has_number 2 1 r && equals k (row_key r)) ≡ (has_text 1 k r && has_number 2 1 r)
+  alike k r x =
+      let by : has_text 1 k r ≡ equals x.owner k = has_text_of 1 k r x.owner (ap (λ s. column s 1) x.is) in
+      let key : equals k (row_key r) ≡ equals x.owner k = ap (λ s. equals k (bytes (column s 1))) x.is ∙ is_sym k x.owner in
+      ap (λ b. has_number 2 1 r && b) (key ∙ sym by) ∙ and_comm (has_number 2 1 r) (has_text 1 k r)
+
+  -- a key is shown where it has a list
+  lister : (k : Key) → has (map first_cell shown) k ≡ not (is_empty (chosen table k))
+  lister k =
+      let mine : List Row = of_key k table in
+      named_where (has_number 2 1) table shown told k
+      ∙ any_alike _ _ table (all_weaker IsPlace _ (alike k) table formed)
+      ∙ sym (filtered_any (has_number 2 1) (has_text 1 k) table)
+      ∙ list_any-IsPermutation (has_number 2 1) mine (by_place mine) (permutes place_key mine)
+      ∙ begins (by_place mine) (all_permuted IsPlace mine (by_place mine) (permutes place_key mine) (all-filter IsPlace (has_text 1 k) table formed)) (every_whole round db lists k)
+
+  twice : (b : Bool) → not (not b) ≡ b
+  twice true = refl
+  twice false = refl
+
+  pub unlisted_are : (students : List Row) → map first_cell (filter (λ c. is_none (placement_before round c) && not (has (map first_cell shown) (first_cell c))) students) ≡ unlisted round db.trees students
+  unlisted_are students =
+      ap (map first_cell) (filter_alike (λ c. is_none (placement_before round c) && not (has (map first_cell shown) (first_cell c))) (λ c. is_none (placement_before round c) && is_empty (choice_shown round db.trees c)) students
+      (all_of _ (λ c. ap (λ b. is_none (placement_before round c) && b) (ap not (lister (first_cell c)) ∙ twice (is_empty (chosen table (first_cell c))))) students))
+
+-- of a reading in the middle
+
+-- tables of a round are read as those of it
+pub round_held : {round : Round} (db : Database) → HasWholeLists round db → HasRound round db.schema
+round_held {round} db lists = has_round round db.schema lists.tables.current
+
+-- what holds of a reading after one that changed nothing holds over the tables before that one
+pub at_start : {round : Round} (a b c : State) → b.now ≡ a.now → (P : Database → Type 0) → (HasWholeLists round b.now → HasCleanDisk c → P b.now) → HasWholeLists round a.now → HasCleanDisk c → P a.now
+at_start {round} a b c same P next = subst (λ (x : Database). HasWholeLists round x → HasCleanDisk c → P x) same next

@@ -1,0 +1,14 @@
+use Rattle.std.proofs.Common.{◌≡◌, Ok, map, take}
+use Rattle.sqlite.specs.State.{HasCleanDisk}
+use Rattle.sqlite.specs.Held.{state}
+use Rattle.portal_views.specs.inner.Office.{HasWholeLists, waiting_keys}
+use Rattle.portal_tables.specs.inner.Shown.{shown_project}
+use Rattle.portal_tables.specs.inner.Reading.{RunsQueriesIn}
+use Rattle.portal_tables.specs.declared.fault.TableFault.{TableFault}
+use Rattle.portal_views.proofs.office.all_waiting.Given as goal
+
+abbrev pub invariant-loop-lecturer : goal.invariant-loop-lecturer
+invariant-loop-lecturer g l =
+    (HasWholeLists l.round (state g.S.Store l.fn.conn).now → HasCleanDisk (state g.S.Store l.conn)
+    → l.keys.items ≡ waiting_keys l.round (state g.S.Store l.fn.conn).now.trees (map shown_project l.projects) (take l.lecturer-index l.lecturers))
+    × RunsQueriesIn l.round {E = TableFault} (Ok l.keys) (state g.S.Store l.fn.conn) (state g.S.Store l.conn)

@@ -1,0 +1,6 @@
+use Rattle.sqlite.specs.Held.{state}
+use Rattle.portal_tables.proofs.InTurn.{reads_self}
+use Rattle.portal_views.proofs.office.still_to_rank.Goals as goal
+
+pub returns-clause-reads : goal.returns-clause-reads
+returns-clause-reads g c = reads_self c.new.result (state g.S.Store c.args.conn.now)

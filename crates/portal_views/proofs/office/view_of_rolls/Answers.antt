@@ -1,0 +1,50 @@
+use Rattle.std.proofs.Common.{◌≡◌, Ok, Some, [], List, map, ap, subst₂, ◌∙◌}
+use Rattle.std.specs.Prelude.{if◌then◌else◌}
+use Rattle.std.specs.List.{filter_map}
+use Rattle.std.proofs.lemmas.Result.{IfOk-weaker}
+use Rattle.sqlite.specs.Effect.{Database, IsDatabase}
+use Rattle.sqlite.specs.Held.{state}
+use Rattle.sqlite.specs.Order.{Row}
+use Rattle.sqlite.specs.State.{HasCleanDisk}
+use Rattle.portal_core.specs.World.{is_from_ranking}
+use Rattle.portal_tables.specs.Schema.{HasRound}
+use Rattle.portal_tables.specs.inner.Placements.{pair_shown}
+use Rattle.portal_tables.specs.inner.Shown.{shown_project}
+use Rattle.portal_tables.proofs.InTurn.{reads_then, reads_more, reads_handed, clean_before}
+use Rattle.portal_views.specs.inner.Office.{unlisted, waiting_keys, office_sees_with}
+use Rattle.portal_views.proofs.OfficeLists.{at_start, round_held}
+use Rattle.portal_views.proofs.office.view_of_rolls.Goals as goal
+
+pub returns-in_err-waiting-clause-reads : goal.returns-in_err-waiting-clause-reads
+returns-in_err-waiting-clause-reads g c =
+    reads_then c.in_ok-unlisted.unlisted _ _ _ _ c.in_ok-unlisted.ensures.reads (reads_handed c.in_err-waiting.field-0.0 c.from_residual-in_err-waiting.result _ _ c.from_residual-in_err-waiting.ensures.0 c.in_err-waiting.ensures.reads)
+
+pub returns-in_err-pairs-clause-reads : goal.returns-in_err-pairs-clause-reads
+returns-in_err-pairs-clause-reads g c =
+    reads_then c.in_ok-unlisted.unlisted _ _ _ _ c.in_ok-unlisted.ensures.reads
+    (reads_then c.in_ok-waiting.waiting _ _ _ _ c.in_ok-waiting.ensures.reads (reads_handed c.in_err-pairs.field-0.0 c.from_residual-in_err-pairs.result _ _ c.from_residual-in_err-pairs.ensures.0 c.in_err-pairs.ensures.reads))
+
+pub returns-clause-reads : goal.returns-clause-reads
+returns-clause-reads g c =
+    reads_then c.in_ok-unlisted.unlisted _ _ _ _ c.in_ok-unlisted.ensures.reads
+    (reads_then c.in_ok-waiting.waiting _ _ _ _ c.in_ok-waiting.ensures.reads (reads_more c.in_ok-pairs.pairs c.office_view_of.result _ _ c.in_ok-pairs.ensures.reads))
+
+pub returns-clause-shows : goal.returns-clause-shows
+returns-clause-shows g c lists clean =
+    let a = state g.S.Store c.args.conn.now in
+    let b = state g.S.Store c.without_list.new.conn in
+    let d = state g.S.Store c.still_to_rank.new.conn in
+    let e = state g.S.Store c.pairs_in.new.conn in
+    let round = c.args.round in
+    let phase = c.args.office.phase in
+    let rolls = c.args.rolls.now in
+    let own = round_held a.now lists in
+    let clean_d = clean_before d e _ c.in_ok-pairs.ensures.reads.crash clean in
+    let clean_b = clean_before b d _ c.in_ok-waiting.ensures.reads.crash clean_d in
+    let same_b = c.in_ok-unlisted.ensures.reads.now own clean_b in
+    let same_d = (reads_then c.in_ok-unlisted.unlisted (Ok c.in_ok-waiting.waiting) a b d c.in_ok-unlisted.ensures.reads c.in_ok-waiting.ensures.reads).now own clean_d in
+    let without = c.in_ok-unlisted.ensures.told lists clean_b ∙ ap (unlisted round a.now.trees) c.deref.ensures.value in
+    let still = at_start a b d same_b (λ (x : Database). c.in_ok-waiting.waiting.items ≡ (if is_from_ranking phase then waiting_keys round x.trees (map shown_project rolls.projects.items) rolls.lecturers.items else [])) c.in_ok-waiting.ensures.told lists clean_d in
+    let pairs = subst₂ (λ (x : Database) (rows : List Row). HasRound round x.schema → IsDatabase x → HasCleanDisk e → c.in_ok-pairs.pairs.items ≡ filter_map (pair_shown round (Some phase) x.trees) rows) same_d c.deref-2.ensures.value c.in_ok-pairs.ensures.ok own lists.tables.sound clean in
+    let from = office_sees_with round a.now.trees phase c.args.office.code c.args.catalogue.value.items rolls.lecturers.items rolls.projects.items rolls.students.items in
+    IfOk-weaker c.office_view_of.result _ _ (λ v is. is ∙ (λ i. record from { without_list = without i; still_to_rank = still i; pairs = pairs i })) c.office_view_of.ensures

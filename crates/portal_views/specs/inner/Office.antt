@@ -1,0 +1,60 @@
+-- What the office sees, of the rolls and of what the tables hold.
+use Rattle.std.specs.Prelude.{◌&&◌, if◌then◌else◌, Bool, is_none}
+use Rattle.std.specs.List.{list_any}
+use Rattle.portal_core.specs.Sight.{OfficeSees}
+use Rattle.portal_core.specs.Words.{is_empty}
+use Rattle.portal_tables.specs.ListTables.{choice_table, ranking_table, tree_of}
+use Rattle.portal_tables.specs.Lists.{IsWhole, of_key}
+use Rattle.portal_tables.specs.Rolls.{row_key}
+use Rattle.portal_tables.specs.Tables.{student_tree}
+use Rattle.portal_tables.specs.inner.Owners.{has_list, choice_shown}
+use Rattle.portal_tables.specs.inner.Placements.{pair_shown, placement_before}
+use Rattle.portal_tables.specs.inner.Rolls.{lecturers_shown, projects_shown, students_shown}
+use Rattle.portal_tables.specs.inner.Shown.{first_cell, shown_lecturer, shown_project, shown_student}
+use Rattle.portal_views.specs.inner.Base.{List, [], map, filter, filter_map, Option, Some, None, AllByRecursion, Row, Trees, Database, Phase, Round, Listing, ProjectRow, Key, equals, has, is_from_ranking}
+use Rattle.portal_views.specs.inner.Lines.{HasTables}
+
+-- the tables are the portal's own and sound, and no student's list of the round has a gap
+pub record HasWholeLists (round : Round) (db : Database) : Type 0 where
+  pub tables : HasTables db
+  pub whole : AllByRecursion (λ r. IsWhole (of_key (row_key r) (db.trees (tree_of (choice_table round))))) (db.trees student_tree)
+
+-- some student's list holds the project
+abbrev pub is_chosen_shown : Round → Trees → Key → Bool
+is_chosen_shown round db k = list_any (λ c. has (choice_shown round db c) k) (students_shown db)
+
+-- or one of these projects that is the lecturer's
+abbrev pub is_wanted_shown : Round → Trees → List ProjectRow → Key → Bool
+is_wanted_shown round db projects lecturer = list_any (λ p. equals p.lecturer lecturer && is_chosen_shown round db p.key) projects
+
+-- the key of the lecturer whose row is shown, where there is an applicant and no ranking
+abbrev pub waiting_key : Round → Trees → List ProjectRow → Row → Option Key
+waiting_key round db projects c =
+    if has_list (ranking_table round) db c then None else (if is_wanted_shown round db projects (first_cell c) then Some (first_cell c) else None)
+
+abbrev pub waiting_keys : Round → Trees → List ProjectRow → List Row → List Key
+waiting_keys round db projects lecturers = filter_map (waiting_key round db projects) lecturers
+
+-- the keys of the students whose rows are shown, who take part and have no list
+abbrev pub unlisted : Round → Trees → List Row → List Key
+unlisted round db students = map first_cell (filter (λ c. is_none (placement_before round c) && is_empty (choice_shown round db c)) students)
+
+-- what the office sees, of shown rolls, with the catalogue
+abbrev pub office_sees_with : Round → Trees → Phase → Key → List Listing → List Row → List Row → List Row → OfficeSees
+office_sees_with round db phase code offers lecturers projects students =
+    record {
+      round = round;
+      phase = phase;
+      office_code = code;
+      lecturers = map shown_lecturer lecturers;
+      projects = map shown_project projects;
+      students = map shown_student students;
+      catalogue = offers;
+      without_list = unlisted round db students;
+      still_to_rank = if is_from_ranking phase then waiting_keys round db (map shown_project projects) lecturers else [];
+      pairs = filter_map (pair_shown round (Some phase) db) students;
+    }
+
+-- of the rolls in the tables
+abbrev pub office_shown : Round → Trees → Phase → Key → List Listing → OfficeSees
+office_shown round db phase code offers = office_sees_with round db phase code offers (lecturers_shown db) (projects_shown db) (students_shown db)

@@ -1,0 +1,237 @@
+//! What the office sees, by queries of who has a list, an applicant, a ranking and a placement.
+
+ghost use Rattle.std.specs.Prelude.{◌≡◌, ◌&&◌, if◌then◌else◌};
+ghost use Rattle.portal_core.specs.World.{is_from_ranking};
+ghost use Rattle.portal_views.specs.inner.Base.{[], Some, None, IfOk, map, state, equals};
+ghost use Rattle.portal_views.specs.inner.Office.{HasWholeLists, is_chosen_shown, is_wanted_shown, waiting_key, waiting_keys, unlisted, office_sees_with, office_shown};
+ghost use Rattle.portal_tables.specs.inner.Reading.{RunsQueriesIn, YieldsOf};
+ghost use Rattle.portal_tables.specs.inner.Shown.{first_cell, shown_lecturer, shown_project, shown_student};
+
+use crate::left::keys_left;
+use portal_core::{Listing, OfficeView, Phase, Round};
+use portal_tables::cells::{bytes_at, key_at};
+use portal_tables::list_table::Lists;
+use portal_tables::select::{Query, finds_any, read_rows};
+use portal_tables::{Office, Rolls, TableFault, has_list_in, pairs_in, parts_of, rolls_in};
+use spa_rows::Key;
+use sqlite::{Alter, Connection, Row};
+use std::alloc::Global;
+use std::rc::Rc;
+
+/// The students who take part and have no list.
+fn without_list<S: Alter>(
+    alloc: Global,
+    conn: &mut Connection<S>,
+    round: Round,
+    students: &[Row],
+) -> Result<Vec<Key>, TableFault>
+    ensures told { YieldsOf (HasWholeLists round) S.Store conn.old conn.new result
+        (λ db v. v.items ≡ unlisted round db.trees students.now) }
+    ensures reads { RunsQueriesIn round result (state S.Store conn.old) (state S.Store conn.new) }
+{
+    let listed = read_rows(alloc, conn, Query::Listed(round))?;
+    keys_left(alloc, round, students, &listed)
+}
+
+/// Whether the project is this lecturer's, and a student's list holds it.
+fn is_chosen_of<S: Alter>(
+    conn: &mut Connection<S>,
+    round: Round,
+    lecturer: &Row,
+    project: &Row,
+) -> Result<bool, TableFault>
+    ensures told { YieldsOf (HasWholeLists round) S.Store conn.old conn.new result
+        (λ db yes. yes
+        ≡ (equals (shown_project project.now).lecturer (first_cell lecturer.now)
+        && is_chosen_shown round db.trees (shown_project project.now).key)) }
+    ensures reads { RunsQueriesIn round result (state S.Store conn.old) (state S.Store conn.new) }
+{
+    if bytes_at(project, 1) != bytes_at(lecturer, 0) {
+        return Ok(false);
+    }
+    Ok(finds_any(conn, Query::Choosers(round, bytes_at(project, 0)))?)
+}
+
+/// Whether a student's list holds a project of the lecturer.
+fn has_applicant<S: Alter>(
+    conn: &mut Connection<S>,
+    round: Round,
+    projects: &[Row],
+    lecturer: &Row,
+) -> Result<bool, TableFault>
+    ensures told { YieldsOf (HasWholeLists round) S.Store conn.old conn.new result
+        (λ db yes. yes
+        ≡ is_wanted_shown round db.trees (map shown_project projects.now)
+        (first_cell lecturer.now)) }
+    ensures reads { RunsQueriesIn round result (state S.Store conn.old) (state S.Store conn.new) }
+{
+    for project in projects {
+        if is_chosen_of(conn, round, lecturer, project)? {
+            return Ok(true);
+        }
+    }
+    Ok(false)
+}
+
+/// The key of the lecturer, if a student's list holds a project of the lecturer.
+fn wanted_in<S: Alter>(
+    alloc: Global,
+    conn: &mut Connection<S>,
+    round: Round,
+    projects: &[Row],
+    lecturer: &Row,
+) -> Result<Option<Key>, TableFault>
+    ensures told { YieldsOf (HasWholeLists round) S.Store conn.old conn.new result
+        (λ db key. key
+        ≡ (if is_wanted_shown round db.trees (map shown_project projects.now)
+        (first_cell lecturer.now) then Some (first_cell lecturer.now) else None)) }
+    ensures reads { RunsQueriesIn round result (state S.Store conn.old) (state S.Store conn.new) }
+{
+    if !has_applicant(conn, round, projects, lecturer)? {
+        return Ok(None);
+    }
+    Ok(Some(key_at(alloc, lecturer, 0)?))
+}
+
+/// The key of the lecturer, who has an applicant and no ranking.
+fn waiting_in<S: Alter>(
+    alloc: Global,
+    conn: &mut Connection<S>,
+    round: Round,
+    projects: &[Row],
+    lecturer: &Row,
+) -> Result<Option<Key>, TableFault>
+    ensures told { YieldsOf (HasWholeLists round) S.Store conn.old conn.new result
+        (λ db key. key
+        ≡ waiting_key round db.trees (map shown_project projects.now) lecturer.now) }
+    ensures reads { RunsQueriesIn round result (state S.Store conn.old) (state S.Store conn.new) }
+{
+    if has_list_in(conn, Lists::rankings_of(round), lecturer)? {
+        return Ok(None);
+    }
+    wanted_in(alloc, conn, round, projects, lecturer)
+}
+
+/// The lecturers who have an applicant and no ranking.
+fn all_waiting<S: Alter>(
+    alloc: Global,
+    conn: &mut Connection<S>,
+    round: Round,
+    projects: &[Row],
+    lecturers: &[Row],
+) -> Result<Vec<Key>, TableFault>
+    ensures told { YieldsOf (HasWholeLists round) S.Store conn.old conn.new result
+        (λ db v. v.items
+        ≡ waiting_keys round db.trees (map shown_project projects.now) lecturers.now) }
+    ensures reads { RunsQueriesIn round result (state S.Store conn.old) (state S.Store conn.new) }
+{
+    let mut keys = Vec::new(alloc);
+    for lecturer in lecturers {
+        if let Some(key) = waiting_in(alloc, conn, round, projects, lecturer)? {
+            keys.push(key)?;
+        }
+    }
+    Ok(keys)
+}
+
+/// The lecturers who are still to rank, once the lists are closed.
+fn still_to_rank<S: Alter>(
+    alloc: Global,
+    conn: &mut Connection<S>,
+    round: Round,
+    phase: Phase,
+    rolls: &Rolls,
+) -> Result<Vec<Key>, TableFault>
+    ensures told { YieldsOf (HasWholeLists round) S.Store conn.old conn.new result
+        (λ db v. v.items
+        ≡ (if is_from_ranking phase then waiting_keys round db.trees
+        (map shown_project rolls.now.projects.items) rolls.now.lecturers.items else [])) }
+    ensures reads { RunsQueriesIn round result (state S.Store conn.old) (state S.Store conn.new) }
+{
+    if phase.is_from_ranking() {
+        return all_waiting(alloc, conn, round, &rolls.projects, &rolls.lecturers);
+    }
+    Ok(Vec::new(alloc))
+}
+
+/// What the office sees, of what was read.
+fn office_view_of(
+    alloc: Global,
+    round: Round,
+    office: Office,
+    catalogue: Rc<Vec<Listing>>,
+    rolls: &Rolls,
+    without_list: Vec<Key>,
+    still_to_rank: Vec<Key>,
+    pairs: Vec<(Key, Key)>,
+) -> Result<OfficeView, TableFault>
+    ensures { IfOk result (λ v. v
+        ≡ record {
+          round = round;
+          phase = office.phase;
+          office_code = office.code;
+          lecturers = map shown_lecturer rolls.now.lecturers.items;
+          projects = map shown_project rolls.now.projects.items;
+          students = map shown_student rolls.now.students.items;
+          catalogue = catalogue.value.items;
+          without_list = without_list.items;
+          still_to_rank = still_to_rank.items;
+          pairs = pairs.items;
+        }) }
+{
+    let parts = parts_of(alloc, rolls)?;
+    Ok(OfficeView {
+        round,
+        phase: office.phase,
+        office_code: office.code,
+        lecturers: Rc::new(alloc, parts.lecturers)?,
+        projects: Rc::new(alloc, parts.projects)?,
+        students: Rc::new(alloc, parts.students)?,
+        catalogue,
+        without_list,
+        still_to_rank,
+        pairs,
+    })
+}
+
+/// What the office sees, of the rolls.
+fn view_of_rolls<S: Alter>(
+    alloc: Global,
+    conn: &mut Connection<S>,
+    round: Round,
+    office: Office,
+    catalogue: Rc<Vec<Listing>>,
+    rolls: &Rolls,
+) -> Result<OfficeView, TableFault>
+    ensures shows { YieldsOf (HasWholeLists round) S.Store conn.old conn.new result
+        (λ db v. v
+        ≡ office_sees_with round db.trees office.phase office.code
+        catalogue.value.items rolls.now.lecturers.items rolls.now.projects.items
+        rolls.now.students.items) }
+    ensures reads { RunsQueriesIn round result (state S.Store conn.old) (state S.Store conn.new) }
+{
+    let unlisted = without_list(alloc, conn, round, &rolls.students)?;
+    let waiting = still_to_rank(alloc, conn, round, office.phase, rolls)?;
+    let pairs = pairs_in(alloc, conn, round, Some(office.phase), &rolls.students)?;
+    office_view_of(
+        alloc, round, office, catalogue, rolls, unlisted, waiting, pairs,
+    )
+}
+
+/// What the office sees in this round, whose row and catalogue these are. The fault is `Damaged` where rows are not as the portal
+/// writes them, `Store` where the store answered an error, `Memory` where there is not enough memory.
+pub fn office_view<S: Alter>(
+    alloc: Global,
+    conn: &mut Connection<S>,
+    round: Round,
+    office: Office,
+    catalogue: Rc<Vec<Listing>>,
+) -> Result<OfficeView, TableFault>
+    ensures shows { YieldsOf (HasWholeLists round) S.Store conn.old conn.new result
+        (λ db v. v
+        ≡ office_shown round db.trees office.phase office.code catalogue.value.items) }
+    ensures reads { RunsQueriesIn round result (state S.Store conn.old) (state S.Store conn.new) }
+{
+    let rolls = rolls_in(alloc, conn)?;
+    view_of_rolls(alloc, conn, round, office, catalogue, &rolls)
+}
