@@ -35,7 +35,7 @@ impl From<Failed> for FrameFault {
     }
 }
 
-/// Reads a piece into the buffer, and says whether the input has ended.
+/// Reads a piece into the buffer, and says whether the source has ended.
 fn read_piece<R: Source>(source: &mut R, buffer: &mut Vec<u8>) -> Result<bool, FrameFault>
     requires { length buffer.old.items < 1064960 }
     ensures bytes { IfOk result (ReadsMore (R.remaining source.old)

@@ -1,4 +1,4 @@
-//! The projects that students are assigned to.
+//! Writes the projects that students are assigned to, into the rows of the first round.
 
 ghost use Rattle.std.specs.Prelude.{◌≡◌, ◌∷◌};
 ghost use Rattle.portal_tables.specs.Base.{[], option_map, owned};

@@ -109,8 +109,8 @@ pub fn entry_in<S: Alter>(
     kept_entry(is_there, key, list)
 }
 
-/// The lists of the owners whose rows are shown, by a query for each. The fault is `Damaged` where an owner's key is none, a list is not one
-/// that `list_in` would give, or a lecturer has rows and no ranking; else as there.
+/// The lists of the owners whose rows are shown, by a query for each. The fault is `Damaged` where an owner's key is none, a list is
+/// not one that `list_in` would give, or a lecturer has rows and no ranking; else as there.
 fn entries_each<S: Alter>(
     alloc: Global,
     conn: &mut Connection<S>,
@@ -179,8 +179,9 @@ fn see_owners<S: Alter>(
     }
 }
 
-/// The lists of the owners whose rows are shown, by a query for each. The fault is `Damaged` where the owners' keys do not rise, a row is of
-/// none of them, an owner's key is none, a list is not one that `list_in` would give, or a lecturer has rows and no ranking; else as there.
+/// The lists of the owners whose rows are shown, by a query for each. The fault is `Damaged` where the owners' keys do not rise, a row
+/// is of none of them, an owner's key is none, a list is not one that `list_in` would give, or a lecturer has rows and no ranking; else
+/// as there.
 pub fn entries_in<S: Alter>(
     alloc: Global,
     conn: &mut Connection<S>,

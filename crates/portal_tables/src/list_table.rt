@@ -1,4 +1,4 @@
-//! The tables of lists.
+//! The four tables of lists: the students' lists and the lecturers' rankings, of either round.
 
 ghost use Rattle.std.specs.Prelude.{◌≡◌};
 ghost use Rattle.portal_tables.specs.ListTables as meant;

@@ -1,4 +1,4 @@
-//! The row of the office.
+//! The row of the office: how it is read, and what number a phase has in it.
 
 ghost use Rattle.std.specs.Prelude.{◌≡◌, ◌↔◌, ◌∷◌};
 ghost use Rattle.portal_tables.specs.Base.{[], pos, true, false, Err, IfOk, IfSome, IfNone, OnOk, OnErr, IsTrue, List, ℕ, Int, Words, Cells, column, HasCleanDisk, state, is_code, ThePhase, First};

@@ -1,4 +1,4 @@
-//! The projects that the rounds' results give to students: that of the first stands in the student's row, that of the second in a row of its own.
+//! Reads which projects the results of both rounds give to students.
 
 ghost use Rattle.std.specs.Prelude.{◌≡◌, ◌≤◌, is_none, if◌then◌else◌};
 ghost use Rattle.portal_tables.specs.Base.{true, Err, None, IfOk, IfSome, option_map, length, map, AllByRecursion, filter_map, state, is_key, is_published, IsStudent, InSecond};
@@ -148,7 +148,7 @@ fn placement_asked<S: Alter>(
 }
 
 /// The student whose row this is with the place, if there is one.
-fn with_place(
+fn with_placement(
     alloc: Global,
     row: &Row,
     place: Option<Key>,
@@ -179,11 +179,11 @@ fn pair_in<S: Alter>(
     ensures reads { RunsQueriesIn round result (state S.Store conn.old) (state S.Store conn.new) }
 {
     let place = placement_asked(alloc, conn, round, phase, row)?;
-    with_place(alloc, row, place)
+    with_placement(alloc, row, place)
 }
 
-/// A round's result, or with a phase what is shown in it of all results: the pairs of the students whose rows these are, in their order. The
-/// faults are those of `placement_in`, and `Damaged` where a student's key is none.
+/// A round's result, or with a phase what is shown in it of all results: the pairs of the students whose rows these are, in their
+/// order. The faults are those of `placement_in`, and `Damaged` where a student's key is none.
 pub fn pairs_in<S: Alter>(
     alloc: Global,
     conn: &mut Connection<S>,

@@ -1,4 +1,4 @@
-//! A list in place of another.
+//! Puts a list in place of another.
 
 ghost use Rattle.std.specs.Prelude.{◌≡◌, ◌≤◌};
 ghost use Rattle.portal_tables.specs.Base.{length, map, IfOk};
@@ -49,8 +49,8 @@ fn places_of<'a>(
     Ok(rows)
 }
 
-/// The owner's list becomes these items, best first, in place of any other. A list that is longer than any may be is refused as too big; the
-/// first error of the store ends it and is handed on, and it may be want of memory.
+/// The owner's list becomes these items, best first, in place of any other. A list that is longer than any may be is refused as too
+/// big; the first error of the store ends it and is handed on, and it may be want of memory.
 pub fn put_list<S: Alter>(
     alloc: Global,
     tx: &mut Transaction<'_, S>,

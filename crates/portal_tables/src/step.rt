@@ -1,4 +1,4 @@
-//! What is done in a transaction of its own.
+//! Commits: a step is taken in a transaction of its own.
 
 ghost use Rattle.std.specs.Prelude.{◌≡◌};
 ghost use Rattle.portal_tables.specs.Base.{false, Err, OnOk, OnErr, IsTrue, HasCleanDisk, Survives, state, Database};

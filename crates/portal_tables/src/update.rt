@@ -1,4 +1,4 @@
-//! One column of one row changes.
+//! Updates one column of one row: the phase, the version, or that a ranking is there.
 
 ghost use Rattle.portal_tables.specs.inner.Steps.{Does, Made};
 ghost use Rattle.portal_tables.specs.inner.Rows.{IsOfVersion, MovesTo, Ranks};

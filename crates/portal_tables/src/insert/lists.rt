@@ -1,4 +1,4 @@
-//! Rows of the lists.
+//! Inserts rows of the lists.
 
 ghost use Rattle.portal_tables.specs.ListTables.{tree_of};
 ghost use Rattle.portal_tables.specs.inner.Rows.{AddsBy, place_new};

@@ -1,4 +1,4 @@
-//! Rows of the rolls.
+//! Inserts rows of the rolls.
 
 ghost use Rattle.portal_tables.specs.Tables.{lecturer_tree, project_tree, student_tree};
 ghost use Rattle.portal_tables.specs.inner.Rows.{lecturer_new, lecturer_values, project_new, student_new, student_values};
