@@ -1,15 +1,15 @@
 //! The tables of the second round, and the upgrade of a file that has them not.
 
-use crate::tests::{change, creates, department, key, put_key, shows, tells};
+use crate::tests::{change, code, creates, department, key, put_key, shows, tells};
 use portal_core::{LecturerView, Person, Phase, Round};
 use portal_tables::list_table::Lists;
 use portal_tables::names::{Names, is_there};
 use portal_tables::select::{Query, Roll, Table, read, read_rows};
 use portal_tables::{
-    FIRST_VERSION, PortalSchema, TableFault, VERSION, office_in, put_list, put_placements,
+    FIRST_VERSION, Office, PortalSchema, TableFault, VERSION, office_in, put_list, put_placements,
     rank_second, result_in, row_numbers_differ, second_in, set_second, upgrade_tables,
 };
-use portal_views::{catalogue_in, lecturer_view};
+use portal_views::{catalogue_in, lecturer_view, office_view};
 use spa_rows::Key;
 use sqlite::{Connection, Error, MemStore};
 use std::alloc::Global;
@@ -274,6 +274,83 @@ fn the_first_round_is_seen(rt: HostRuntime) {
     let view = seen_by_lee(&rt, &mut conn, Round::First);
     are_at(&rt, &view.applicants, "P1 S2 /P2 /");
     are_at(&rt, &view.placed, "P1 S2 /P2 /");
+}
+
+/// Writes keys, with a stroke behind them.
+fn put_keys(rt: &impl Abort, text: &mut String, keys: &[Key]) {
+    for key in keys {
+        put_key(rt, text, key);
+    }
+    text.push('/').expect(rt, "memory");
+}
+
+/// The office sees the round in this phase: the students without a list, the lecturers still to rank, and the pairs.
+fn is_seen_by_office(
+    rt: &(impl Abort + AllocGlobal),
+    conn: &mut Connection<MemStore>,
+    round: Round,
+    phase: Phase,
+    wanted: &str,
+) {
+    let alloc = rt.alloc();
+    let Ok(catalogue) = catalogue_in(alloc, conn) else {
+        panic!(rt; "no catalogue");
+    };
+    let office = Office {
+        phase,
+        code: code(rt, b"office-code-1"),
+    };
+    let Ok(view) = office_view(alloc, conn, round, office, catalogue) else {
+        panic!(rt; "no view");
+    };
+    assert!(rt; view.phase == phase && view.catalogue.len() == 2);
+    assert!(rt; view.lecturers.len() == 1 && view.projects.len() == 2 && view.students.len() == 2);
+    let mut text = String::new(alloc);
+    put_keys(rt, &mut text, &view.without_list);
+    put_keys(rt, &mut text, &view.still_to_rank);
+    for (student, project) in &view.pairs {
+        put_key(rt, &mut text, student);
+        put_key(rt, &mut text, project);
+    }
+    assert_eq!(rt; text.as_str(), wanted);
+}
+
+#[test]
+fn the_office_sees_the_first_round(rt: HostRuntime) {
+    let mut conn = department(&rt);
+    is_seen_by_office(&rt, &mut conn, Round::First, Phase::Choosing, "//");
+    is_seen_by_office(&rt, &mut conn, Round::First, Phase::Ranking, "/L1 /");
+    change(&mut conn).expect(&rt, "the first result");
+    is_seen_by_office(
+        &rt,
+        &mut conn,
+        Round::First,
+        Phase::Published,
+        "S1 //S2 P1 ",
+    );
+}
+
+#[test]
+fn the_office_sees_the_second_round(rt: HostRuntime) {
+    let mut conn = department(&rt);
+    change(&mut conn).expect(&rt, "the first result");
+    is_seen_by_office(
+        &rt,
+        &mut conn,
+        Round::Second,
+        Phase::Choosing,
+        "S1 //S2 P1 ",
+    );
+    write_second(&rt, &mut conn).expect(&rt, "rows");
+    let one = [(key(&rt, b"S1"), key(&rt, b"P1"))];
+    write_places(&mut conn, rt.alloc(), &one).expect(&rt, "rows");
+    is_seen_by_office(
+        &rt,
+        &mut conn,
+        Round::Second,
+        Phase::Published,
+        "//S1 P1 S2 P1 ",
+    );
 }
 
 #[test]

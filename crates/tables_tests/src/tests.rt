@@ -117,7 +117,7 @@ fn name(rt: &(impl Abort + AllocGlobal), text: &[u8]) -> Name {
     Name::parse(rt.alloc(), text).expect(rt, "a name")
 }
 
-fn code(rt: &(impl Abort + AllocGlobal), text: &[u8]) -> Code {
+pub(crate) fn code(rt: &(impl Abort + AllocGlobal), text: &[u8]) -> Code {
     Code::parse(rt.alloc(), text).expect(rt, "a code")
 }
 

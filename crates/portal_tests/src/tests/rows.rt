@@ -1,7 +1,7 @@
 //! Rows of a file, good and bad.
 
 use portal_core::{Code, LecturerRow, Name, Phase, ProjectRow, Round, StudentRow};
-use portal_list::{ListKeeper, RowsFault, WorldRows};
+use portal_list::{ListKeeper, RowsFault, WorldRows, listings_of};
 use spa_rows::Key;
 use std::alloc::Global;
 use std::test::Fail;
@@ -94,6 +94,24 @@ fn pairs(alloc: Global, places: Pairs) -> Result<Vec<(Key, Key)>, Fail> {
 }
 
 type Pairs<'a> = &'a [(&'a str, &'a str)];
+
+#[test]
+fn the_catalogue_of_rows(rt: HostRuntime) -> Result<(), Fail> {
+    let alloc = rt.alloc();
+    let mut offered = projects(alloc, &["P1"])?;
+    offered.push(project(alloc, "P4", "L9", "Gales")?)?;
+    let mut text = String::new(alloc);
+    for listing in &listings_of(alloc, &lecturers(alloc, 1)?, &offered)? {
+        text.push_str(listing.key.as_str())?;
+        text.push(' ')?;
+        text.push_str(listing.title.as_str())?;
+        text.push(' ')?;
+        text.push_str(listing.lecturer_name.as_str())?;
+        text.push('/')?;
+    }
+    assert_eq!(&rt; text.as_str(), "P1 Tides Lee/P3 Bells Moe/");
+    Ok(())
+}
 
 /// A world of two lecturers and three students, and what may be wrong with it.
 #[derive(Clone, Copy)]
