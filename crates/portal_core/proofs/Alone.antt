@@ -26,7 +26,7 @@ use Rattle.portal_core.proofs.Capacities.{left_of, second_plays, first_plays, ea
 
 -- filters
 
-passes : {X : Type 0} (P R : X → Type 0) (q : X → Bool) → ((x : X) → P x → q x ≡ true → R x) → (xs : List X) → AllByRecursion P xs → AllByRecursion R (filter q xs)
+pub passes : {X : Type 0} (P R : X → Type 0) (q : X → Bool) → ((x : X) → P x → q x ≡ true → R x) → (xs : List X) → AllByRecursion P xs → AllByRecursion R (filter q xs)
 passes P R q k [] all = tt
 passes {X} P R q k (x ∷ xs) all =
     (elim (q x) as (λ b. q x ≡ b → AllByRecursion R (cond b (x ∷ filter q xs) (filter q xs))) [

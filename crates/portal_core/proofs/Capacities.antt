@@ -34,7 +34,7 @@ sizes {X} a b (x ∷ xs) all =
     ]) refl
 
 -- a count is the length of a filter
-count_mono : {X : Type 0} (a b : X → Bool) (xs : List X) → AllByRecursion (λ x. a x ≡ true → b x ≡ true) xs → count_by a xs ≤ count_by b xs
+pub count_mono : {X : Type 0} (a b : X → Bool) (xs : List X) → AllByRecursion (λ x. a x ≡ true → b x ≡ true) xs → count_by a xs ≤ count_by b xs
 count_mono a b xs all =
     let s : length (filter a xs) ≤ length (filter b xs) = sizes a b xs all in
     let p : length (filter a xs) ≡ count_by a xs = length-filter a xs in
@@ -231,7 +231,7 @@ module _ (u : World) (m : IsMatching (instance_of u) (places_of u)) (known : All
 
 -- one round that is published, by what takes part
 module _ (w : World) (sound : Sound w) (m : IsMatching (instance w) (matching_of w)) where
-  known_in : AllByRecursion (λ s. (q : Key) → s.placed ≡ Some q → number_in (project_keys (in_play w)) q < length (project_keys (in_play w))) (in_play w).students
+  pub known_in : AllByRecursion (λ s. (q : Key) → s.placed ≡ Some q → number_in (project_keys (in_play w)) q < length (project_keys (in_play w))) (in_play w).students
   known_in = placed_known (project_keys (in_play w)) (in_play w).students (λ s n e. on_roll (project_keys (in_play w)) (in_play w).students (choices_in w sound) s n (m.acceptable s n e))
 
 -- the first round

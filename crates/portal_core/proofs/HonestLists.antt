@@ -8,7 +8,7 @@ use Rattle.std.proofs.lemmas.List.{get_or-map, length-map, get_or_past}
 use Rattle.std.proofs.lemmas.List.Elements.{AllZip-get_or}
 use Rattle.std.proofs.lemmas.Slice.Zip.{AllZip-long}
 use Rattle.std.proofs.lemmas.List.Folds.{list_any_at}
-use Rattle.spa_model.specs.Spa.{IsBest, place, project_of, choices_of, lecturer_of, ranking_of, IsOn, IsAcceptable, IsAsGood, IsDistinct}
+use Rattle.spa_model.specs.Spa.{IsBest, IsStable, place, project_of, choices_of, lecturer_of, ranking_of, IsOn, IsAcceptable, IsAsGood, IsDistinct}
 use Rattle.spa_model.specs.Pairs.{number_in}
 use Rattle.spa_model.proofs.Numbers.{number_is, number_known}
 use Rattle.spa_model.proofs.PairFaults.{count_by-map}
@@ -23,10 +23,10 @@ use Rattle.portal_core.specs.declared.phase.Round.{Round}
 use Rattle.portal_core.specs.declared.phase.Round.TheVariants.{First, Second}
 use Rattle.portal_core.specs.Instance.{instance, instance_of, places_of, lecturer_keys, project_keys, student_keys}
 use Rattle.portal_core.specs.View.{OfficeCaller, caller_among, lecturer_with, student_with, sight_of, view, student_sees}
-use Rattle.portal_core.specs.Good.{Sound, IsChoice, IsRanking}
+use Rattle.portal_core.specs.Good.{Good, Sound, IsChoice, IsRanking}
 use Rattle.portal_core.specs.Sight.{StudentSees}
 use Rattle.portal_core.specs.declared.view.View.TheVariants as sees
-use Rattle.portal_core.specs.Honest.{HasBest, OrderAlike, RankAlike, ListAlike, DifferInOneList, IsNoWorse}
+use Rattle.portal_core.specs.Honest.{HasBest, OrderAlike, RankAlike, ListAlike, DifferInLists, DifferInOneList, IsNoWorse}
 use Rattle.portal_core.proofs.Keys.{is_same, is_own}
 use Rattle.portal_core.proofs.AllLaws.{all_at, any_map, filtered_any}
 use Rattle.portal_core.proofs.Only.{has_contains, on_roll}
@@ -37,10 +37,10 @@ use Rattle.portal_core.proofs.Alone.{played_alone, rows_alone, places_alone}
 
 -- numbers of keys
 
-has_number : (keys : List Key) (k : Key) → has keys k ≡ true → number_in keys k < length keys
+pub has_number : (keys : List Key) (k : Key) → has keys k ≡ true → number_in keys k < length keys
 has_number keys k h = number_known keys k (has_contains keys k h)
 
-number_has : (keys : List Key) (k : Key) → number_in keys k < length keys → has keys k ≡ true
+pub number_has : (keys : List Key) (k : Key) → number_in keys k < length keys → has keys k ≡ true
 number_has keys k low = list_any_at (equals k) keys (number_in keys k) [] low (rw (number_is keys k low) (is_own k))
 
 module _ (keys : List Key) where
@@ -63,14 +63,14 @@ module _ (keys : List Key) where
       by_tests false true f g e = let wrong = g refl in absurd (cc)
       by_tests false false f g e = ap (λ n. 1 + n) e
 
-  on_number : (list : List Key) (k : Key) → number_in keys k < length keys → has list k ≡ true → IsOn (map (number_in keys) list) (number_in keys k)
+  pub on_number : (list : List Key) (k : Key) → number_in keys k < length keys → has list k ≡ true → IsOn (map (number_in keys) list) (number_in keys k)
   on_number list k low h = omega (arith, place_number list k low, has_number list k h, length-map list (number_in keys))
 
   number_on : (list : List Key) (k : Key) → number_in keys k < length keys → IsOn (map (number_in keys) list) (number_in keys k) → has list k ≡ true
   number_on list k low on = number_has list k (omega (arith, place_number list k low, length-map list (number_in keys)))
 
   -- what stands among the numbers is the number of a key
-  key_of : (list : List Key) (n : ℕ) → IsOn (map (number_in keys) list) n → (k : Key) × (has list k ≡ true) × (number_in keys k ≡ n)
+  pub key_of : (list : List Key) (n : ℕ) → IsOn (map (number_in keys) list) n → (k : Key) × (has list k ≡ true) × (number_in keys k ≡ n)
   key_of [] n on = absurd (omega (arith, on))
   key_of (c ∷ cs) n on = by_test (eqb (number_in keys c) n) (eqb-true (number_in keys c) n) (key_of cs n) on
     where
@@ -102,13 +102,13 @@ module _ (keys : List Key) where
 
 -- rows by number
 
-no_student : Student
+pub no_student : Student
 no_student = record { row = record { key = []; name = []; code = [] }; choice = []; placed = None; earlier_choice = []; earlier_placement = None }
 
-no_project : ProjectRow
+pub no_project : ProjectRow
 no_project = record { key = []; lecturer = []; title = []; capacity = 0 }
 
-no_lecturer : Lecturer
+pub no_lecturer : Lecturer
 no_lecturer = record { row = record { key = []; name = []; code = []; capacity = 0 }; ranking = None; earlier_ranking = None }
 
 -- an applicant stands on the ranking, where nobody is still to rank
@@ -119,7 +119,7 @@ on_ranking apps k (Some r) ranks ranked there =
     let at = has_contains (map student_key apps) k there in
     subst (λ x. has r x ≡ true) at.2 (all_at (λ x. has r x ≡ true) (map student_key apps) at.0 k ranks.all at.1)
 
-both_hold : (a b : Bool) → a ≡ true → b ≡ true → (a && b) ≡ true
+pub both_hold : (a b : Bool) → a ≡ true → b ≡ true → (a && b) ≡ true
 both_hold true b e f = f
 both_hold false b e f = absurd (cc)
 
@@ -130,10 +130,10 @@ module _ (w : World) (sound : Sound w) (one : w.round ≡ First) (published : is
   student : ℕ → Student
   student s = get_or w.students s no_student
 
-  choices : (s : ℕ) (d : Student) → s < length w.students → choices_of (instance_of w) s ≡ map (number_in (project_keys w)) (get_or w.students s d).choice
+  pub choices : (s : ℕ) (d : Student) → s < length w.students → choices_of (instance_of w) s ≡ map (number_in (project_keys w)) (get_or w.students s d).choice
   choices s d h = get_or-map (λ (x : Student). map (number_in (project_keys w)) x.choice) w.students s d [] h
 
-  choice : (s : ℕ) (d : Student) → s < length w.students → IsChoice (project_keys w) (get_or w.students s d).choice
+  pub choice : (s : ℕ) (d : Student) → s < length w.students → IsChoice (project_keys w) (get_or w.students s d).choice
   choice s d h = all_at (λ (x : Student). IsChoice (project_keys w) x.choice) w.students s d chosen h
 
   in_range : (s p : ℕ) → IsAcceptable (instance_of w) s p → s < length w.students
@@ -145,10 +145,10 @@ module _ (w : World) (sound : Sound w) (one : w.round ≡ First) (published : is
   known : (s p : ℕ) → IsAcceptable (instance_of w) s p → p < length w.projects
   known s p on = omega (arith, known_key s p on, length-map w.projects project_key)
 
-  lecturer_at : (p : ℕ) → p < length w.projects → lecturer_of (instance_of w) p ≡ number_in (lecturer_keys w) (get_or w.projects p no_project).lecturer
+  pub lecturer_at : (p : ℕ) → p < length w.projects → lecturer_of (instance_of w) p ≡ number_in (lecturer_keys w) (get_or w.projects p no_project).lecturer
   lecturer_at p h = get_or-map (λ (q : ProjectRow). number_in (lecturer_keys w) q.lecturer) w.projects p no_project 0 h
 
-  lecturer_known : (p : ℕ) → p < length w.projects → number_in (lecturer_keys w) (get_or w.projects p no_project).lecturer < length (lecturer_keys w)
+  pub lecturer_known : (p : ℕ) → p < length w.projects → number_in (lecturer_keys w) (get_or w.projects p no_project).lecturer < length (lecturer_keys w)
   lecturer_known p h = has_number (lecturer_keys w) (get_or w.projects p no_project).lecturer (all_at (λ (q : ProjectRow). has (lecturer_keys w) q.lecturer ≡ true) w.projects p no_project sound.lecturers_known h)
 
   -- a student whose list holds a project is an applicant of its lecturer
@@ -195,7 +195,7 @@ module _ (w : World) (sound : Sound w) (one : w.round ≡ First) (published : is
       subst (λ n. IsOn (ranking_of (instance_of w) n) s) (sym (lecturer_at p p_in)) (subst (λ list. IsOn list s) (sym ranking) stands)
 
   -- the instance of a sound world in published is ranked
-  world_ranked : IsRanked (instance_of w)
+  pub world_ranked : IsRanked (instance_of w)
   world_ranked = record {
     known = λ s p on. omega (arith, known s p on, length-map w.projects (λ (q : ProjectRow). number_in (lecturer_keys w) q.lecturer));
     offered = λ p h. offered p (omega (arith, length-map w.projects (λ (q : ProjectRow). number_in (lecturer_keys w) q.lecturer)));
@@ -211,11 +211,11 @@ module _ (w : World) (sound : Sound w) (one : w.round ≡ First) (published : is
     distinct (x ∷ ss) all (suc s) = distinct ss all.1 s
 
   -- the project that the matching gives is the place in the result
-  given : (s : ℕ) (d : Student) → s < length w.students → project_of (places_of w) s ≡ option_map (number_in (project_keys w)) (get_or w.students s d).placed
+  pub given : (s : ℕ) (d : Student) → s < length w.students → project_of (places_of w) s ≡ option_map (number_in (project_keys w)) (get_or w.students s d).placed
   given s d h = get_or-map (λ (x : Student). option_map (number_in (project_keys w)) x.placed) w.students s d None h
 
 -- the student of this number on the roll
-record IsStudent (w : World) (s : ℕ) (x : Student) : Type 0 where
+pub record IsStudent (w : World) (s : ℕ) (x : Student) : Type 0 where
   pub in_range : s < length w.students
   pub is : get_or w.students s x ≡ x
 
@@ -224,7 +224,7 @@ module _ (w : World) (sound : Sound w) (one : w.round ≡ First) (published : is
   x_choices : choices_of (instance_of w) s ≡ map (number_in (project_keys w)) x.choice
   x_choices = subst (λ (y : Student). choices_of (instance_of w) s ≡ map (number_in (project_keys w)) y.choice) is_x.is (choices w sound one published s x is_x.in_range)
 
-  x_given : project_of (places_of w) s ≡ option_map (number_in (project_keys w)) x.placed
+  pub x_given : project_of (places_of w) s ≡ option_map (number_in (project_keys w)) x.placed
   x_given = subst (λ (y : Student). project_of (places_of w) s ≡ option_map (number_in (project_keys w)) y.placed) is_x.is (given w sound one published s x is_x.in_range)
 
   -- a project on the list is acceptable by its number
@@ -301,9 +301,10 @@ order_numbers keys xs ys low alike a b on_a on_b before =
     let after = alike key_a.0 key_b.0 key_a.1 key_b.1 (b_there, omega (arith, before.0, x_a, x_b)) in
     (omega (arith, after.1, y_a, y_b), on_b)
 
-module _ (w v : World) (sound : Sound w) (good : Sound v) (s : ℕ) (key : Key) (differ : DifferInOneList w v key) (s_in : s < length w.students) (s_key : get_or (student_keys w) s [] ≡ key) where
+-- where those whose lists may differ by key may do so by number
+module _ (w v : World) (good : Sound v) (May : Key → Type 0) (ByNumber : ℕ → Type 0) (differ : DifferInLists w v May) (may : (t : ℕ) → t < length w.students → May (get_or (student_keys w) t []) → ByNumber t) where
   students_same : student_keys v ≡ student_keys w
-  students_same = rows_same (ListAlike key) student_key (λ x y r. ap (λ row. row.key) r.0) w.students v.students differ.students
+  students_same = rows_same (ListAlike May) student_key (λ x y r. ap (λ row. row.key) r.0) w.students v.students differ.students
 
   lecturers_same : lecturer_keys v ≡ lecturer_keys w
   lecturers_same = rows_same RankAlike lecturer_key (λ x y r. ap (λ row. row.key) r.0) w.lecturers v.lecturers differ.lecturers
@@ -312,17 +313,10 @@ module _ (w v : World) (sound : Sound w) (good : Sound v) (s : ℕ) (key : Key) 
   projects_same = ap (map project_key) differ.projects
 
   count_students : length v.students ≡ length w.students
-  count_students = AllZip-long (ListAlike key) w.students v.students differ.students
+  count_students = AllZip-long (ListAlike May) w.students v.students differ.students
 
   count_lecturers : length v.lecturers ≡ length w.lecturers
   count_lecturers = AllZip-long RankAlike w.lecturers v.lecturers differ.lecturers
-
-  other_key : (t : ℕ) → t < length w.students → (t ≡ s → ⊥) → (get_or w.students t no_student).row.key ≡ key → ⊥
-  other_key t t_in other same =
-      let t_key : get_or (student_keys w) t [] ≡ key = get_or-map student_key w.students t no_student [] t_in ∙ same in
-      let low : t < length (student_keys w) = omega (arith, length-map w.students student_key) in
-      let low_s : s < length (student_keys w) = omega (arith, length-map w.students student_key) in
-      other (sym (number_back (student_keys w) t sound.students_rise low) ∙ ap (number_in (student_keys w)) (t_key ∙ sym s_key) ∙ number_back (student_keys w) s sound.students_rise low_s)
 
   choices_in : (x : World) (t : ℕ) → t < length x.students → choices_of (instance_of x) t ≡ map (number_in (project_keys x)) (get_or x.students t no_student).choice
   choices_in x t h = get_or-map (λ (y : Student). map (number_in (project_keys x)) y.choice) x.students t no_student [] h
@@ -330,7 +324,7 @@ module _ (w v : World) (sound : Sound w) (good : Sound v) (s : ℕ) (key : Key) 
   ranking_in : (x : World) (l : ℕ) → l < length x.lecturers → ranking_of (instance_of x) l ≡ map (number_in (student_keys x)) (unwrap_or (get_or x.lecturers l no_lecturer).ranking [])
   ranking_in x l h = get_or-map (λ (y : Lecturer). map (number_in (student_keys x)) (unwrap_or y.ranking [])) x.lecturers l no_lecturer [] h
 
-  differ_by_number : instances.DifferInOneList (instance_of w) (instance_of v) s
+  pub differ_by_number : instances.DifferInLists (instance_of w) (instance_of v) ByNumber
   differ_by_number = record {
     students = length-map v.students _ ∙ count_students ∙ sym (length-map w.students _);
     lecturers = λ i. map (λ (p : ProjectRow). number_in (lecturers_same i) p.lecturer) (differ.projects i);
@@ -339,12 +333,13 @@ module _ (w v : World) (sound : Sound w) (good : Sound v) (s : ℕ) (key : Key) 
     others = others;
     orders = orders;
   } where
-    others : (t : ℕ) → (t ≡ s → ⊥) → choices_of (instance_of v) t ≡ choices_of (instance_of w) t
+    others : (t : ℕ) → (ByNumber t → ⊥) → choices_of (instance_of v) t ≡ choices_of (instance_of w) t
     others t other = elim (cases_lt t (length w.students)) [
       | inl t_in ↦
-          let alike = AllZip-get_or (ListAlike key) w.students v.students t no_student no_student differ.students t_in in
+          let alike = AllZip-get_or (ListAlike May) w.students v.students t no_student no_student differ.students t_in in
+          let t_key : get_or (student_keys w) t [] ≡ (get_or w.students t no_student).row.key = get_or-map student_key w.students t no_student [] t_in in
           choices_in v t (omega (arith, count_students))
-          ∙ (λ i. map (number_in (projects_same i)) (alike.1 (other_key t t_in other) i))
+          ∙ (λ i. map (number_in (projects_same i)) (alike.1 (λ m. other (may t t_in (subst May (sym t_key) m))) i))
           ∙ sym (choices_in w t t_in)
       | inr past ↦ get_or_past (instance_of v).choices t [] (omega (arith, count_students, length-map v.students (λ (y : Student). map (number_in (project_keys v)) y.choice)))
           ∙ sym (get_or_past (instance_of w).choices t [] (omega (arith, length-map w.students (λ (y : Student). map (number_in (project_keys w)) y.choice))))
@@ -365,9 +360,19 @@ module _ (w v : World) (sound : Sound w) (good : Sound v) (s : ℕ) (key : Key) 
           λ a b on_a on_b before. absurd (let off : IsOn [] a = rw none at on_a in omega (arith, off))
     ]
 
+-- of one student
+pub differ_in_one : (w v : World) → Sound w → Sound v → (s : ℕ) (key : Key) → DifferInOneList w v key → s < length w.students → get_or (student_keys w) s [] ≡ key → instances.DifferInOneList (instance_of w) (instance_of v) s
+differ_in_one w v sound good s key differ s_in s_key = differ_by_number w v good (λ k. k ≡ key) (λ t. t ≡ s) differ same
+  where
+    same : (t : ℕ) → t < length w.students → get_or (student_keys w) t [] ≡ key → t ≡ s
+    same t t_in t_key =
+        let low : t < length (student_keys w) = omega (arith, length-map w.students student_key) in
+        let low_s : s < length (student_keys w) = omega (arith, length-map w.students student_key) in
+        sym (number_back (student_keys w) t sound.students_rise low) ∙ ap (number_in (student_keys w)) (t_key ∙ sym s_key) ∙ number_back (student_keys w) s sound.students_rise low_s
+
 -- who is shown what
 
-shown_student : (w : World) (code : Key) (a : StudentSees) → view w code ≡ sees.Student a → (x : Student) × (student_with w code ≡ Some x) × (student_sees w x ≡ a)
+pub shown_student : (w : World) (code : Key) (a : StudentSees) → view w code ≡ sees.Student a → (x : Student) × (student_with w code ≡ Some x) × (student_sees w x ≡ a)
 shown_student w code a e = by_caller (equals w.office code) (lecturer_with w code) (student_with w code) refl e
   where
     by_caller : (b : Bool) (l : Option Lecturer) (o : Option Student) → student_with w code ≡ o → sight_of w (cond b OfficeCaller (caller_among l o)) ≡ sees.Student a → (x : Student) × (student_with w code ≡ Some x) × (student_sees w x ≡ a)
@@ -377,11 +382,11 @@ shown_student w code a e = by_caller (equals w.office code) (lecturer_with w cod
     by_caller false None (Some x) eo e = (x, eo, (cc))
 
 -- one code finds the students of one number
-same_place : (key code : Key) (x y : Student) (ss ts : List Student) → AllZip (ListAlike key) ss ts → find (λ s. equals s.row.code code) ss ≡ Some x → find (λ s. equals s.row.code code) ts ≡ Some y
+pub same_place : (May : Key → Type 0) (code : Key) (x y : Student) (ss ts : List Student) → AllZip (ListAlike May) ss ts → find (λ s. equals s.row.code code) ss ≡ Some x → find (λ s. equals s.row.code code) ts ≡ Some y
     → (n : ℕ) × (n < length ss) × (get_or ss n x ≡ x) × (n < length ts) × (get_or ts n y ≡ y)
-same_place key code x y [] ts z e f = absurd (cc)
-same_place key code x y (s ∷ ss) [] z e f = absurd z
-same_place key code x y (s ∷ ss) (t ∷ ts) z e f = by_test (equals s.row.code code) (equals t.row.code code) (ap (λ row. equals row.code code) z.0.0) (same_place key code x y ss ts z.1) e f
+same_place May code x y [] ts z e f = absurd (cc)
+same_place May code x y (s ∷ ss) [] z e f = absurd z
+same_place May code x y (s ∷ ss) (t ∷ ts) z e f = by_test (equals s.row.code code) (equals t.row.code code) (ap (λ row. equals row.code code) z.0.0) (same_place May code x y ss ts z.1) e f
   where
     by_test : (a b : Bool) → b ≡ a
         → (find (λ s. equals s.row.code code) ss ≡ Some x → find (λ s. equals s.row.code code) ts ≡ Some y → (n : ℕ) × (n < length ss) × (get_or ss n x ≡ x) × (n < length ts) × (get_or ts n y ≡ y))
@@ -393,29 +398,45 @@ same_place key code x y (s ∷ ss) (t ∷ ts) z e f = by_test (equals s.row.code
     by_test false false same r e f = let rest = r e f in (suc rest.0, omega (arith, rest.1), rest.2, omega (arith, rest.3), rest.4)
 
 -- a world of one round in published, whose result is the best for the students
-record IsBestRound (w : World) : Type 0 where
+pub record IsBestRound (w : World) : Type 0 where
   pub sound : Sound w
   pub one : w.round ≡ First
   pub published : is_published w.phase ≡ true
   pub best : IsBest (instance_of w) (places_of w)
 
-by_rows : (w v : World) (s : ℕ) (x y : Student) → IsBestRound w → IsBestRound v → project_keys v ≡ project_keys w → instances.DifferInOneList (instance_of w) (instance_of v) s → IsStudent w s x → IsStudent v s y → IsNoWorse x.choice x.placed y.placed
-by_rows w v s x y one other same_projects differ is_x is_y p shows there =
-    let gives : project_of (places_of v) s ≡ Some (number_in (project_keys w) p) =
-    x_given v other.sound other.one other.published s y is_y ∙ ap (option_map (number_in (project_keys v))) shows ∙ ap (λ keys. Some (number_in keys p)) same_projects in
-    let low : number_in (project_keys w) p < length (project_keys w) = known_p in
-    let good : IsAsGood (instance_of w) s (project_of (places_of w) s) (Some (number_in (project_keys w) p)) =
-    honest_by_number (instance_of w) (instance_of v) s (places_of w) (places_of v) (world_ranked w one.sound one.one one.published) (world_ranked v other.sound other.one other.published) differ one.best other.best.stable
-    (number_in (project_keys w) p) gives (x_acceptable w one.sound one.one one.published s x is_x p low there) in
+-- or is stable alone
+pub record IsStableRound (w : World) : Type 0 where
+  pub sound : Sound w
+  pub one : w.round ≡ First
+  pub published : is_published w.phase ≡ true
+  pub stable : IsStable (instance_of w) (places_of w)
+
+-- from what is as good by number to what is no worse by key
+pub no_worse_by_number : (w : World) (s : ℕ) (x : Student) → IsBestRound w → IsStudent w s x → (p : Key) → has x.choice p ≡ true
+    → (IsAcceptable (instance_of w) s (number_in (project_keys w) p) → IsAsGood (instance_of w) s (project_of (places_of w) s) (Some (number_in (project_keys w) p)))
+    → (q : Key) × (x.placed ≡ Some q) × (has x.choice q ≡ true) × (number_in x.choice q ≤ number_in x.choice p)
+no_worse_by_number w s x one is_x p there good =
     x_no_worse w one.sound one.one one.published s x is_x p low there x.placed
     (λ q e. one.best.stable.matching.acceptable s (number_in (project_keys w) q) (x_given w one.sound one.one one.published s x is_x ∙ ap (option_map (number_in (project_keys w))) e))
-    (subst (λ o. IsAsGood (instance_of w) s o (Some (number_in (project_keys w) p))) (x_given w one.sound one.one one.published s x is_x) good)
+    (subst (λ o. IsAsGood (instance_of w) s o (Some (number_in (project_keys w) p))) (x_given w one.sound one.one one.published s x is_x) (good (x_acceptable w one.sound one.one one.published s x is_x p low there)))
   where
-    known_p : number_in (project_keys w) p < length (project_keys w)
-    known_p =
+    low : number_in (project_keys w) p < length (project_keys w)
+    low =
         let at = has_contains x.choice p there in
         let x_choice : IsChoice (project_keys w) x.choice = subst (λ (z : Student). IsChoice (project_keys w) z.choice) is_x.is (choice w one.sound one.one one.published s x is_x.in_range) in
         has_number (project_keys w) p (subst (λ k. has (project_keys w) k ≡ true) at.2 (all_at (λ k. has (project_keys w) k ≡ true) x.choice at.0 p x_choice.known at.1))
+
+-- what is no worse by number is so by key
+pub rows_no_worse : (w v : World) (s : ℕ) (x y : Student) → IsBestRound w → IsStableRound v → project_keys v ≡ project_keys w → IsStudent w s x → IsStudent v s y
+    → instances.IsNoWorse (instance_of w) s (project_of (places_of w) s) (project_of (places_of v) s) → IsNoWorse x.choice x.placed y.placed
+rows_no_worse w v s x y one other same_projects is_x is_y no_worse p shows there =
+    no_worse_by_number w s x one is_x p there
+    (no_worse (number_in (project_keys w) p) (x_given v other.sound other.one other.published s y is_y ∙ ap (option_map (number_in (project_keys v))) shows ∙ ap (λ keys. Some (number_in keys p)) same_projects))
+
+pub by_rows : (w v : World) (s : ℕ) (x y : Student) → IsBestRound w → IsStableRound v → project_keys v ≡ project_keys w → instances.DifferInOneList (instance_of w) (instance_of v) s → IsStudent w s x → IsStudent v s y → IsNoWorse x.choice x.placed y.placed
+by_rows w v s x y one other same_projects differ is_x is_y =
+    rows_no_worse w v s x y one other same_projects is_x is_y
+    (honest_by_number (instance_of w) (instance_of v) s (places_of w) (places_of v) (world_ranked w one.sound one.one one.published) (world_ranked v other.sound other.one other.published) differ one.best other.stable)
 
 -- from a round to the world that it is played in
 
@@ -450,16 +471,16 @@ module _ (ps : List ProjectRow) (ss : List Student) where
       rows_same RankAlike lecturer_key (λ l k r. ap (λ row. row.key) r.0) (lecturers_left ls ps ss) (lecturers_left ks ps ss) (staff_zip Second ls ks z) in
       λ i. filter (λ p. nat_lt 0 p.capacity && has (keys i) p.lecturer) (map (lowered_project ss) ps)
 
-group_zip : (key : Key) (r : Round) (ss ts : List Student) → AllZip (ListAlike key) ss ts → AllZip (ListAlike key) (students_in r ss) (students_in r ts)
-group_zip key First ss ts z = z
-group_zip key Second ss ts z = zip_kept (ListAlike key) is_left (λ x y r. ap is_none r.2) ss ts z
+group_zip : (May : Key → Type 0) (r : Round) (ss ts : List Student) → AllZip (ListAlike May) ss ts → AllZip (ListAlike May) (students_in r ss) (students_in r ts)
+group_zip May First ss ts z = z
+group_zip May Second ss ts z = zip_kept (ListAlike May) is_left (λ x y r. ap is_none r.2) ss ts z
 
--- two rounds that differ in one list are so when each stands alone
-module _ (w v : World) (key : Key) (differ : DifferInOneList w v key) where
+-- two rounds that differ in some lists are so when each stands alone
+module _ (w v : World) (May : Key → Type 0) (differ : DifferInLists w v May) where
   count_same : (q : Option Key → Bool) → count_by (λ (s : Student). q s.earlier_placement) v.students ≡ count_by (λ s. q s.earlier_placement) w.students
   count_same q =
       sym (count_by-map q (λ (s : Student). s.earlier_placement) v.students)
-      ∙ ap (count_by q) (rows_same (ListAlike key) (λ (s : Student). s.earlier_placement) (λ x y r. r.2) w.students v.students differ.students)
+      ∙ ap (count_by q) (rows_same (ListAlike May) (λ (s : Student). s.earlier_placement) (λ x y r. r.2) w.students v.students differ.students)
       ∙ count_by-map q (λ (s : Student). s.earlier_placement) w.students
 
   staff_given : (ls : List Lecturer) → lecturers_in v.round ls v.projects v.students ≡ lecturers_in w.round ls w.projects w.students
@@ -472,17 +493,17 @@ module _ (w v : World) (key : Key) (differ : DifferInOneList w v key) where
       (λ i. projects_in (differ.round i) ls (differ.projects i) v.students)
       ∙ projects_given v.students w.students (λ p. count_same (is_at p)) (λ ps l. count_same (λ o. list_any (λ p. equals p.lecturer l && is_at p.key o) ps)) w.round ls w.projects
 
-  differ_alone : DifferInOneList (alone (in_play w)) (alone (in_play v)) key
+  pub differ_alone : DifferInLists (alone (in_play w)) (alone (in_play v)) May
   differ_alone = record {
     round = refl;
     lecturers = zip_mapped RankAlike alone_lecturer (λ l k r. r) (in_play w).lecturers (in_play v).lecturers
         (subst (AllZip RankAlike (in_play w).lecturers) (sym (staff_given v.lecturers)) (staff_zip w.projects w.students w.round w.lecturers v.lecturers differ.lecturers));
     projects = offers_given v.lecturers ∙ offers_same w.projects w.students w.round w.lecturers v.lecturers differ.lecturers;
-    students = zip_mapped (ListAlike key) alone_student (λ x y r. (r.0, r.1, refl)) (in_play w).students (in_play v).students
-        (subst (λ r. AllZip (ListAlike key) (students_in w.round w.students) (students_in r v.students)) (sym differ.round) (group_zip key w.round w.students v.students differ.students));
+    students = zip_mapped (ListAlike May) alone_student (λ x y r. (r.0, r.1, refl)) (in_play w).students (in_play v).students
+        (subst (λ r. AllZip (ListAlike May) (students_in w.round w.students) (students_in r v.students)) (sym differ.round) (group_zip May w.round w.students v.students differ.students));
   }
 
-best_alone : (w : World) → HasBest w → IsBestRound (alone (in_play w))
+pub best_alone : (w : World) → HasBest w → IsBestRound (alone (in_play w))
 best_alone w h = record {
   sound = (played_alone w h.good).0.sound;
   one = refl;
@@ -490,8 +511,16 @@ best_alone w h = record {
   best = subst (λ i. IsBest i (places_of (alone (in_play w)))) (sym (rows_alone (in_play w))) (subst (IsBest (instance w)) (sym (places_alone (in_play w))) h.best);
 }
 
+pub stable_alone : (v : World) → Good v → is_published v.phase ≡ true → IsStableRound (alone (in_play v))
+stable_alone v good published = record {
+  sound = (played_alone v good).0.sound;
+  one = refl;
+  published = published;
+  stable = subst (λ i. IsStable i (places_of (alone (in_play v)))) (sym (rows_alone (in_play v))) (subst (IsStable (instance v)) (sym (places_alone (in_play v))) (good.stable published));
+}
+
 -- who is left by the first round is found among those who are
-find_left : (q : Student → Bool) (ss : List Student) (x : Student) → find q ss ≡ Some x → is_left x ≡ true → find q (students_left ss) ≡ Some x
+pub find_left : (q : Student → Bool) (ss : List Student) (x : Student) → find q ss ≡ Some x → is_left x ≡ true → find q (students_left ss) ≡ Some x
 find_left q [] x e left = absurd (cc)
 find_left q (s ∷ ss) x e left = by_tests (q s) (is_left s) refl refl (λ f. find_left q ss x f left) e
   where
@@ -518,29 +547,29 @@ found_alone w code x e left = find_alone code (students_in w.round w.students) x
     by_round Second = find_left (λ s. equals s.row.code code) w.students x e left
 
 -- who is left is shown the place of the round
-shown : (w : World) (x : Student) → is_published w.phase ≡ true → x.earlier_placement ≡ None → (student_sees w x).result ≡ x.placed
+pub shown : (w : World) (x : Student) → is_published w.phase ≡ true → x.earlier_placement ≡ None → (student_sees w x).result ≡ x.placed
 shown w x published left = rw (left, published) refl
 
 -- NO OTHER LIST GAINS
-of_round : (w v : World) (code key : Key) (x y : Student) → HasBest w → HasBest v → DifferInOneList w v key → student_with w code ≡ Some x → student_with v code ≡ Some y → x.row.key ≡ key → x.earlier_placement ≡ None → y.earlier_placement ≡ None
+of_round : (w v : World) (code key : Key) (x y : Student) → HasBest w → Good v → is_published v.phase ≡ true → DifferInOneList w v key → student_with w code ≡ Some x → student_with v code ≡ Some y → x.row.key ≡ key → x.earlier_placement ≡ None → y.earlier_placement ≡ None
     → IsNoWorse x.choice x.placed y.placed
-of_round w v code key x y one other differ found_x found_y is_key left_x left_y =
+of_round w v code key x y one other published differ found_x found_y is_key left_x left_y =
     let best : IsBestRound (alone (in_play w)) = best_alone w one in
-    let rival : IsBestRound (alone (in_play v)) = best_alone v other in
-    let apart : DifferInOneList (alone (in_play w)) (alone (in_play v)) key = differ_alone w v key differ in
-    let at = same_place key code (alone_student x) (alone_student y) (alone (in_play w)).students (alone (in_play v)).students apart.students (found_alone w code x found_x (ap is_none left_x)) (found_alone v code y found_y (ap is_none left_y)) in
+    let rival : IsStableRound (alone (in_play v)) = stable_alone v other published in
+    let apart : DifferInOneList (alone (in_play w)) (alone (in_play v)) key = differ_alone w v (λ k. k ≡ key) differ in
+    let at = same_place (λ k. k ≡ key) code (alone_student x) (alone_student y) (alone (in_play w)).students (alone (in_play v)).students apart.students (found_alone w code x found_x (ap is_none left_x)) (found_alone v code y found_y (ap is_none left_y)) in
     let s_key : get_or (student_keys (alone (in_play w))) at.0 [] ≡ key = get_or-map student_key (alone (in_play w)).students at.0 (alone_student x) [] at.1 ∙ ap student_key at.2 ∙ is_key in
     by_rows (alone (in_play w)) (alone (in_play v)) at.0 (alone_student x) (alone_student y) best rival (ap (map project_key) apart.projects)
-    (differ_by_number (alone (in_play w)) (alone (in_play v)) best.sound rival.sound at.0 key apart at.1 s_key)
+    (differ_in_one (alone (in_play w)) (alone (in_play v)) best.sound rival.sound at.0 key apart at.1 s_key)
     (record { in_range = at.1; is = at.2 }) (record { in_range = at.3; is = at.4 })
 
-pub honest_is_best : (w v : World) (code : Key) (a b : StudentSees) → HasBest w → HasBest v → view w code ≡ sees.Student a → view v code ≡ sees.Student b → DifferInOneList w v a.me.key → IsNoWorse a.choices a.result b.result
+pub honest_is_best : (w v : World) (code : Key) (a b : StudentSees) → HasBest w → Good v → view w code ≡ sees.Student a → view v code ≡ sees.Student b → DifferInOneList w v a.me.key → IsNoWorse a.choices a.result b.result
 honest_is_best w v code a b one other sees_a sees_b differ =
     let x = shown_student w code a sees_a in
     let y = shown_student v code b sees_b in
-    let at = same_place a.me.key code x.0 y.0 w.students v.students differ.students x.1 y.1 in
+    let at = same_place (λ k. k ≡ a.me.key) code x.0 y.0 w.students v.students differ.students x.1 y.1 in
     let is_key : x.0.row.key ≡ a.me.key = ap (λ (z : StudentSees). z.me.key) x.2 in
-    let alike = AllZip-get_or (ListAlike a.me.key) w.students v.students at.0 x.0 y.0 differ.students at.1 in
+    let alike = AllZip-get_or (ListAlike (λ k. k ≡ a.me.key)) w.students v.students at.0 x.0 y.0 differ.students at.1 in
     let given : y.0.earlier_placement ≡ x.0.earlier_placement = ap (λ (s : Student). s.earlier_placement) (sym at.4) ∙ alike.2 ∙ ap (λ (s : Student). s.earlier_placement) at.2 in
     let out : is_left x.0 ≡ false → (x.0.choice ≡ []) × (x.0.placed ≡ None)
     = subst (λ (s : Student). is_left s ≡ false → (s.choice ≡ []) × (s.placed ≡ None)) at.2
@@ -553,8 +582,13 @@ honest_is_best w v code a b one other sees_a sees_b differ =
     by_place : (x y : Student) → student_with w code ≡ Some x → student_with v code ≡ Some y → x.row.key ≡ a.me.key → y.earlier_placement ≡ x.earlier_placement → (is_left x ≡ false → (x.choice ≡ []) × (x.placed ≡ None)) → (o : Option Key) → x.earlier_placement ≡ o
         → IsNoWorse x.choice (student_sees w x).result (student_sees v y).result
     by_place x y found_x found_y is_key given out None left =
-        subst (λ o. IsNoWorse x.choice o (student_sees v y).result) (sym (shown w x one.published left))
-        (subst (IsNoWorse x.choice x.placed) (sym (shown v y other.published (given ∙ left)))
-        (of_round w v code a.me.key x y one other differ found_x found_y is_key left (given ∙ left)))
+        by_phase (is_published v.phase) refl
+      where
+        by_phase : (out : Bool) → is_published v.phase ≡ out → IsNoWorse x.choice (student_sees w x).result (student_sees v y).result
+        by_phase false e = λ q shows there. let none : (student_sees v y).result ≡ None = rw (given ∙ left, e) refl in absurd (cc)
+        by_phase true e =
+            subst (λ o. IsNoWorse x.choice o (student_sees v y).result) (sym (shown w x one.published left))
+            (subst (IsNoWorse x.choice x.placed) (sym (shown v y e (given ∙ left)))
+            (of_round w v code a.me.key x y one other e differ found_x found_y is_key left (given ∙ left)))
     by_place x y found_x found_y is_key given out (Some p) placed =
         subst (λ list. IsNoWorse list (student_sees w x).result (student_sees v y).result) (sym (out (ap is_none placed)).0) (λ q shows there. absurd (cc))

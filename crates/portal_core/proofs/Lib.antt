@@ -42,3 +42,7 @@ pub mod Scan
 pub mod Pieces
 pub mod Tables
 pub mod HonestLists
+pub mod HonestGroups
+pub mod LeftOver
+mod BothRounds
+mod BestShown

@@ -42,7 +42,7 @@ module _ (w v : World) (second : w.round ≡ Second) where
         sheets = λ ask text sheet calm. keeps w refl refl;
       }) ask
 
-the_second : (r : Round) → is_second r ≡ true → r ≡ Second
+pub the_second : (r : Round) → is_second r ≡ true → r ≡ Second
 the_second First e = cc
 the_second Second e = refl
 

@@ -21,7 +21,7 @@ use Rattle.portal_core.proofs.Fills.{filling}
 use Rattle.portal_core.proofs.Enrol.{open_phase, lecturers_added, projects_added, students_added}
 use Rattle.portal_core.proofs.Opened.{opened_good, opens_to, first_chosen, first_ranked, first_filled, alone_left}
 
-ranking_open : (phase : Phase) → is_ranking phase ≡ true → is_published phase ≡ false
+pub ranking_open : (phase : Phase) → is_ranking phase ≡ true → is_published phase ≡ false
 ranking_open Setup e = refl
 ranking_open Choosing e = refl
 ranking_open Ranking e = refl
@@ -31,7 +31,7 @@ rolls_first : (round : Round) (phase : Phase) → is_open_to_rolls round phase �
 rolls_first First phase e = refl
 rolls_first Second phase e = cc
 
-rolls_early : (round : Round) (phase : Phase) → is_open_to_rolls round phase ≡ true → is_from_ranking phase ≡ false
+pub rolls_early : (round : Round) (phase : Phase) → is_open_to_rolls round phase ≡ true → is_from_ranking phase ≡ false
 rolls_early First Setup e = refl
 rolls_early First Choosing e = refl
 rolls_early First Ranking e = cc

@@ -2,10 +2,10 @@
 
 ghost use Rattle.std.specs.Prelude.{◌≡◌, ◌⊎◌, ◌++◌, ◌∷◌, [], List, map, true, false, Some, None};
 ghost use Rattle.portal_core.specs.Words.{Key, equals, has};
-ghost use Rattle.portal_core.specs.World.{World, Lecturer, in_play, first, is_second, alone, student_key, applicants_of, is_from_ranking};
+ghost use Rattle.portal_core.specs.World.{World, Lecturer, is_published, in_play, first, is_second, alone, student_key, applicants_of, is_from_ranking};
 ghost use Rattle.portal_core.specs.Good.{Good, KeepsCapacities, codes_of, IsChoice, IsRanking};
 ghost use Rattle.portal_core.specs.Instance.{instance};
-ghost use Rattle.portal_core.specs.Honest.{HonestIsBest};
+ghost use Rattle.portal_core.specs.Honest.{HasBest, HonestIsBest, HonestOverBoth, LeftFindsNone, NoGroupGains, ShowsBest};
 ghost use Rattle.portal_core.specs.Faults.{ListFault, choice_fault, ranking_fault, lacks_one};
 ghost use Rattle.portal_core.specs.Rolls.{RollFault, Faulty, Took, take_rows, lecturer_roll, project_roll, student_roll};
 ghost use Rattle.portal_core.specs.Legal.{AreFresh, IsBadChoice, IsBadRank, NoneBad, IsFirstBad, IsFirstRefused};
@@ -214,11 +214,44 @@ pub fn named_by_code()
         → view w c ≡ sees.Nobody }
 {}
 
+/// What is published is the best for the students: a world that a step publishes has its best result; and
+/// where each result that a world shows is the best, as in one that shows none, so it is in each world that
+/// a run reaches.
+pub fn published_best()
+    ensures step { (w v : World) (code : Key) (ask : AbstractCall) (reply : Answer)
+        → Good w → is_published w.phase ≡ false → Step w code ask reply v
+        → is_published v.phase ≡ true → HasBest v }
+    ensures run { (w : World) (asked : List Request) (told : List Answer) (after : List World)
+        → ShowsBest w → Run w asked told after → AllByRecursion ShowsBest after }
+    ensures start { (w : World) → Good w → is_second w.round ≡ false → is_published w.phase ≡ false
+        → ShowsBest w }
+{}
+
 /// What a student is shown with the honest list is, by that list, at least as good as what is shown with
-/// another: of two good worlds in published, of one round, each with its best result, that differ at most
-/// in the list of one student, where each lecturer orders the same students alike.
+/// another: of two good worlds of the same round that differ at most in the list of one student, the first
+/// in published with its best result, where each lecturer orders the same students alike.
 pub fn honest_is_best()
     ensures { HonestIsBest }
+{}
+
+/// Who waits for the second round gains nothing: what a student is shown with the honest list in the first
+/// round is, by that list, at least as good as what is shown in any second round whose first round differs
+/// at most in the list of that student.
+pub fn honest_over_both()
+    ensures { HonestOverBoth }
+{}
+
+/// In a good world of the second round a student whom the first left finds no project of the first list in
+/// the catalogue: each of them is full, or its lecturer is.
+pub fn left_finds_none()
+    ensures { LeftFindsNone }
+{}
+
+/// Whatever the students of a group list together, not all of them are shown a project that is better, by the
+/// own honest list, than what honest lists give: of two such worlds that differ at most in their lists, where
+/// one of the group at least takes part in the round.
+pub fn no_group_gains()
+    ensures { NoGroupGains }
 {}
 
 /// There is a good world in each phase of either round.

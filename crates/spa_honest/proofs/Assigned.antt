@@ -16,7 +16,7 @@ has_one None = false
 has_one (Some q) = true
 
 -- where each that counts in m counts in n, and one more counts in n, m has fewer
-count_by-lt : (p : Option ℕ → Bool) (m n : List (Option ℕ)) (j : ℕ) → length m ≡ length n → ((s : ℕ) → p (get_or m s None) ≡ true → p (get_or n s None) ≡ true) → j < length n → p (get_or m j None) ≡ false → p (get_or n j None) ≡ true → count_by p m + 1 ≤ count_by p n
+pub count_by-lt : (p : Option ℕ → Bool) (m n : List (Option ℕ)) (j : ℕ) → length m ≡ length n → ((s : ℕ) → p (get_or m s None) ≡ true → p (get_or n s None) ≡ true) → j < length n → p (get_or m j None) ≡ false → p (get_or n j None) ≡ true → count_by p m + 1 ≤ count_by p n
 count_by-lt p m [] j e h l off on = absurd (omega arith)
 count_by-lt p [] (y ∷ n) j e h l off on = absurd (omega arith)
 count_by-lt p (x ∷ m) (y ∷ n) zero e h l off on =
@@ -37,7 +37,7 @@ one_lecturer i n (Some q) h =
     ∙ ap one_if (eq-eqb (lecturer_of i q) (lecturer_of i q) refl)
 
 -- lecturers together have whoever has a project
-all_lecturers : (i : Spa) (n : ℕ) (m : List (Option ℕ)) → ((s q : ℕ) → project_of m s ≡ Some q → lecturer_of i q < n) → count_by has_one m ≡ sum_below (at_lecturer i m) n
+pub all_lecturers : (i : Spa) (n : ℕ) (m : List (Option ℕ)) → ((s q : ℕ) → project_of m s ≡ Some q → lecturer_of i q < n) → count_by has_one m ≡ sum_below (at_lecturer i m) n
 all_lecturers i n [] h = sym (sum_below-zero (at_lecturer i []) n (λ k _. refl))
 all_lecturers i n (o ∷ m) h =
     let first : ℕ → ℕ = λ l. one_if (is_lecturer i l o) in
@@ -46,15 +46,28 @@ all_lecturers i n (o ∷ m) h =
     omega (arith, split, one_lecturer i n o (h 0), all_lecturers i n m (λ s. h (suc s)), count_by-cons has_one o m)
 
 -- a sum that is greater has a term that is greater
-greater_term : (f g : ℕ → ℕ) (n : ℕ) → sum_below g n < sum_below f n → (k : ℕ) × (k < n) × (g k < f k)
+pub greater_term : (f g : ℕ → ℕ) (n : ℕ) → sum_below g n < sum_below f n → (k : ℕ) × (k < n) × (g k < f k)
 greater_term f g zero h = absurd (omega arith)
 greater_term f g (suc n) h = elim (cases_lt (g n) (f n)) [
   | inl here ↦ (n, omega arith, here)
   | inr least ↦ let before = greater_term f g n (omega arith) in (before.0, omega (arith, before.1), before.2)
 ]
 
+-- where m has more with a lecturer, it has more at a project of the lecturer
+pub more_at : (i : Spa) (l : ℕ) (m n : List (Option ℕ)) → ((s q : ℕ) → project_of m s ≡ Some q → q < length i.lecturers) → ((s q : ℕ) → project_of n s ≡ Some q → q < length i.lecturers) → at_lecturer i n l < at_lecturer i m l
+    → (u : ℕ) × (lecturer_of i u ≡ l) × (at_project n u < at_project m u)
+more_at i l m n known_m known_n more =
+    let count : ℕ = length i.lecturers in
+    let term = greater_term (share i m l) (share i n l) count (omega (arith, more, at_lecturer-sum i l count m known_m, at_lecturer-sum i l count n known_n)) in
+    let here = own term.0 (eqb (lecturer_of i term.0) l) refl term.2 in
+    (term.0, here.0, here.1)
+  where
+    own : (u : ℕ) (b : Bool) → eqb (lecturer_of i u) l ≡ b → cond b (at_project n u) 0 < cond b (at_project m u) 0 → (lecturer_of i u ≡ l) × (at_project n u < at_project m u)
+    own u true e h = (eqb-true (lecturer_of i u) l e, h)
+    own u false e h = absurd (omega arith)
+
 -- where m has more at a project, some student is there in m alone
-one_there : (i : Spa) (m n : List (Option ℕ)) (u : ℕ) → length m ≡ length n → at_project n u < at_project m u → (s : ℕ) × (project_of m s ≡ Some u) × (project_of n s ≡ Some u → ⊥)
+pub one_there : (i : Spa) (m n : List (Option ℕ)) (u : ℕ) → length m ≡ length n → at_project n u < at_project m u → (s : ℕ) × (project_of m s ≡ Some u) × (project_of n s ≡ Some u → ⊥)
 one_there i m n u same more =
     elim (greatest (λ s. (project_of m s ≡ Some u) × (project_of n s ≡ Some u → ⊥)) test (λ s. 0) (length m)) [
       | inl one ↦ (one.0, one.2.0, one.2.1)
@@ -72,7 +85,7 @@ one_there i m n u same more =
     stays s at none (inr alone) = absurd (none s (student_in_range i m s u at) (at, alone))
 
 -- who is elsewhere in n wants the project of the best matching
-wants_best : (i : Spa) (n : List (Option ℕ)) (s u : ℕ) → IsAcceptable i s u → (project_of n s ≡ Some u → ⊥) → (o : Option ℕ) → project_of n s ≡ o → IsAsGood i s (Some u) o → Wants i n s u
+pub wants_best : (i : Spa) (n : List (Option ℕ)) (s u : ℕ) → IsAcceptable i s u → (project_of n s ≡ Some u → ⊥) → (o : Option ℕ) → project_of n s ≡ o → IsAsGood i s (Some u) o → Wants i n s u
 wants_best i n s u on other None e good = (on, rw e tt)
 wants_best i n s u on other (Some q) e (inl same) = absurd (other (e ∙ ap Some (sym same)))
 wants_best i n s u on other (Some q) e (inr before) = (on, rw e before)
@@ -92,24 +105,13 @@ module _ (i : Spa) (law : IsRanked i) (m n : List (Option ℕ)) (best : IsBest i
     | inl more ↦ absurd (blocked more)
   ]
     where
-      sum_m : at_lecturer i m l ≡ sum_below (share i m l) (length i.lecturers)
-      sum_m = at_lecturer-sum i l (length i.lecturers) m (λ s q e. law.known s q (best.stable.matching.acceptable s q e))
-
-      sum_n : at_lecturer i n l ≡ sum_below (share i n l) (length i.lecturers)
-      sum_n = at_lecturer-sum i l (length i.lecturers) n (λ s q e. law.known s q (stable.matching.acceptable s q e))
-
-      own : (u : ℕ) (b : Bool) → eqb (lecturer_of i u) l ≡ b → cond b (at_project n u) 0 < cond b (at_project m u) 0 → (lecturer_of i u ≡ l) × (at_project n u < at_project m u)
-      own u true e h = (eqb-true (lecturer_of i u) l e, h)
-      own u false e h = absurd (omega arith)
-
       blocked : at_lecturer i n l < at_lecturer i m l → ⊥
       blocked more =
-          let term = greater_term (share i m l) (share i n l) (length i.lecturers) (omega (arith, sum_m, sum_n)) in
-          let u : ℕ = term.0 in
-          let here = own u (eqb (lecturer_of i u) l) refl term.2 in
-          let one = one_there i m n u same_length here.1 in
+          let here = more_at i l m n (λ s q e. law.known s q (best.stable.matching.acceptable s q e)) (λ s q e. law.known s q (stable.matching.acceptable s q e)) more in
+          let u : ℕ = here.0 in
+          let one = one_there i m n u same_length here.2 in
           let wants : Wants i n one.0 u = wants_best i n one.0 u (best.stable.matching.acceptable one.0 u one.1) one.2 (project_of n one.0) refl (subst (λ o. IsAsGood i one.0 o (project_of n one.0)) one.1 (best.best n stable one.0)) in
-          stable.unblocked one.0 u A (wants, omega (arith, here.1, best.stable.matching.projects u), rw here.0 (omega (arith, more, best.stable.matching.lecturers l)))
+          stable.unblocked one.0 u A (wants, omega (arith, here.2, best.stable.matching.projects u), rw here.1 (omega (arith, more, best.stable.matching.lecturers l)))
 
   -- whoever has a project has one in the best matching
   has_best : (s : ℕ) → has_one (project_of n s) ≡ true → has_one (project_of m s) ≡ true

@@ -1,14 +1,14 @@
--- A stable matching of one instance in another that differs in one list.
-use Rattle.std.proofs.Common.{◌≡◌, inl, inr, ℕ, List, get_or, Option, Some, None, refl, sym, ◌∙◌, ap, subst, arith}
+-- A stable matching of one instance in another that differs in some lists.
+use Rattle.std.proofs.Common.{◌≡◌, ◌⊎◌, inl, inr, ℕ, List, get_or, Option, Some, None, refl, sym, ◌∙◌, ap, subst, arith}
 use Rattle.std.specs.List.{count_by}
 use Rattle.std.proofs.lemmas.Bool.{cases_eq}
 use Rattle.spa_model.specs.declared.letter.Letter.{Letter}
 use Rattle.spa_model.specs.declared.letter.Letter.TheVariants.{A, B, C}
-use Rattle.spa_model.specs.Spa.{Spa, is_lecturer, at_lecturer, project_of, choices_of, lecturer_of, ranking_of, capacity_of, limit_of, IsBefore, IsAcceptable, Improves, Wants, Blocks, IsStable}
+use Rattle.spa_model.specs.Spa.{Spa, is_lecturer, at_lecturer, project_of, choices_of, lecturer_of, ranking_of, capacity_of, limit_of, IsBefore, IsAcceptable, IsMatching, Improves, Wants, Blocks, IsStable}
 use Rattle.spa_student.specs.inner.Machine.{IsRanked}
-use Rattle.spa_honest.specs.Honest.{DifferInOneList}
+use Rattle.spa_honest.specs.Honest.{HasRoom, DifferInLists, DifferInOneList}
 
-module _ (i j : Spa) (s : ℕ) (m : List (Option ℕ)) (differ : DifferInOneList i j s) (law : IsRanked j) (stable : IsStable j m) (wants : (q : ℕ) → Wants i m s q → Wants j m s q) where
+module _ (i j : Spa) (May : ℕ → Type 0) (m : List (Option ℕ)) (differ : DifferInLists i j May) where
   same_lecturer : (p : ℕ) → lecturer_of j p ≡ lecturer_of i p
   same_lecturer p = ap (λ list. get_or list p 0) differ.lecturers
 
@@ -21,47 +21,61 @@ module _ (i j : Spa) (s : ℕ) (m : List (Option ℕ)) (differ : DifferInOneList
   same_count : (l : ℕ) → at_lecturer j m l ≡ at_lecturer i m l
   same_count l = ap (λ list. count_by (is_lecturer (record i { lecturers = list }) l) m) differ.lecturers
 
-  wanted : (t u : ℕ) → Wants i m t u → Wants j m t u
-  wanted t u w = elim (cases_eq t s) [
-    | inl same ↦ subst (λ x. Wants j m x u) (sym same) (wants u (subst (λ x. Wants i m x u) same w))
-    | inr other ↦ (rw (differ.others t other) w.0, by_own (project_of m t) (differ.others t other) w.1)
-  ]
+  same_room_too : (p : ℕ) → HasRoom j m p → HasRoom i m p
+  same_room_too p room = (
+    omega (arith, room.0, same_capacity p),
+    omega (arith, rw (same_lecturer p) at room.1, same_count (lecturer_of i p), same_limit (lecturer_of i p)),
+  )
+
+  -- whose list is the same wants the same
+  pub wanted_too : (t u : ℕ) → (May t → ⊥) → Wants i m t u → Wants j m t u
+  wanted_too t u other w = (rw (differ.others t other) w.0, by_own (project_of m t) (differ.others t other) w.1)
     where
       by_own : (o : Option ℕ) → choices_of j t ≡ choices_of i t → Improves i t u o → Improves j t u o
       by_own None e w = tt
       by_own (Some q) e w = rw e w
 
+module _ (i j : Spa) (May : ℕ → Type 0) (m : List (Option ℕ)) (differ : DifferInLists i j May) (law : IsRanked j) (stable : IsStable j m) where
   -- who stands after t for a lecturer stood so before
   worse : (t u : ℕ) → Wants j m t u → (x q : ℕ) → project_of m x ≡ Some q → lecturer_of i q ≡ lecturer_of i u → IsBefore (ranking_of i (lecturer_of i u)) t x → IsBefore (ranking_of j (lecturer_of j u)) t x
   worse t u w x q e own before =
-      let l_u : lecturer_of j u ≡ lecturer_of i u = same_lecturer u in
-      let l_q : lecturer_of j q ≡ lecturer_of i u = same_lecturer q ∙ own in
+      let l_u : lecturer_of j u ≡ lecturer_of i u = same_lecturer i j May m differ u in
+      let l_q : lecturer_of j q ≡ lecturer_of i u = same_lecturer i j May m differ q ∙ own in
       rw l_u (differ.orders (lecturer_of i u) t x (rw l_u at (law.ranked t u w.0)) (rw l_q at (law.ranked x q (stable.matching.acceptable x q e))) before)
 
-  unblocked : (t u : ℕ) (x : Letter) → Blocks i m t u x → ⊥
-  unblocked t u A b = stable.unblocked t u A (wanted t u b.0, omega (arith, b.1, same_capacity u), rw (same_lecturer u) (omega (arith, b.2, same_count (lecturer_of i u), same_limit (lecturer_of i u))))
-  unblocked t u B b = stable.unblocked t u B (
-    wanted t u b.0,
-    omega (arith, b.1, same_capacity u),
-    rw (same_lecturer u) (same_count (lecturer_of i u) ∙ b.2 ∙ sym (same_limit (lecturer_of i u))),
+  -- no pair blocks it that is wanted there too
+  pub unblocked_too : (t u : ℕ) → (Wants i m t u → Wants j m t u) → (x : Letter) → Blocks i m t u x → ⊥
+  unblocked_too t u wanted A b = stable.unblocked t u A (wanted b.0, omega (arith, b.1, same_capacity i j May m differ u), rw (same_lecturer i j May m differ u) (omega (arith, b.2, same_count i j May m differ (lecturer_of i u), same_limit i j May m differ (lecturer_of i u))))
+  unblocked_too t u wanted B b = stable.unblocked t u B (
+    wanted b.0,
+    omega (arith, b.1, same_capacity i j May m differ u),
+    rw (same_lecturer i j May m differ u) (same_count i j May m differ (lecturer_of i u) ∙ b.2 ∙ sym (same_limit i j May m differ (lecturer_of i u))),
     elim (b.3) [
-      | inl own ↦ inl (own.0, own.1, same_lecturer own.0 ∙ own.2 ∙ sym (same_lecturer u))
-      | inr after ↦ inr (after.0, (after.1.0, after.1.1, same_lecturer after.1.0 ∙ after.1.2 ∙ sym (same_lecturer u)), worse t u (wanted t u b.0) after.0 after.1.0 after.1.1 after.1.2 after.2)
+      | inl own ↦ inl (own.0, own.1, same_lecturer i j May m differ own.0 ∙ own.2 ∙ sym (same_lecturer i j May m differ u))
+      | inr after ↦ inr (after.0, (after.1.0, after.1.1, same_lecturer i j May m differ after.1.0 ∙ after.1.2 ∙ sym (same_lecturer i j May m differ u)), worse t u (wanted b.0) after.0 after.1.0 after.1.1 after.1.2 after.2)
     ],
   )
-  unblocked t u C b = stable.unblocked t u C (wanted t u b.0, b.1 ∙ sym (same_capacity u), (b.2.0, b.2.1, worse t u (wanted t u b.0) b.2.0 u b.2.1 refl b.2.2))
+  unblocked_too t u wanted C b = stable.unblocked t u C (wanted b.0, b.1 ∙ sym (same_capacity i j May m differ u), (b.2.0, b.2.1, worse t u (wanted b.0) b.2.0 u b.2.1 refl b.2.2))
 
-  -- where s has what stands on the own list, and wants no more
-  pub carried : ((q : ℕ) → project_of m s ≡ Some q → IsAcceptable i s q) → IsStable i m
-  carried on = record {
-    matching = record {
-      students = stable.matching.students ∙ differ.students;
-      acceptable = λ t q e. elim (cases_eq t s) [
-        | inl same ↦ subst (λ x. IsAcceptable i x q) (sym same) (on q (rw same at e))
-        | inr other ↦ rw (sym (differ.others t other)) (stable.matching.acceptable t q e)
-      ];
-      projects = λ p. omega (arith, stable.matching.projects p, same_capacity p);
-      lecturers = λ l. omega (arith, stable.matching.lecturers l, same_count l, same_limit l);
-    };
-    unblocked = unblocked;
+  -- where those whose lists may differ have what stands on them, it is a matching there
+  pub matches_too : ((t : ℕ) → May t ⊎ (May t → ⊥)) → ((t q : ℕ) → May t → project_of m t ≡ Some q → IsAcceptable i t q) → IsMatching i m
+  matches_too may on = record {
+    students = stable.matching.students ∙ differ.students;
+    acceptable = λ t q e. elim (may t) [ inl one ↦ on t q one e | inr other ↦ rw (sym (differ.others t other)) (stable.matching.acceptable t q e) ];
+    projects = λ p. omega (arith, stable.matching.projects p, same_capacity i j May m differ p);
+    lecturers = λ l. omega (arith, stable.matching.lecturers l, same_count i j May m differ l, same_limit i j May m differ l);
   }
+
+-- of one list
+pub same_room : (i j : Spa) (s : ℕ) (m : List (Option ℕ)) → DifferInOneList i j s → (p : ℕ) → HasRoom j m p → HasRoom i m p
+same_room i j s m differ p room = same_room_too i j (λ t. t ≡ s) m differ p room
+
+-- where s has what stands on the own list, and wants no more, it is stable there
+pub carried : (i j : Spa) (s : ℕ) (m : List (Option ℕ)) → DifferInOneList i j s → IsRanked j → IsStable j m → ((q : ℕ) → Wants i m s q → Wants j m s q) → ((q : ℕ) → project_of m s ≡ Some q → IsAcceptable i s q) → IsStable i m
+carried i j s m differ law stable wants on = record {
+  matching = matches_too i j (λ t. t ≡ s) m differ law stable (λ t. cases_eq t s) (λ t q same e. subst (λ x. IsAcceptable i x q) (sym same) (on q (rw same at e)));
+  unblocked = λ t u. unblocked_too i j (λ t. t ≡ s) m differ law stable t u (λ w. wanted t u w (cases_eq t s));
+} where
+  wanted : (t u : ℕ) → Wants i m t u → (t ≡ s) ⊎ (t ≡ s → ⊥) → Wants j m t u
+  wanted t u w (inl same) = subst (λ x. Wants j m x u) (sym same) (wants u (subst (λ x. Wants i m x u) same w))
+  wanted t u w (inr other) = wanted_too i j (λ t. t ≡ s) m differ t u other w

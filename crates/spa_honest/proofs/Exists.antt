@@ -57,25 +57,25 @@ moved_more : (c : ℕ → ℕ) (w x : ℕ) → c x ≤ moved c w x
 moved_more c w x = elim (cases_eq x w) [ inl same ↦ rw same (omega (arith, moved_same c w)) | inr other ↦ omega (arith, moved_other c w x other) ]
 
 -- the pairs before the cursors
-abbrev Passed : Spa → (ℕ → ℕ) → ℕ → ℕ → Type 0
+abbrev pub Passed : Spa → (ℕ → ℕ) → ℕ → ℕ → Type 0
 Passed i c s p = IsAcceptable i s p × (place (choices_of i s) p < c s)
 
 -- what holds before and after each turn
-record UnderWay (i : Spa) (m : List (Option ℕ)) (c : ℕ → ℕ) : Type 0 where
+pub record UnderWay (i : Spa) (m : List (Option ℕ)) (c : ℕ → ℕ) : Type 0 where
   pub holds : Holds i m (Passed i c)
   pub at_cursor : (s p : ℕ) → project_of m s ≡ Some p → place (choices_of i s) p ≡ c s
 
 -- 1 for a free student
-abbrev free_one : Option ℕ → ℕ
+abbrev pub free_one : Option ℕ → ℕ
 free_one None = 1
 free_one (Some q) = 0
 
 -- the turns that a student may have still
-abbrev turns : Spa → List (Option ℕ) → (ℕ → ℕ) → ℕ → ℕ
+abbrev pub turns : Spa → List (Option ℕ) → (ℕ → ℕ) → ℕ → ℕ
 turns i m c s = (length (choices_of i s) - c s) + free_one (project_of m s)
 
 -- a free student whose cursor is on the list
-record IsNext (i : Spa) (m : List (Option ℕ)) (c : ℕ → ℕ) (s : ℕ) : Type 0 where
+pub record IsNext (i : Spa) (m : List (Option ℕ)) (c : ℕ → ℕ) (s : ℕ) : Type 0 where
   pub in_range : s < length m
   pub free : project_of m s ≡ None
   pub left : c s < length (choices_of i s)
@@ -160,14 +160,17 @@ module _ (i : Spa) (law : IsRanked i) (m : List (Option ℕ)) (c : ℕ → ℕ) 
     | inr apart ↦ rw (gone_other s apart, moved_other c w s apart) (put_less i law m c state s p next on here)
   ]
 
--- the state after a turn
-record Turned (i : Spa) (m : List (Option ℕ)) (c : ℕ → ℕ) : Type 0 where
+-- the state after a turn of s: no cursor goes back, one moves only where its student is let go, and whoever else was free is so still
+pub record Turned (i : Spa) (m : List (Option ℕ)) (c : ℕ → ℕ) (s : ℕ) : Type 0 where
   pub after : List (Option ℕ)
   pub cursors : ℕ → ℕ
   pub state : UnderWay i after cursors
+  pub onward : (x : ℕ) → c x ≤ cursors x
+  pub moves : (x : ℕ) → (cursors x ≡ c x) ⊎ (project_of after x ≡ None)
+  pub still : (x : ℕ) → x ≢ s → project_of m x ≡ None → project_of after x ≡ None
   pub fewer : sum_below (turns i after cursors) (length i.choices) + 1 ≤ sum_below (turns i m c) (length i.choices)
 
-turn : (i : Spa) → IsRanked i → (m : List (Option ℕ)) (c : ℕ → ℕ) → UnderWay i m c → (s p : ℕ) → IsNext i m c s → IsAcceptable i s p → place (choices_of i s) p ≡ c s → Turned i m c
+turn : (i : Spa) → IsRanked i → (m : List (Option ℕ)) (c : ℕ → ℕ) → UnderWay i m c → (s p : ℕ) → IsNext i m c s → IsAcceptable i s p → place (choices_of i s) p ≡ c s → Turned i m c s
 turn i law m c state s p next on here =
     let l : ℕ = lecturer_of i p in
     let n : ℕ = length i.choices in
@@ -182,6 +185,9 @@ turn i law m c state s p next on here =
             holds = place_holds i m (Passed i c) state.holds s p next.in_range next.free on (first i law m c state s p next on here) room room_l;
             at_cursor = put_cursor i law m c state s p next on here;
           };
+          onward = λ x. omega arith;
+          moves = λ x. inl refl;
+          still = λ x other free. get_or-set_other m s x (Some p) None other ∙ free;
           fewer = sum_below-lt (turns i (set m s (Some p)) c) (turns i m c) n s (put_turns i law m c state s p next on here) s_in (put_less i law m c state s p next on here);
         }
         | inr full_l ↦ with_worst room (omega (arith, state.holds.matching.lecturers l)) (greatest (IsWith i (set m s (Some p)) l) (λ x. has_lecturer i l (project_of (set m s (Some p)) x)) (rank_of i l) n)
@@ -195,18 +201,24 @@ turn i law m c state s p next on here =
     s_has : project_of (set m s (Some p)) s ≡ Some p
     s_has = put_same i m s p next.in_range next.free
 
-    goes : (w u : ℕ) → (has : project_of (set m s (Some p)) w ≡ Some u) → Holds i (set (set m s (Some p)) w None) (Passed i c) → IsSpent i (set (set m s (Some p)) w None) w u → Turned i m c
+    goes : (w u : ℕ) → (has : project_of (set m s (Some p)) w ≡ Some u) → Holds i (set (set m s (Some p)) w None) (Passed i c) → IsSpent i (set (set m s (Some p)) w None) w u → Turned i m c s
     goes w u has holds spent = record {
       after = set (set m s (Some p)) w None;
       cursors = moved c w;
       state = let_go i law m c state s p next on here w u has holds spent;
+      onward = moved_more c w;
+      moves = λ x. elim (cases_eq x w) [ inl same ↦ inr (rw same (w_free i law m c state s p next on here w u has)) | inr other ↦ inl (moved_other c w x other) ];
+      still = λ x other free. elim (cases_eq x w) [
+        | inl same ↦ rw same (w_free i law m c state s p next on here w u has)
+        | inr apart ↦ gone_other i law m c state s p next on here w u has x apart ∙ get_or-set_other m s x (Some p) None other ∙ free
+      ];
       fewer = sum_below-lt (turns i (set (set m s (Some p)) w None) (moved c w)) (turns i m c) (length i.choices) s (go_turns i law m c state s p next on here w u has) (acceptable_in_range i s p on) (go_less i law m c state s p next on here w u has);
     }
 
     at_worst : at_project m p ≡ capacity_of i p
         → ((w : ℕ) × (w < length i.choices) × (project_of (set m s (Some p)) w ≡ Some p) × ((x : ℕ) → x < length i.choices → project_of (set m s (Some p)) x ≡ Some p → rank_of i (lecturer_of i p) x ≤ rank_of i (lecturer_of i p) w))
         ⊎ ((x : ℕ) → x < length i.choices → project_of (set m s (Some p)) x ≡ Some p → ⊥)
-        → Turned i m c
+        → Turned i m c s
     at_worst full (inr none) = absurd (none s (in_range s p s_has) s_has)
     at_worst full (inl worst) =
         let done = swap_at_project_holds i m (Passed i c) law state.holds s p worst.0 next.in_range next.free on (first i law m c state s p next on here) full worst.2 (λ x e. worst.3 x (in_range x p e) e) in
@@ -215,53 +227,79 @@ turn i law m c state s p next on here =
     with_worst : at_project m p < capacity_of i p → at_lecturer i m (lecturer_of i p) ≡ limit_of i (lecturer_of i p)
         → ((w : ℕ) × (w < length i.choices) × IsWith i (set m s (Some p)) (lecturer_of i p) w × ((x : ℕ) → x < length i.choices → IsWith i (set m s (Some p)) (lecturer_of i p) x → rank_of i (lecturer_of i p) x ≤ rank_of i (lecturer_of i p) w))
         ⊎ ((x : ℕ) → x < length i.choices → IsWith i (set m s (Some p)) (lecturer_of i p) x → ⊥)
-        → Turned i m c
+        → Turned i m c s
     with_worst room full (inr none) = absurd (none s (in_range s p s_has) (p, s_has, refl))
     with_worst room full (inl worst) =
         let u : ℕ = worst.2.0 in
         let done = swap_at_lecturer_holds i m (Passed i c) law state.holds s p worst.0 u next.in_range next.free on (first i law m c state s p next on here) room full worst.2.1 worst.2.2 (λ x q e own. worst.3 x (in_range x q e) (q, e, own)) in
         goes worst.0 u worst.2.1 done.0 (inl done.1)
 
+-- a turn of s, who is free and has some of the list left
+pub turn_of : (i : Spa) → IsRanked i → (m : List (Option ℕ)) (c : ℕ → ℕ) → UnderWay i m c → (s : ℕ) → s < length i.choices → project_of m s ≡ None → c s < length (choices_of i s) → Turned i m c s
+turn_of i law m c state s in_range free left =
+    let p : ℕ = get_or (choices_of i s) (c s) 0 in
+    let here : place (choices_of i s) p ≡ c s = place-get_or (choices_of i s) (c s) 0 (law.choices_distinct s) left in
+    turn i law m c state s p (record { in_range = omega (arith, in_range, state.holds.matching.students); free = free; left = left }) (omega (arith, left)) here
+
+-- free, with some of the list left, and not one who keeps still
+abbrev pub HasTurn : Spa → List (Option ℕ) → (ℕ → ℕ) → (ℕ → Type 0) → ℕ → Type 0
+HasTurn i m c Still s = (Still s → ⊥) × (project_of m s ≡ None) × (c s < length (choices_of i s))
+
+-- a student who has a turn, or none has
+pub next_or_done : (i : Spa) (m : List (Option ℕ)) (c : ℕ → ℕ) (Still : ℕ → Type 0) → ((x : ℕ) → Still x ⊎ (Still x → ⊥))
+    → ((s : ℕ) × (s < length i.choices) × HasTurn i m c Still s) ⊎ ((x p : ℕ) → (Still x → ⊥) → project_of m x ≡ None → IsAcceptable i x p → Passed i c x p)
+next_or_done i m c Still still =
+    elim (greatest (HasTurn i m c Still) test (λ x. 0) (length i.choices)) [
+      | inl next ↦ inl (next.0, next.1, next.2)
+      | inr none ↦ inr (λ x p moves free on. (on, past x p moves free on none))
+    ]
+  where
+    test : (x : ℕ) → HasTurn i m c Still x ⊎ (HasTurn i m c Still x → ⊥)
+    test x = elim (still x) [
+      | inl keeps ↦ inr (λ e. e.0 keeps)
+      | inr moves ↦ elim (has_none (project_of m x)) [
+        | inr busy ↦ inr (λ e. busy e.1)
+        | inl free ↦ elim (cases_lt (c x) (length (choices_of i x))) [ inl left ↦ inl (moves, free, left) | inr over ↦ inr (λ e. omega (arith, e.2)) ]
+      ]
+    ]
+
+    past : (x p : ℕ) → (Still x → ⊥) → project_of m x ≡ None → IsAcceptable i x p → ((z : ℕ) → z < length i.choices → HasTurn i m c Still z → ⊥) → place (choices_of i x) p < c x
+    past x p moves free on none = elim (cases_lt (place (choices_of i x) p) (c x)) [
+      | inl passed ↦ passed
+      | inr ahead ↦ absurd (none x (acceptable_in_range i x p on) (moves, free, omega arith))
+    ]
+
+-- nobody keeps still
+abbrev pub Never : ℕ → Type 0
+Never x = ⊥
+
+pub never : (x : ℕ) → Never x ⊎ (Never x → ⊥)
+never x = inr (λ e. e)
+
 -- turns until nobody has one
 run : (i : Spa) → IsRanked i → (fuel : ℕ) (m : List (Option ℕ)) (c : ℕ → ℕ) → UnderWay i m c → sum_below (turns i m c) (length i.choices) < fuel → (n : List (Option ℕ)) × IsBest i n
 run i law zero m c state enough = absurd (omega arith)
-run i law (suc fuel) m c state enough =
-    elim (greatest (λ s. (project_of m s ≡ None) × (c s < length (choices_of i s))) test (λ s. 0) (length i.choices)) [
-      | inl next ↦
-          let s : ℕ = next.0 in
-          let p : ℕ = get_or (choices_of i s) (c s) 0 in
-          let here : place (choices_of i s) p ≡ c s = place-get_or (choices_of i s) (c s) 0 (law.choices_distinct s) next.2.1 in
-          let one : Turned i m c = turn i law m c state s p (record { in_range = omega (arith, next.1, state.holds.matching.students); free = next.2.0; left = next.2.1 }) (omega (arith, next.2.1)) here in
-          run i law fuel one.after one.cursors one.state (omega (arith, one.fewer))
-      | inr none ↦ (m, best_at_end i m (Passed i c) state.holds (λ s p free on. (on, past s p free on none)))
-    ]
-  where
-    test : (s : ℕ) → ((project_of m s ≡ None) × (c s < length (choices_of i s))) ⊎ ((project_of m s ≡ None) × (c s < length (choices_of i s)) → ⊥)
-    test s = elim (has_none (project_of m s)) [
-      | inr busy ↦ inr (λ e. busy e.0)
-      | inl free ↦ elim (cases_lt (c s) (length (choices_of i s))) [ inl left ↦ inl (free, left) | inr past ↦ inr (λ e. omega (arith, e.1)) ]
-    ]
+run i law (suc fuel) m c state enough = elim (next_or_done i m c Never never) [
+  | inl next ↦
+      let one : Turned i m c next.0 = turn_of i law m c state next.0 next.1 next.2.1 next.2.2 in
+      run i law fuel one.after one.cursors one.state (omega (arith, one.fewer))
+  | inr done ↦ (m, best_at_end i m (Passed i c) state.holds (λ s p. done s p (λ e. e)))
+]
 
-    past : (s p : ℕ) → project_of m s ≡ None → IsAcceptable i s p → ((x : ℕ) → x < length i.choices → (project_of m x ≡ None) × (c x < length (choices_of i x)) → ⊥) → place (choices_of i s) p < c s
-    past s p free on none = elim (cases_lt (place (choices_of i s) p) (c s)) [
-      | inl passed ↦ passed
-      | inr ahead ↦ absurd (none s (acceptable_in_range i s p on) (free, omega arith))
-    ]
+-- where nobody has a project and no cursor has moved
+pub start : (i : Spa) → UnderWay i (replicate (length i.choices) None) (λ s. 0)
+start i = record {
+  holds = record {
+    matching = nobody_matches i;
+    first = λ s p q e before. absurd (free s q e);
+    spent = λ t p gone. absurd (omega (arith, gone.1));
+    hopeless = λ t p gone. absurd (omega (arith, gone.1));
+  };
+  at_cursor = λ s p e. absurd (free s p e);
+} where
+  free : (s p : ℕ) → project_of (replicate (length i.choices) None) s ≡ Some p → ⊥
+  free s p e = let none = none_there (length i.choices) s in cc
 
 -- EACH RANKED INSTANCE HAS A BEST MATCHING
 pub best_of : (i : Spa) → IsRanked i → (m : List (Option ℕ)) × IsBest i m
-best_of i law = run i law (suc (sum_below (turns i (replicate (length i.choices) None) (λ s. 0)) (length i.choices))) (replicate (length i.choices) None) (λ s. 0) start (omega arith)
-  where
-    free : (s p : ℕ) → project_of (replicate (length i.choices) None) s ≡ Some p → ⊥
-    free s p e = let none = none_there (length i.choices) s in cc
-
-    start : UnderWay i (replicate (length i.choices) None) (λ s. 0)
-    start = record {
-      holds = record {
-        matching = nobody_matches i;
-        first = λ s p q e before. absurd (free s q e);
-        spent = λ t p gone. absurd (omega (arith, gone.1));
-        hopeless = λ t p gone. absurd (omega (arith, gone.1));
-      };
-      at_cursor = λ s p e. absurd (free s p e);
-    }
+best_of i law = run i law (suc (sum_below (turns i (replicate (length i.choices) None) (λ s. 0)) (length i.choices))) (replicate (length i.choices) None) (λ s. 0) (start i) (omega arith)

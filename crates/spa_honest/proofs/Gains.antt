@@ -1,121 +1,79 @@
--- No other list of a student gains anything.
-use Rattle.std.proofs.Common.{◌≡◌, inl, inr, ℕ, ◌<◌, ◌≤◌, List, [], ◌∷◌, length, Option, Some, None, refl, sym, ◌∙◌, subst, arith, length-set}
-use Rattle.std.proofs.lemmas.Bool.{cases_eq}
-use Rattle.spa_model.specs.Spa.{Spa, place, choices_of, project_of, IsOn, IsBefore, IsAcceptable, IsAsGood, Improves, Wants, IsStable, IsBest}
-use Rattle.spa_model.proofs.Places.{place-injective}
+-- No group of students gains by other lists, and so no student.
+use Rattle.std.proofs.Common.{◌≡◌, ◌⊎◌, inl, inr, ℕ, zero, suc, ◌<◌, ◌≤◌, true, false, List, [], ◌∷◌, length, get_or, Option, Some, None, sym, ◌∙◌, ap, subst, arith}
+use Rattle.std.proofs.lemmas.Bool.{cases_Bool, cases_lt, cases_eq}
+use Rattle.spa_model.specs.declared.letter.Letter.{Letter}
+use Rattle.spa_model.specs.Spa.{Spa, place, choices_of, project_of, IsOn, IsAcceptable, IsMatching, Blocks, IsStable, IsBest}
+use Rattle.spa_model.proofs.Places.{get_or-place, place-get_or-le}
 use Rattle.spa_student.specs.inner.Machine.{IsRanked}
-use Rattle.spa_student.proofs.CutSteps.{acceptable_in_range}
-use Rattle.spa_honest.specs.Honest.{DifferInOneList, IsNoWorse}
-use Rattle.spa_honest.proofs.Exists.{best_of}
-use Rattle.spa_honest.proofs.Assigned.{same_assigned}
-use Rattle.spa_honest.proofs.Lists.{up_to, up_to_on, up_to_from, up_to_distinct, one_distinct, one_on, on_one, with_list, list_same, list_other, list_ranked}
-use Rattle.spa_honest.proofs.Carry.{carried}
+use Rattle.spa_honest.specs.Honest.{DifferInLists, DifferInOneList, IsNoWorse}
+use Rattle.spa_honest.proofs.Lists.{one_on, on_one}
+use Rattle.spa_honest.proofs.Outside.{outside}
+use Rattle.spa_honest.proofs.Last.{better, not_better, gains, turned_away}
+use Rattle.spa_honest.proofs.Carry.{wanted_too, unblocked_too, matches_too}
 
--- what is as good as q is as good as p, which stands no earlier
-as_good_still : (i : Spa) (s p q : ℕ) → IsAcceptable i s p → place (choices_of i s) q ≤ place (choices_of i s) p → (o : Option ℕ) → ((r : ℕ) → o ≡ Some r → IsAcceptable i s r) → IsAsGood i s o (Some q) → IsAsGood i s o (Some p)
-as_good_still i s p q on le None own good = good
-as_good_still i s p q on le (Some r) own good =
-    let no_later : place (choices_of i s) r ≤ place (choices_of i s) p = elim good [ inl same ↦ rw same le | inr before ↦ omega (arith, before.0) ] in
-    elim (cases_eq (place (choices_of i s) r) (place (choices_of i s) p)) [
-      | inl level ↦ inl (place-injective (choices_of i s) r p (own r refl) level)
-      | inr apart ↦ inr (omega arith, on)
+-- WHERE SOMEBODY LIKES A MATCHING BETTER than what the best one gives, somebody who does not blocks it
+pub blocked_outside : (i : Spa) → IsRanked i → (best : List (Option ℕ)) → IsBest i best → (x : List (Option ℕ)) → IsMatching i x → (s : ℕ) → gains i best x s ≡ true → ((t u : ℕ) (k : Letter) → gains i best x t ≡ false → Blocks i x t u k → ⊥) → ⊥
+blocked_outside i law best is_best x there s meets unblocked =
+    let y = turned_away i law best is_best x there s meets in
+    outside i law (gains i best x) x y.0 y.1 unblocked
+
+-- one of the numbers below n has the first property, or all have the second
+one_or_all : (P Q : ℕ → Type 0) → ((k : ℕ) → P k ⊎ Q k) → (n : ℕ) → ((k : ℕ) × (k < n) × P k) ⊎ ((k : ℕ) → k < n → Q k)
+one_or_all P Q either zero = inr (λ k h. absurd (omega arith))
+one_or_all P Q either (suc n) = elim (either n) [
+  | inl here ↦ inl (n, omega arith, here)
+  | inr last ↦ elim (one_or_all P Q either n) [
+    | inl one ↦ inl (one.0, omega (arith, one.1), one.2)
+    | inr all ↦ inr (λ k h. elim (cases_eq k n) [ inl same ↦ subst Q (sym same) last | inr other ↦ all k (omega arith) ])
+  ]
+]
+
+-- what s has in n stands on the list in i, and is better than what m gives
+abbrev Gains : Spa → List (Option ℕ) → List (Option ℕ) → ℕ → Type 0
+Gains i m n s = ((p : ℕ) → project_of n s ≡ Some p → IsAcceptable i s p) × (gains i m n s ≡ true)
+
+module _ (i : Spa) (m n : List (Option ℕ)) (best : IsBest i m) where
+  no_worse_or_gains : (s : ℕ) → IsNoWorse i s (project_of m s) (project_of n s) ⊎ Gains i m n s
+  no_worse_or_gains s = by_own (project_of n s)
+    where
+      by_own : (o : Option ℕ) → IsNoWorse i s (project_of m s) o ⊎ (((p : ℕ) → o ≡ Some p → IsAcceptable i s p) × (better i s o (project_of m s) ≡ true))
+      by_own None = inl (λ p e on. absurd (cc))
+      by_own (Some p) = elim (cases_lt (place (choices_of i s) p) (length (choices_of i s))) [
+        | inr off ↦ inl (λ q e on. let is : p ≡ q = cc in absurd (omega (arith, on, ap (place (choices_of i s)) is)))
+        | inl on ↦ elim (cases_Bool (better i s (Some p) (project_of m s))) [
+          | inl meets ↦ inr ((λ q e. let is : p ≡ q = cc in rw (sym is) on), meets)
+          | inr misses ↦ inl (λ q e on_q. let is : p ≡ q = cc in rw (sym is) (not_better i s (Some p) (project_of m s) (λ r f. let is : p ≡ r = cc in rw (sym is) on) (λ r f. best.stable.matching.acceptable s r f) misses))
+        ]
+      ]
+
+-- NO GROUP GAINS
+pub no_group_gains : (i j : Spa) (group : List ℕ) (m n : List (Option ℕ)) → IsRanked i → IsRanked j → 1 ≤ length group → DifferInLists i j (IsOn group) → IsBest i m → IsStable j n → (s : ℕ) × IsOn group s × IsNoWorse i s (project_of m s) (project_of n s)
+no_group_gains i j group m n lawful law some differ best stable =
+    elim (one_or_all (λ k. IsNoWorse i (get_or group k 0) (project_of m (get_or group k 0)) (project_of n (get_or group k 0))) (λ k. Gains i m n (get_or group k 0)) (λ k. no_worse_or_gains i m n best (get_or group k 0)) (length group)) [
+      | inl one ↦ (get_or group one.0 0, omega (arith, one.1, place-get_or-le group one.0 0 one.1), one.2)
+      | inr all ↦ absurd (blocked_outside i lawful m best n (there all) (get_or group 0 0) (all 0 (omega arith)).1 (unblocked all))
     ]
-
--- the student s, whose list in i holds p, which the stable matching n of j gives
-module _ (i j : Spa) (s p : ℕ) (n : List (Option ℕ)) (lawful : IsRanked i) (law : IsRanked j) (differ : DifferInOneList i j s) (on : IsAcceptable i s p) (stable : IsStable j n) (gives : project_of n s ≡ Some p) where
-  in_range : s < length i.choices
-  in_range = acceptable_in_range i s p on
-
-  within_one : (q : ℕ) → IsOn (p ∷ []) q → IsAcceptable i s q
-  within_one q there = rw (sym (one_on p q there)) on
-
-  -- where s lists p alone, n is stable
-  n_alone : IsStable (with_list i s (p ∷ [])) n
-  n_alone = carried (with_list i s (p ∷ [])) j s n (record {
-    students = differ.students ∙ sym (length-set i.choices s (p ∷ []));
-    lecturers = differ.lecturers;
-    capacities = differ.capacities;
-    limits = differ.limits;
-    others = λ t other. differ.others t other ∙ sym (list_other i s (p ∷ []) in_range t other);
-    orders = differ.orders;
-  }) law stable (λ q w. absurd (content q w)) (λ q e. let is : p ≡ q = cc in rw (list_same i s (p ∷ []) in_range) (rw (sym is) (on_one p)))
-    where
-      content : (q : ℕ) → Wants (with_list i s (p ∷ [])) n s q → ⊥
-      content q w = by_own (project_of n s) gives w.1
-        where
-          by_own : (o : Option ℕ) → o ≡ Some p → Improves (with_list i s (p ∷ [])) s q o → ⊥
-          by_own None e h = absurd (cc)
-          by_own (Some r) e h = let is : r ≡ p = cc in
-              let before : IsBefore (p ∷ []) q r = rw (list_same i s (p ∷ []) in_range) at h in
-              let r_on : IsOn (p ∷ []) r = rw is (on_one p) in
-              omega (arith, before.0, r_on)
-
-  within_up : (q : ℕ) → IsOn (up_to (choices_of i s) p) q → IsAcceptable i s q
-  within_up q there = omega (arith, up_to_from (choices_of i s) p q on there, on)
-
-  up_ranked : IsRanked (with_list i s (up_to (choices_of i s) p))
-  up_ranked = list_ranked i s (up_to (choices_of i s) p) in_range lawful within_up (up_to_distinct (choices_of i s) p (lawful.choices_distinct s))
-
--- where s lists what is at least as good as p, each stable matching gives s something
-module _ (i j : Spa) (s p : ℕ) (n : List (Option ℕ)) (lawful : IsRanked i) (law : IsRanked j) (differ : DifferInOneList i j s) (on : IsAcceptable i s p) (stable : IsStable j n) (gives : project_of n s ≡ Some p) (k : List (Option ℕ)) (stable_k : IsStable (with_list i s (up_to (choices_of i s) p)) k) where
-  gives_some : project_of k s ≡ None → ⊥
-  gives_some none =
-      let s_in : s < length i.choices = acceptable_in_range i s p on in
-      let k_alone : IsStable (with_list i s (p ∷ [])) k =
-      carried (with_list i s (p ∷ [])) (with_list i s (up_to (choices_of i s) p)) s k (record {
-        students = length-set i.choices s (up_to (choices_of i s) p) ∙ sym (length-set i.choices s (p ∷ []));
-        lecturers = refl;
-        capacities = refl;
-        limits = refl;
-        others = λ t other. list_other i s (up_to (choices_of i s) p) s_in t other ∙ sym (list_other i s (p ∷ []) s_in t other);
-        orders = λ l a b on_a on_b before. before;
-      }) (up_ranked i j s p n lawful law differ on stable gives) stable_k
-      (λ q w.
-      let is : p ≡ q = one_on p q (rw (list_same i s (p ∷ []) s_in) at w.0) in
-      (rw (list_same i s (up_to (choices_of i s) p) s_in) (rw (sym is) ((up_to_on (choices_of i s) p p on (omega arith)).1)), rw none tt))
-      (λ q e. absurd (cc)) in
-      let same = same_assigned (with_list i s (p ∷ [])) (list_ranked i s (p ∷ []) s_in lawful (within_one i j s p n lawful law differ on stable gives) (one_distinct p)) k n k_alone (n_alone i j s p n lawful law differ on stable gives) in
-      let left : project_of n s ≡ None = (same.students s).0 none in
-      absurd (cc)
-
-  -- and is stable with the whole list
-  stable_whole : (q : ℕ) → project_of k s ≡ Some q → IsStable i k
-  stable_whole q has =
-      let s_in : s < length i.choices = acceptable_in_range i s p on in
-      let list : List ℕ = up_to (choices_of i s) p in
-      let q_on : IsOn list q = rw (list_same i s list s_in) at (stable_k.matching.acceptable s q has) in
-      carried i (with_list i s (up_to (choices_of i s) p)) s k (record {
-        students = length-set i.choices s (up_to (choices_of i s) p);
-        lecturers = refl;
-        capacities = refl;
-        limits = refl;
-        others = λ t other. list_other i s (up_to (choices_of i s) p) s_in t other;
-        orders = λ l a b on_a on_b before. before;
-      }) (up_ranked i j s p n lawful law differ on stable gives) stable_k
-      (λ r w. wanted s_in q_on r w.1 (project_of k s) has)
-      (λ r e. let is : q ≡ r = cc in rw (sym is) (within_up i j s p n lawful law differ on stable gives q q_on))
-    where
-      wanted : s < length i.choices → IsOn (up_to (choices_of i s) p) q → (r : ℕ) → Improves i s r (project_of k s) → (o : Option ℕ) → o ≡ Some q → Wants (with_list i s (up_to (choices_of i s) p)) k s r
-      wanted s_in q_on r better o e =
-          let before : IsBefore (choices_of i s) r q = rw has at better in
-          let q_le : place (choices_of i s) q ≤ place (choices_of i s) p = up_to_from (choices_of i s) p q on q_on in
-          let at_r = up_to_on (choices_of i s) p r on (omega (arith, before.0)) in
-          let at_q = up_to_on (choices_of i s) p q on q_le in (
-            rw (list_same i s (up_to (choices_of i s) p) s_in) at_r.1,
-            rw (has, list_same i s (up_to (choices_of i s) p) s_in) (omega (arith, at_r.0, at_q.0, before.0), at_q.1),
-          )
-
--- NO OTHER LIST GAINS
-pub honest_is_best : (i j : Spa) (s : ℕ) (m n : List (Option ℕ)) → IsRanked i → IsRanked j → DifferInOneList i j s → IsBest i m → IsStable j n → IsNoWorse i s (project_of m s) (project_of n s)
-honest_is_best i j s m n lawful law differ best stable p gives on = by_project (project_of one.0 s) refl
   where
-    one : (k : List (Option ℕ)) × IsBest (with_list i s (up_to (choices_of i s) p)) k
-    one = best_of (with_list i s (up_to (choices_of i s) p)) (up_ranked i j s p n lawful law differ on stable gives)
+    of_group : ((k : ℕ) → k < length group → Gains i m n (get_or group k 0)) → (t : ℕ) → IsOn group t → Gains i m n t
+    of_group all t on = subst (Gains i m n) (get_or-place group t 0 on) (all (place group t) on)
 
-    by_project : (o : Option ℕ) → project_of one.0 s ≡ o → IsAsGood i s (project_of m s) (Some p)
-    by_project None e = absurd (gives_some i j s p n lawful law differ on stable gives one.0 one.1.stable e)
-    by_project (Some q) e =
-        let whole : IsStable i one.0 = stable_whole i j s p n lawful law differ on stable gives one.0 one.1.stable q e in
-        let q_on : IsOn (up_to (choices_of i s) p) q = rw (list_same i s (up_to (choices_of i s) p) (acceptable_in_range i s p on)) at (one.1.stable.matching.acceptable s q e) in
-        as_good_still i s p q on (up_to_from (choices_of i s) p q on q_on) (project_of m s) (λ r has. best.stable.matching.acceptable s r has)
-        (subst (λ o. IsAsGood i s (project_of m s) o) e (best.best one.0 whole s))
+    there : ((k : ℕ) → k < length group → Gains i m n (get_or group k 0)) → IsMatching i n
+    there all = matches_too i j (IsOn group) n differ law stable (λ t. elim (cases_lt (place group t) (length group)) [ inl on ↦ inl on | inr off ↦ inr (λ on. omega arith) ]) (λ t q on e. (of_group all t on).0 q e)
+
+    unblocked : ((k : ℕ) → k < length group → Gains i m n (get_or group k 0)) → (t u : ℕ) (k : Letter) → gains i m n t ≡ false → Blocks i n t u k → ⊥
+    unblocked all t u k misses = unblocked_too i j (IsOn group) n differ law stable t u
+        (λ w. wanted_too i j (IsOn group) n differ t u (λ on. let wrong : true ≡ false = sym (of_group all t on).1 ∙ misses in cc) w) k
+
+-- NO OTHER LIST GAINS: the group of one
+pub honest_is_best : (i j : Spa) (s : ℕ) (m n : List (Option ℕ)) → IsRanked i → IsRanked j → DifferInOneList i j s → IsBest i m → IsStable j n → IsNoWorse i s (project_of m s) (project_of n s)
+honest_is_best i j s m n lawful law differ best stable =
+    let one = no_group_gains i j (s ∷ []) m n lawful law (omega arith) (record {
+      students = differ.students;
+      lecturers = differ.lecturers;
+      capacities = differ.capacities;
+      limits = differ.limits;
+      others = λ t other. differ.others t (λ same. other (rw same (on_one s)));
+      orders = differ.orders;
+    }) best stable in
+    let is : s ≡ one.0 = one_on s one.0 one.1 in
+    subst (λ t. IsNoWorse i t (project_of m t) (project_of n t)) (sym is) one.2

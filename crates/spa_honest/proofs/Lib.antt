@@ -1,7 +1,12 @@
 pub mod Exists
 pub mod Assigned
 pub mod Lists
+pub mod Only
+pub mod Outside
+pub mod Last
 pub mod Carry
 pub mod Gains
 pub mod Worked
 pub mod Told
+pub mod Waits
+pub mod Waited

@@ -1,11 +1,12 @@
 -- What is best in the example, by the steps of the method.
 use Rattle.std.proofs.Common.{◌≡◌, ◌⊎◌, inl, inr, ℕ, zero, suc, ◌<◌, List, [], ◌∷◌, Some, None, refl, sym, arith}
-use Rattle.spa_model.specs.Spa.{project_of, IsBefore, IsAcceptable, IsBest}
+use Rattle.spa_model.specs.Spa.{project_of, choices_of, IsOn, IsBefore, IsAcceptable, IsAsGood, IsBest}
 use Rattle.spa_student.specs.inner.Machine.{ProjectSpent, rank_of, Holds}
 use Rattle.spa_student.proofs.Machine.{ranked_of, place_holds, delete_holds, best_at_end}
 use Rattle.spa_student.proofs.Start.{nobody_matches}
 use Rattle.spa_honest.specs.examples.Example.{ann, ben, cem, bells, kites, tides, example, honest_list, safe_list, short_list}
-use Rattle.spa_honest.proofs.Worked.{none_before, before_cons, honest_lawful, short_lawful}
+use Rattle.spa_honest.specs.Honest.{DifferInLists, NobodyGains}
+use Rattle.spa_honest.proofs.Worked.{none_before, before_cons, honest_lawful, safe_lawful, short_lawful}
 
 -- nothing is deleted; Tides from Ann's list; that and Kites from Cem's list; Kites from Cem's list
 abbrev Nothing : ℕ → ℕ → Type 0
@@ -123,3 +124,17 @@ short_best = best_at_end (example short_list) (Some kites ∷ Some tides ∷ Som
           | inl same ↦ (refl, sym same)
           | inr rest ↦ absurd (none_before bells [] q bells refl rest)
         ]
+
+-- with Bells first Ann lets Cem have Kites: one of the group gains
+pub one_may_gain : NobodyGains → ⊥
+one_may_gain nobody = no_better (nobody (example honest_list) (example safe_list) (ann ∷ cem ∷ []) _ _ honest_lawful safe_lawful differ honest_best safe_best cem (omega arith) kites refl (omega arith))
+  where
+    differ : DifferInLists (example honest_list) (example safe_list) (IsOn (ann ∷ cem ∷ []))
+    differ = record { students = refl; lecturers = refl; capacities = refl; limits = refl; others = others; orders = λ l a b on_a on_b before. before }
+      where
+        others : (t : ℕ) → (IsOn (ann ∷ cem ∷ []) t → ⊥) → choices_of (example safe_list) t ≡ choices_of (example honest_list) t
+        others zero other = absurd (other (omega arith))
+        others (suc t) other = refl
+
+    no_better : IsAsGood (example honest_list) cem (Some bells) (Some kites) → ⊥
+    no_better good = elim good [ inl same ↦ omega (arith, same) | inr before ↦ omega (arith, before.0) ]

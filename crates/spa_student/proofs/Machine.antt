@@ -150,23 +150,28 @@ stable_at_end i m Deleted holds free = record {
     | inr project ↦ absurd (omega (arith, project.before b.2.0 b.2.1, b.2.2.0))
   ]
 
+-- a student who, when free, has no pair left has no worse than in any stable matching
+pub as_good_as_stable : (i : Spa) (m : List (Option ℕ)) (Deleted : ℕ → ℕ → Type 0) → Holds i m Deleted → (n : List (Option ℕ)) → IsStable i n → (s : ℕ) → ((p : ℕ) → project_of m s ≡ None → IsAcceptable i s p → Deleted s p) → IsAsGood i s (project_of m s) (project_of n s)
+as_good_as_stable i m Deleted holds n stable s free = each (project_of m s) (project_of n s) refl refl
+  where
+    each : (mine other : Option ℕ) → project_of m s ≡ mine → project_of n s ≡ other → IsAsGood i s mine other
+    each mine None e f = tt
+    each None (Some q) e f = holds.hopeless s q (free q e (stable.matching.acceptable s q f)) n stable f
+    each (Some p) (Some q) e f =
+        elim (cases_order (place (choices_of i s) p) (place (choices_of i s) q)) [
+          | inl level ↦ inl (place-injective (choices_of i s) p q (holds.matching.acceptable s p e) level)
+          | inr apart ↦ elim apart [
+            | inl better ↦ inr (better, stable.matching.acceptable s q f)
+            | inr worse ↦ absurd (holds.hopeless s q (holds.first s q p e (worse, holds.matching.acceptable s p e)) n stable f)
+          ]
+        ]
+
 -- at the end: each student has the best of all stable matchings
 pub best_at_end : (i : Spa) (m : List (Option ℕ)) (Deleted : ℕ → ℕ → Type 0) → Holds i m Deleted → ((s p : ℕ) → project_of m s ≡ None → IsAcceptable i s p → Deleted s p) → IsBest i m
 best_at_end i m Deleted holds free = record {
   stable = stable_at_end i m Deleted holds free;
-  best = λ n stable s. each n stable s (project_of m s) (project_of n s) refl refl;
-} where
-  each : (n : List (Option ℕ)) → IsStable i n → (s : ℕ) (mine other : Option ℕ) → project_of m s ≡ mine → project_of n s ≡ other → IsAsGood i s mine other
-  each n stable s mine None e f = tt
-  each n stable s None (Some q) e f = holds.hopeless s q (free s q e (stable.matching.acceptable s q f)) n stable f
-  each n stable s (Some p) (Some q) e f =
-      elim (cases_order (place (choices_of i s) p) (place (choices_of i s) q)) [
-        | inl level ↦ inl (place-injective (choices_of i s) p q (holds.matching.acceptable s p e) level)
-        | inr apart ↦ elim apart [
-          | inl better ↦ inr (better, stable.matching.acceptable s q f)
-          | inr worse ↦ absurd (holds.hopeless s q (holds.first s q p e (worse, holds.matching.acceptable s p e)) n stable f)
-        ]
-      ]
+  best = λ n stable s. as_good_as_stable i m Deleted holds n stable s (free s);
+}
 
 -- what the students have after s is put at p, in a matching in which s was free
 module _ (i : Spa) (m : List (Option ℕ)) (s p : ℕ) (in_range : s < length m) (free : project_of m s ≡ None) where

@@ -1,0 +1,263 @@
+-- What has room after the first round, and that nobody whom it left had listed it.
+use Rattle.std.proofs.Common.{◌≡◌, ℕ, suc, ◌-◌, ◌<◌, ◌≤◌, Bool, true, false, List, [], ◌∷◌, map, length, get_or, refl, sym, ◌∙◌, ap, subst, arith}
+use Rattle.std.specs.Prelude.{Option, Some, None, option_map, is_none, nat_lt, count_by, ◌==◌, ◌&&◌, ◌||◌}
+use Rattle.std.specs.List.{AllByRecursion, list_any}
+use Rattle.std.proofs.lemmas.Bool.{eqb-true}
+use Rattle.std.proofs.lemmas.Bool.Decides.{nat_tests}
+use Rattle.std.proofs.lemmas.List.{get_or-map, length-map}
+use Rattle.std.proofs.lemmas.List.Folds.{list_any_at}
+use Rattle.spa_model.specs.Spa.{IsStable, IsAcceptable, is_project, is_lecturer, at_project, at_lecturer, lecturer_of, capacity_of, limit_of, project_of}
+use Rattle.spa_model.specs.Pairs.{number_in}
+use Rattle.spa_model.proofs.Numbers.{number_is}
+use Rattle.spa_model.proofs.PairFaults.{count_by-map}
+use Rattle.spa_honest.specs.Honest.{HasRoom}
+use Rattle.spa_honest.proofs.Waits.{left_finds_none as left_by_number}
+use Rattle.portal_core.specs.Words.{Key, equals, has}
+use Rattle.portal_core.specs.World.{World, Lecturer, Student, lecturer_key, project_key, is_at, is_left, is_published, is_second, given_to, given_with, lowered_lecturer, lowered_project, lecturers_left, in_play, first, first_placed, first_published}
+use Rattle.portal_core.specs.declared.phase.Round.TheVariants.{First, Second}
+use Rattle.portal_core.specs.declared.rows.Listing.{Listing}
+use Rattle.portal_core.specs.declared.rows.ProjectRow.{ProjectRow}
+use Rattle.portal_core.specs.Instance.{instance, instance_of, matching_of, places_of, lecturer_keys, project_keys}
+use Rattle.portal_core.specs.Faults.{in_catalogue}
+use Rattle.portal_core.specs.View.{catalogue}
+use Rattle.portal_core.specs.Good.{Good, IsRound, Sound, IsChoice, placed_to, placed_with}
+use Rattle.portal_core.proofs.Keys.{is_same, is_own}
+use Rattle.portal_core.proofs.AllLaws.{all_at, any_map, any_alike, filtered_any, is_sym}
+use Rattle.portal_core.proofs.Published.{number_back}
+use Rattle.portal_core.proofs.Capacities.{count_mono, known_in, first_plays, left_of, second_plays}
+use Rattle.portal_core.proofs.Stays.{the_second}
+use Rattle.portal_core.proofs.Whole.{catalogue_whole}
+use Rattle.portal_core.proofs.HonestLists.{no_student, no_project, no_lecturer, has_number, on_number, both_hold, lecturer_at, lecturer_known, choice, choices, given}
+
+-- lists and tests
+
+-- where a test holds of some element, it holds at a place
+any_place : {X : Type 0} (q : X → Bool) (xs : List X) (d : X) → list_any q xs ≡ true → (k : ℕ) × (k < length xs) × (q (get_or xs k d) ≡ true)
+any_place q [] d h = absurd (cc)
+any_place {X} q (x ∷ xs) d h = by_test (q x) refl (any_place q xs d) h
+  where
+    by_test : (b : Bool) → q x ≡ b → (list_any q xs ≡ true → (k : ℕ) × (k < length xs) × (q (get_or xs k d) ≡ true)) → (b || list_any q xs) ≡ true → (k : ℕ) × (k < suc (length xs)) × (q (get_or (x ∷ xs) k d) ≡ true)
+    by_test true e r t = (0, omega arith, e)
+    by_test false e r t = let rest = r t in (suc rest.0, omega (arith, rest.1), rest.2)
+
+-- what holds at each place holds of each
+all_from : {X : Type 0} (P : X → Type 0) (xs : List X) (d : X) → ((k : ℕ) → k < length xs → P (get_or xs k d)) → AllByRecursion P xs
+all_from P [] d each = tt
+all_from P (x ∷ xs) d each = (each 0 (omega arith), all_from P xs d (λ k h. each (suc k) (omega arith)))
+
+and_parts : (a b : Bool) → (a && b) ≡ true → (a ≡ true) × (b ≡ true)
+and_parts true b h = (refl, h)
+and_parts false b h = absurd (cc)
+
+is_below : (n : ℕ) → nat_lt 0 n ≡ true → 0 < n
+is_below n h = grind (arith, nat_tests)
+
+same_number : (a b : ℕ) → (a == b) ≡ true → a ≡ b
+same_number a b h = eqb-true a b h
+
+is_none_of : {X : Type 0} (o : Option X) → is_none o ≡ true → o ≡ None
+is_none_of None h = refl
+is_none_of (Some x) h = absurd (cc)
+
+-- one published round, by its rows
+module _ (v : World) (sound : Sound v) (one : v.round ≡ First) (published : is_published v.phase ≡ true) (stable : IsStable (instance v) (matching_of v)) where
+  pub stable_rows : IsStable (instance_of v) (places_of v)
+  stable_rows = subst (λ u. IsStable (instance_of u) (places_of u)) (first_plays v one) stable
+
+  placed_known : AllByRecursion (λ (s : Student). (q : Key) → s.placed ≡ Some q → number_in (project_keys v) q < length (project_keys v)) v.students
+  placed_known = subst (λ u. AllByRecursion (λ (s : Student). (q : Key) → s.placed ≡ Some q → number_in (project_keys u) q < length (project_keys u)) u.students) (first_plays v one) (known_in v sound stable.matching)
+
+  key_at : (k : ℕ) → k < length v.projects → get_or (project_keys v) k [] ≡ (get_or v.projects k no_project).key
+  key_at k h = get_or-map project_key v.projects k no_project [] h
+
+  -- the project of a number that a student has is the one of this key
+  at_key : (k : ℕ) → k < length v.projects → (q : Key) → number_in (project_keys v) q < length (project_keys v) → number_in (project_keys v) q ≡ k → q ≡ (get_or v.projects k no_project).key
+  at_key k h q low same = sym (number_is (project_keys v) q low) ∙ ap (λ n. get_or (project_keys v) n []) same ∙ key_at k h
+
+  few_at : (k : ℕ) → k < length v.projects → at_project (places_of v) k ≤ placed_to v.students (get_or v.projects k no_project).key
+  few_at k h =
+      let counted : at_project (places_of v) k ≡ count_by (λ s. is_project k (option_map (number_in (project_keys v)) s.placed)) v.students
+      = count_by-map (is_project k) (λ (s : Student). option_map (number_in (project_keys v)) s.placed) v.students in
+      let fewer : count_by (λ s. is_project k (option_map (number_in (project_keys v)) s.placed)) v.students ≤ count_by (λ (s : Student). is_at (get_or v.projects k no_project).key s.placed) v.students
+      = count_mono _ _ v.students (each v.students placed_known) in
+      omega (arith, counted, fewer)
+    where
+      here : (o : Option Key) → ((q : Key) → o ≡ Some q → number_in (project_keys v) q < length (project_keys v)) → is_project k (option_map (number_in (project_keys v)) o) ≡ true → is_at (get_or v.projects k no_project).key o ≡ true
+      here None low e = absurd (cc)
+      here (Some q) low e = subst (λ x. equals q x ≡ true) (at_key k h q (low q refl) (same_number (number_in (project_keys v) q) k e)) (is_own q)
+
+      each : (ss : List Student) → AllByRecursion (λ (s : Student). (q : Key) → s.placed ≡ Some q → number_in (project_keys v) q < length (project_keys v)) ss
+          → AllByRecursion (λ (s : Student). is_project k (option_map (number_in (project_keys v)) s.placed) ≡ true → is_at (get_or v.projects k no_project).key s.placed ≡ true) ss
+      each [] all = tt
+      each (s ∷ ss) all = (here s.placed all.0, each ss all.1)
+
+  few_with : (h : ℕ) → h < length v.lecturers → at_lecturer (instance_of v) (places_of v) h ≤ placed_with v.projects v.students (get_or v.lecturers h no_lecturer).row.key
+  few_with h h_in =
+      let counted : at_lecturer (instance_of v) (places_of v) h ≡ count_by (λ s. is_lecturer (instance_of v) h (option_map (number_in (project_keys v)) s.placed)) v.students
+      = count_by-map (is_lecturer (instance_of v) h) (λ (s : Student). option_map (number_in (project_keys v)) s.placed) v.students in
+      let fewer : count_by (λ s. is_lecturer (instance_of v) h (option_map (number_in (project_keys v)) s.placed)) v.students ≤ placed_with v.projects v.students (get_or v.lecturers h no_lecturer).row.key
+      = count_mono _ _ v.students (each v.students placed_known) in
+      omega (arith, counted, fewer)
+    where
+      here : (o : Option Key) → ((q : Key) → o ≡ Some q → number_in (project_keys v) q < length (project_keys v)) → is_lecturer (instance_of v) h (option_map (number_in (project_keys v)) o) ≡ true
+          → list_any (λ (p : ProjectRow). equals p.lecturer (get_or v.lecturers h no_lecturer).row.key && is_at p.key o) v.projects ≡ true
+      here None low e = absurd (cc)
+      here (Some q) low e =
+          let k : ℕ = number_in (project_keys v) q in
+          let k_low : number_in (project_keys v) q < length (project_keys v) = low q refl in
+          let k_in : number_in (project_keys v) q < length v.projects = omega (arith, k_low, length-map v.projects project_key) in
+          let row : ProjectRow = get_or v.projects (number_in (project_keys v) q) no_project in
+          let l_is : number_in (lecturer_keys v) (get_or v.projects (number_in (project_keys v) q) no_project).lecturer ≡ h
+          = sym (lecturer_at v sound one published (number_in (project_keys v) q) k_in) ∙ same_number (lecturer_of (instance_of v) (number_in (project_keys v) q)) h e in
+          let of_l : (get_or v.projects (number_in (project_keys v) q) no_project).lecturer ≡ (get_or v.lecturers h no_lecturer).row.key
+          = sym (number_is (lecturer_keys v) (get_or v.projects (number_in (project_keys v) q) no_project).lecturer (lecturer_known v sound one published (number_in (project_keys v) q) k_in))
+          ∙ ap (λ n. get_or (lecturer_keys v) n []) l_is ∙ get_or-map lecturer_key v.lecturers h no_lecturer [] h_in in
+          let q_is : q ≡ (get_or v.projects (number_in (project_keys v) q) no_project).key = at_key (number_in (project_keys v) q) k_in q k_low refl in
+          list_any_at (λ (p : ProjectRow). equals p.lecturer (get_or v.lecturers h no_lecturer).row.key && equals q p.key) v.projects (number_in (project_keys v) q) no_project k_in
+          (both_hold _ _
+          (subst (λ x. equals (get_or v.projects (number_in (project_keys v) q) no_project).lecturer x ≡ true) of_l (is_own (get_or v.projects (number_in (project_keys v) q) no_project).lecturer))
+          (subst (λ x. equals q x ≡ true) q_is (is_own q)))
+
+      each : (ss : List Student) → AllByRecursion (λ (s : Student). (q : Key) → s.placed ≡ Some q → number_in (project_keys v) q < length (project_keys v)) ss
+          → AllByRecursion (λ (s : Student). is_lecturer (instance_of v) h (option_map (number_in (project_keys v)) s.placed) ≡ true → list_any (λ (p : ProjectRow). equals p.lecturer (get_or v.lecturers h no_lecturer).row.key && is_at p.key s.placed) v.projects ≡ true) ss
+      each [] all = tt
+      each (s ∷ ss) all = (here s.placed all.0, each ss all.1)
+
+  -- a row with room, whose lecturer has room, has it by number
+  has_room : (k h : ℕ) → k < length v.projects → h < length v.lecturers → (get_or v.projects k no_project).lecturer ≡ (get_or v.lecturers h no_lecturer).row.key
+      → placed_to v.students (get_or v.projects k no_project).key < (get_or v.projects k no_project).capacity
+      → placed_with v.projects v.students (get_or v.lecturers h no_lecturer).row.key < (get_or v.lecturers h no_lecturer).row.capacity
+      → HasRoom (instance_of v) (places_of v) k
+  has_room k h k_in h_in of_l room room_l =
+      let h_low : h < length (lecturer_keys v) = omega (arith, length-map v.lecturers lecturer_key) in
+      let l_is : lecturer_of (instance_of v) k ≡ h
+      = lecturer_at v sound one published k k_in ∙ ap (number_in (lecturer_keys v)) (of_l ∙ sym (get_or-map lecturer_key v.lecturers h no_lecturer [] h_in)) ∙ number_back (lecturer_keys v) h sound.lecturers_rise h_low in
+      let cap : capacity_of (instance_of v) k ≡ (get_or v.projects k no_project).capacity = get_or-map (λ (p : ProjectRow). p.capacity) v.projects k no_project 0 k_in in
+      let top : limit_of (instance_of v) h ≡ (get_or v.lecturers h no_lecturer).row.capacity = get_or-map (λ (l : Lecturer). l.row.capacity) v.lecturers h no_lecturer 0 h_in in (
+        omega (arith, few_at k k_in, room, cap),
+        rw l_is (omega (arith, few_with h h_in, room_l, top)),
+      )
+
+-- a project that takes part in the second round, and its lecturer, by their places on the rolls: the first round left room at both
+record HasRows (w : World) (p : Key) : Type 0 where
+  pub project : ℕ
+  pub lecturer : ℕ
+  pub project_in : project < length w.projects
+  pub lecturer_in : lecturer < length w.lecturers
+  pub key : p ≡ (get_or w.projects project no_project).key
+  pub own : (get_or w.projects project no_project).lecturer ≡ (get_or w.lecturers lecturer no_lecturer).row.key
+  pub room : given_to w.students (get_or w.projects project no_project).key < (get_or w.projects project no_project).capacity
+  pub lecturer_room : given_with w.projects w.students (get_or w.lecturers lecturer no_lecturer).row.key < (get_or w.lecturers lecturer no_lecturer).row.capacity
+
+abbrev is_open : World → ProjectRow → Bool
+is_open w x = nat_lt 0 x.capacity && has (map lecturer_key (lecturers_left w.lecturers w.projects w.students)) x.lecturer
+
+-- the lecturer's row
+lecturer_row : (w : World) (l : Key) → has (map lecturer_key (lecturers_left w.lecturers w.projects w.students)) l ≡ true
+    → (h : ℕ) × (h < length w.lecturers) × ((nat_lt 0 (lowered_lecturer w.projects w.students (get_or w.lecturers h no_lecturer)).row.capacity && equals l (get_or w.lecturers h no_lecturer).row.key) ≡ true)
+lecturer_row w l there =
+    any_place (λ (x : Lecturer). nat_lt 0 (lowered_lecturer w.projects w.students x).row.capacity && equals l x.row.key) w.lecturers no_lecturer
+    (sym (any_map (λ (x : Lecturer). nat_lt 0 x.row.capacity && equals l x.row.key) (lowered_lecturer w.projects w.students) w.lecturers)
+    ∙ sym (filtered_any (λ (x : Lecturer). equals l x.row.key) (λ (x : Lecturer). nat_lt 0 x.row.capacity) (map (lowered_lecturer w.projects w.students) w.lecturers))
+    ∙ sym (any_map (equals l) lecturer_key (lecturers_left w.lecturers w.projects w.students))
+    ∙ there)
+
+-- the project's row
+project_row : (w : World) (p : Key) → w.round ≡ Second → has (project_keys (in_play w)) p ≡ true
+    → (k : ℕ) × (k < length w.projects) × ((is_open w (lowered_project w.students (get_or w.projects k no_project)) && equals p (get_or w.projects k no_project).key) ≡ true)
+project_row w p two there =
+    any_place (λ (x : ProjectRow). is_open w (lowered_project w.students x) && equals p x.key) w.projects no_project
+    (sym (any_map (λ (x : ProjectRow). is_open w x && equals p x.key) (lowered_project w.students) w.projects)
+    ∙ sym (filtered_any (λ (x : ProjectRow). equals p x.key) (is_open w) (map (lowered_project w.students) w.projects))
+    ∙ sym (any_map (equals p) project_key (left_of w).projects)
+    ∙ subst (λ u. has (project_keys u) p ≡ true) (second_plays w two) there)
+
+has_rows : (w : World) (p : Key) → w.round ≡ Second → has (project_keys (in_play w)) p ≡ true → HasRows w p
+has_rows w p two there = by_project (project_row w p two there)
+  where
+    by_project : (k : ℕ) × (k < length w.projects) × ((is_open w (lowered_project w.students (get_or w.projects k no_project)) && equals p (get_or w.projects k no_project).key) ≡ true) → HasRows w p
+    by_project at =
+        let row : ProjectRow = get_or w.projects at.0 no_project in
+        let parts = and_parts (is_open w (lowered_project w.students row)) (equals p row.key) at.2 in
+        let rooms = and_parts (nat_lt 0 (lowered_project w.students row).capacity) (has (map lecturer_key (lecturers_left w.lecturers w.projects w.students)) row.lecturer) parts.0 in
+        by_lecturer at.0 at.1 (is_same p row.key parts.1) (below row.capacity (given_to w.students row.key) rooms.0) (lecturer_row w row.lecturer rooms.1)
+      where
+        below : (c n : ℕ) → nat_lt 0 (c - n) ≡ true → n < c
+        below c n h = let some : 0 < c - n = is_below (c - n) h in omega arith
+
+        by_lecturer : (k : ℕ) → k < length w.projects → p ≡ (get_or w.projects k no_project).key → given_to w.students (get_or w.projects k no_project).key < (get_or w.projects k no_project).capacity
+            → (h : ℕ) × (h < length w.lecturers) × ((nat_lt 0 (lowered_lecturer w.projects w.students (get_or w.lecturers h no_lecturer)).row.capacity && equals (get_or w.projects k no_project).lecturer (get_or w.lecturers h no_lecturer).row.key) ≡ true)
+            → HasRows w p
+        by_lecturer k k_in key room by =
+            let row : Lecturer = get_or w.lecturers by.0 no_lecturer in
+            let parts = and_parts (nat_lt 0 (lowered_lecturer w.projects w.students row).row.capacity) (equals (get_or w.projects k no_project).lecturer row.row.key) by.2 in
+            record {
+              project = k;
+              lecturer = by.0;
+              project_in = k_in;
+              lecturer_in = by.1;
+              key = key;
+              own = is_same (get_or w.projects k no_project).lecturer row.row.key parts.1;
+              room = room;
+              lecturer_room = below row.row.capacity (given_with w.projects w.students row.row.key) parts.0;
+            }
+
+-- what takes part in the second round has room after the first
+module _ (w : World) (sound : Sound w) (two : w.round ≡ Second) (before : IsRound (first w)) where
+  room_by_rows : (p : Key) → HasRows w p → HasRoom (instance_of (first w)) (places_of (first w)) (number_in (project_keys w) p)
+  room_by_rows p r =
+      let row : get_or (first w).lecturers r.lecturer no_lecturer ≡ first_published (get_or w.lecturers r.lecturer no_lecturer) = get_or-map first_published w.lecturers r.lecturer no_lecturer no_lecturer r.lecturer_in in
+      let low : r.project < length (project_keys w) = let h = r.project_in in omega (arith, h, length-map w.projects project_key) in
+      let number : number_in (project_keys w) p ≡ r.project
+      = ap (number_in (project_keys w)) (r.key ∙ sym (get_or-map project_key w.projects r.project no_project [] r.project_in)) ∙ number_back (project_keys w) r.project sound.projects_rise low in
+      let given_p : placed_to (first w).students (get_or w.projects r.project no_project).key ≡ given_to w.students (get_or w.projects r.project no_project).key
+      = count_by-map (λ (s : Student). is_at (get_or w.projects r.project no_project).key s.placed) first_placed w.students in
+      let given_l : placed_with w.projects (first w).students (get_or w.lecturers r.lecturer no_lecturer).row.key ≡ given_with w.projects w.students (get_or w.lecturers r.lecturer no_lecturer).row.key
+      = count_by-map (λ (s : Student). list_any (λ (x : ProjectRow). equals x.lecturer (get_or w.lecturers r.lecturer no_lecturer).row.key && is_at x.key s.placed) w.projects) first_placed w.students in
+      subst (HasRoom (instance_of (first w)) (places_of (first w))) (sym number)
+      (has_room (first w) before.sound refl refl (before.stable refl) r.project r.lecturer r.project_in (let h = r.lecturer_in in omega (arith, h, length-map w.lecturers first_published)) (r.own ∙ ap (λ (l : Lecturer). l.row.key) (sym row))
+      (subst (λ n. n < (get_or w.projects r.project no_project).capacity) (sym given_p) r.room)
+      (subst (λ (l : Lecturer). placed_with w.projects (first w).students l.row.key < l.row.capacity) (sym row) (subst (λ n. n < (get_or w.lecturers r.lecturer no_lecturer).row.capacity) (sym given_l) r.lecturer_room)))
+
+  pub stays_open : (p : Key) → has (project_keys (in_play w)) p ≡ true → HasRoom (instance_of (first w)) (places_of (first w)) (number_in (project_keys w) p)
+  stays_open p there = room_by_rows p (has_rows w p two there)
+
+  -- what is in the catalogue takes part
+  listed : (p : Key) → in_catalogue (catalogue w) p ≡ true → has (project_keys (in_play w)) p ≡ true
+  listed p there =
+      subst (λ ks. has ks p ≡ true) (catalogue_whole w sound)
+      (any_map (equals p) (λ (l : Listing). l.key) (catalogue w) ∙ any_alike (λ (l : Listing). equals p l.key) (λ (l : Listing). equals l.key p) (λ l. is_sym p l.key) (catalogue w) ∙ there)
+
+  -- the student of this number, whom the first round left
+  none_listed : (n : ℕ) → n < length w.students → is_left (get_or w.students n no_student) ≡ true → (p : Key) → has (get_or w.students n no_student).earlier_choice p ≡ true → has (project_keys w) p ≡ true → has (project_keys (in_play w)) p ≡ true → ⊥
+  none_listed n n_in left p on known there =
+      let n_first : n < length (first w).students = omega (arith, length-map w.students first_placed) in
+      let low : number_in (project_keys w) p < length (project_keys w) = has_number (project_keys w) p known in
+      let row : get_or (first w).students n no_student ≡ first_placed (get_or w.students n no_student) = get_or-map first_placed w.students n no_student no_student n_in in
+      let none : project_of (places_of (first w)) n ≡ None
+      = given (first w) before.sound refl refl n no_student n_first ∙ ap (λ (s : Student). option_map (number_in (project_keys w)) s.placed) row ∙ ap (option_map (number_in (project_keys w))) (is_none_of (get_or w.students n no_student).earlier_placement left) in
+      let list_is = choices (first w) before.sound refl refl n no_student n_first ∙ ap (λ (s : Student). map (number_in (project_keys w)) s.choice) row in
+      let accepts : IsAcceptable (instance_of (first w)) n (number_in (project_keys w) p) = rw list_is (on_number (project_keys w) (get_or w.students n no_student).earlier_choice p low on) in
+      left_by_number (instance_of (first w)) (places_of (first w)) n (number_in (project_keys w) p) (stable_rows (first w) before.sound refl refl (before.stable refl)) none accepts (stays_open p there)
+
+-- WHO IS LEFT FINDS NONE
+pub left_finds_none : (w : World) → Good w → is_second w.round ≡ true → AllByRecursion (λ s. is_left s ≡ true → AllByRecursion (λ p. in_catalogue (catalogue w) p ≡ false) s.earlier_choice) w.students
+left_finds_none w good e = all_from _ w.students no_student each
+  where
+    each : (n : ℕ) → n < length w.students → is_left (get_or w.students n no_student) ≡ true → AllByRecursion (λ p. in_catalogue (catalogue w) p ≡ false) (get_or w.students n no_student).earlier_choice
+    each n n_in left =
+        all_from _ (get_or w.students n no_student).earlier_choice []
+        (λ k k_in. by_test (get_or (get_or w.students n no_student).earlier_choice k [])
+        (list_any_at (equals (get_or (get_or w.students n no_student).earlier_choice k [])) (get_or w.students n no_student).earlier_choice k [] k_in (is_own (get_or (get_or w.students n no_student).earlier_choice k [])))
+        (all_at (λ l. has (project_keys w) l ≡ true) (get_or w.students n no_student).earlier_choice k [] known k_in)
+        (in_catalogue (catalogue w) (get_or (get_or w.students n no_student).earlier_choice k [])) refl)
+      where
+        known : AllByRecursion (λ l. has (project_keys w) l ≡ true) (get_or w.students n no_student).earlier_choice
+        known = (subst (λ (s : Student). IsChoice (project_keys w) s.choice) (get_or-map first_placed w.students n no_student no_student n_in)
+            (choice (first w) (good.before e).sound refl refl n no_student (omega (arith, length-map w.students first_placed)))).known
+
+        by_test : (p : Key) → has (get_or w.students n no_student).earlier_choice p ≡ true → has (project_keys w) p ≡ true → (b : Bool) → in_catalogue (catalogue w) p ≡ b → b ≡ false
+        by_test p on low false there = refl
+        by_test p on low true there =
+            let two : w.round ≡ Second = the_second w.round e in
+            absurd (none_listed w good.sound two (good.before e) n n_in left p on low (listed w good.sound two (good.before e) p there))

@@ -1,0 +1,5 @@
+use Rattle.portal_core.proofs.LeftOver.{left_finds_none}
+use Rattle.portal_core.proofs.laws.left_finds_none.Goals as goal
+
+pub returns : goal.returns
+returns c = left_finds_none

@@ -1,0 +1,173 @@
+-- The method, stopped when the last of those who like a matching x better than the best one is turned away from what x gives.
+use Rattle.std.proofs.Common.{◌≡◌, ◌⊎◌, inl, inr, ℕ, zero, suc, ◌<◌, ◌≤◌, Bool, true, false, ltb, List, length, replicate, Option, Some, None, refl, sym, ◌∙◌, ap, subst, arith}
+use Rattle.std.proofs.lemmas.Bool.{ltb-true, ltb-false, cases_Bool, cases_lt, cases_eq}
+use Rattle.spa_model.specs.Spa.{Spa, place, project_of, choices_of, IsAcceptable, IsMatching, IsAsGood, IsBest}
+use Rattle.spa_model.proofs.Places.{place-injective}
+use Rattle.spa_model.proofs.Counts.{sum_below}
+use Rattle.spa_student.specs.inner.Machine.{IsRanked}
+use Rattle.spa_student.proofs.Machine.{best_at_end, as_good_as_stable, student_in_range}
+use Rattle.spa_honest.proofs.Exists.{greatest, Passed, UnderWay, turns, Turned, turn_of, next_or_done, Never, never, start}
+use Rattle.spa_honest.proofs.Outside.{TurnsAway}
+
+-- whether what s has is better than the other
+abbrev pub better : Spa → ℕ → Option ℕ → Option ℕ → Bool
+better i s None other = false
+better i s (Some p) None = true
+better i s (Some p) (Some q) = ltb (place (choices_of i s) p) (place (choices_of i s) q)
+
+-- where it is not, the other is as good
+pub not_better : (i : Spa) (s : ℕ) (mine other : Option ℕ) → ((p : ℕ) → mine ≡ Some p → IsAcceptable i s p) → ((q : ℕ) → other ≡ Some q → IsAcceptable i s q) → better i s mine other ≡ false → IsAsGood i s other mine
+not_better i s None other on_mine on_other misses = tt
+not_better i s (Some p) None on_mine on_other misses = absurd (cc)
+not_better i s (Some p) (Some q) on_mine on_other misses =
+    let le : place (choices_of i s) q ≤ place (choices_of i s) p = ltb-false (place (choices_of i s) p) (place (choices_of i s) q) misses in
+    elim (cases_eq (place (choices_of i s) q) (place (choices_of i s) p)) [
+      | inl level ↦ inl (place-injective (choices_of i s) q p (on_other q refl) level)
+      | inr apart ↦ inr (omega arith, on_mine p refl)
+    ]
+
+-- and where it is, the other is not
+pub better_not : (i : Spa) (s : ℕ) (mine other : Option ℕ) → better i s mine other ≡ true → IsAsGood i s other mine → ⊥
+better_not i s None other meets good = cc
+better_not i s (Some p) None meets good = good
+better_not i s (Some p) (Some q) meets good =
+    let less : place (choices_of i s) p < place (choices_of i s) q = ltb-true (place (choices_of i s) p) (place (choices_of i s) q) meets in
+    elim good [ inl same ↦ omega (arith, ap (place (choices_of i s)) same) | inr before ↦ omega (arith, before.0) ]
+
+pub as_good_trans : (i : Spa) (s : ℕ) (a b c : Option ℕ) → IsAsGood i s a b → IsAsGood i s b c → IsAsGood i s a c
+as_good_trans i s a b None ab bc = tt
+as_good_trans i s a None (Some r) ab bc = absurd bc
+as_good_trans i s None (Some q) (Some r) ab bc = absurd ab
+as_good_trans i s (Some p) (Some q) (Some r) ab bc = elim ab [
+  | inl same ↦ rw same bc
+  | inr first ↦ elim bc [ inl same ↦ inr (rw (sym same) first) | inr next ↦ inr (omega (arith, first.0, next.0), next.1) ]
+]
+
+-- the place of a project on the list of s
+abbrev spot : Spa → ℕ → Option ℕ → ℕ
+spot i s None = 0
+spot i s (Some p) = place (choices_of i s) p
+
+-- ALL BUT ONE go on: s keeps still, until nobody else has a turn
+record Rested (i : Spa) (s : ℕ) (c : ℕ → ℕ) : Type 0 where
+  pub after : List (Option ℕ)
+  pub cursors : ℕ → ℕ
+  pub state : UnderWay i after cursors
+  pub onward : (x : ℕ) → c x ≤ cursors x
+  pub still : project_of after s ≡ None
+  pub done : (x p : ℕ) → (x ≡ s → ⊥) → project_of after x ≡ None → IsAcceptable i x p → Passed i cursors x p
+
+rest : (i : Spa) → IsRanked i → (s fuel : ℕ) (m : List (Option ℕ)) (c : ℕ → ℕ) → UnderWay i m c → project_of m s ≡ None → sum_below (turns i m c) (length i.choices) < fuel → Rested i s c
+rest i law s zero m c state free enough = absurd (omega arith)
+rest i law s (suc fuel) m c state free enough = elim (next_or_done i m c (λ x. x ≡ s) (λ x. cases_eq x s)) [
+  | inl next ↦
+      let one : Turned i m c next.0 = turn_of i law m c state next.0 next.1 next.2.1 next.2.2 in
+      let all = rest i law s fuel one.after one.cursors one.state (one.still s (λ e. next.2.0 (sym e)) free) (omega (arith, one.fewer)) in
+      record {
+        after = all.after;
+        cursors = all.cursors;
+        state = all.state;
+        onward = λ x. omega (arith, one.onward x, all.onward x);
+        still = all.still;
+        done = all.done;
+      }
+  | inr done ↦ record { after = m; cursors = c; state = state; onward = λ x. omega arith; still = free; done = done }
+]
+
+-- those who like x better than what the best matching gives, and who of them has not passed it
+abbrev pub gains : Spa → List (Option ℕ) → List (Option ℕ) → ℕ → Bool
+gains i best x s = better i s (project_of x s) (project_of best s)
+
+abbrev Waits : Spa → List (Option ℕ) → List (Option ℕ) → (ℕ → ℕ) → ℕ → Type 0
+Waits i best x c s = (gains i best x s ≡ true) × (c s ≤ spot i s (project_of x s))
+
+-- ALL GO ON until nobody waits: the last who did is free
+record Stopped (i : Spa) (best x : List (Option ℕ)) : Type 0 where
+  pub after : List (Option ℕ)
+  pub cursors : ℕ → ℕ
+  pub state : UnderWay i after cursors
+  pub passed : (s : ℕ) → gains i best x s ≡ true → spot i s (project_of x s) < cursors s
+  pub last : (s : ℕ) × (gains i best x s ≡ true) × (project_of after s ≡ None)
+
+module _ (i : Spa) (law : IsRanked i) (best : List (Option ℕ)) (is_best : IsBest i best) (x : List (Option ℕ)) (there : IsMatching i x) where
+  gains_some : (s : ℕ) (o : Option ℕ) → better i s o (project_of best s) ≡ true → (p : ℕ) × (o ≡ Some p)
+  gains_some s None meets = absurd (cc)
+  gains_some s (Some p) meets = (p, refl)
+
+  waits : (c : ℕ → ℕ) (s : ℕ) → Waits i best x c s ⊎ (Waits i best x c s → ⊥)
+  waits c s = elim (cases_Bool (gains i best x s)) [
+    | inr misses ↦ inr (λ w. let wrong : true ≡ false = sym w.0 ∙ misses in cc)
+    | inl meets ↦ elim (cases_lt (spot i s (project_of x s)) (c s)) [ inl passed ↦ inr (λ w. omega (arith, w.1)) | inr ahead ↦ inl (meets, ahead) ]
+  ]
+
+  in_range : (s : ℕ) → gains i best x s ≡ true → s < length i.choices
+  in_range s meets = let has = gains_some s (project_of x s) meets in omega (arith, student_in_range i x s has.0 has.1, there.students)
+
+  -- at the end nobody waits
+  none_waits : (m : List (Option ℕ)) (c : ℕ → ℕ) → UnderWay i m c → ((s p : ℕ) → project_of m s ≡ None → IsAcceptable i s p → Passed i c s p) → (s : ℕ) → Waits i best x c s → ⊥
+  none_waits m c state done s wait = each (project_of m s) refl
+    where
+      stable : IsBest i m
+      stable = best_at_end i m (Passed i c) state.holds done
+
+      each : (o : Option ℕ) → project_of m s ≡ o → ⊥
+      each None e =
+          let has = gains_some s (project_of x s) wait.0 in
+          let passed = done s has.0 e (there.acceptable s has.0 has.1) in
+          omega (arith, passed.1, wait.1, ap (spot i s) has.1)
+      each (Some q) e =
+          let has = gains_some s (project_of x s) wait.0 in
+          let p : ℕ = has.0 in
+          let le : place (choices_of i s) q ≤ place (choices_of i s) p = omega (arith, state.at_cursor s q e, wait.1, ap (spot i s) has.1) in
+          let q_on : IsAcceptable i s q = state.holds.matching.acceptable s q e in
+          let p_on : IsAcceptable i s p = there.acceptable s p has.1 in
+          let good : IsAsGood i s (Some q) (Some p) =
+          elim (cases_eq (place (choices_of i s) q) (place (choices_of i s) p)) [ inl level ↦ inl (place-injective (choices_of i s) q p q_on level) | inr apart ↦ inr (omega arith, p_on) ] in
+          better_not i s (project_of x s) (project_of best s) wait.0
+          (rw has.1 (as_good_trans i s (project_of best s) (Some q) (Some p) (subst (λ o. IsAsGood i s (project_of best s) o) e (is_best.best m stable.stable s)) good))
+
+  until : (fuel : ℕ) (m : List (Option ℕ)) (c : ℕ → ℕ) → UnderWay i m c → (s : ℕ) → Waits i best x c s → sum_below (turns i m c) (length i.choices) < fuel → Stopped i best x
+  until zero m c state s wait enough = absurd (omega arith)
+  until (suc fuel) m c state s wait enough = elim (next_or_done i m c Never never) [
+    | inr done ↦ absurd (none_waits m c state (λ z p. done z p (λ e. e)) s wait)
+    | inl next ↦
+        let one : Turned i m c next.0 = turn_of i law m c state next.0 next.1 next.2.1 next.2.2 in
+        elim (greatest (Waits i best x one.cursors) (waits one.cursors) (λ z. 0) (length i.choices)) [
+          | inl still ↦ until fuel one.after one.cursors one.state still.0 still.2 (omega (arith, one.fewer))
+          | inr over ↦ record {
+            after = one.after;
+            cursors = one.cursors;
+            state = one.state;
+            passed = λ z meets. passed z meets one.cursors over;
+            last = (s, wait.0, elim (one.moves s) [ inl same ↦ absurd (omega (arith, same, wait.1, passed s wait.0 one.cursors over)) | inr free ↦ free ]);
+          }
+        ]
+  ]
+    where
+      passed : (z : ℕ) → gains i best x z ≡ true → (d : ℕ → ℕ) → ((z : ℕ) → z < length i.choices → Waits i best x d z → ⊥) → spot i z (project_of x z) < d z
+      passed z meets d over = elim (cases_lt (spot i z (project_of x z)) (d z)) [ inl here ↦ here | inr ahead ↦ absurd (over z (in_range z meets) (meets, ahead)) ]
+
+  stopped : (s : ℕ) → gains i best x s ≡ true → Stopped i best x
+  stopped s meets = until (suc (sum_below (turns i (replicate (length i.choices) None) (λ z. 0)) (length i.choices))) (replicate (length i.choices) None) (λ z. 0) (start i) s (meets, omega arith) (omega arith)
+
+  -- so there is a matching that turns all of them away and leaves one with nothing
+  pub turned_away : (s : ℕ) → gains i best x s ≡ true → (y : List (Option ℕ)) × TurnsAway i (gains i best x) x y
+  turned_away s meets =
+      let one : Stopped i best x = stopped s meets in
+      let z : ℕ = one.last.0 in
+      let all : Rested i z one.cursors = rest i law z (suc (sum_below (turns i one.after one.cursors) (length i.choices))) one.after one.cursors one.state one.last.2 (omega arith) in (
+        all.after,
+        record {
+          there = there;
+          here = all.state.holds.matching;
+          away = λ t of.
+              let has = gains_some t (project_of x t) of in
+              (has.0, has.1, all.state.holds.spent t has.0 (there.acceptable t has.0 has.1, omega (arith, ap (spot i t) has.1, one.passed t of, all.onward t)));
+          no_worse = λ t out.
+              let as_best : IsAsGood i t (project_of all.after t) (project_of best t) =
+              as_good_as_stable i all.after (Passed i all.cursors) all.state.holds best is_best.stable t (λ p free on. all.done t p (λ e. let wrong : true ≡ false = sym (subst (λ k. gains i best x k ≡ true) (sym e) one.last.1) ∙ out in cc) free on) in
+              as_good_trans i t (project_of all.after t) (project_of best t) (project_of x t) as_best
+              (not_better i t (project_of x t) (project_of best t) (λ p e. there.acceptable t p e) (λ q e. is_best.stable.matching.acceptable t q e) out);
+          last = (z, one.last.1, all.still);
+        },
+      )

@@ -1,0 +1,120 @@
+-- A matching x that some students, those of r, like better than what they can have: somebody else blocks it.
+-- For that, y is a matching in which all of r were turned away from what x gives, one of them has nothing, and everybody else has no worse than in x.
+use Rattle.std.proofs.Common.{◌≡◌, inl, inr, ℕ, ◌+◌, ◌<◌, ◌≤◌, Bool, true, false, List, length, Option, Some, None, refl, sym, ◌∙◌, ap, subst, arith}
+use Rattle.std.specs.List.{count_by}
+use Rattle.std.proofs.lemmas.Bool.{cases_lt}
+use Rattle.spa_model.specs.declared.letter.Letter.{Letter}
+use Rattle.spa_model.specs.declared.letter.Letter.TheVariants.{A, B, C}
+use Rattle.spa_model.specs.Spa.{Spa, is_project, is_lecturer, at_project, at_lecturer, project_of, lecturer_of, ranking_of, capacity_of, limit_of, IsOn, IsMatching, IsAsGood, Wants, Blocks}
+use Rattle.spa_model.proofs.Counts.{sum_below}
+use Rattle.spa_student.specs.inner.Machine.{IsRanked, rank_of, IsSpent}
+use Rattle.spa_student.proofs.Machine.{student_in_range}
+use Rattle.spa_honest.proofs.Assigned.{has_one, count_by-lt, all_lecturers, greater_term, more_at, one_there, wants_best}
+use Rattle.spa_honest.proofs.Only.{only, others, only_length, only_has, only_keeps, others_not, both_counted}
+
+-- what y is to x
+pub record TurnsAway (i : Spa) (r : ℕ → Bool) (x y : List (Option ℕ)) : Type 0 where
+  pub there : IsMatching i x
+  pub here : IsMatching i y
+  pub away : (s : ℕ) → r s ≡ true → (p : ℕ) × (project_of x s ≡ Some p) × IsSpent i y s p
+  pub no_worse : (t : ℕ) → r t ≡ false → IsAsGood i t (project_of y t) (project_of x t)
+  pub last : (s : ℕ) × (r s ≡ true) × (project_of y s ≡ None)
+
+module _ (i : Spa) (law : IsRanked i) (r : ℕ → Bool) (x y : List (Option ℕ)) (turns : TurnsAway i r x y) (unblocked : (t u : ℕ) (k : Letter) → r t ≡ false → Blocks i x t u k → ⊥) where
+  same : length x ≡ length y
+  same = turns.there.students ∙ sym turns.here.students
+
+  spent : (s p : ℕ) → r s ≡ true → project_of x s ≡ Some p → IsSpent i y s p
+  spent s p of e =
+      let why = turns.away s of in
+      let is : why.0 ≡ p = cc in
+      subst (λ q. IsSpent i y s q) is why.2
+
+  -- t, who is not of r, has u in y and not in x; s is later with the lecturer, who has s in x; and where u is full in x, so is somebody there
+  blocks : (t u : ℕ) → r t ≡ false → project_of y t ≡ Some u → (project_of x t ≡ Some u → ⊥)
+      → (s q : ℕ) → project_of x s ≡ Some q → lecturer_of i q ≡ lecturer_of i u → rank_of i (lecturer_of i u) t < rank_of i (lecturer_of i u) s
+      → (at_project x u ≡ capacity_of i u → (z : ℕ) × (project_of x z ≡ Some u) × (rank_of i (lecturer_of i u) t < rank_of i (lecturer_of i u) z)) → ⊥
+  blocks t u out at not_there s q has own less at_full =
+      let wants : Wants i x t u = wants_best i x t u (turns.here.acceptable t u at) not_there (project_of x t) refl (subst (λ o. IsAsGood i t o (project_of x t)) at (turns.no_worse t out)) in
+      let on : IsOn (ranking_of i (lecturer_of i u)) s = rw own at (law.ranked s q (turns.there.acceptable s q has)) in
+      elim (cases_lt (at_project x u) (capacity_of i u)) [
+        | inl room ↦ elim (cases_lt (at_lecturer i x (lecturer_of i u)) (limit_of i (lecturer_of i u))) [
+          | inl room_l ↦ unblocked t u A out (wants, room, room_l)
+          | inr full_l ↦ unblocked t u B out (wants, room, omega (arith, full_l, turns.there.lecturers (lecturer_of i u)), inr (s, (q, has, own), (less, on)))
+        ]
+        | inr full ↦
+            let level : at_project x u ≡ capacity_of i u = omega (arith, full, turns.there.projects u) in
+            let z = at_full level in
+            unblocked t u C out (wants, level, (z.0, z.1, (z.2, law.ranked z.0 u (turns.there.acceptable z.0 u z.1))))
+      ]
+
+  -- where those of r have fewer in y at p, some other who has p in y has another in x
+  instead : (p : ℕ) → at_project (only (others r) x) p < at_project (only (others r) y) p → (t : ℕ) × (r t ≡ false) × (project_of y t ≡ Some p) × (project_of x t ≡ Some p → ⊥)
+  instead p more =
+      let one = one_there i (only (others r) y) (only (others r) x) p (only_length (others r) y ∙ sym same ∙ sym (only_length (others r) x)) more in
+      let at = only_has (others r) y one.0 p one.1 in
+      (one.0, others_not r one.0 at.0, at.1, λ e. one.2 (only_keeps (others r) x one.0 at.0 ∙ e))
+
+  split : (m : List (Option ℕ)) (p : ℕ) → at_project m p ≡ at_project (only r m) p + at_project (only (others r) m) p
+  split m p = both_counted (is_project p) refl r m
+
+  split_l : (m : List (Option ℕ)) (l : ℕ) → at_lecturer i m l ≡ at_lecturer i (only r m) l + at_lecturer i (only (others r) m) l
+  split_l m l = both_counted (is_lecturer i l) refl r m
+
+  known_x : (f : ℕ → Bool) (s q : ℕ) → project_of (only f x) s ≡ Some q → q < length i.lecturers
+  known_x f s q e = law.known s q (turns.there.acceptable s q (only_has f x s q e).1)
+
+  known_y : (f : ℕ → Bool) (s q : ℕ) → project_of (only f y) s ≡ Some q → q < length i.lecturers
+  known_y f s q e = law.known s q (turns.here.acceptable s q (only_has f y s q e).1)
+
+  -- a lecturer who has fewer of r in y
+  fewer_with : (l : ℕ) × (at_lecturer i (only r y) l < at_lecturer i (only r x) l)
+  fewer_with =
+      let count : ℕ = length i.rankings in
+      let all_x : count_by has_one (only r x) ≡ sum_below (at_lecturer i (only r x)) count = all_lecturers i count (only r x) (λ s q e. law.offered q (known_x r s q e)) in
+      let all_y : count_by has_one (only r y) ≡ sum_below (at_lecturer i (only r y)) count = all_lecturers i count (only r y) (λ s q e. law.offered q (known_y r s q e)) in
+      let s : ℕ = turns.last.0 in
+      let of : r s ≡ true = turns.last.1 in
+      let why = turns.away s of in
+      let has : project_of (only r x) s ≡ Some why.0 = only_keeps r x s of ∙ why.1 in
+      let none : project_of (only r y) s ≡ None = only_keeps r y s of ∙ turns.last.2 in
+      let less : count_by has_one (only r y) + 1 ≤ count_by has_one (only r x) =
+      count_by-lt has_one (only r y) (only r x) s (only_length r y ∙ sym same ∙ sym (only_length r x)) (λ z on. kept z (project_of (only r y) z) refl on) (student_in_range i (only r x) s why.0 has) (ap has_one none) (ap has_one has) in
+      let term = greater_term (at_lecturer i (only r x)) (at_lecturer i (only r y)) count (omega (arith, all_x, all_y, less)) in
+      (term.0, term.2)
+    where
+      kept : (z : ℕ) (o : Option ℕ) → project_of (only r y) z ≡ o → has_one o ≡ true → has_one (project_of (only r x) z) ≡ true
+      kept z None e on = absurd (cc)
+      kept z (Some q) e on =
+          let of : r z ≡ true = (only_has r y z q e).0 in
+          ap has_one (only_keeps r x z of ∙ (turns.away z of).1)
+
+  -- SOMEBODY ELSE BLOCKS
+  pub outside : ⊥
+  outside =
+      let few = fewer_with in
+      let l : ℕ = few.0 in
+      let at = more_at i l (only r x) (only r y) (known_x r) (known_y r) few.1 in
+      let p : ℕ = at.0 in
+      let one = one_there i (only r x) (only r y) p (only_length r x ∙ same ∙ sym (only_length r y)) at.2 in
+      let s : ℕ = one.0 in
+      let mine = only_has r x s p one.1 in
+      elim (spent s p mine.0 mine.1) [
+        | inr project ↦
+            let t = instead p (omega (arith, at.2, split x p, split y p, project.full, turns.there.projects p)) in
+            let less : rank_of i (lecturer_of i p) t.0 < rank_of i (lecturer_of i p) s = project.before t.0 t.2 in
+            blocks t.0 p t.1 t.2 t.3 s p mine.1 refl less (λ full. (s, mine.1, less))
+        | inl lecturer ↦
+            let full_y : at_lecturer i y l ≡ limit_of i l = rw at.1 at lecturer.full in
+            let u = more_at i l (only (others r) y) (only (others r) x) (known_y (others r)) (known_x (others r)) (omega (arith, few.1, split_l x l, split_l y l, full_y, turns.there.lecturers l)) in
+            let same_l : lecturer_of i p ≡ lecturer_of i u.0 = at.1 ∙ sym u.1 in
+            let t = instead u.0 u.2 in
+            let less : rank_of i (lecturer_of i u.0) t.0 < rank_of i (lecturer_of i u.0) s = rw same_l at (lecturer.before t.0 u.0 t.2 (sym same_l)) in
+            blocks t.0 u.0 t.1 t.2 t.3 s p mine.1 same_l less (λ full. at_full u.0 u.2 t.0 t.2 full)
+      ]
+    where
+      at_full : (u : ℕ) → at_project (only (others r) x) u < at_project (only (others r) y) u → (t : ℕ) → project_of y t ≡ Some u → at_project x u ≡ capacity_of i u → (z : ℕ) × (project_of x z ≡ Some u) × (rank_of i (lecturer_of i u) t < rank_of i (lecturer_of i u) z)
+      at_full u more t has full =
+          let one = one_there i (only r x) (only r y) u (only_length r x ∙ same ∙ sym (only_length r y)) (omega (arith, more, split x u, split y u, full, turns.here.projects u)) in
+          let mine = only_has r x one.0 u one.1 in
+          (one.0, mine.1, elim (spent one.0 u mine.0 mine.1) [ inl lecturer ↦ lecturer.before t u has refl | inr project ↦ project.before t has ])

@@ -1,0 +1,5 @@
+use Rattle.spa_honest.proofs.Told.{one_may_gain}
+use Rattle.spa_honest.proofs.laws.one_may_gain.Goals as goal
+
+pub returns : goal.returns
+returns c = one_may_gain
