@@ -1,4 +1,4 @@
-"""What the checks share: the program, counting, a portal that is stopped and started, the door before it, and requests."""
+"""What the checks share: the program, counting, a portal that is stopped and started, the reverse proxy before it, and requests."""
 import http.client
 import os
 import socket
@@ -85,15 +85,14 @@ class Served:
         self.stop()
 
 
-class Door:
-    """The door of deploy/Caddyfile before a portal's port, with TLS on one port of localhost and without on another."""
+class Proxy:
+    """The reverse proxy of deploy/Caddyfile before a portal's port, with TLS on one port of localhost and without on another."""
 
     def __init__(self, portal, page=None):
         self.folder = tempfile.TemporaryDirectory()
         self.portal, self.page = portal, page or os.path.join(TOP, "web")
         self.tls, self.plain = free_port(), free_port()
         self.log = os.path.join(self.folder.name, "log")
-        self.notice = os.path.join(self.folder.name, "notice.txt")
 
     def __enter__(self):
         folder = self.folder.name
@@ -105,7 +104,7 @@ class Door:
             site.write(f"https://localhost:{self.tls} {{\n\ttls {folder}/cert.pem {folder}/key.pem\n\t{way}}}\n")
             site.write(f"http://127.0.0.1:{self.plain} {{\n\t{way}}}\n")
         self.process = subprocess.Popen(["caddy", "run", "--adapter", "caddyfile", "--config", os.path.join(DEPLOY, "Caddyfile")],
-                                        stderr=open(self.log, "wb"), env=door_settings(folder))
+                                        stderr=open(self.log, "wb"), env=proxy_settings(folder))
         if not until(lambda: b"serving initial configuration" in self.told(), 20):
             raise RuntimeError(self.told())
         return self
@@ -115,12 +114,17 @@ class Door:
         self.process.wait()
         self.folder.cleanup()
 
+    def put(self, path, data):
+        """Puts a file in the department's folder."""
+        with open(self.folder.name + path, "wb") as file:
+            file.write(data)
+
     def told(self):
         with open(self.log, "rb") as log:
             return log.read()
 
     def ask(self, method, path, code=None, body=None, lines=(), tls=False, timeout=30):
-        """The status, the lines and the body of a reply through the door."""
+        """The status, the lines and the body of a reply through the reverse proxy."""
         if tls:
             trusted = ssl.create_default_context(cafile=f"{self.folder.name}/cert.pem")
             link = http.client.HTTPSConnection("localhost", self.tls, timeout=timeout, context=trusted)
@@ -145,7 +149,7 @@ class Door:
             link.close()
 
 
-def door_settings(folder):
+def proxy_settings(folder):
     """The surroundings of a Caddy whose sites and own files are in a folder."""
     return dict(os.environ, PORTAL_SITES=f"{folder}/*.caddy", PORTAL_HTTP_PORT=str(free_port()), XDG_DATA_HOME=folder,
                 XDG_CONFIG_HOME=folder)
@@ -159,7 +163,7 @@ def head(method, path, code=None, lines=(), length=None):
     return "\r\n".join([*own, *lines, "", ""]).encode()
 
 
-def exchange(port, data, timeout=30):
+def exchange(port, data, timeout=120):
     """What comes back of these bytes on a connection of their own, until it ends."""
     with socket.create_connection(("127.0.0.1", port), timeout) as link:
         link.sendall(data)

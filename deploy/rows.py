@@ -1,0 +1,45 @@
+"""CSV files as the portal reads them: UTF-8, comma, a header. Rows are counted from 1, without the header."""
+import csv
+import io
+import re
+
+FORMS = {
+    "key": re.compile(r"[A-Za-z0-9._-]{1,16}"),
+    "name": re.compile(r"[^\x00-\x1f\x7f]{1,160}"),
+    "code": re.compile(r"[A-Za-z0-9-]{8,40}"),
+    "capacity": re.compile(r"[0-9]{1,7}"),
+}
+
+
+class Fault(Exception):
+    """A fault of a file or of one of its rows."""
+
+
+def fits(form, text):
+    """Whether a text has the portal's form of a key, a name, a code or a capacity."""
+    if not FORMS[form].fullmatch(text):
+        return False
+    if form == "capacity":
+        return 1 <= int(text) <= 200
+    return len(text.encode(errors="surrogateescape")) <= 160 and not re.search("[\ud800-\udfff]", text)
+
+
+def read(path):
+    """The names of the columns, and the rows as lists of fields."""
+    try:
+        with open(path, "rb") as file:
+            text = file.read().decode("utf-8-sig")
+        records = [one for one in csv.reader(io.StringIO(text, newline=""), strict=True) if one]
+    except OSError as fault:
+        raise Fault(f"{path} cannot be read: {fault.strerror}") from None
+    except UnicodeDecodeError:
+        raise Fault(f"{path} is not UTF-8") from None
+    except csv.Error as fault:
+        raise Fault(f"{path} is no CSV file: {fault}") from None
+    if not records:
+        raise Fault(f"{path} has no header")
+    header, *rows = records
+    for row, fields in enumerate(rows, 1):
+        if len(fields) != len(header):
+            raise Fault(f"row {row}: {len(fields)} fields, not {len(header)}")
+    return header, rows
