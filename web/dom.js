@@ -2,9 +2,11 @@
 
 /**
  * Makes an element.
- * @param {string} tag
- * @param {object} has `text`, listeners in `on` by event, all else as attributes (true: without a value, false: not at all)
+ * @template {keyof HTMLElementTagNameMap} Tag
+ * @param {Tag} tag
+ * @param {Record<string, any>} has `text`, listeners in `on` by event, all else as attributes (true: without a value, false: not at all)
  * @param {Node[]} children
+ * @returns {HTMLElementTagNameMap[Tag]}
  */
 export function make(tag, has = {}, children = []) {
   const { text, on = {}, ...attributes } = has;
@@ -19,9 +21,15 @@ export function make(tag, has = {}, children = []) {
   return element;
 }
 
-/** A button with a text. `name` is what it is called where the text alone does not say it, as "Add" of one of many rows. */
-export function button(text, press, { name, ...has } = {}) {
-  return make('button', { type: 'button', text, 'aria-label': name, title: name, ...has, on: { click: press } });
+/**
+ * A button with a text.
+ * @param {string} text
+ * @param {(event: any) => any} press
+ * @param {Record<string, any>} has `name`, what it is called where the text alone does not say it, as "Add" of one of many rows; attributes
+ */
+export function button(text, press, has = {}) {
+  const { name, ...attributes } = has;
+  return make('button', { type: 'button', text, 'aria-label': name, title: name, ...attributes, on: { click: press } });
 }
 
 /** A name or title that people gave: set in its own direction, so that it disturbs no text around it. */
@@ -29,9 +37,27 @@ export function given(text, has = {}) {
   return make('bdi', { text, ...has });
 }
 
-/** A title with its key in small letters under it. */
-export function titled(title, key) {
-  return make('span', { class: 'titled' }, [given(title), make('span', { class: 'key', text: key })]);
+/** A title with its key, or another text, in small letters under it, and what else is said of it. */
+export function titled(title, key, more = []) {
+  return make('span', { class: 'titled' }, [given(title), make('span', { class: 'key', text: key }), ...more]);
+}
+
+let parts = 0;
+
+/** A section that is called by its heading. */
+export function part(title, children, has = {}) {
+  const id = `part-${++parts}`;
+  return make('section', { 'aria-labelledby': id, ...has }, [make('h2', { id, text: title }), ...children]);
+}
+
+/** A field with its label before it. */
+export function labelled(text, field) {
+  return make('label', { class: 'field' }, [make('span', { text }), field]);
+}
+
+/** Tells the style sheet the height of an element, whenever it changes. */
+export function measure(element, name) {
+  new ResizeObserver(() => document.documentElement.style.setProperty(name, `${element.offsetHeight}px`)).observe(element);
 }
 
 /** A button that cannot be used now, but keeps the focus of whoever has just pressed it. */
@@ -43,15 +69,18 @@ export function setUsable(element, usable) {
 export const isUsable = (element) => element.getAttribute('aria-disabled') !== 'true';
 
 /** Part of a whole as a bar. The numbers stand in a text beside it, so that it is only to look at. */
-export function bar(part, whole) {
+export function bar(count, whole) {
   const filled = make('span', { class: 'filled' });
-  filled.style.width = `${whole === 0 ? 0 : Math.min(100, (100 * part) / whole)}%`;
+  filled.style.width = `${whole === 0 ? 0 : Math.min(100, (100 * count) / whole)}%`;
   return make('span', { class: 'bar', 'aria-hidden': 'true' }, [filled]);
 }
 
+// Spreadsheets take a file for UTF-8 where it begins with this.
+const MARK = '\ufeff';
+
 /** Gives a text to the browser as a file to keep. */
 export function download(name, text, type) {
-  const address = URL.createObjectURL(new Blob([text], { type }));
+  const address = URL.createObjectURL(new Blob([text.startsWith(MARK) ? text : MARK + text], { type }));
   const link = make('a', { href: address, download: name, class: 'unseen' });
   document.body.append(link);
   link.click();
@@ -60,11 +89,11 @@ export function download(name, text, type) {
 }
 
 /** Prints one part of the page alone, by the classes that the print style knows; a fold around it is opened for that. */
-export function print(part) {
-  const fold = part.closest('details');
+export function print(paper) {
+  const fold = paper.closest('details');
   const wasOpen = fold?.open;
   const mark = (isPrinted) => {
-    part.classList.toggle('printed', isPrinted);
+    paper.classList.toggle('printed', isPrinted);
     document.body.classList.toggle('prints-part', isPrinted);
     if (fold) fold.open = isPrinted || wasOpen;
   };

@@ -1,55 +1,72 @@
-// The page: signing in and out, the frame around each role's page, and what is done where a request fails.
+// The page: signing in and out, and the page of each role in its frame.
 
 import { ask } from './ask.js';
-import { button, given, make } from './dom.js';
+import { attempts } from './attempt.js';
+import { department } from './department.js';
+import { make } from './dom.js';
+import { frame } from './frame.js';
+import { knownProjects } from './known.js';
 import { lecturerPage } from './lecturer.js';
 import { Messages } from './messages.js';
-import { notice } from './notice.js';
 import { officePage } from './office.js';
 import { told } from './refusals.js';
-import { placeOf } from './rounds.js';
-import { Lost, Portal, Refused, isCode } from './requests.js';
+import { Lost, Portal, Refused, asCode, isCode } from './requests.js';
 import { signInForm } from './signin.js';
 import { studentPage } from './student.js';
-import { words } from './words.js';
+import { chooseLanguage, firstLanguage, offeredLanguages, speak, words } from './words.js';
 import { yearPart } from './year.js';
 
 // The code is kept here alone, for as long as the browser's tab is open.
 const KEPT = 'portal-code';
 const PAGES = { student: studentPage, lecturer: lecturerPage, office: officePage };
 
-const who = make('p', { class: 'who' });
-const out = button(words.signOut, signOut, { hidden: true });
-const main = make('main', { tabindex: '-1' });
+let own;
+let page;
 let isChanged = () => false;
 // Counts what was shown, so that a reply that comes late is not shown over something newer.
 let shown = 0;
 
-function start() {
-  document.documentElement.lang = words.language;
-  document.title = words.title;
-  document.body.append(make('header', {}, [make('h1', { text: words.title }), who, out]), notice(), main);
+async function start() {
+  own = await department();
+  await speak(firstLanguage(offeredLanguages(own.languages), navigator.languages));
   // a file that is dropped beside its field is not opened in place of the page
-  for (const name of ['dragover', 'drop']) addEventListener(name, (event) => event.dataTransfer?.types.includes('Files') && event.preventDefault());
+  for (const name of ['dragover', 'drop']) addEventListener(name, (event) => /** @type {DragEvent} */ (event).dataTransfer?.types.includes('Files') && event.preventDefault());
   addEventListener('beforeunload', (event) => isChanged() && event.preventDefault());
+  show();
+}
+
+/** Puts the frame together, and shows the page of whoever is signed in. */
+function show() {
+  page = frame({ department: own, languages: offeredLanguages(own.languages), chosen: changeLanguage, signOut });
   const code = sessionStorage.getItem(KEPT);
   if (code === null) signIn();
   else open(new Portal(code));
 }
 
-function signIn(told) {
+async function changeLanguage(language) {
+  if (!(await mayLeave())) return;
+  await speak(language);
+  chooseLanguage(language);
+  show();
+}
+
+const mayLeave = async () => !isChanged() || (await ask(words.unsavedLeave, [words.unsavedLost]));
+
+function signIn(said) {
   shown++;
   isChanged = () => false;
   sessionStorage.removeItem(KEPT);
-  out.hidden = true;
-  who.replaceChildren();
-  const form = signInForm(enter, told);
-  main.replaceChildren(form);
+  page.showWho(null);
+  page.setAim(null, '');
+  const form = signInForm(enter, said);
+  page.place.replaceChildren(form);
+  page.dock.replaceChildren();
   form.querySelector('input').focus();
 }
 
 /** Signs in, or answers why not. */
-async function enter(code) {
+async function enter(typed) {
+  const code = asCode(typed);
   if (!isCode(code)) return words.noCodeForm;
   const portal = new Portal(code);
   try {
@@ -64,82 +81,44 @@ async function enter(code) {
 }
 
 async function signOut() {
-  if (isChanged() && !(await ask(words.unsavedLeave))) return;
-  signIn({ message: words.signedOut });
+  if (await mayLeave()) signIn({ message: words.signedOut });
 }
 
-/**
- * Shows the page of whoever has the code.
- * @param {object} known who that is, if it was asked already; what a person is told about it; the names that a roll told
- */
-async function open(portal, { me, tell = () => {}, names = new Map() } = {}) {
+/** Shows the page of whoever has the code: `me`, if that was asked already. `tell` tells a person about it. */
+async function open(portal, { me = null, tell = (..._) => {} } = {}) {
   const turn = ++shown;
+  const isCurrent = () => turn === shown;
   const messages = new Messages();
-  const reload = (tellNext) => open(portal, { tell: tellNext, names });
-  const attempt = attempts({ messages, reload, isCurrent: () => turn === shown });
+  const reload = (tellNext) => open(portal, { tell: tellNext });
+  const attempt = attempts({ messages, reload, signIn, isCurrent, isChanged: () => isChanged() });
   isChanged = () => false;
-  out.hidden = false;
-
-  const place = make('div', {}, [make('p', { text: words.loading })]);
-  main.replaceChildren(place, messages.element);
-  const isThere = await attempt(async () => {
+  page.place.replaceChildren(make('p', { class: 'loading', text: words.loading }));
+  page.dock.replaceChildren(messages.element);
+  await attempt(async () => {
     const caller = me ?? (await portal.get('/me'));
-    if (turn !== shown) return;
-    showWho(caller);
-    place.replaceChildren(yearPart(caller), make('p', { text: words.loading }));
-    const page = await PAGES[caller.role]({ portal, me: caller, messages, attempt, reload, names });
-    if (turn !== shown) return;
-    isChanged = page.isChanged;
-    place.lastChild.replaceWith(page.element);
-    main.focus({ preventScroll: true });
+    if (!isCurrent()) return;
+    page.showWho(caller);
+    const known = await knownProjects(portal);
+    const content = await PAGES[caller.role]({ portal, me: caller, messages, attempt, reload, known });
+    if (!isCurrent()) return;
+    showContent(caller, content, messages);
     tell(messages, caller);
   });
-  if (!isThere) place.lastChild.remove();
-}
-
-function showWho(me) {
-  const name = me.name === undefined ? [] : [given(me.name), make('span', { class: 'key', text: me.key })];
-  who.replaceChildren(make('span', { text: words.roles[me.role] }), ...name);
+  if (isCurrent()) page.place.querySelector(':scope > .loading')?.remove();
 }
 
 /**
- * Gives the function that does what a person asked for and tells what went wrong; it answers whether it was done. In `how` it
- * is handed `refused`, which puts a refusal in words, and `lost`, the text and the button where no answer came.
+ * @param {object} me
+ * @param {object} content of the page: its `element`; `isChanged`; perhaps `year`, what is said to this person
+ * of the year, the `bar` that stays in view, and the `own` part, which the skip link leads to
  */
-function attempts({ messages, reload, isCurrent }) {
-  return async function attempt(action, how = {}) {
-    messages.clear();
-    const end = messages.waiting();
-    try {
-      await action();
-      return true;
-    } catch (fault) {
-      end();
-      if (isCurrent()) await tell(fault, how, () => attempt(action, how));
-      return false;
-    } finally {
-      end();
-    }
-  };
-
-  async function tell(fault, how, again) {
-    if (fault instanceof Lost) {
-      const { text, ...more } = how.lost?.() ?? { text: words.lost, again: words.tryAgain, press: again };
-      messages.warn(text, more);
-    } else if (!(fault instanceof Refused)) {
-      messages.warn(words.unexpected);
-      throw fault;
-    } else if (fault.word === 'no_caller') {
-      signIn({ warning: words.refusals.no_caller });
-    } else if (fault.word === 'wrong_phase') {
-      await reload((next, me) => next.warn(words.phaseMoved(placeOf(me))));
-    } else if (fault.word === 'already_placed') {
-      await reload((next) => next.warn(told(fault)));
-    } else {
-      const { text, ...more } = how.refused?.(fault) ?? { text: told(fault) };
-      messages.warn(text, more);
-    }
-  }
+function showContent(me, content, messages) {
+  const { own: part = null, bar } = content;
+  isChanged = content.isChanged;
+  page.place.replaceChildren(yearPart(me, content.year), content.element);
+  page.dock.replaceChildren(messages.element, ...(bar ? [bar] : []));
+  page.setAim(part?.element ?? null, part?.skip ?? '');
+  page.main.focus({ preventScroll: true });
 }
 
 start();

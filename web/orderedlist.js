@@ -1,10 +1,13 @@
-// A list that a person puts in order, best first: by buttons, by keys and by dragging. Each change is said in words.
+// A list that a person puts in order, best first: by buttons, by keys, by the number of a place and by dragging. Each change is said in words.
 
 import { button, isUsable, make, setUsable } from './dom.js';
-import { added, moved, removed } from './order.js';
+import { follow } from './drag.js';
+import { added, isSame, moved, removed } from './order.js';
 import { words } from './words.js';
 
 const KEYS = { ArrowUp: (at) => at - 1, ArrowDown: (at) => at + 1, Home: () => 0, End: () => Infinity };
+// In the field of a place these keys move within its number.
+const OF_FIELD = ['Home', 'End'];
 
 export class OrderedList {
   #keys = [];
@@ -13,19 +16,13 @@ export class OrderedList {
   element;
 
   /**
-   * @param {string} label the list's name
-   * @param {string[]} keys what is on it at first
-   * @param {Function} show a node for a key
-   * @param {Function} name how a key is called when it is spoken of
-   * @param {Function} changed called after each change
-   * @param {Function} say tells a person what was done
+   * @param {Record<string, any>} of the list's name, `label`; its first `keys`; `show`, a node for a key; `name`, how a key is spoken of;
+   * `changed`, called after each change with the list before it; `say`, which tells a person what was done
    */
   constructor(of) {
     this.#of = of;
     this.element = make('ol', { class: 'ordered', role: 'list', tabindex: '-1', 'aria-label': of.label });
-    for (const key of of.keys) this.#append(key);
-    this.#keys = [...of.keys];
-    this.#setEnds();
+    this.#show(of.keys);
   }
 
   get keys() {
@@ -34,76 +31,90 @@ export class OrderedList {
 
   add(key) {
     if (this.#keys.includes(key)) return;
-    this.#append(key);
-    this.#setKeys(added(this.#keys, key));
-    this.#of.say(words.isAt(this.#of.name(key), this.#keys.length, this.#keys.length));
+    this.set(added(this.#keys, key));
+    this.#sayPlace(key);
   }
 
   /** Puts these below, in their order. */
   addAll(keys) {
-    const more = keys.filter((key) => !this.#keys.includes(key));
-    more.forEach((key) => this.#append(key));
-    this.#setKeys([...this.#keys, ...more]);
+    this.set([...this.#keys, ...keys.filter((key) => !this.#keys.includes(key))]);
   }
 
   move(key, to) {
-    const before = this.#keys.indexOf(key);
-    const keys = moved(this.#keys, key, to);
-    const at = keys.indexOf(key);
-    if (at !== before) {
-      const focused = document.activeElement;
-      this.#put(key, at);
-      if (this.#entries.get(key).contains(focused)) focused.focus();
-      this.#setKeys(keys);
-    }
-    this.#of.say(words.isAt(this.#of.name(key), at + 1, keys.length));
+    this.set(moved(this.#keys, key, to));
+    this.#sayPlace(key);
   }
 
   remove(key) {
     const entry = this.#entries.get(key);
     const neighbour = entry.nextElementSibling ?? entry.previousElementSibling;
-    entry.remove();
-    this.#entries.delete(key);
+    this.set(removed(this.#keys, key));
     (neighbour?.querySelector('.remove') ?? this.element).focus();
-    this.#setKeys(removed(this.#keys, key));
     this.#of.say(words.isGone(this.#of.name(key), this.#keys.length));
   }
 
-  #append(key) {
-    const entry = this.#entry(key);
-    this.#entries.set(key, entry);
-    this.element.append(entry);
+  /** Puts another list in the place of this one. */
+  set(keys) {
+    const before = this.#keys;
+    if (isSame(before, keys)) return;
+    this.#show(keys);
+    this.#of.changed(before);
   }
 
-  // Only the entry that moves is touched; the numbers are counted by the style sheet.
-  #put(key, at) {
-    const entry = this.#entries.get(key);
-    const others = this.element.children;
-    const from = this.#keys.indexOf(key);
-    this.element.insertBefore(entry, others[at > from ? at + 1 : at] ?? null);
+  #sayPlace(key) {
+    this.#of.say(words.isAt(this.#of.name(key), this.#keys.indexOf(key) + 1, this.#keys.length));
   }
 
-  #setKeys(keys) {
-    this.#keys = keys;
-    this.#setEnds();
-    this.#of.changed();
+  // Only entries that are not at their place already are touched. One that has the focus keeps it.
+  #show(keys) {
+    const focused = document.activeElement;
+    for (const key of this.#keys) if (!keys.includes(key)) this.#takeOut(key);
+    let next = this.element.firstElementChild;
+    for (const key of keys) {
+      const entry = this.#entryOf(key);
+      if (entry === next) next = next.nextElementSibling;
+      else this.element.insertBefore(entry, next);
+    }
+    this.#keys = [...keys];
+    this.#number();
+    if (!(focused instanceof HTMLElement) || !this.element.contains(focused)) return;
+    focused.focus();
+    focused.scrollIntoView({ block: 'nearest' });
+  }
+
+  #takeOut(key) {
+    this.#entries.get(key).remove();
+    this.#entries.delete(key);
+  }
+
+  #entryOf(key) {
+    if (!this.#entries.has(key)) this.#entries.set(key, this.#entry(key));
+    return this.#entries.get(key);
   }
 
   // The first entry cannot go up, the last one not down.
-  #setEnds() {
-    for (const end of this.element.querySelectorAll('[aria-disabled]')) setUsable(end, true);
-    const up = this.element.firstElementChild?.querySelector('.up');
-    const down = this.element.lastElementChild?.querySelector('.down');
-    if (up) setUsable(up, false);
-    if (down) setUsable(down, false);
+  #number() {
+    const last = this.#keys.length - 1;
+    this.#keys.forEach((key, at) => {
+      const entry = this.#entries.get(key);
+      const field = entry.querySelector('.place');
+      field.value = `${at + 1}`;
+      field.max = `${last + 1}`;
+      setUsable(entry.querySelector('.up'), at > 0);
+      setUsable(entry.querySelector('.down'), at < last);
+    });
   }
 
   #entry(key) {
     const press = (to) => (event) => {
       if (isUsable(event.currentTarget)) this.move(key, to(this.#keys.indexOf(key)));
     };
+    const place = make('input', { type: 'number', class: 'place', min: '1', 'aria-label': words.moveTo(key), title: words.moveTo(key) });
+    place.addEventListener('change', () => this.#moveTo(key, place));
+    place.addEventListener('wheel', () => place.blur());
     return make('li', { on: { keydown: (event) => this.#byKey(event, key), pointerdown: (event) => this.#drag(event, key) } }, [
       make('span', { class: 'handle', 'aria-hidden': 'true', text: '⠿' }),
+      place,
       this.#of.show(key),
       make('span', { class: 'buttons' }, [
         button('↑', press((at) => at - 1), { name: words.moveUp(key), class: 'up' }),
@@ -113,30 +124,38 @@ export class OrderedList {
     ]);
   }
 
+  #moveTo(key, field) {
+    const place = Number.parseInt(field.value, 10);
+    if (place >= 1) this.move(key, place - 1);
+    this.#number();
+  }
+
   #byKey(event, key) {
     const to = KEYS[event.key];
-    if (to === undefined || event.altKey || event.ctrlKey || event.metaKey) return;
+    const isField = event.target.classList.contains('place') && OF_FIELD.includes(event.key);
+    if (to === undefined || isField || event.altKey || event.ctrlKey || event.metaKey) return;
     event.preventDefault();
     this.move(key, to(this.#keys.indexOf(key)));
   }
 
-  // The entry follows the pointer from place to place. With a finger it is taken at its handle, so that the page can still be scrolled.
+  // With a finger an entry is taken at its handle, so that the page can still be scrolled.
   #drag(down, key) {
     const isHandle = down.target.classList.contains('handle');
-    if (down.button !== 0 || down.target.closest('button') || (down.pointerType === 'touch' && !isHandle)) return;
+    if (down.button !== 0 || down.target.closest('button, input') || (down.pointerType === 'touch' && !isHandle)) return;
     const entry = down.currentTarget;
-    const follow = (event) => {
-      entry.classList.add('dragged');
-      const to = this.#placeAt(event.clientY, entry);
-      if (to !== this.#keys.indexOf(key)) this.move(key, to);
-    };
-    const end = () => {
-      entry.classList.remove('dragged');
-      for (const name of ['pointermove', 'pointerup', 'pointercancel']) document.removeEventListener(name, name === 'pointermove' ? follow : end);
-    };
-    document.addEventListener('pointermove', follow);
-    document.addEventListener('pointerup', end);
-    document.addEventListener('pointercancel', end);
+    const before = this.#keys;
+    follow(down, {
+      moved: (y) => {
+        entry.classList.add('dragged');
+        this.#show(moved(this.#keys, key, this.#placeAt(y, entry)));
+      },
+      done: () => {
+        entry.classList.remove('dragged');
+        if (isSame(before, this.#keys)) return;
+        this.#of.changed(before);
+        this.#sayPlace(key);
+      },
+    });
   }
 
   // How many of the other entries stand above this height.
@@ -151,5 +170,5 @@ export class OrderedList {
 
 /** The same list to look at. */
 export function fixedList(label, nodes) {
-  return make('ol', { class: 'ordered', role: 'list', 'aria-label': label }, nodes.map((node) => make('li', {}, [node])));
+  return make('ol', { class: 'ordered fixed', role: 'list', 'aria-label': label }, nodes.map((node) => make('li', {}, [node])));
 }

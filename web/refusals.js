@@ -3,7 +3,7 @@
 import { words } from './words.js';
 
 /**
- * @param {Refused} refused
+ * @param {import('./requests.js').Refused} refused
  * @param {string[]} names what was sent in a list, as people call it, in its order
  */
 export function told(refused, names = []) {
@@ -19,12 +19,11 @@ function ofList({ at, fault }, names) {
   return words.badList(names[at - 1] ?? `${at}`, words.badListFaults[fault] ?? fault);
 }
 
-/** A refusal of a roll: what is said, and the line of the file that is at fault, where there is one. */
-export function toldOfRoll(refused, roll, kind, file) {
+/** A refusal of a roll: what is said, and the row that is at fault, where there is one. Its code is not shown. */
+export function toldOfRoll(refused, roll, entry) {
   const name = words.roll[roll];
-  const row = refused.body.row;
-  if (refused.word === 'bad_body') return { text: words.badHeader(name, kind.join(',')), lead: words.wasHeader, line: file.records[0]?.text ?? '' };
-  if (row === undefined) return { text: `${name}: ${told(refused)}` };
-  const say = refused.word === 'roll_conflict' ? words.rollConflict : words.badRow;
-  return { text: say(name, row, words.rules[roll]), lead: words.row(row), line: file.records[row]?.text ?? '' };
+  if (entry === undefined) return { text: `${name}: ${told(refused)}` };
+  const { row, code, ...fields } = entry;
+  const text = refused.word === 'roll_conflict' ? words.rollConflict(name, row) : words.badRow(name, row, entry.lecturer);
+  return { text, lead: words.row(row), line: Object.values(fields).join(', ') };
 }

@@ -1,5 +1,7 @@
 // Requests to the portal: one after another, the code in the line Portal-Code alone, GET and PUT repeated where no reply came.
 
+import { longestCode, shortestCode } from './config.js';
+
 // The pauses before a request is sent again, all within the time that we try. In milliseconds.
 const PAUSES = [200, 500, 1000, 2000, 3000];
 const TRY_FOR = 10_000;
@@ -22,8 +24,13 @@ export class Lost extends Error {}
 
 const sleep = (milliseconds) => new Promise((resolve) => setTimeout(resolve, milliseconds));
 
+const CODE = new RegExp(`^[A-Za-z0-9-]{${shortestCode},${longestCode}}$`);
+
 /** A code has this form; another one is never sent. */
-export const isCode = (text) => /^[A-Za-z0-9-]{8,40}$/.test(text);
+export const isCode = (text) => CODE.test(text);
+
+/** A code as it was meant: without blanks, and with the plain dash for those that letters and spreadsheets make of it. */
+export const asCode = (text) => text.replace(/[\s\u00ad\u200b-\u200d\u2060\ufeff]/g, '').replace(/[\u2010-\u2015\u2212\ufe58\ufe63\uff0d]/g, '-');
 
 export class Portal {
   #code;
@@ -33,7 +40,7 @@ export class Portal {
   #turn = Promise.resolve();
 
   /** The clock and the sender are handed in by the tests alone. */
-  constructor(code, { fetch = (...of) => globalThis.fetch(...of), wait = sleep, now = () => performance.now() } = {}) {
+  constructor(code, { fetch = (path, how) => globalThis.fetch(path, how), wait = sleep, now = () => performance.now() } = {}) {
     this.#code = code;
     this.#fetch = fetch;
     this.#wait = wait;
@@ -46,6 +53,15 @@ export class Portal {
 
   getText(path) {
     return this.#inTurn(() => this.#repeated(path, { method: 'GET' }));
+  }
+
+  /** A file beside the page that callers alone may read, or null where there is none. The page does without it. */
+  async file(path) {
+    try {
+      return parsed(await this.#inTurn(() => this.#once(path, { method: 'GET' }, FIRST_BYTE)));
+    } catch {
+      return null;
+    }
   }
 
   async put(path, value) {
@@ -73,9 +89,9 @@ export class Portal {
     for (let tries = 0; ; tries++) {
       try {
         return await this.#once(path, options, Math.min(FIRST_BYTE, end - this.#now()));
-      } catch (fault) {
+      } catch (lost) {
         const pause = PAUSES[tries];
-        if (!(fault instanceof Lost) || pause === undefined || this.#now() + pause >= end) throw fault;
+        if (!(lost instanceof Lost) || pause === undefined || this.#now() + pause >= end) throw lost;
         await this.#wait(pause);
       }
     }

@@ -20,7 +20,7 @@ export function signInForm(enter, { warning = '', message = '' } = {}) {
     status.textContent = words.loading;
     field.removeAttribute('aria-invalid');
     button.disabled = true;
-    const fault = await enter(field.value.trim());
+    const fault = await enter(field.value);
     button.disabled = false;
     status.textContent = '';
     if (fault === '') return;

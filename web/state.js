@@ -1,17 +1,25 @@
 // Where the year stands, in numbers and bars, and who is missing.
 
-import { bar, button, make } from './dom.js';
+import { bar, button, make, part } from './dom.js';
 import { countOfChoosers, hasResult } from './rounds.js';
 import { words } from './words.js';
 
+// A longer list of names is folded, so that the next step is in sight.
+const UNFOLDED = 40;
+
 /**
- * @param {object} status the portal's reply
- * @param {Map} names of keys, as far as they are known
+ * @param {object} of
+ * @param {object} of.status the portal's reply
+ * @param {import('./names.js').Names} of.names of keys, as far as they are known
+ * @param {import('./messages.js').Messages} of.messages
+ * @param {() => void} of.refresh
  */
 export function statePart({ status, names, messages, refresh }) {
-  const lines = bars(status).map(([text, part, whole]) => make('div', { class: 'measure' }, [make('p', { text }), bar(part, whole)]));
-  return make('section', {}, [
-    make('h2', { text: words.state }),
+  const lines = bars(status).map(([text, count, whole, note]) => {
+    const said = note === undefined ? [] : [make('p', { class: 'quiet', text: note })];
+    return make('div', { class: 'measure' }, [make('p', { text }), bar(count, whole), ...said]);
+  });
+  return part(words.state, [
     make('p', { text: words.counts(status) }),
     ...lines,
     ...missingPart(status, names),
@@ -19,7 +27,7 @@ export function statePart({ status, names, messages, refresh }) {
   ]);
 }
 
-/** What there is to be seen of a phase: a text, and the part and the whole of its bar. */
+/** What there is to be seen of a phase: a text, the part and the whole of its bar, which the text tells too, and perhaps a note. */
 export function bars(status) {
   const all = [];
   if (['choosing', 'ranking'].includes(status.phase)) {
@@ -28,18 +36,18 @@ export function bars(status) {
     all.push([words.withList(withList, choosers), withList, choosers]);
   }
   if (status.phase === 'ranking') {
-    const missing = status.still_to_rank.length;
-    all.push([words.ranked(missing, status.lecturers), status.lecturers - missing, status.lecturers]);
+    const done = status.lecturers - status.still_to_rank.length;
+    all.push([words.ranked(done, status.lecturers), done, status.lecturers, words.rankedMeans]);
   }
   if (hasResult(status)) all.push([words.assigned(status.assigned, status.students), status.assigned, status.students]);
   return all;
 }
 
-/** Who is missing in a phase, and how that is called. */
+/** Who is missing in a phase, how that is called, and on which roll they are. */
 export function missing(status) {
-  if (status.phase === 'choosing') return { title: words.missing.list, keys: status.without_list };
-  if (status.phase === 'ranking') return { title: words.missing.ranking, keys: status.still_to_rank };
-  if (status.phase === 'published') return { title: words.missing.project, keys: status.unassigned };
+  if (status.phase === 'choosing') return { title: words.missing.list, keys: status.without_list, roll: 'students' };
+  if (status.phase === 'ranking') return { title: words.missing.ranking, keys: status.still_to_rank, roll: 'lecturers' };
+  if (status.phase === 'published') return { title: words.missing.project, keys: status.unassigned, roll: 'students' };
   return null;
 }
 
@@ -47,23 +55,24 @@ function missingPart(status, names) {
   const who = missing(status);
   if (who === null) return [];
   if (who.keys.length === 0) return [make('h3', { text: who.title }), make('p', { text: words.nobody })];
-  const isUnnamed = status.phase === 'choosing' && who.keys.some((key) => !names.has(key));
+  const list = make('ul', { class: 'names', 'aria-label': who.title }, called(who, names).map((text) => make('li', { text, dir: 'auto' })));
+  const isUnnamed = who.keys.some((key) => names.nameOf(who.roll, key) === undefined);
   return [
     make('h3', { text: `${who.title} (${who.keys.length.toLocaleString(words.language)})` }),
     ...(isUnnamed ? [make('p', { class: 'quiet', text: words.keysAlone })] : []),
-    make('ul', { class: 'names', tabindex: '0', 'aria-label': who.title }, called(who.keys, names).map((text) => make('li', { text, dir: 'auto' }))),
+    who.keys.length <= UNFOLDED ? list : make('details', {}, [make('summary', { text: words.allNames(who.keys.length) }), list]),
   ];
 }
 
-const called = (keys, names) => keys.map((key) => words.person(key, names.get(key)));
+const called = ({ keys, roll }, names) => keys.map((key) => words.person(key, names.nameOf(roll, key)));
 
 function copyButton(status, names, messages) {
-  const people = called(missing(status)?.keys ?? [], names);
-  if (people.length === 0) return [];
+  const who = missing(status);
+  if (who === null || who.keys.length === 0) return [];
   const copy = async () => {
     try {
-      await navigator.clipboard.writeText(people.join('\n'));
-      messages.say(words.copied(people.length));
+      await navigator.clipboard.writeText(called(who, names).join('\n'));
+      messages.say(words.copied(who.keys.length));
     } catch {
       messages.warn(words.notCopied);
     }

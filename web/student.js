@@ -1,143 +1,98 @@
 // A student's page: the catalogue, the own list, and in the end the own project.
 
+import { Catalogue } from './catalogue.js';
 import { longestList } from './config.js';
-import { button, given, isUsable, make, setUsable, titled } from './dom.js';
-import { isSame } from './order.js';
-import { OrderedList, fixedList } from './orderedlist.js';
-import { told } from './refusals.js';
-import { hasResult, makesList } from './rounds.js';
-import { SearchTable } from './table.js';
+import { make, measure, part, titled } from './dom.js';
+import { ListEditor } from './listeditor.js';
+import { fixedList } from './orderedlist.js';
+import { receiptButton } from './paper.js';
+import { hasResult, makesList, roundOf } from './rounds.js';
+import { keep, kept } from './store.js';
 import { words } from './words.js';
 
+// That this browser has shown the advice once.
+const ADVISED = 'portal-advised';
+
 /** @returns the page's `element`, and `isChanged`, which says whether something would be lost by leaving */
-export async function studentPage({ portal, me, messages, attempt }) {
-  const catalogue = new Map((await portal.get('/catalogue')).projects.map((project) => [project.id, project]));
+export async function studentPage({ portal, me, messages, attempt, known }) {
+  const { projects } = await portal.get('/catalogue');
+  known.learn(projects, me);
   const saved = (await portal.get('/choices')).projects;
   const own = hasResult(me) ? (await portal.get('/result')).project : null;
+  const isSettled = own !== null && roundOf(me) === 2 && me.phase !== 'published';
 
-  const top = hasResult(me) && (me.phase === 'published' || own !== null) ? [resultPart(own, catalogue, me)] : [];
-  if (makesList(me, own)) {
-    const making = new ListMaking({ portal, messages, attempt, catalogue, saved });
-    return { element: make('div', {}, [...top, making.element]), isChanged: () => making.isChanged() };
-  }
-  const list = me.phase === 'setup' || own !== null && me.round === 2 ? [] : [savedPart(saved, catalogue)];
-  const columns = make('div', { class: 'columns' }, [catalogueTable(catalogue), ...list]);
-  return { element: make('div', {}, [...top, columns]), isChanged: () => false };
+  const top = hasResult(me) && (me.phase === 'published' || own !== null) ? [resultPart({ own, saved, known })] : [];
+  if (makesList(me, own)) return listMaking({ portal, me, messages, attempt, known, projects, saved, top });
+  const hasNoList = me.phase === 'setup' || (own !== null && roundOf(me) === 2 && saved.length === 0);
+  const list = hasNoList ? [] : [savedPart(saved, known, me)];
+  const columns = make('div', { class: 'columns' }, [new Catalogue(projects, known).element, ...list]);
+  return { element: make('div', {}, [...top, columns]), isChanged: () => false, year: isSettled ? { now: words.hasOwnAlready, next: '' } : {} };
 }
 
-const titleOf = (catalogue, key) => catalogue.get(key)?.title ?? key;
+/** A project as an entry of a list: its title, and under it its lecturer and its key. */
+const entryOf = (known) => (key) => titled(known.titleOf(key), words.byLecturer(known.lecturerOf(key), key));
 
-function resultPart(own, catalogue, me) {
-  const project = catalogue.get(own);
-  const text = own === null ? words.noProject : project ? words.ownProject(project.title, project.lecturer_name) : words.ownProjectByKey(own);
-  const more = me.round === 2 && own !== null && me.phase !== 'published' ? [make('p', { text: words.hasOwnAlready })] : [];
-  return make('section', { class: 'result' }, [make('h2', { text: words.yourProject }), make('p', { text }), ...more]);
+function resultPart({ own, saved, known }) {
+  return part(words.yourProject, resultTexts({ own, saved, known }).map((text) => make('p', { text })), { class: 'result' });
 }
 
-function savedPart(saved, catalogue) {
-  const list = saved.map((key) => titled(titleOf(catalogue, key), key));
-  return make('section', {}, [
-    make('h2', { text: words.yourList }),
-    saved.length === 0 ? make('p', { text: words.listClosedEmpty }) : fixedList(words.yourList, list),
-  ]);
+function resultTexts({ own, saved, known }) {
+  if (own === null) return [saved.length === 0 ? words.noProjectNoList : words.noProject];
+  const lecturer = known.lecturerOf(own);
+  const at = saved.indexOf(own);
+  return [lecturer === '' ? words.ownProjectByKey(known.titleOf(own)) : words.ownProject(known.titleOf(own), lecturer), ...(at < 0 ? [] : [words.choice(at + 1)])];
 }
 
-/** The catalogue; where a list is made, `adders` gives each project its button. */
-function catalogueTable(catalogue, adders) {
-  const columns = [{ title: words.columns.title }, { title: words.columns.lecturer }, { title: words.columns.places, style: 'number' }];
-  if (adders) columns.push({ title: words.columns.list });
-  const rows = [...catalogue.values()].map((project) => {
-    const cells = [titled(project.title, project.id), given(project.lecturer_name), make('span', { text: project.capacity })];
-    if (adders) cells.push(adders.get(project.id));
-    return { cells, texts: [`${project.title} ${project.id}`, `${project.lecturer_name} ${project.lecturer}`, `${project.capacity}`] };
-  });
-  const { element } = new SearchTable({ label: words.catalogue, search: words.searchProjects, columns, rows, shown: words.shown });
-  return make('section', {}, [make('h2', { text: words.catalogue }), rows.length === 0 ? make('p', { text: words.noProjects }) : element]);
+function savedPart(saved, known, me) {
+  if (saved.length === 0) return part(words.yourList, [make('p', { text: words.listClosedEmpty })]);
+  const list = () => saved.map(entryOf(known));
+  return part(words.yourList, [fixedList(words.yourList, list()), receiptButton({ title: words.yourList, me, entries: list })]);
 }
 
 /** The own list beside the catalogue, until it is saved. */
-class ListMaking {
-  #portal;
-  #messages;
-  #attempt;
-  #saved;
-  #list;
-  #adders;
-  #titleOf;
-  #count = make('p', { class: 'count' });
-  #empty = make('p', { class: 'quiet', text: words.listEmpty });
-  #state = make('span', { class: 'quiet' });
-  #save = button(words.saveList, () => this.#attempt(() => this.#store(), { refused: (fault) => this.#refused(fault) }), { class: 'main' });
-  element;
+function listMaking({ portal, me, messages, attempt, known, projects, saved, top }) {
+  const catalogue = new Catalogue(projects, known, (key) => editor.list.add(key));
+  const empty = make('p', { class: 'quiet', text: words.listEmpty });
+  const editor = new ListEditor({
+    portal,
+    me,
+    messages,
+    attempt,
+    path: '/choices',
+    member: 'projects',
+    saved,
+    texts: words.ofList,
+    show: entryOf(known),
+    name: (key) => known.titleOf(key),
+    missing: () => 0,
+    changed: (keys) => {
+      catalogue.mark(keys, keys.length >= longestList);
+      empty.hidden = keys.length > 0;
+    },
+  });
+  const parts = [empty, editor.list.element, editor.tools, make('p', { class: 'quiet', text: words.orderHint }), aboutPart(me)];
+  const own = part(words.yourList, parts, { class: 'own', tabindex: '-1' });
+  measure(own, '--own');
+  editor.update();
+  const columns = make('div', { class: 'columns' }, [catalogue.element, make('div', { class: 'own-side' }, [own])]);
+  return {
+    element: make('div', {}, [...top, columns]),
+    bar: editor.bar,
+    own: { element: own, skip: words.skipToList },
+    isChanged: () => editor.isChanged(),
+    year: roundOf(me) === 2 ? { now: words.chooseAgain } : {},
+  };
+}
 
-  constructor({ portal, messages, attempt, catalogue, saved }) {
-    this.#portal = portal;
-    this.#messages = messages;
-    this.#attempt = attempt;
-    this.#saved = saved;
-    this.#titleOf = (key) => titleOf(catalogue, key);
-    this.#list = new OrderedList({
-      label: words.yourList,
-      keys: saved,
-      show: (key) => titled(this.#titleOf(key), key),
-      name: this.#titleOf,
-      changed: () => this.#update(),
-      say: (text) => messages.say(text),
-    });
-    this.#adders = new Map([...catalogue.keys()].map((key) => [key, this.#adder(key)]));
-    this.element = make('div', { class: 'columns' }, [catalogueTable(catalogue, this.#adders), this.#part()]);
-    this.#update();
-  }
-
-  isChanged() {
-    return !isSame(this.#list.keys, this.#saved);
-  }
-
-  #adder(key) {
-    return button(words.add, (event) => isUsable(event.currentTarget) && this.#list.add(key), { name: words.addKey(key) });
-  }
-
-  #part() {
-    return make('section', { class: 'own' }, [
-      make('h2', { text: words.yourList }),
-      make('p', { text: words.secret }),
-      make('p', { text: words.advice }),
-      make('details', {}, [
-        make('summary', { text: words.adviceMeans }),
-        make('ul', {}, words.adviceParts.map((text) => make('li', { text }))),
-      ]),
-      this.#count,
-      this.#empty,
-      this.#list.element,
-      make('p', { class: 'quiet', text: words.orderHint }),
-      make('div', { class: 'buttons' }, [this.#save, this.#state]),
-    ]);
-  }
-
-  #update() {
-    const { keys } = this.#list;
-    const isFull = keys.length >= longestList;
-    for (const [key, adder] of this.#adders) {
-      const usable = !isFull && !keys.includes(key);
-      if (isUsable(adder) !== usable) setUsable(adder, usable);
-    }
-    this.#count.textContent = isFull ? words.listFull(longestList) : words.listCount(keys.length, longestList);
-    this.#empty.hidden = keys.length > 0;
-    this.#save.disabled = !this.isChanged();
-    this.#state.textContent = this.isChanged() ? words.isChanged : words.isSaved;
-  }
-
-  #refused(fault) {
-    return { text: told(fault, this.#list.keys.map(this.#titleOf)) };
-  }
-
-  // What is changed while the reply is waited for stays, and is then not saved yet.
-  async #store() {
-    const { projects } = await this.#portal.put('/choices', { projects: this.#list.keys });
-    const hadFocus = document.activeElement === this.#save;
-    this.#saved = projects;
-    this.#update();
-    if (hadFocus) this.#list.element.focus();
-    this.#messages.say(words.savedList(projects.length));
-  }
+/** Who sees the list, and how to order it: open at the first visit, folded later. */
+function aboutPart(me) {
+  const isNew = !kept(ADVISED, false);
+  keep(ADVISED, true);
+  const parts = roundOf(me) === 2 ? [words.adviceSecond, ...words.adviceParts] : words.adviceParts;
+  return make('details', { open: isNew }, [
+    make('summary', { text: words.about }),
+    make('p', { text: words.secret }),
+    make('p', { text: words.advice }),
+    make('ul', {}, parts.map((text) => make('li', { text }))),
+  ]);
 }

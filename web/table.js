@@ -1,6 +1,6 @@
 // A table with a search field, for up to some thousand rows: they are made once, and a search only hides and shows them.
 
-import { make } from './dom.js';
+import { labelled, make } from './dom.js';
 
 // Small letters without accents, so that "cafe" finds "Café".
 const plain = (text) => text.normalize('NFKD').replace(/\p{M}/gu, '').toLowerCase();
@@ -18,7 +18,7 @@ const AT_ONCE = 100;
  * @param {string} label the table's name
  * @param {string} search the search field's name
  * @param {object[]} columns `title`; `isSorted` where the table can be sorted by it; a class `style` for its cells
- * @param {object[]} rows `cells`, a node for each column; `texts`, what each column is sorted and found by
+ * @param {object[]} rows `cells`, a node for each column; `texts`, what each column is sorted and found by; `more`, what else is found
  * @param {Function} shown what is said of how many rows are shown, of all
  */
 export class SearchTable {
@@ -35,14 +35,14 @@ export class SearchTable {
   constructor({ label, search, columns, rows, shown }) {
     this.#shown = shown;
     this.#heads = columns.map((column, at) => head(column, () => this.#sort(at)));
-    this.#rows = rows.map(({ cells, texts }) => ({ line: line(cells, columns), texts, found: plain(texts.join(' ')) }));
+    this.#rows = rows.map(({ cells, texts, more = '' }) => ({ line: lineOf(cells, columns), texts, found: plain(`${texts.join(' ')} ${more}`) }));
     this.#body.append(...this.#rows.map((row) => row.line));
     this.#filter();
     const table = make('table', { 'aria-label': label }, [make('thead', {}, [make('tr', {}, this.#heads)]), this.#body]);
     this.element = make('div', {}, [
-      make('label', { class: 'field' }, [make('span', { text: search }), this.#field]),
+      labelled(search, this.#field),
       this.#count,
-      make('div', { class: 'wide', role: 'group', 'aria-label': label, tabindex: '0' }, [table]),
+      table,
     ]);
   }
 
@@ -84,7 +84,7 @@ function hide({ line }) {
   if (!line.hidden) line.hidden = true;
 }
 
-function line(cells, columns) {
+function lineOf(cells, columns) {
   return make('tr', { hidden: true }, cells.map((cell, at) => make('td', { class: columns[at].style }, [cell])));
 }
 

@@ -8,6 +8,7 @@ from selenium.webdriver.chrome.service import Service
 from selenium.webdriver.common.action_chains import ActionChains
 from selenium.webdriver.common.by import By
 from selenium.webdriver.common.keys import Keys
+from selenium.webdriver.support.select import Select
 
 WAIT = 20
 
@@ -75,7 +76,18 @@ class Browser:
         return len(self.find_all(role, name)) > 0
 
     def press(self, name):
-        self.find("button", name).click()
+        self.click("button", name)
+
+    def click(self, role, name):
+        """Clicks an element, which is brought out from under the dock first."""
+        element = self.find(role, name)
+        self.driver.execute_script("arguments[0].scrollIntoView({ block: 'nearest' })", element)
+        element.click()
+        return element
+
+    def choose(self, name, option):
+        """Chooses in a field with options."""
+        Select(self.find("combobox", name)).select_by_visible_text(option)
 
     def wait(self, what, said, wait=WAIT):
         """Waits until what() is true."""

@@ -36,7 +36,9 @@ class PageCase(unittest.TestCase):
         seen = "\n".join(self.requested + self.browser.seen + [self.door.log()])
         for code in self.codes:
             self.assertNotIn(code, seen)
-        self.assertEqual(self.browser.script("localStorage.length"), 0)
+        kept = self.browser.script("JSON.stringify({ ...localStorage })")
+        for code in self.codes:
+            self.assertNotIn(code, kept)
         self.assertEqual(self.browser.script("document.cookie"), "")
 
     def look_at_requests(self):
@@ -64,6 +66,11 @@ class PageCase(unittest.TestCase):
     def file_field(self, name):
         fields = self.browser.driver.find_elements("css selector", "input[type=file]")
         return next((field for field in fields if field.accessible_name == name), None)
+
+    def send_file(self, name, path):
+        """Opens a roll file, and sends what the page shows of it."""
+        self.choose_file(name, path)
+        self.browser.press("Send")
 
     def write(self, name, data):
         path = self.door.path / name

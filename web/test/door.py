@@ -37,7 +37,7 @@ def free_port():
 
 
 def wait_for(port):
-    for _ in range(300):
+    for _ in range(1200):
         with socket.socket() as client:
             if client.connect_ex(("127.0.0.1", port)) == 0:
                 return
@@ -60,9 +60,20 @@ class Door:
         for file in WEB.iterdir():
             if file.suffix in (".html", ".css", ".js", ".svg"):
                 (site / file.name).symlink_to(file)
-        subprocess.run([program(), "init", self.path / "year.db"], input=f"{OFFICE}\n", text=True, check=True, stdout=subprocess.DEVNULL)
+        self.make_year()
         self.start_portal()
         self.start_door()
+
+    def make_year(self):
+        subprocess.run([program(), "init", self.path / "year.db"], input=f"{OFFICE}\n", text=True, check=True, stdout=subprocess.DEVNULL)
+
+    def new_year(self):
+        """The portal of another year takes the place of this one, at the same address."""
+        self.stop_portal()
+        for file in self.path.glob("year.db*"):
+            file.unlink()
+        self.make_year()
+        self.start_portal()
 
     def start_portal(self):
         words = [program(), "serve", self.path / "year.db", "--port", str(self.portal_port), "--connections", "100000"]

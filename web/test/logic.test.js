@@ -5,18 +5,17 @@ import { readFileSync, readdirSync } from 'node:fs';
 import test from 'node:test';
 
 import { makeCode } from '../codes.js';
-import { everybody } from '../lecturer.js';
+import { departmentOf } from '../department.js';
+import { step } from '../drag.js';
+import { Known } from '../known.js';
 import { added, isSame, moved, removed } from '../order.js';
-import { told, toldOfRoll } from '../refusals.js';
-import { Lost, Portal, Refused, isCode } from '../requests.js';
-import { usage } from '../result.js';
-import { KINDS, recognised, records, withCodes, written } from '../rollfile.js';
+import { everybody } from '../people.js';
+import { told } from '../refusals.js';
+import { Lost, Portal, Refused, asCode, isCode } from '../requests.js';
 import { canOpenSecond, countOfChoosers, hasResult, isSameStep, makesList, placeOf, roundOf, secondRound, steps, takesRolls } from '../rounds.js';
-import { bars, missing } from '../state.js';
 import { isFound } from '../table.js';
 import { words } from '../words.js';
 
-const bytes = (text) => new TextEncoder().encode(text);
 const web = new URL('../', import.meta.url);
 const sources = readdirSync(web).filter((name) => name.endsWith('.js'));
 const source = (name) => readFileSync(new URL(name, web), 'utf8');
@@ -37,44 +36,6 @@ test('lists are the same in the same order alone', () => {
   assert.ok(isSame(['a', 'b'], ['a', 'b']));
   assert.ok(!isSame(['a', 'b'], ['b', 'a']));
   assert.ok(!isSame(['a'], ['a', 'b']));
-});
-
-test('records of a CSV text', () => {
-  const fields = (text, separator) => records(text, separator).map((record) => record.fields);
-  assert.deepEqual(fields('id,name\nS1,Ann\n'), [['id', 'name'], ['S1', 'Ann']]);
-  assert.deepEqual(fields('a,"b, ""c""\nd"\r\n\r\ne,\r\n'), [['a', 'b, "c"\nd'], ['e', '']]);
-  assert.deepEqual(fields('a;b,c', ';'), [['a', 'b,c']]);
-  assert.deepEqual(fields('a\rb'), [['a'], ['b']]);
-  assert.deepEqual(fields('""'), [['']]);
-  assert.deepEqual(fields(''), []);
-  assert.equal(records('id\n"a, b"\r\nc')[1].text, '"a, b"');
-});
-
-test('what is written is read again', () => {
-  const rows = [['a,b', 'c"d', 'e\nf'], ['', ' g ', 'h;i']];
-  assert.deepEqual(records(written(rows)).map(({ fields }) => fields), rows);
-  assert.equal(written([['a', 'b, c']]), 'a,"b, c"\n');
-});
-
-test('files of spreadsheets are recognised', () => {
-  const found = (data, kind = 'students') => recognised(data, KINDS[kind]).found;
-  assert.deepEqual(found(bytes('id,name,code\n')), []);
-  assert.deepEqual(found(bytes('\ufeffid,name,code\n')), []);
-  assert.deepEqual(found(bytes('id;name;code\n')), ['semicolons']);
-  assert.deepEqual(found(bytes('id;name\n')), ['semicolons', 'noCodes']);
-  assert.deepEqual(found(bytes('id,name\n')), ['noCodes']);
-  assert.deepEqual(found(bytes('id,name,capacity\n'), 'lecturers'), ['noCodes']);
-  assert.deepEqual(found(bytes('id,title,capacity\n'), 'projects'), []);
-  assert.deepEqual(found(bytes('other;columns\n')), []);
-  const windows = recognised(Uint8Array.from([...bytes('id,name,code\nS1,M'), 0xfc, ...bytes('ller,code-1234\n')]), KINDS.students);
-  assert.deepEqual(windows.found, ['windows']);
-  assert.equal(windows.records[1].fields[1], 'Müller');
-});
-
-test('codes stand in the column where the roll has them', () => {
-  let made = 0;
-  const { records: rows } = recognised(bytes('id,name,capacity\nL1,"Lee, A",2\n'), KINDS.lecturers);
-  assert.deepEqual(withCodes(rows, KINDS.lecturers, () => `code-${++made}`), [KINDS.lecturers, ['L1', 'Lee, A', 'code-1', '2']]);
 });
 
 test('a code has its form and 104 bits of chance', () => {
@@ -211,14 +172,6 @@ test('a refused list names its entry and the reason', () => {
   assert.equal(list(0, 'missing'), words.rankingMissing);
 });
 
-test('a refused roll shows its row', () => {
-  const file = { records: records('id,name,code\nS1,Ann,code-1234\nS2,"Roe, Bea",x\n') };
-  assert.equal(toldOfRoll(refused(422, { error: 'bad_row', row: 2 }), 'students', KINDS.students, file).line, 'S2,"Roe, Bea",x');
-  assert.match(toldOfRoll(refused(409, { error: 'roll_conflict', row: 1 }), 'students', KINDS.students, file).text, /row 1/);
-  assert.equal(toldOfRoll(refused(400, { error: 'bad_body' }), 'lecturers', KINDS.lecturers, file).line, 'id,name,code');
-  assert.match(toldOfRoll(refused(422, { error: 'roll_full' }), 'students', KINDS.students, file).text, /too many rows/);
-});
-
 test('every refusal of the routes has words', () => {
   for (const word of ['no_caller', 'not_yours', 'wrong_phase', 'already_placed', 'roll_full', 'too_large', 'bad_body']) assert.equal(told(refused(409, { error: word })), words.refusals[word]);
   assert.match(told(refused(409, { error: 'still_to_rank', lecturers: ['L2'] })), /L2/);
@@ -232,27 +185,10 @@ test('each applicant stands once, by key, with the projects that were chosen', (
   assert.deepEqual(people.get('b').projects, ['P1', 'P2']);
 });
 
-test('the report’s counts of the projects', () => {
-  const report = 'S1                P2                L1\nS2                (none)\n\nP1                 1 of    1\nP2                 0 of  200\n\nassigned 1 of 2\n';
-  assert.deepEqual(usage(report), [{ key: 'P1', taken: 1, all: 1 }, { key: 'P2', taken: 0, all: 200 }]);
-});
-
 test('a search finds every word, without accents', () => {
   assert.ok(isFound('Café Müller 3', 'mull CAFE'));
   assert.ok(isFound('Tides', ' '));
   assert.ok(!isFound('tides', 'tides kites'));
-});
-
-test('the bars and who is missing, in each phase', () => {
-  const status = { lecturers: 3, projects: 5, students: 5, still_to_rank: [], without_list: ['emil'] };
-  assert.deepEqual(bars({ ...status, phase: 'setup' }), []);
-  assert.equal(missing({ ...status, phase: 'setup' }), null);
-  assert.deepEqual(bars({ ...status, phase: 'choosing' }).map(([, part, whole]) => [part, whole]), [[4, 5]]);
-  assert.deepEqual(bars({ ...status, phase: 'ranking', still_to_rank: ['bell'] }).map(([, part, whole]) => [part, whole]), [[4, 5], [2, 3]]);
-  assert.deepEqual(missing({ ...status, phase: 'ranking', still_to_rank: ['bell'] }).keys, ['bell']);
-  const published = { ...status, phase: 'published', assigned: 4, unassigned: ['emil'] };
-  assert.deepEqual(bars(published).map(([, part, whole]) => [part, whole]), [[4, 5]]);
-  assert.deepEqual(missing(published).keys, ['emil']);
 });
 
 test('the first round: no reply tells it, and the second is offered once it is published', () => {
@@ -279,34 +215,113 @@ test('the second round: it has no setup, no rolls, no third one, and is for thos
   assert.ok(isSameStep(me, { ...me }) && !isSameStep(me, { phase: 'choosing' }));
 });
 
-test('what is said otherwise in the second round is said of phases that it has', () => {
-  for (const texts of [words.nowSecond, words.nextSecond]) {
-    assert.deepEqual(Object.keys(texts).sort(), ['lecturer', 'office', 'student']);
-    for (const of of Object.values(texts)) for (const phase of Object.keys(of)) assert.ok(['choosing', 'ranking', 'published'].includes(phase), phase);
-  }
+/** What a browser keeps, as long as the test lasts. */
+function store() {
+  const kept = new Map();
+  globalThis.localStorage = { getItem: (name) => kept.get(name) ?? null, setItem: (name, text) => { kept.set(name, text); }, removeItem: (name) => { kept.delete(name); } };
+  return kept;
+}
+
+const project = (id, title, lecturer = 'L1', name = 'Lee') => ({ id, title, lecturer, lecturer_name: name, capacity: 1 });
+const [FIRST, SECOND] = [{ phase: 'choosing' }, { phase: 'choosing', round: 2 }];
+
+test('a title comes from the catalogue, then the file, then the first round, then the key', () => {
+  store();
+  new Known().learn([project('P1', 'Tides'), project('P2', 'Kites', 'L2', 'Moe'), project('P3', 'Bells')], FIRST);
+  const known = new Known([{ ...project('P2', 'Kites of paper', 'L2', 'Moe'), description: 'How they fly.', link: 'https://example.org/kites' }]);
+  known.learn([project('P1', 'Tides')], SECOND);
+  assert.deepEqual(['P1', 'P2', 'P3', 'P4'].map((key) => known.titleOf(key)), ['Tides', 'Kites of paper', 'Bells', 'P4']);
+  assert.deepEqual(['P1', 'P2', 'P4'].map((key) => known.lecturerOf(key)), ['Lee', 'Moe', '']);
+  assert.deepEqual(['L2', 'L9'].map((key) => known.lecturerName(key)), ['Moe', 'L9']);
+  assert.deepEqual(known.describe('P2'), { description: 'How they fly.', link: 'https://example.org/kites' });
+  assert.deepEqual(known.describe('P1'), { description: '', link: '' });
 });
 
-test('the bars in the second round: lists of those without a project, and who has one', () => {
-  const status = { lecturers: 3, projects: 5, students: 5, still_to_rank: [], without_list: ['b'], unassigned: ['a', 'b'], assigned: 3, round: 2 };
-  assert.deepEqual(bars({ ...status, phase: 'choosing' }).map(([, part, whole]) => [part, whole]), [[1, 2], [3, 5]]);
-  assert.deepEqual(missing({ ...status, phase: 'choosing' }).keys, ['b']);
-  assert.deepEqual(missing({ ...status, phase: 'published' }).keys, ['a', 'b']);
+test('a page that stays open from one round to the next knows the first one', () => {
+  store();
+  const known = new Known().learn([project('P1', 'Tides'), project('P2', 'Kites')], FIRST).learn([project('P1', 'Tides')], SECOND);
+  assert.equal(known.titleOf('P2'), 'Kites');
+  assert.equal(new Known().titleOf('P2'), 'Kites');
 });
 
-test('every text that is used is there, and every text that is there is used', () => {
-  const text = sources.filter((name) => name !== 'words.js').map(source).join('\n');
-  const used = new Set([...text.matchAll(/(?<!\/)\bwords\.(\w+)/g)].map(([, name]) => name));
-  const byName = ['openChoosing', 'openRanking', 'publish', 'fill', 'openSecond'];
-  for (const name of used) assert.ok(name in words, name);
-  for (const name of Object.keys(words)) assert.ok(used.has(name) || byName.includes(name), `${name} is not used`);
+test('nothing but keys, titles and lecturers is kept of the first round', () => {
+  const kept = store();
+  new Known().learn([project('P1', 'Tides')], FIRST);
+  assert.deepEqual([...kept.keys()], ['portal-projects']);
+  assert.deepEqual(JSON.parse(kept.get('portal-projects')), [{ id: 'P1', title: 'Tides', lecturer: 'L1', lecturer_name: 'Lee' }]);
+});
+
+test('titles of another year with the same keys are not taken for those of this one', () => {
+  store();
+  new Known().learn([project('P1', 'Old tides'), project('P2', 'Old kites')], FIRST);
+  const known = new Known().learn([project('P1', 'Tides')], SECOND);
+  assert.equal(known.titleOf('P2'), 'P2');
+});
+
+test('where a browser keeps nothing, the page does without it', () => {
+  globalThis.localStorage = { getItem() { throw new Error('forbidden'); }, setItem() { throw new Error('forbidden'); }, removeItem() { throw new Error('forbidden'); } };
+  assert.equal(new Known().learn([project('P1', 'Tides')], FIRST).titleOf('P1'), 'Tides');
+  new Known().learn([], SECOND);
+});
+
+test('a link that is none by https is left out', () => {
+  for (const link of ['http://example.org', 'javascript:alert(1)', '//example.org', '']) assert.equal(new Known([{ ...project('P1', 'Tides'), link }]).describe('P1').link, '');
+});
+
+test('a file beside the page is taken where it is there, and done without otherwise', async () => {
+  assert.deepEqual(await stub([200, { projects: [] }]).portal.file('/projects.json'), { projects: [] });
+  for (const reply of [[204, ''], [403, { error: 'no_caller' }], UNAVAILABLE, [200, '<html>'], new TypeError('lost')]) assert.equal(await stub(reply).portal.file('/projects.json'), null);
+  const { portal, asked } = stub([204, '']);
+  await portal.file('/projects.json');
+  assert.deepEqual(asked[0].headers, { 'Portal-Code': 'code-1234' });
+  assert.equal(asked.length, 1);
+});
+
+test('a department has its name, and links by https or to a mail address alone', () => {
+  const whole = { name: 'Chemistry', contact: 'office@example.edu', privacy: 'https://example.edu/p', accessibility: 'https://example.edu/a', languages: ['en', 'de'] };
+  assert.deepEqual(departmentOf(JSON.stringify(whole)), { ...whole, contact: 'mailto:office@example.edu' });
+  assert.deepEqual(departmentOf('{"name":"Chemistry","contact":"javascript:alert(1)@x","privacy":"http://x"}'), { name: 'Chemistry' });
+  for (const text of ['', 'none', '[]', 'null', '{"contact":"a@b"}', '{"name":7}']) assert.deepEqual(departmentOf(text), { name: '' });
+});
+
+test('a typed code is taken as it was meant', () => {
+  assert.equal(asCode('  abc–def—gh‑1 2\u00a0\u200b3−4\n'), 'abc-def-gh-123-4');
+  assert.equal(asCode('office-of-2026'), 'office-of-2026');
+});
+
+test('the page scrolls at the edges where the pointer goes there, and not in between', () => {
+  assert.equal(step(400, 800, 300), 0);
+  assert.ok(step(790, 800, 300) > 0 && step(5, 800, 300) < 0);
+  assert.ok(step(790, 800, 300) > step(750, 800, 300));
+  assert.equal(step(780, 800, 790), 0);
+  assert.equal(step(20, 800, 10), 0);
 });
 
 test('nothing comes from elsewhere, nothing is read as HTML, nothing is kept for long', () => {
-  const names = [...sources, 'index.html', 'style.css'];
+  const names = readdirSync(web).filter((name) => /\.(js|css|html)$/.test(name));
   for (const name of names) {
     const text = source(name);
-    assert.doesNotMatch(text, /https?:\/\//, name);
-    assert.doesNotMatch(text, /innerHTML|outerHTML|insertAdjacent|document\.write|localStorage|indexedDB|document\.cookie|eval\(|console\.|Math\.random/, name);
+    assert.doesNotMatch(text, /https?:\/\/\w/, name);
+    assert.doesNotMatch(text, /innerHTML|outerHTML|insertAdjacent|document\.write|indexedDB|document\.cookie|eval\(|console\.|Math\.random/, name);
+    if (name !== 'store.js') assert.doesNotMatch(text, /localStorage/, name);
   }
   assert.doesNotMatch(source('index.html'), /<style|style=|<script(?![^>]*src=)| on\w+=/);
+});
+
+test('the page is small: 200 kB in all, no file above 300 lines', () => {
+  const names = readdirSync(web).filter((name) => /\.(js|css|html|svg)$/.test(name));
+  assert.ok(names.reduce((sum, name) => sum + Buffer.byteLength(source(name)), 0) < 200_000);
+  for (const name of names) assert.ok(source(name).split('\n').length <= 301, name);
+});
+
+test('every module that the page needs at first is fetched at once', () => {
+  const needed = new Set();
+  const walk = (name) => {
+    if (needed.has(name)) return;
+    needed.add(name);
+    for (const [, other] of source(name).matchAll(/^import .*from '\.\/(.+)';$/gm)) walk(other);
+  };
+  walk('main.js');
+  const preloaded = [...source('index.html').matchAll(/<link rel="modulepreload" href="(.+)">/g)].map(([, name]) => name);
+  assert.deepEqual([...preloaded, 'main.js'].sort(), [...needed].sort());
 });

@@ -9,7 +9,7 @@ from case import ADA, BELL, BEN, CLEO, DORA, EMIL, NOETHER, OFFICE
 from door import Door
 
 LARGEST = 100_000
-SCALE = 0.75
+SCALE = 0.7
 
 
 def main(folder):
@@ -34,6 +34,8 @@ def play(door, browser, folder):
     door.do(BEN, "PUT", "/choices", {"projects": ["pulsars", "comets"]})
     door.do(CLEO, "PUT", "/choices", {"projects": ["rings", "patterns"]})
     sign_in(browser, ADA, "Choosing")
+    browser.open(door.address)  # the second visit, at which the advice is folded
+    browser.in_phase("Choosing")
     for key in ("pulsars", "rings", "patterns"):
         browser.press(f"Add {key}")
     take(browser, folder / "student-choosing.png")

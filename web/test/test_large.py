@@ -17,8 +17,8 @@ class Large(PageCase):
 
     def test_large_department(self):
         self.open(OFFICE, "Setup")
-        self.choose_file("Students", self.students)
-        self.browser.says("Students: added 2000, same 0", wait=20)
+        self.send_file("Students", self.students)
+        self.browser.says("Students: added 2,000, already there 0", wait=90)
         self.answer("Open choosing", "Open choosing now?")
         self.browser.in_phase("Choosing")
         self.browser.press("Copy names")

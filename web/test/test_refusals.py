@@ -29,77 +29,31 @@ class SigningIn(PageCase):
 
 
 class Rolls(PageCase):
+    """What the portal alone can know of a roll: a file that looks right is sent and refused. test_files.py has what the page sees in a file."""
+
     def test_refused_rolls(self):
         self.open(OFFICE, "Setup")
-        self.refused("Projects", YEAR / "projects.csv", "Projects: nothing was taken, since row 1 is not right", "pulsars,bell,Pulsars in old sky surveys,1")
-        self.choose_file("Lecturers", YEAR / "lecturers.csv")
-        self.browser.says("added 3, same 0")
+        self.refused("Projects", YEAR / "projects.csv", "Projects: nothing was taken, since row 2 is not right. The roll of lecturers has no key bell.", "pulsars, bell, Pulsars in old sky surveys, 1")
+        self.send_file("Lecturers", YEAR / "lecturers.csv")
+        self.browser.says("added 3, already there 0")
         other = (YEAR / "lecturers.csv").read_text().replace("Alan Turing", "Alan M. Turing")
-        self.refused("Lecturers", self.write("other.csv", other), "row 3 differs", "turing,Alan M. Turing,lecturer-turing-1,1")
-        self.refused("Lecturers", YEAR / "students.csv", "the first line has to be exactly id,name,code,capacity", "id,name,code")
-        bad = "id,name,code\n\nada,Ada Ames,student-ada-1\nben,\"Bode\nBen\",student-ben-1\n"
-        self.refused("Students", self.write("bad.csv", bad), "row 2 is not right", 'ben,"Bode\nBen",student-ben-1')
-        rows = "".join(f"s{n},Name {n},student-code-{n}\n" for n in range(2001))
-        self.refused("Students", self.write("full.csv", f"id,name,code\n{rows}"), "too many rows")
-        self.refused("Students", self.write("large.csv", "id,name,code\n" + "x" * 1_048_576), "too large")
-        self.choose_file("Students", YEAR / "students.csv")
-        self.browser.says("Students: added 5, same 0")
+        self.refused("Lecturers", self.write("other.csv", other), "row 4 differs", "turing, Alan M. Turing, 1")
+        self.refused("Students", self.write("taken.csv", "id,name,code\n\nada,Ada Ames,k4mz-pq7w-9xyd\nben,Ben,lecturer-bell-1\n"), "row 4 differs", "ben, Ben")
+        self.send_file("Students", YEAR / "students.csv")
+        self.browser.says("Students: added 5, already there 0")
 
-    def refused(self, field, path, text, line=None):
-        self.choose_file(field, path)
-        told = self.browser.warns(text)
-        if line is not None:
-            self.assertIn(line, told)
+    def refused(self, field, path, text, line):
+        self.send_file(field, path)
+        self.assertIn(line, self.browser.warns(text))
 
-    def test_file_is_dropped(self):
+    def test_too_many_rows_for_the_roll(self):
+        """Each file is within the limit, both together are not: the portal refuses the second one."""
+        rows = [f"l{n},Name {n},{n:04}-{n * 7919 % 100003:05}-code,1\n" for n in range(301)]
+        self.door.do(OFFICE, "POST", "/rolls/lecturers", ("id,name,code,capacity\n" + "".join(rows[:299])).encode())
         self.open(OFFICE, "Setup")
-        script = """
-            const files = new DataTransfer();
-            files.items.add(new File([arguments[0]], 'l.csv'));
-            const drop = new DragEvent('drop', { dataTransfer: files, bubbles: true, cancelable: true });
-            document.querySelector('#lecturers-file').dispatchEvent(drop);
-            return drop.defaultPrevented
-        """
-        self.assertTrue(self.browser.driver.execute_script(script, (YEAR / "lecturers.csv").read_text()))
-        self.browser.says("Lecturers: added 3, same 0")
-
-    def test_files_of_spreadsheets(self):
-        self.open(OFFICE, "Setup")
-        lecturers = "id;name;code;capacity\r\nbell;Jocelyn Bell;lecturer-bell-1;2\r\nm;Zoë Müller €;lecturer-m-0001;1\r\n"
-        self.choose_file("Lecturers", self.write("l.csv", lecturers.encode("windows-1252")))
-        self.browser.wait(lambda: "separated by semicolons" in self.browser.page_text(), "semicolons")
-        self.assertIn("Windows-1252", self.browser.page_text())
-        self.assertEqual(self.door.do(OFFICE, "GET", "/status")["lecturers"], 0)
-        self.browser.press("Send as the portal wants it")
-        self.browser.says("Lecturers: added 2, same 0")
-        self.codes.append("lecturer-m-0001")
-        self.choose_file("Projects", self.write("p.csv", 'id;lecturer;title;capacity\np1;m;"Von A; nach ""B"", dann";1\n'))
-        self.browser.press("Send as the portal wants it")
-        self.browser.says("Projects: added 1, same 0")
-        project = self.door.do(OFFICE, "GET", "/catalogue")["projects"][0]
-        self.assertEqual((project["title"], project["lecturer_name"]), ('Von A; nach "B", dann', "Zoë Müller €"))
-
-    def test_codes_are_made(self):
-        self.open(OFFICE, "Setup")
-        self.choose_file("Students", self.write("s.csv", 'id,name\nann,Ann\nbea,"Roe, Bea"\n'))
-        self.browser.press("Make codes")
-        self.browser.says("Made 2 codes")
-        made = self.downloaded("students-with-codes.csv").read_text().splitlines()
-        self.assertEqual(made[0], "id,name,code")
-        codes = [line.rsplit(",", 1)[1] for line in made[1:]]
-        self.codes += codes
-        for code in codes:
-            self.assertRegex(code, "^[a-hjkmnp-z2-9]{3}(-[a-hjkmnp-z2-9]{3}){6}$")
-        self.browser.driver.execute_script("window.print = () => { window.seen = document.querySelector('.printed').textContent; }")
-        self.browser.press("Print slips")
-        slips = self.browser.script("window.seen")
-        for text in ("Ann", "Roe, Bea", self.door.address, *codes):
-            self.assertIn(text, slips)
-        self.browser.press("Send the roll with the codes")
-        self.browser.says("Students: added 2, same 0")
-        self.browser.sign_out()
-        self.sign_in(codes[1], "Setup")
-        self.assertIn("Roe, Bea", self.browser.page_text())
+        self.send_file("Lecturers", self.write("more.csv", "id,name,code,capacity\n" + "".join(rows[299:])))
+        self.browser.warns("too many rows")
+        self.assertEqual(self.door.do(OFFICE, "GET", "/status")["lecturers"], 299)
 
 
 class Meanwhile(PageCase):
@@ -141,7 +95,7 @@ class Meanwhile(PageCase):
         self.door.do(BEN, "PUT", "/choices", {"projects": ["comets"]})
         self.open(OFFICE, "Choosing")
         self.door.move("ranking")
-        self.choose_file("Students", YEAR / "students.csv")
+        self.send_file("Students", YEAR / "students.csv")
         self.browser.warns("The year has gone on meanwhile")
         self.browser.in_phase("Ranking")
         self.answer("Publish", "Publish now?")
@@ -173,10 +127,14 @@ class Meanwhile(PageCase):
         self.browser.says("Saved")
 
     def change_body(self, body):
-        """The next request is sent with this body."""
+        """The next PUT is sent with this body."""
         self.browser.driver.execute_script("""
             const [real, body] = [window.fetch, arguments[0]];
-            window.fetch = (path, how) => { window.fetch = real; return real(path, { ...how, body }); };
+            window.fetch = (path, how) => {
+              if (how?.method !== 'PUT') return real(path, how);
+              window.fetch = real;
+              return real(path, { ...how, body });
+            };
         """, body)
 
 
@@ -253,10 +211,10 @@ class Gone(PageCase):
             const isLost = (how) => how?.method === 'POST' && window.sent++ === 0;
             window.fetch = (path, how) => isLost(how) ? Promise.reject(new TypeError('lost')) : real(path, how);
         """)
-        self.choose_file("Lecturers", YEAR / "lecturers.csv")
+        self.send_file("Lecturers", YEAR / "lecturers.csv")
         self.browser.warns("we cannot know whether the roll was taken")
         self.browser.press("Send again")
-        self.browser.says("Lecturers: added 3, same 0")
+        self.browser.says("Lecturers: added 3, already there 0")
         self.browser.driver.execute_script("window.sent = 0")
         self.answer("Open choosing", "Open choosing now?")
         self.browser.warns("we cannot know whether this was done")

@@ -51,7 +51,7 @@ class Rounds(PageCase):
         self.sees("With a list: 1 of 1 student")
         self.answer("Open ranking", "Open ranking now?")
         self.browser.says("Done. The year is in “Ranking” of round 2 now.")
-        self.sees("Still to rank: 1 of 3 lecturers", "Jocelyn Bell (bell)")
+        self.sees("Rankings done: 2 of 3 lecturers", "Jocelyn Bell (bell)")
         self.browser.sign_out()
         self.student_with_a_project("Ranking", "there is no list for you to make")
         self.lecturers_in_ranking()
@@ -75,7 +75,8 @@ class Rounds(PageCase):
 
     def student_without_a_project(self):
         self.sign_in(EMIL, "Choosing")
-        self.sees("Round 2", "for the students whom the first one left without a project", "If you have none, put those that you want on your list")
+        self.sees("Round 2", "for the students whom the first one left without a project", "The first round left you without a project. Put those that you want now on your list",
+                  "No project of your first list is left for you.")
         self.assertNotIn("There is no project for you", self.text())
         self.assertEqual(self.browser.entries("Your list"), [])
         self.sees("1 project")
@@ -88,7 +89,7 @@ class Rounds(PageCase):
 
     def student_with_a_project(self, phase, part):
         self.sign_in(ADA, phase)
-        self.sees("Round 2", "You have the project rings", part)
+        self.sees("Round 2", "You have the project Rings and their ideals with Emmy Noether.", part)
         for name in ("Save list", "Add comets"):
             self.assertFalse(self.browser.has("button", name))
         self.browser.sign_out()
@@ -96,7 +97,7 @@ class Rounds(PageCase):
     def lecturers_in_choosing(self):
         self.sign_in(BELL, "Choosing")
         self.sees("Round 2", "Students without a project are making their lists", "Who has which project", "Ben Bode", "The first round left 1 place.",
-                  "It takes no part in this round")
+                  "It takes no part in this round", "Pulsars in old sky surveys", "You take at most 2 students over all your projects. You have 1 from the first round.")
         self.browser.sign_out()
 
     def lecturers_in_ranking(self):
@@ -108,12 +109,13 @@ class Rounds(PageCase):
         self.assertEqual(self.door.do(BELL, "GET", "/ranking"), {"students": ["emil"]})
         self.browser.sign_out()
         self.sign_in(NOETHER, "Ranking")
-        self.sees("Nobody chose a project of yours, so there is nothing to rank.", "No project of yours takes part in this round.", "Ada Ames")
+        self.sees("Nobody chose a project of yours. There is nothing that you have to do.", "No project of yours takes part in this round.", "Ada Ames", "Rings and their ideals",
+                  "Groups of small order")
         self.assertFalse(self.browser.has("button", "Save ranking"))
         self.browser.sign_out()
 
     def results(self):
-        for code, part in ((EMIL, "You have the project Comets, seen twice with Jocelyn Bell."), (ADA, "You have the project rings."),
+        for code, part in ((EMIL, "You have the project Comets, seen twice with Jocelyn Bell."), (ADA, "You have the project Rings and their ideals with Emmy Noether."),
                            (BELL, "Emil Eke"), (TURING, "Dora Dahl")):
             self.sign_in(code, "Published")
             self.sees("Round 2", part)
@@ -130,7 +132,7 @@ class Rounds(PageCase):
         self.browser.press("Save list")
         self.browser.warns("You have a project from the first round, so you cannot hand in a list.")
         self.browser.in_phase("Choosing")
-        self.sees("Round 2", "You have the project rings")
+        self.sees("Round 2", "You have the project Rings and their ideals with Emmy Noether.")
         self.assertFalse(self.browser.has("button", "Save list"))
         self.assertEqual(self.door.do(ADA, "GET", "/choices"), {"projects": []})
         self.browser.sign_out()

@@ -1,5 +1,7 @@
 """Names and titles of any kind stand on the page as they are; and how the page looks in each width."""
 
+import json
+
 from case import ADA, BELL, EMIL, NOETHER, OFFICE, PageCase
 
 STRANGE = {
@@ -31,7 +33,7 @@ class Texts(PageCase):
 
     def test_strange_texts(self):
         self.open("code-of-s-html", "Choosing")
-        self.assertEqual(self.given("table[aria-label=Catalogue] td:first-child bdi"), [STRANGE[key] for key in sorted(STRANGE)])
+        self.assertEqual(self.given("table[aria-label=Catalogue] .titled > bdi"), [STRANGE[key] for key in sorted(STRANGE)])
         self.assertEqual(self.given("table[aria-label=Catalogue] td:nth-child(2) bdi"), [STRANGE[key] for key in sorted(STRANGE)])
         for key in STRANGE:
             self.browser.press(f"Add p-{key}")
@@ -82,11 +84,20 @@ class Looks(PageCase):
     }).filter(([, ratio]) => ratio < 4.5)
     """
 
+    # Sections without a name, and questions that are described by nothing.
+    UNTOLD = """
+    const said = (e, by) => (e.getAttribute(by) ?? '').split(' ').map((id) => document.getElementById(id)?.innerText ?? '').join('').trim() || (by === 'aria-labelledby' && e.getAttribute('aria-label'));
+    return [...document.querySelectorAll('section')].filter((e) => !said(e, 'aria-labelledby')).map((e) => e.innerText.slice(0, 30))
+      .concat([...document.querySelectorAll('dialog')].filter((e) => !said(e, 'aria-describedby') || !said(e, 'aria-labelledby')).map((e) => e.innerText))
+    """
+
     def test_every_page(self):
         self.door.load_rolls()
+        (self.door.notice / "projects.json").write_text(json.dumps({"projects": [{"id": "rings", "title": "Rings", "lecturer": "noether", "lecturer_name": "Emmy Noether", "description": "Of integers.", "link": "https://example.org"}]}))
+        (self.door.notice / "department.json").write_text(json.dumps({"name": "Mathematics", "contact": "office@example.org", "privacy": "https://example.org/privacy"}))
         self.open(OFFICE, "Setup")
-        self.choose_file("Students", self.write("bad.csv", "id,name,code\n,,\n"))
-        self.browser.warns("row 1")
+        self.choose_file("Students", self.write("bad.csv", "id,name,code,group\n,Ann,student-ann-1,1\n"))
+        self.browser.wait(lambda: "The portal would refuse this file." in self.browser.page_text(), "the fault")
         self.look()
         self.door.move("choosing")
         self.browser.sign_out()
@@ -97,14 +108,25 @@ class Looks(PageCase):
         self.sign_in(ADA, "Choosing")
         self.browser.press("Add rings")
         self.look()
+        self.browser.press("Description of rings")
+        self.look()
+        self.door.do(ADA, "PUT", "/choices", {"projects": ["comets"]})
         self.browser.press("Save list")
+        self.browser.find("dialog", "Which list do you keep?")
+        self.look()
+        self.browser.press("Keep what is on this page")
         self.browser.says("Saved")
         self.browser.sign_out()
         self.door.move("ranking")
         self.sign_in(NOETHER, "Ranking")
         self.look()
-        self.browser.sign_out()
+        self.browser.press("Add ada")
+        self.browser.press("Sign out")
+        self.browser.find("dialog", "Something here is not saved yet. Leave all the same?")
+        self.look()
+        self.browser.press("Yes")
         self.sign_in(OFFICE, "Ranking")
+        self.bars_in_forced_colours()
         self.browser.press("Fill missing rankings")
         self.browser.find("button", "Yes")
         self.look()
@@ -126,6 +148,12 @@ class Looks(PageCase):
             self.sign_in(code, "Choosing")
             self.look()
 
+    def bars_in_forced_colours(self):
+        """Where a person has the system’s own few colours, the filled part of a bar still differs from the rest of it."""
+        self.browser.cdp("Emulation.setEmulatedMedia", features=[{"name": "forced-colors", "value": "active"}])
+        colour = "getComputedStyle(document.querySelector(arguments[0])).backgroundColor"
+        self.assertNotEqual(self.browser.script(colour, ".filled"), self.browser.script(colour, ".bar"))
+
     def look(self):
         for scheme in ("light", "dark"):
             self.browser.prefer(scheme)
@@ -133,6 +161,7 @@ class Looks(PageCase):
         nodes = self.browser.cdp("Accessibility.getFullAXTree")["nodes"]
         nameless = [node["role"]["value"] for node in nodes if not node["ignored"] and self.is_focusable(node) and not node.get("name", {}).get("value")]
         self.assertEqual([role for role in nameless if role not in ("main", "RootWebArea", "generic")], [])
+        self.assertEqual(self.browser.driver.execute_script(self.UNTOLD), [])
         doubled = "[...document.querySelectorAll('[id]')].map((e) => e.id).filter((id, at, all) => all.indexOf(id) !== at)"
         self.assertEqual(self.browser.script(doubled), [])
 

@@ -29,10 +29,10 @@ class YearByClicks(PageCase):
 
     def rolls(self):
         for field, count in (("Lecturers", 3), ("Projects", 5), ("Students", 5)):
-            self.choose_file(field, YEAR / f"{field.lower()}.csv")
-            self.browser.says(f"{field}: added {count}, same 0")
-        self.choose_file("Students", YEAR / "students.csv")
-        self.browser.says("Students: added 0, same 5")
+            self.send_file(field, YEAR / f"{field.lower()}.csv")
+            self.browser.says(f"{field}: added {count}, already there 0")
+        self.send_file("Students", YEAR / "students.csv")
+        self.browser.says("Students: added 0, already there 5")
 
     def choose(self, code, keys):
         self.sign_in(code, "Choosing")
@@ -56,10 +56,10 @@ class YearByClicks(PageCase):
         self.assertIn("With a list: 4 of 5 students", self.browser.page_text())
         self.browser.press("Copy names")
         self.browser.says("Copied 1 name")
-        self.assertEqual(self.browser.driver.execute_async_script("navigator.clipboard.readText().then(arguments[0])"), "emil")
+        self.assertEqual(self.browser.driver.execute_async_script("navigator.clipboard.readText().then(arguments[0])"), "Emil Eke (emil)")
         self.assertIn("Without a list: 1 student", self.answer("Open ranking", "Open ranking now?"))
         self.browser.in_phase("Ranking")
-        self.assertIn("Still to rank: 3 of 3 lecturers", self.browser.page_text())
+        self.assertIn("Rankings done: 0 of 3 lecturers", self.browser.page_text())
         self.browser.sign_out()
 
     def rank(self, code, keys):
@@ -79,7 +79,7 @@ class YearByClicks(PageCase):
 
     def publish(self):
         self.sign_in(OFFICE, "Ranking")
-        self.assertIn("Still to rank: 0 of 3 lecturers", self.browser.page_text())
+        self.assertIn("Rankings done: 3 of 3 lecturers", self.browser.page_text())
         self.assertFalse(self.browser.find("button", "Fill missing rankings").is_enabled())
         self.answer("Publish", "Publish now?")
         self.browser.in_phase("Published")
@@ -90,7 +90,7 @@ class YearByClicks(PageCase):
         self.assertIn("It would be for 1 student.", text)
         self.office_table()
         self.browser.press("Download CSV")
-        self.assertEqual(self.downloaded("allocation.csv").read_text(), self.door.do(OFFICE, "GET", "/allocation.csv"))
+        self.assertEqual(self.downloaded("allocation.csv").read_text(), "\ufeff" + self.door.do(OFFICE, "GET", "/allocation.csv"))
         self.print_report()
         self.browser.sign_out()
 
@@ -109,7 +109,9 @@ class YearByClicks(PageCase):
     def print_report(self):
         self.browser.script("(window.print = () => { window.seen = [...document.querySelectorAll('.printed')].map((e) => e.textContent); })")
         self.browser.press("Print report")
-        self.assertEqual(self.browser.script("window.seen"), [self.door.do(OFFICE, "GET", "/report")])
+        (printed,) = self.browser.script("window.seen")
+        for part in ("Who has what", "With a project: 4 of 5 students", "Ada Ames", "Emil Eke", "Rings and their ideals", "Emmy Noether", "2 of 2 places"):
+            self.assertIn(part, printed)
 
     def results(self):
         for code, title in RESULT.items():

@@ -1,0 +1,87 @@
+// Tables in text files, as spreadsheets write and read them. No element of the page is touched here.
+
+const SEPARATORS = [',', ';', '\t'];
+
+// The first bytes of .xlsx and .ods, and of .xls.
+const WORKBOOKS = [[0x50, 0x4b, 0x03, 0x04], [0xd0, 0xcf, 0x11, 0xe0]];
+
+/**
+ * Reads a file.
+ * @param {Uint8Array} bytes
+ * @returns {{ fault?: string, encoding?: string, separator?: string, rows?: { row: number, fields: string[] }[] }} a `fault`, `workbook` or
+ *   `noText`, or how it was read. Of each row that is not blank, `row` is its number in a spreadsheet, counted from 1.
+ */
+export function table(bytes) {
+  if (WORKBOOKS.some((start) => start.every((byte, at) => bytes[at] === byte))) return { fault: 'workbook' };
+  const { encoding, text } = decoded(bytes);
+  if (/[\0-\x08]/.test(text)) return { fault: 'noText' };
+  const { separator, rest } = separated(text);
+  const rows = [...records(rest, separator)].map((fields, at) => ({ row: at + 1, fields })).filter(({ fields }) => !isBlank(fields));
+  return { encoding, separator, rows };
+}
+
+const isBlank = (fields) => fields.every((field) => field.trim() === '');
+
+/** The records of a text, blank ones too: the fields of each. */
+export function* records(text, separator = ',') {
+  let fields = [];
+  for (let at = 0; at < text.length || fields.length > 0; ) {
+    const { field, end } = fieldAt(text, at, separator);
+    fields.push(field);
+    at = end + 1;
+    if (text[end] === separator) continue;
+    if (text[end] === '\r' && text[at] === '\n') at++;
+    yield fields;
+    fields = [];
+  }
+}
+
+// One field from `at`, and where it ends: at a separator, a line's end or the end of the text.
+function fieldAt(text, at, separator) {
+  let field = '';
+  let isQuoted = text[at] === '"';
+  let end = isQuoted ? at + 1 : at;
+  for (; end < text.length; end++) {
+    const letter = text[end];
+    if (isQuoted && letter === '"' && text[end + 1] === '"') end++;
+    else if (isQuoted && letter === '"') {
+      isQuoted = false;
+      continue;
+    } else if (!isQuoted && (letter === separator || letter === '\n' || letter === '\r')) break;
+    field += text[end];
+  }
+  return { field, end };
+}
+
+/** A text with a mark of its bytes' order is what the mark says. Without one it is UTF-16, UTF-8 or else Windows-1252, whichever it can be. */
+function decoded(bytes) {
+  const encoding = encodingOf(bytes);
+  return { encoding, text: new TextDecoder(encoding).decode(bytes) };
+}
+
+function encodingOf(bytes) {
+  const [first, second] = bytes;
+  if ((first === 0xff && second === 0xfe) || (first > 0 && second === 0)) return 'utf-16le';
+  if ((first === 0xfe && second === 0xff) || (first === 0 && second > 0)) return 'utf-16be';
+  try {
+    new TextDecoder('utf-8', { fatal: true }).decode(bytes);
+    return 'utf-8';
+  } catch {
+    return 'windows-1252';
+  }
+}
+
+// A first line `sep=;` names the separator and is no row. Else it is the one that gives the first row the most fields.
+function separated(text) {
+  const [line, separator] = /^sep=(.)(\r\n|\r|\n)/i.exec(text) ?? [];
+  if (separator !== undefined) return { separator, rest: text.slice(line.length) };
+  const width = (one) => [...records(text.trimStart().split(/[\r\n]/)[0], one)][0]?.length ?? 0;
+  return { separator: SEPARATORS.reduce((best, one) => (width(one) > width(best) ? one : best)), rest: text };
+}
+
+/** Rows as text: commas, quotes where they are needed, lines ended by LF. */
+export function written(rows) {
+  return rows.map((fields) => `${fields.map(quoted).join(',')}\n`).join('');
+}
+
+const quoted = (field) => (/[",\r\n]/.test(field) ? `"${field.replaceAll('"', '""')}"` : field);

@@ -1,0 +1,263 @@
+"""The own list and the own ranking: what saves them stays in view, two tabs, undo, places by number, dragging at the edge, receipts, messages."""
+
+import time
+
+from selenium.webdriver.common.action_chains import ActionChains
+from selenium.webdriver.common.keys import Keys
+
+from case import OFFICE, PageCase
+
+ADA, BEN, BELL = "student-ada-0001", "student-ben-0001", "lecturer-bell-01"
+LECTURERS = f"id,name,code,capacity\nbell,Jocelyn Bell,{BELL},3\nmoe,Max Moe,lecturer-moe-001,9\n"
+PROJECTS = "id,lecturer,title,capacity\n" + "".join(f"p{n:02},{'bell' if n < 2 else 'moe'},Project number {n},2\n" for n in range(30))
+STUDENTS = f"id,name,code\nada,Ada Ames,{ADA}\nben,Ben Bode,{BEN}\n" + "".join(f"s{n:02},Student {n},student-number-{n:02}\n" for n in range(60))
+KEYS = [f"p{n:02}" for n in range(30)]
+
+# An element is seen: it is within the window, and what is seen at its middle is itself.
+SEEN = "((e) => { const r = e.getBoundingClientRect(); return r.top >= 0 && r.bottom <= innerHeight && e.contains(document.elementFromPoint(r.left + r.width / 2, r.top + r.height / 2)); })(arguments[0])"
+# What scrolls within the page; there is nothing of that kind.
+SCROLLS = "[...document.querySelectorAll('body *')].filter((e) => ['auto', 'scroll'].includes(getComputedStyle(e).overflowY) && e.scrollHeight > e.clientHeight + 1).map((e) => e.className || e.tagName)"
+
+
+class ListCase(PageCase):
+    def setUp(self):
+        super().setUp()
+        self.codes += [ADA, BEN, BELL]
+        for roll, text in (("lecturers", LECTURERS), ("projects", PROJECTS), ("students", STUDENTS)):
+            self.door.do(OFFICE, "POST", f"/rolls/{roll}", text.encode())
+        self.door.move("choosing")
+
+    def click(self, *names):
+        """Presses buttons wherever on the page they are, without scrolling there."""
+        for name in names:
+            self.browser.driver.execute_script("arguments[0].click()", self.browser.find("button", name))
+
+    def saved(self, code=ADA):
+        return self.door.do(code, "GET", "/choices")["projects"]
+
+    def is_seen(self, element):
+        return self.browser.script(SEEN, element)
+
+    def entries(self):
+        return self.browser.entries("Your list")
+
+    def place(self, key, number):
+        field = self.browser.click("spinbutton", f"Move {key} to place")
+        field.send_keys(Keys.CONTROL, "a")
+        field.send_keys(str(number), Keys.ENTER)
+
+
+class Saving(ListCase):
+    def test_save_row_stays_in_view(self):
+        """From one entry on a phone and from twenty on a desk the button, the count and the state are seen, and the page alone scrolls."""
+        self.open(ADA, "Choosing")
+        self.browser.resize(390, 700)
+        self.click("Add p00")
+        self.assertTrue(self.is_seen(self.browser.find("button", "Save list")))
+        self.assertIn("Not saved yet", self.browser.page_text())
+        self.browser.press("Show list")
+        self.browser.wait(lambda: self.is_seen(self.browser.find("button", "Remove p00")), "the list")
+        self.browser.resize(1280, 900)
+        self.click(*(f"Add {key}" for key in KEYS[1:20]))
+        self.assertEqual(self.entries(), KEYS[:20])
+        for place in (0, 300, 10_000):
+            self.browser.driver.execute_script("scrollTo(0, arguments[0])", place)
+            self.assertTrue(self.is_seen(self.browser.find("button", "Save list")))
+            if place == 300:  # the heads of the columns stay, too
+                self.browser.driver.execute_script("document.querySelector('tbody tr:nth-child(4)').scrollIntoView({ block: 'center' })")
+                self.assertTrue(self.is_seen(self.browser.driver.find_element("css selector", "th")))
+        self.assertEqual(self.browser.script(SCROLLS), [])
+        self.browser.press("Save list")
+        self.browser.says("Saved. Your list has 20 projects.")
+        self.assertIn("As saved", self.browser.page_text())
+
+    def test_messages(self):
+        """A message covers nothing that is being done, is closed by its button or by Escape, and goes by itself; a refusal stays."""
+        self.open(ADA, "Choosing")
+        self.browser.resize(1280, 500)
+        self.click(*(f"Add {key}" for key in KEYS[:12]))
+        for key in KEYS[3:8]:
+            self.browser.press(f"Move {key} down")
+            self.assertIn(f"Project number {int(key[1:])} is number", self.browser.text("status"))
+            self.assertTrue(self.browser.wait(lambda: self.is_seen(self.browser.focused()), "what is being done"))
+        self.browser.press("Move p08 down")
+        self.browser.press("Close message")
+        self.assertEqual(self.browser.text("status"), "")
+        self.browser.press("Move p03 up")
+        self.browser.says("is number")
+        self.browser.keys(Keys.ESCAPE)
+        self.assertEqual(self.browser.text("status"), "")
+        self.browser.press("Move p03 up")
+        self.browser.says("is number")
+        time.sleep(16)
+        self.assertEqual(self.browser.text("status"), "")
+        self.door.move("ranking")
+        self.browser.press("Save list")
+        self.browser.warns("The year has gone on meanwhile: it is in “Ranking” now. Nothing was changed by you. The list that you saved last counts.")
+        time.sleep(16)
+        self.browser.warns("The list that you saved last counts.")
+        self.browser.keys(Keys.ESCAPE)
+        self.assertEqual(self.browser.text("alert"), "")
+
+    def test_two_tabs(self):
+        """What another tab saved meanwhile is shown beside what is on this page, and one of the two is kept."""
+        self.open(ADA, "Choosing")
+        self.click("Add p00", "Add p01")
+        self.door.do(ADA, "PUT", "/choices", {"projects": ["p05", "p06"]})
+        self.browser.press("Save list")
+        dialog = self.browser.find("dialog", "Which list do you keep?")
+        for part in ("Another tab or device saved this meanwhile", "Project number 0", "Project number 1", "Project number 5", "Project number 6"):
+            self.assertIn(part, dialog.text)
+        self.browser.press("Cancel")
+        self.assertEqual((self.entries(), self.saved()), (["p00", "p01"], ["p05", "p06"]))
+        self.browser.press("Save list")
+        self.browser.press("Keep what is saved")
+        self.browser.says("This is what was saved meanwhile.")
+        self.assertEqual((self.entries(), self.saved()), (["p05", "p06"], ["p05", "p06"]))
+        self.click("Add p07")
+        self.door.do(ADA, "PUT", "/choices", {"projects": []})
+        self.browser.press("Save list")
+        self.browser.press("Keep what is on this page")
+        self.browser.says("Saved. Your list has 3 projects.")
+        self.assertEqual(self.saved(), ["p05", "p06", "p07"])
+        self.click("Add p08")
+        self.door.do(ADA, "PUT", "/choices", {"projects": ["p05", "p06", "p07", "p08"]})
+        self.browser.press("Save list")  # the same list twice is no question
+        self.browser.says("Saved. Your list has 4 projects.")
+
+
+class Ordering(ListCase):
+    def test_changes_are_taken_back(self):
+        self.door.do(ADA, "PUT", "/choices", {"projects": ["p00", "p01", "p02"]})
+        self.open(ADA, "Choosing")
+        self.assertEqual(self.browser.find("button", "Undo").get_attribute("aria-disabled"), "true")
+        self.click("Remove p01", "Add p09", "Move p02 up")
+        self.assertEqual(self.entries(), ["p02", "p00", "p09"])
+        for keys in (["p00", "p02", "p09"], ["p00", "p02"], ["p00", "p01", "p02"]):
+            self.click("Undo")
+            self.browser.says("The last change is taken back.")
+            self.assertEqual(self.entries(), keys)
+        self.assertEqual(self.browser.find("button", "Undo").get_attribute("aria-disabled"), "true")
+        self.click("Add p09", "Remove p00", "Back to saved")
+        self.browser.says("This is what you saved last.")
+        self.assertEqual(self.entries(), ["p00", "p01", "p02"])
+        self.assertFalse(self.browser.find("button", "Save list").is_enabled())
+        self.click("Undo")
+        self.assertEqual(self.entries(), ["p01", "p02", "p09"])
+        self.receipt()
+
+    def receipt(self):
+        """What is printed is what is saved, not what is on the page, with titles, lecturers and whose it is."""
+        self.browser.driver.execute_script("window.print = () => { window.seen = document.querySelector('.printed').innerText; }")
+        self.click("Print receipt")
+        paper = self.browser.script("window.seen").replace("\u2068", "").replace("\u2069", "")
+        for part in ("Ada Ames (ada)", "Your list", "Project number 0", "Jocelyn Bell · p00", "Project number 2", "Max Moe · p02", "As saved in localhost"):
+            self.assertIn(part, paper)
+        self.assertLess(paper.index("Project number 0"), paper.index("Project number 1"))
+        self.assertNotIn("Project number 9", paper)
+
+    def test_places_by_number(self):
+        self.open(ADA, "Choosing")
+        self.click(*(f"Add {key}" for key in KEYS[:6]))
+        self.place("p05", 1)
+        self.browser.says("Project number 5 is number 1 of 6.")
+        self.assertEqual(self.entries(), ["p05", *KEYS[:5]])
+        self.place("p05", 99)
+        self.assertEqual(self.entries(), KEYS[:6])
+        self.place("p02", 4)
+        self.assertEqual(self.entries(), ["p00", "p01", "p03", "p02", "p04", "p05"])
+        self.place("p02", 0)
+        self.assertEqual(self.browser.find("spinbutton", "Move p02 to place").get_attribute("value"), "4")
+        self.browser.keys(Keys.ARROW_UP)
+        self.assertEqual(self.entries(), KEYS[:6])
+
+    def test_rows_of_the_catalogue(self):
+        """A project on the list tells its place in the place of its button, and moves along."""
+        self.open(ADA, "Choosing")
+        self.click("Add p03", "Add p04")
+        self.assertFalse(self.browser.has("button", "Add p03"))
+        row = "[...document.querySelectorAll('table[aria-label=Catalogue] tbody tr')].find((r) => r.innerText.includes(arguments[0])).innerText"
+        self.assertIn("No. 1 on your list", self.browser.script(row, "p03"))
+        self.click("Move p04 up")
+        self.assertIn("No. 2 on your list", self.browser.script(row, "p03"))
+        self.assertIn("No. 1 on your list", self.browser.script(row, "p04"))
+        self.click("Remove p03")
+        self.assertTrue(self.browser.has("button", "Add p03"))
+        self.assertNotIn("on your list", self.browser.script(row, "p03"))
+
+    def test_dragging_scrolls_at_the_edge(self):
+        self.door.do(ADA, "PUT", "/choices", {"projects": KEYS[:20]})
+        self.open(ADA, "Choosing")
+        self.browser.resize(390, 700)
+        self.browser.press("Show list")
+        handle = self.browser.driver.find_element("css selector", "ol[aria-label='Your list'] li:first-child .handle")
+        self.browser.driver.execute_script("arguments[0].scrollIntoView({ block: 'center' })", handle)
+        before = self.browser.script("scrollY")
+        edge = self.browser.script("document.querySelector('.dock').getBoundingClientRect().top - arguments[0].getBoundingClientRect().top - 30", handle)
+        mouse = ActionChains(self.browser.driver).click_and_hold(handle).move_by_offset(0, int(edge / 2)).move_by_offset(0, int(edge / 2))
+        mouse.perform()
+        self.browser.wait(lambda: self.entries()[-1] == "p00", "the first entry at the end")
+        self.assertGreater(self.browser.script("scrollY"), before + 100)
+        ActionChains(self.browser.driver).release().perform()
+        self.browser.says("Project number 0 is number 20 of 20.")
+        self.click("Undo")  # one dragging is one change
+        self.assertEqual(self.entries(), KEYS[:20])
+
+
+class Rankings(ListCase):
+    def test_sixty_applicants(self):
+        """Places by number, the filter by project, titles beside each applicant, who stands there once; and what is taken along."""
+        for n in range(60):
+            self.door.do(f"student-number-{n:02}", "PUT", "/choices", {"projects": ["p00"] if n < 58 else ["p01", "p00"]})
+        self.door.do(BEN, "PUT", "/choices", {"projects": ["p01"]})
+        self.door.move("ranking")
+        self.open(BELL, "Ranking")
+        text = self.browser.page_text()
+        for part in ("You take at most 3 students over all your projects.", "Chosen by 60 students.", "Chosen by 3 students."):
+            self.assertIn(part, text)
+        for name in ("Ben Bode", "Student 58"):
+            self.assertEqual(text.count(f"{name}\n"), 1)
+        entry = "[...document.querySelectorAll('ul[aria-label=Applicants] li')].find((e) => e.innerText.includes(arguments[0])).innerText"
+        self.assertIn("Project number 0", self.browser.script(entry, "s58"))
+        self.assertIn("Project number 1", self.browser.script(entry, "s58"))
+        self.filter()
+        self.take_along()
+        self.click("Put the rest below, by key")
+        self.place("s59", 1)
+        self.browser.says("Student 59 is number 1 of 61.")
+        self.browser.press("Save ranking")
+        self.browser.says("Saved. Your ranking has 61 students.")
+        self.assertEqual(self.door.do(BELL, "GET", "/ranking")["students"][:3], ["s59", "ben", "s00"])
+        self.meanwhile()
+
+    def filter(self):
+        self.browser.choose("Applicants of", "Project number 1")
+        shown = "[...document.querySelectorAll('ul[aria-label=Applicants] li')].filter((e) => !e.hidden).map((e) => e.querySelector('.key').textContent)"
+        self.assertEqual(self.browser.script(shown), ["ben", "s58", "s59"])
+        self.browser.choose("Applicants of", "All projects")
+        self.assertEqual(len(self.browser.script(shown)), 61)
+
+    def take_along(self):
+        self.browser.driver.execute_script("window.print = () => { window.seen = [...document.querySelectorAll('.printed tbody tr')].map((r) => [...r.cells].map((c) => c.textContent)); }")
+        self.click("Print applicants")
+        rows = self.browser.script("window.seen")
+        self.assertEqual(len(rows), 61)
+        self.assertIn(["s58", "Student 58", "Project number 0; Project number 1"], rows)
+        self.click("Copy applicants")
+        self.browser.says("Copied 61 lines.")
+        copied = self.browser.driver.execute_async_script("navigator.clipboard.readText().then(arguments[0])")
+        self.assertEqual(copied.split("\n")[0], "ben\tBen Bode\tProject number 1")
+        self.click("Download applicants")
+        lines = self.downloaded("applicants.csv").read_bytes().decode("utf-8").split("\n")
+        self.assertEqual(lines[:2], ["\ufeffstudent,name,projects", "ben,Ben Bode,Project number 1"])
+
+    def meanwhile(self):
+        """The office fills while the lecturer is at it: the question shows both rankings."""
+        self.click("Move s59 down")
+        order = self.door.do(BELL, "GET", "/ranking")["students"]
+        self.door.do(BELL, "PUT", "/ranking", {"students": sorted(order)})
+        self.browser.press("Save ranking")
+        self.browser.find("dialog", "Which ranking do you keep?")
+        self.browser.press("Keep what is on this page")
+        self.browser.says("Saved. Your ranking has 61 students.")
+        self.assertEqual(self.door.do(BELL, "GET", "/ranking")["students"][:3], ["ben", "s59", "s00"])

@@ -1,0 +1,207 @@
+"""What students and lecturers are told: results, titles in both rounds, descriptions, the department, another language; and ways through the page."""
+
+import json
+
+from selenium.webdriver.common.keys import Keys
+
+from case import ADA, BELL, BEN, CLEO, DORA, EMIL, NOETHER, OFFICE, PageCase, TURING
+
+DESCRIBED = {"projects": [
+    {"id": "pulsars", "title": "Pulsars in old sky surveys", "lecturer": "bell", "lecturer_name": "Jocelyn Bell", "description": "Plates from 1950.\n<b>Bring</b> patience.", "link": "https://example.org/pulsars"},
+    {"id": "rings", "title": "Rings and their ideals", "lecturer": "noether", "lecturer_name": "Emmy Noether", "description": "", "link": "http://example.org/rings"},
+    {"id": "patterns", "title": "Patterns on shells", "lecturer": "turing", "lecturer_name": "Alan Turing", "description": "Why they have stripes.", "link": ""},
+]}
+DEPARTMENT = {"name": "Department of <b>Mathematics</b>", "contact": "office@example.org", "privacy": "https://example.org/privacy", "accessibility": "javascript:alert(1)", "languages": ["en", "de"]}
+
+
+class PeopleCase(PageCase):
+    def setUp(self):
+        super().setUp()
+        self.door.load_rolls()
+
+    def beside(self, name, value):
+        (self.door.notice / name).write_text(json.dumps(value))
+
+    def text(self):
+        return self.browser.page_text().replace("\u2068", "").replace("\u2069", "")
+
+    def sees(self, *parts):
+        for part in parts:
+            self.assertIn(part, self.text())
+
+    def first_round(self, **lists):
+        """Ada and Ben want Pulsars, which Ben gets; Ada has no other on her list, Cleo gets her second choice, Emil has no list."""
+        self.door.move("choosing")
+        wanted = {ADA: ["pulsars"], BEN: ["pulsars", "comets"], CLEO: ["patterns", "rings"], DORA: ["patterns"]}
+        for code, keys in wanted.items():
+            self.door.do(code, "PUT", "/choices", {"projects": keys})
+        self.door.move("ranking")
+        self.door.do(BELL, "PUT", "/ranking", {"students": ["ben", "ada"]})
+        self.door.do(TURING, "PUT", "/ranking", {"students": ["dora", "cleo"]})
+        self.door.do(OFFICE, "POST", "/ranking/fill", {})
+
+    def open_second(self):
+        self.door.do(OFFICE, "POST", "/phase", {"phase": "choosing", "round": 2})
+
+
+class Results(PeopleCase):
+    def test_own_results(self):
+        """The place on the own list, and why there is no project: no list, or no place on it. Lecturers see and take along who has what."""
+        self.first_round()
+        self.open(TURING, "Ranking")
+        self.sees("You take at most 1 student over all your projects.")
+        self.browser.sign_out()
+        self.door.move("published")
+        for code, parts in ((BEN, ["You have the project Pulsars in old sky surveys with Jocelyn Bell.", "It is your 1st choice. Only you see this."]),
+                            (CLEO, ["You have the project Rings and their ideals with Emmy Noether.", "It is your 2nd choice."]),
+                            (ADA, ["No project on your list had a place for you"]),
+                            (EMIL, ["There is no project for you this time, because you handed in no list."])):
+            self.sign_in(code, "Published")
+            self.sees(*parts)
+            self.assertEqual("more students wanted these places" in self.text(), code == ADA)
+            self.browser.sign_out()
+        self.sign_in(BELL, "Published")
+        self.browser.press("Copy results")
+        self.browser.says("Copied 1 line.")
+        self.assertEqual(self.browser.driver.execute_async_script("navigator.clipboard.readText().then(arguments[0])"), "ben\tBen Bode\tpulsars\tPulsars in old sky surveys")
+        self.browser.press("Download results")
+        self.assertEqual(self.downloaded("result.csv").read_bytes().decode(), "\ufeffstudent,name,project,title\nben,Ben Bode,pulsars,Pulsars in old sky surveys\n")
+
+    def test_titles_from_what_this_browser_saw(self):
+        """Without projects.json a browser that saw the first round knows the titles of the second; what is said is said by the phase and the person."""
+        self.door.move("choosing")
+        self.door.do(BEN, "PUT", "/choices", {"projects": ["pulsars"]})
+        self.open(BEN, "Choosing")
+        self.browser.sign_out()
+        self.door.move("ranking")
+        self.sign_in(NOETHER, "Ranking")
+        self.sees("Nobody chose a project of yours. There is nothing that you have to do.")
+        self.assertNotIn("Put everybody who chose", self.text())
+        self.browser.sign_out()
+        self.door.do(OFFICE, "POST", "/ranking/fill", {})
+        self.door.move("published")
+        self.open_second()
+        self.sign_in(BEN, "Choosing")
+        self.sees("You have the project Pulsars in old sky surveys with Jocelyn Bell.")
+        self.browser.sign_out()
+        self.sign_in(BELL, "Choosing")
+        self.assertIn("Pulsars in old sky surveys", self.browser.find("region", "Who has which project").text)
+
+    def test_titles_from_the_file(self):
+        """A browser that has never seen the first round takes titles and names from projects.json."""
+        self.first_round()
+        self.door.move("published")
+        self.open_second()
+        self.beside("projects.json", DESCRIBED)
+        self.open(CLEO, "Choosing")
+        self.sees("You have the project Rings and their ideals with Emmy Noether.")
+        self.browser.sign_out()
+        self.sign_in(TURING, "Choosing")
+        self.assertIn("Patterns on shells", self.browser.find("region", "Your projects").text)
+
+
+class Describing(PeopleCase):
+    def test_descriptions(self):
+        """A row opens its description, as plain text with a link by https, and the search finds what stands there."""
+        self.beside("projects.json", DESCRIBED)
+        self.open(ADA, "Setup")
+        self.assertNotIn("Plates from 1950.", self.text())
+        opener = self.browser.find("button", "Description of pulsars")
+        self.assertEqual(opener.get_attribute("aria-expanded"), "false")
+        opener.click()
+        self.sees("Plates from 1950.\n<b>Bring</b> patience.")
+        self.assertEqual(opener.get_attribute("aria-expanded"), "true")
+        self.assertEqual(self.browser.find("link", "More about it").get_attribute("href"), "https://example.org/pulsars")
+        self.assertFalse(self.browser.has("button", "Description of rings"))  # nothing is said of it but a link that is none by https
+        self.browser.find("searchbox", "Search projects").send_keys("stripes")
+        self.browser.wait(lambda: "1 of 5 projects" in self.text(), "one project")
+        self.sees("Patterns on shells")
+        self.assertNotIn("Plates from 1950.", self.text())
+        self.browser.press("Description of patterns")
+        self.sees("Why they have stripes.")
+        self.browser.press("Description of patterns")
+        self.assertNotIn("Why they have stripes.", self.text())
+
+    def test_department_and_language(self):
+        """The department's name and links stand on each page; the language is kept, and asks before changes are lost."""
+        self.beside("department.json", DEPARTMENT)
+        self.door.move("choosing")
+        self.open()
+        self.browser.find("textbox", "Your code")
+        self.sees("Department of <b>Mathematics</b>")
+        self.assertEqual(self.browser.driver.title, "Project choice – Department of <b>Mathematics</b>")
+        self.assertEqual(self.browser.find("link", "Contact").get_attribute("href"), "mailto:office@example.org")
+        self.assertEqual(self.browser.find("link", "Privacy").get_attribute("href"), "https://example.org/privacy")
+        self.assertFalse(self.browser.has("link", "Accessibility"))
+        self.sign_in(ADA, "Choosing")
+        self.browser.press("Add rings")
+        self.browser.choose("Language", "Deutsch")
+        self.browser.find("dialog", "Something here is not saved yet. Leave all the same?")
+        self.browser.press("No")
+        self.assertEqual(self.browser.entries("Your list"), ["rings"])
+        self.browser.press("Save list")
+        self.browser.says("Saved")
+        self.browser.choose("Language", "Deutsch")
+        self.browser.find("button", "Abmelden")
+        self.browser.wait(lambda: "Setzen Sie die Projekte" in self.text(), "the page in German")
+        self.assertEqual(self.browser.script("document.documentElement.lang"), "de")
+        self.browser.open(self.door.address)
+        self.browser.find("button", "comets hinzufügen").click()
+        self.browser.find("button", "Liste speichern").click()
+        self.browser.says("Gespeichert. Ihre Liste hat 2 Projekte.")
+        self.browser.choose("Sprache", "English")
+        self.browser.find("button", "Sign out")
+        self.assertEqual(self.door.do(ADA, "GET", "/choices"), {"projects": ["rings", "comets"]})
+
+
+class Ways(PeopleCase):
+    def test_by_keyboard(self):
+        """The first Tab leads to the own list; sections have names; a question says what it means; the advice is folded after the first visit."""
+        self.door.move("choosing")
+        self.open()
+        self.browser.sign_in("student–ada—1 ")  # as a letter or a spreadsheet writes it
+        self.browser.in_phase("Choosing")
+        self.sees("Nobody else sees your list or its order.", "Waiting for a second round gains nothing.", "No group of students can agree on lists so that all of them gain.")
+        for name in ("Year", "Catalogue", "Your list"):
+            self.browser.find("region", name)
+        self.browser.tab_to("link", "Skip to your list", most=2)
+        self.browser.keys(Keys.ENTER)
+        self.assertEqual(self.browser.focused().accessible_name, "Your list")
+        self.browser.press("Add rings")
+        self.browser.press("Sign out")
+        dialog = self.browser.find("dialog", "Something here is not saved yet. Leave all the same?")
+        described = self.browser.script("document.getElementById(arguments[0].getAttribute('aria-describedby')).innerText", dialog)
+        self.assertEqual(described, "What you changed since you saved last would be lost.")
+        self.browser.press("Yes")
+        self.sign_in(BEN, "Choosing")
+        self.assertNotIn("Nobody else sees your list", self.text())
+        self.browser.driver.find_element("css selector", "summary").click()
+        self.sees("Nobody else sees your list or its order.")
+        self.browser.sign_out()
+        self.door.do(BEN, "PUT", "/choices", {"projects": ["comets"]})
+        self.door.move("ranking")
+        self.sign_in(BELL, "Ranking")
+        self.browser.tab_to("link", "Skip to your ranking", most=2)
+
+    def test_tables_on_phones(self):
+        """On a phone the lecturer stands under the title, and no word is broken; on a desk the title has the most room."""
+        self.beside("projects.json", DESCRIBED)
+        self.door.move("choosing")
+        self.open(ADA, "Choosing")
+        widths = "[...document.querySelectorAll('table[aria-label=Catalogue] thead th')].map((e) => e.offsetWidth)"
+        self.browser.resize(1280)
+        title, *others = self.browser.script(widths)
+        self.assertGreater(title, max(others) * 1.3)
+        self.assertFalse(self.browser.script("[...document.querySelectorAll('td .under')].some((e) => e.offsetParent)"))
+        self.browser.resize(390)
+        self.browser.press("Description of pulsars")
+        title, lecturer, *others = self.browser.script(widths)
+        self.assertEqual(lecturer, 0)
+        self.assertGreater(title, sum(others))
+        self.assertTrue(self.browser.script("[...document.querySelectorAll('td .under')].every((e) => e.offsetParent && e.innerText)"))
+        # each word stands on one line
+        broken = """[...document.querySelectorAll('table[aria-label=Catalogue] bdi')].filter((e) => e.offsetParent).flatMap((e) => [...e.firstChild.data.matchAll(/\\S+/g)].filter((m) => {
+          const range = document.createRange(); range.setStart(e.firstChild, m.index); range.setEnd(e.firstChild, m.index + m[0].length); return new Set([...range.getClientRects()].map((r) => r.top)).size > 1;
+        }).map((m) => m[0]))"""
+        self.assertEqual(self.browser.script(broken), [])
+        self.assertLessEqual(self.browser.script("document.documentElement.scrollWidth"), 390)

@@ -1,0 +1,72 @@
+// The words of each language: `node --test web/test/words.test.js`.
+
+import assert from 'node:assert/strict';
+import { readFileSync, readdirSync } from 'node:fs';
+import test from 'node:test';
+
+import { LANGUAGES, firstLanguage, offeredLanguages, speak, words } from '../words.js';
+
+const web = new URL('../', import.meta.url);
+const sources = readdirSync(web).filter((name) => name.endsWith('.js'));
+const source = (name) => readFileSync(new URL(name, web), 'utf8');
+const textsOf = async (language) => Object.assign({}, ...(await LANGUAGES[language].texts()));
+
+/** Each text by the path of its keys. */
+function flat(texts, path = '') {
+  return Object.entries(texts).flatMap(([key, value]) => (typeof value === 'object' ? flat(value, `${path}${key}.`) : [[`${path}${key}`, value]]));
+}
+
+for (const language of Object.keys(LANGUAGES)) {
+  test(`${language} has each text that English has, of the same kind, and no other`, async () => {
+    const [english, other] = [flat(await textsOf('en')), flat(await textsOf(language))];
+    assert.deepEqual(other.map(([path]) => path).sort(), english.map(([path]) => path).sort());
+    const texts = new Map(other);
+    for (const [path, text] of english) {
+      assert.equal(typeof texts.get(path), typeof text, path);
+      if (typeof text === 'function') assert.equal(texts.get(path).length, text.length, path);
+      else if (text !== '') assert.notEqual(texts.get(path).trim(), '', path);
+    }
+    assert.equal(texts.get('language'), language);
+  });
+}
+
+test('sentences are translated', async () => {
+  const german = new Map(flat(await textsOf('de')));
+  const same = flat(await textsOf('en')).filter(([path, text]) => typeof text === 'string' && text.split(' ').length > 3 && german.get(path) === text);
+  assert.deepEqual(same, []);
+});
+
+test('every text that is used is there, and every text that is there is used', () => {
+  const text = sources.filter((name) => !name.startsWith('words')).map(source).join('\n');
+  const used = new Set([...text.matchAll(/(?<!\/)\bwords\.(\w+)/g)].map(([, name]) => name));
+  const byName = ['openChoosing', 'openRanking', 'publish', 'fill', 'openSecond'];
+  for (const name of used) assert.ok(name in words, name);
+  for (const name of Object.keys(words)) assert.ok(used.has(name) || byName.includes(name) || name === 'language', `${name} is not used`);
+});
+
+test('what is said otherwise in the second round is said of phases that it has', () => {
+  for (const texts of [words.nowSecond, words.nextSecond]) {
+    assert.deepEqual(Object.keys(texts).sort(), ['lecturer', 'office', 'student']);
+    for (const of of Object.values(texts)) for (const phase of Object.keys(of)) assert.ok(['choosing', 'ranking', 'published'].includes(phase), phase);
+  }
+});
+
+test('the language to begin with is the browser’s, or the department’s first', () => {
+  assert.equal(firstLanguage(['en', 'de'], ['fr', 'de-CH', 'en']), 'de');
+  assert.equal(firstLanguage(['de', 'en'], ['fr']), 'de');
+  assert.deepEqual(offeredLanguages(['de', 'xx', 'en']), ['de', 'en']);
+  assert.deepEqual(offeredLanguages(['xx', 'constructor']), ['en', 'de']);
+  assert.deepEqual(offeredLanguages(undefined), ['en', 'de']);
+});
+
+test('what a language says last is said', async () => {
+  await speak('de');
+  assert.equal(words.ofList.save, 'Liste speichern');
+  await speak('en');
+  assert.equal(words.ofList.save, 'Save list');
+});
+
+test('ordinal numbers in English', () => {
+  const said = [1, 2, 3, 4, 11, 12, 13, 20].map((place) => words.choice(place).split(' ')[3]);
+  assert.deepEqual(said, ['1st', '2nd', '3rd', '4th', '11th', '12th', '13th', '20th']);
+});

@@ -1,0 +1,238 @@
+// The texts of the page in German, with the same keys as words-en.js. words-de-office.js has those of the office.
+
+import { largestFile, longestCode, longestList, mostRows, shortestCode } from './config.js';
+import { given } from './words-en.js';
+
+export const number = (count) => count.toLocaleString('de');
+export const many = (count, one, more) => `${number(count)} ${count === 1 ? one : more}`;
+export const projects = (count) => many(count, 'Projekt', 'Projekte');
+export const students = (count) => many(count, 'Person', 'Studierende');
+export const lecturers = (count) => many(count, 'Lehrperson', 'Lehrende');
+export const places = (count) => many(count, 'Platz', 'Plätze');
+
+export const words = {
+  language: 'de',
+  title: 'Projektwahl',
+  yes: 'Ja',
+  no: 'Nein',
+  tryAgain: 'Noch einmal versuchen',
+  loading: 'Einen Moment …',
+  closeMessage: 'Meldung schließen',
+  languageLabel: 'Sprache',
+  departmentLinks: { contact: 'Kontakt', privacy: 'Datenschutz', accessibility: 'Barrierefreiheit' },
+
+  // signing in
+  yourCode: 'Ihr Code',
+  codeHint: `Sie haben ihn vom Studienbüro: ${shortestCode} bis ${longestCode} Buchstaben, Ziffern und -.`,
+  signIn: 'Anmelden',
+  signOut: 'Abmelden',
+  noSuchCode: 'Niemand hat diesen Code. Sehen Sie noch einmal nach: Große und kleine Buchstaben sind verschieden.',
+  noCodeForm: `Das ist kein Code. Ein Code hat ${shortestCode} bis ${longestCode} Buchstaben ohne Akzente, Ziffern und -.`,
+  signedOut: 'Sie sind abgemeldet.',
+  unsavedLeave: 'Hier ist etwas noch nicht gespeichert. Trotzdem verlassen?',
+  unsavedLost: 'Was Sie seit dem letzten Speichern geändert haben, geht dann verloren.',
+  roles: { student: 'Studium', lecturer: 'Lehre', office: 'Studienbüro' },
+
+  // where the year stands
+  year: 'Jahr',
+  phases: { setup: 'Vorbereitung', choosing: 'Wahl', ranking: 'Rangfolgen', published: 'Veröffentlicht' },
+  round: (round) => `Runde ${round}`,
+  roundFor: 'Diese zweite Runde vergibt die übrigen Plätze an Studierende, die in der ersten kein Projekt bekommen haben.',
+  now: {
+    student: {
+      setup: 'Das Studienbüro trägt die Projekte ein. Sie können sich ansehen, was schon da ist.',
+      choosing: 'Setzen Sie die Projekte, die Sie möchten, auf Ihre Liste, das beste zuerst, und speichern Sie sie.',
+      ranking: 'Die Listen sind geschlossen. Die Lehrenden ordnen nun, wer ihre Projekte gewählt hat. Sie müssen nichts tun.',
+      published: 'Die Projekte sind vergeben.',
+    },
+    lecturer: {
+      setup: 'Das Studienbüro trägt die Projekte ein. Sehen Sie nach, ob Ihre stimmen.',
+      choosing: 'Die Studierenden stellen ihre Listen zusammen. Sie müssen nichts tun.',
+      ranking: 'Setzen Sie alle, die ein Projekt von Ihnen gewählt haben, in eine Rangfolge, die Besten zuerst, und speichern Sie sie.',
+      published: 'Die Projekte sind vergeben.',
+    },
+    office: {
+      setup: 'Tragen Sie die Lehrenden, ihre Projekte und die Studierenden ein. Öffnen Sie dann die Wahl.',
+      choosing: 'Die Studierenden stellen ihre Listen zusammen. Verzeichnisse können noch wachsen. Wenn die Zeit um ist, öffnen Sie die Rangfolgen.',
+      ranking: 'Die Lehrenden ordnen. Wenn niemand mehr fehlt, veröffentlichen Sie.',
+      published: 'Die Projekte sind vergeben.',
+    },
+  },
+  next: {
+    student: {
+      setup: 'Danach wählen Sie.',
+      choosing: 'Sie können sie ändern, bis das Studienbüro die Listen schließt. Was Sie zuletzt gespeichert haben, gilt. Danach ordnen die Lehrenden.',
+      ranking: 'Danach sehen Sie hier, welches Projekt Sie haben.',
+      published: '',
+    },
+    lecturer: {
+      setup: 'Danach wählen die Studierenden.',
+      choosing: 'Danach ordnen Sie, wer Ihre Projekte gewählt hat.',
+      ranking: 'Sie können sie ändern, bis das Studienbüro veröffentlicht. Danach sehen Sie hier, wer welches Projekt hat.',
+      published: '',
+    },
+    office: {
+      setup: 'Danach wählen die Studierenden.',
+      choosing: 'Danach ordnen die Lehrenden, wer ihre Projekte gewählt hat.',
+      ranking: 'Danach werden die Projekte vergeben.',
+      published: '',
+    },
+  },
+  nowSecond: {
+    student: {},
+    lecturer: {
+      choosing: 'Studierende ohne Projekt stellen ihre Listen zusammen. Sie müssen nichts tun.',
+      ranking: 'Setzen Sie alle, die in dieser Runde ein Projekt von Ihnen gewählt haben, in eine Rangfolge, die Besten zuerst, und speichern Sie sie.',
+    },
+    office: {
+      choosing: 'Studierende ohne Projekt stellen ihre Listen zusammen. Wenn die Zeit um ist, öffnen Sie die Rangfolgen.',
+    },
+  },
+  nextSecond: {
+    student: {
+      choosing: 'Eine Liste kann geändert werden, bis das Studienbüro die Listen schließt. Was zuletzt gespeichert ist, gilt. Danach ordnen die Lehrenden.',
+      ranking: 'Danach sehen alle ohne Projekt hier, welches sie haben.',
+    },
+    lecturer: {},
+    office: {},
+  },
+  place: (phase, round) => (round === 2 ? `„${phase}“ der Runde 2` : `„${phase}“`),
+  phaseMoved: (place) => `Das Jahr ist inzwischen weitergegangen und steht jetzt in ${place}. Sie haben nichts geändert.`,
+  lastListCounts: 'Es gilt die Liste, die Sie zuletzt gespeichert haben.',
+  lastRankingCounts: 'Es gilt die Rangfolge, die Sie zuletzt gespeichert haben.',
+
+  // the catalogue
+  catalogue: 'Projekte',
+  searchProjects: 'Projekte suchen',
+  columns: { title: 'Titel', lecturer: 'Lehrende', places: 'Plätze', list: 'Liste' },
+  shown: (shown, all) => (shown === all ? projects(all) : `${number(shown)} von ${projects(all)}`),
+  noProjects: 'Es gibt noch keine Projekte.',
+  add: 'Hinzu',
+  addKey: (key) => `${key} hinzufügen`,
+  onList: (place) => `Nr. ${place} Ihrer Liste`,
+  description: 'Beschreibung',
+  descriptionOf: (key) => `Beschreibung von ${key}`,
+  more: 'Mehr dazu',
+
+  // a list that is put in order
+  moveUp: (key) => `${key} nach oben`,
+  moveDown: (key) => `${key} nach unten`,
+  moveTo: (key) => `${key} auf Platz`,
+  remove: (key) => `${key} entfernen`,
+  isAt: (name, place, count) => `${given(name)} ist Nummer ${place} von ${count}.`,
+  isGone: (name, count) => `${given(name)} ist entfernt. ${count === 0 ? 'Die Liste ist leer.' : `Es bleiben ${count}.`}`,
+  orderHint: 'Ordnen Sie mit den Pfeilen, durch Ziehen, mit der Nummer eines Platzes oder mit den Pfeiltasten, Pos1 und Ende auf einer Taste des Eintrags.',
+  undo: 'Rückgängig',
+  undone: 'Die letzte Änderung ist zurückgenommen.',
+  backToSaved: 'Zurück zum Gespeicherten',
+  isBackToSaved: 'Das haben Sie zuletzt gespeichert.',
+  isChanged: 'Noch nicht gespeichert',
+  isSaved: 'Wie gespeichert',
+  printReceipt: 'Beleg drucken',
+  printed: (when, host) => `Wie gespeichert in ${host}, gedruckt am ${when}.`,
+  savedMeanwhile: 'Ein anderes Fenster oder Gerät hat das inzwischen gespeichert.',
+  listHere: 'Auf dieser Seite',
+  listSaved: 'Inzwischen gespeichert',
+  empty: 'Leer',
+  keepHere: 'Behalten, was auf dieser Seite steht',
+  keepSaved: 'Behalten, was gespeichert ist',
+  keptSaved: 'Das ist inzwischen gespeichert worden.',
+
+  // students
+  yourList: 'Ihre Liste',
+  skipToList: 'Zu Ihrer Liste springen',
+  ofList: {
+    label: 'Ihre Liste',
+    save: 'Liste speichern',
+    show: 'Liste zeigen',
+    saved: (count) => (count === 0 ? 'Gespeichert. Ihre Liste ist leer, Sie nehmen also nicht teil.' : `Gespeichert. Ihre Liste hat ${projects(count)}.`),
+    count: (count) => (count < longestList ? `${count} von ${longestList}, ${longestList - count} frei` : `Ihre Liste hat ${longestList} Projekte, mehr kann sie nicht haben.`),
+    missing: () => '',
+    which: 'Welche Liste behalten Sie?',
+  },
+  listEmpty: 'Auf Ihrer Liste steht noch nichts. Fügen Sie Projekte hinzu.',
+  listClosedEmpty: 'Sie haben keine Liste abgegeben.',
+  byLecturer: (lecturer, key) => (lecturer === '' ? key : `${given(lecturer)} · ${key}`),
+  about: 'Zu Ihrer Liste: wer sie sieht und wie Sie sie ordnen',
+  secret: 'Niemand sonst sieht Ihre Liste oder ihre Reihenfolge. Das Studienbüro sieht nur, ob sie leer ist. Ab den Rangfolgen sehen Lehrende, welche ihrer eigenen Projekte Sie gewählt haben, und sonst nichts davon.',
+  advice: 'Ihre ehrliche Reihenfolge ist in jeder Runde die beste Liste, die Sie abgeben können: Das ist bewiesen.',
+  adviceParts: [
+    'Mit einer anderen Liste bekommen Sie nie ein Projekt, das Ihnen lieber ist. Setzen Sie also nach vorn, was Sie am liebsten möchten, nicht, was sicher scheint, und lassen Sie Beliebtes nicht weg.',
+    'Ein weiteres Projekt am Ende schadet denen davor nie. Ein Projekt, das nicht auf Ihrer Liste steht, bekommen Sie nie.',
+    'Auf eine zweite Runde zu warten bringt nichts. Darin ist kein Projekt Ihrer ersten Liste für Sie übrig.',
+    'Keine Gruppe von Studierenden kann Listen so absprechen, dass alle in ihr gewinnen.',
+    'Nicht versprochen ist: dass niemand aus einer Gruppe gewinnt, etwas über Lehrende, oder etwas für Rangfolgen, die sich danach richten, wer sich bewirbt.',
+  ],
+  adviceSecond: 'Von Ihrer ersten Liste ist kein Projekt für Sie übrig. Setzen Sie andere auf die Liste, die Ihnen lieber sind als keines.',
+  yourProject: 'Ihr Projekt',
+  ownProject: (title, lecturer) => `Sie haben das Projekt ${given(title)} bei ${given(lecturer)}.`,
+  ownProjectByKey: (title) => `Sie haben das Projekt ${given(title)}.`,
+  choice: (place) => `Es ist Ihre ${place}. Wahl. Nur Sie sehen das.`,
+  hasOwnAlready: 'Sie haben ein Projekt aus der ersten Runde und stellen deshalb keine Liste zusammen.',
+  chooseAgain: 'In der ersten Runde haben Sie kein Projekt bekommen. Setzen Sie die Projekte, die Sie jetzt möchten, auf Ihre Liste, das beste zuerst, und speichern Sie sie.',
+  noProject: 'Diesmal gibt es kein Projekt für Sie. Kein Projekt Ihrer Liste hatte einen Platz für Sie: Mehr Studierende wollten diese Plätze, als es gab. Das Studienbüro bespricht mit Ihnen, wie es weitergeht.',
+  noProjectNoList: 'Diesmal gibt es kein Projekt für Sie, weil Sie keine Liste abgegeben haben. Das Studienbüro bespricht mit Ihnen, wie es weitergeht.',
+
+  // lecturers
+  ownProjects: 'Ihre Projekte',
+  ownPlaces: (count) => `Sie nehmen über alle Ihre Projekte höchstens ${students(count)}.`,
+  ownPlacesLeft: (count, taken) => `Sie nehmen über alle Ihre Projekte höchstens ${students(count)}. Aus der ersten Runde haben Sie ${number(taken)}.`,
+  noOwnProjects: 'Das Portal hat noch kein Projekt von Ihnen. Wenn eines fehlt, sagen Sie es dem Studienbüro.',
+  noOwnLeft: 'Kein Projekt von Ihnen nimmt an dieser Runde teil.',
+  placesOf: (count) => `${places(count)}.`,
+  placesLeft: (count) => `Die erste Runde ließ ${places(count)} übrig.`,
+  takesNobody: 'Es nimmt an dieser Runde nicht teil: Es hat keinen Platz mehr, oder Sie nehmen niemanden mehr.',
+  chosenBy: (count) => (count === 0 ? 'Niemand hat es gewählt.' : `Gewählt: ${many(count, 'Mal', 'Mal')}.`),
+  applicants: 'Bewerbungen',
+  applicantsHint: 'Wer noch nicht in Ihrer Rangfolge steht, nach Kürzel. Fügen Sie alle hinzu, die Besten zuerst.',
+  applicantsOf: 'Bewerbungen für',
+  allProjects: 'Alle Projekte',
+  chose: 'gewählt:',
+  applicantsSheet: { print: 'Bewerbungen drucken', copy: 'Bewerbungen kopieren', download: 'Bewerbungen herunterladen' },
+  applicantsHeader: ['Kürzel', 'Name', 'Projekte'],
+  noneMissing: 'In Ihrer Rangfolge fehlt niemand.',
+  noApplicants: 'Niemand hat ein Projekt von Ihnen gewählt, es gibt also nichts zu ordnen.',
+  addRest: 'Die übrigen darunter, nach Kürzel',
+  restAdded: 'Die übrigen stehen darunter, nach Kürzel. Niemand fehlt.',
+  rankingEmpty: 'In Ihrer Rangfolge steht noch niemand.',
+  skipToRanking: 'Zu Ihrer Rangfolge springen',
+  ofRanking: {
+    label: 'Ihre Rangfolge',
+    save: 'Rangfolge speichern',
+    show: 'Rangfolge zeigen',
+    saved: (count) => `Gespeichert. Ihre Rangfolge hat ${students(count)}.`,
+    count: (count, all) => `${number(count)} von ${number(all)}`,
+    missing: (count) => `Noch nicht gespeichert: Es fehlen ${number(count)}.`,
+    which: 'Welche Rangfolge behalten Sie?',
+  },
+  nothingToDo: 'Niemand hat ein Projekt von Ihnen gewählt. Sie müssen nichts tun.',
+  nothingNext: 'Danach werden die Projekte vergeben.',
+  whoHasWhat: 'Wer welches Projekt hat',
+  nobodyHasIt: 'Niemand',
+  resultSheet: { print: 'Ergebnis drucken', copy: 'Ergebnis kopieren', download: 'Ergebnis herunterladen' },
+  resultHeader: ['Kürzel', 'Name', 'Projekt', 'Titel'],
+  copiedLines: (count) => `${many(count, 'Zeile', 'Zeilen')} kopiert.`,
+
+  // what goes wrong
+  lost: 'Das Portal antwortet nicht. Was Sie eingegeben haben, ist noch da.',
+  notCopied: 'Der Browser hat das Kopieren nicht erlaubt. Markieren und kopieren Sie die Namen von Hand.',
+  unexpected: 'Auf dieser Seite ist etwas schiefgegangen. Laden Sie sie neu.',
+  refusals: {
+    no_caller: 'Diesen Code hat niemand mehr. Melden Sie sich neu an.',
+    not_yours: 'Das ist nicht für Ihre Rolle.',
+    wrong_phase: 'Das geht jetzt nicht.',
+    already_placed: 'Sie haben ein Projekt aus der ersten Runde und können deshalb keine Liste abgeben.',
+    roll_full: `Das Verzeichnis hätte zu viele Zeilen. Höchstens ${lecturers(mostRows.lecturers)}, ${projects(mostRows.projects)} und ${students(mostRows.students)} werden angenommen.`,
+    too_large: `Die Datei ist zu groß. Höchstens ${number(largestFile)} Bytes werden angenommen.`,
+    bad_body: 'Das konnte das Portal nicht lesen.',
+    other: (word) => `Das Portal hat abgelehnt: ${word}.`,
+  },
+  badList: (name, why) => `Nicht gespeichert wegen ${given(name)}: ${why}. Was Sie vorher gespeichert haben, gilt weiter.`,
+  badListFaults: {
+    too_long: 'Von hier an ist die Liste zu lang',
+    unknown_project: 'Dieses Projekt gibt es nicht, oder es hat keinen Platz',
+    repeated: 'Es steht zweimal auf der Liste',
+    not_an_applicant: 'Diese Person hat kein Projekt von Ihnen gewählt',
+  },
+  rankingMissing: 'Nicht gespeichert: Jemand fehlt, der ein Projekt von Ihnen gewählt hat. Was Sie vorher gespeichert haben, gilt weiter.',
+};
