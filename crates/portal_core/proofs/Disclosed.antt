@@ -16,7 +16,7 @@ use Rattle.portal_core.specs.Bodies.{projects_body}
 use Rattle.portal_core.specs.Faults.{ListFault, choice_fault}
 use Rattle.portal_core.specs.Answer.{Answer, Act, Decision, Nothing, Apply, Publish, Render, open_where, unless_faulty, applies, already_placed, decision, answer, to_student}
 use Rattle.portal_core.specs.Run.{StepLeaves, Step, Wish, Calls, Refused, Request, Answers, Run, AllAnswered}
-use Rattle.portal_core.specs.Places.{Reordered, SameButPlaces, SameWish, equal, sets, SameRequest, has_places, opens_result, Unless, AlikeUntilPublished}
+use Rattle.portal_core.specs.Places.{Reordered, SameButPlaces, SameWish, equal, sets, SameRequest, has_places, moves_to_published, Unless, AlikeUntilPublished}
 use Rattle.portal_core.proofs.Cases.{by_student, by_lecturer, by_office}
 use Rattle.portal_core.proofs.Hearing.{really}
 use Rattle.portal_core.proofs.Reorder.{accepted_reordered, reordered_back}
@@ -81,7 +81,7 @@ is_publish Publish = true
 is_publish _ = false
 
 abbrev Opens : AbstractCall → Decision → Type 0
-Opens ask d = is_publish d.act ≡ true → opens_result (Calls ask) d.reply ≡ true
+Opens ask d = is_publish d.act ≡ true → moves_to_published (Calls ask) d.reply ≡ true
 
 publishes_opens : (x : Sight) (ask : AbstractCall) → Opens ask (decision x ask)
 publishes_opens Nobody ask = λ e. cc
@@ -111,14 +111,14 @@ after v w v' w' _ _ s (same_act Publish) e l m = cc
 after v w v' w' _ _ s (reorders k {ks} {ls} r) e l m = subst (λ x. SameButPlaces x w') (sym l) (subst (λ x. SameButPlaces (changed v (Choices k ks)) x) (sym m) (both_choose v w k ks ls r s))
 
 abbrev Goes : Wish → Answer → Answer → World → World → Type 0
-Goes p a b v' w' = Unless (has_places p) (a ≡ b) × (SameButPlaces v' w' ⊎ (opens_result p a ≡ true))
+Goes p a b v' w' = Unless (has_places p) (a ≡ b) × (SameButPlaces v' w' ⊎ (moves_to_published p a ≡ true))
 
 goes_on : (v w v' w' : World) (c : Key) (ask ask' : AbstractCall) (a b : Answer) → SameButPlaces v w → Step v c ask a v' → Step w c ask' b w' → SameAct (decision (view v c) ask).act (decision (view w c) ask').act
-    → SameButPlaces v' w' ⊎ (opens_result (Calls ask) a ≡ true)
+    → SameButPlaces v' w' ⊎ (moves_to_published (Calls ask) a ≡ true)
 goes_on v w v' w' c ask ask' a b s l m same = go (is_publish (decision (view v c) ask).act) refl
   where
-    go : (p : Bool) → is_publish (decision (view v c) ask).act ≡ p → SameButPlaces v' w' ⊎ (opens_result (Calls ask) a ≡ true)
-    go true e = inr (subst (λ x. opens_result (Calls ask) x ≡ true) (sym l.told) (publishes_opens (view v c) ask e))
+    go : (p : Bool) → is_publish (decision (view v c) ask).act ≡ p → SameButPlaces v' w' ⊎ (moves_to_published (Calls ask) a ≡ true)
+    go true e = inr (subst (λ x. moves_to_published (Calls ask) x ≡ true) (sym l.told) (publishes_opens (view v c) ask e))
     go false e = inl (after v w v' w' _ _ s same e l.left m.left)
 
 one_goes : (v w v' w' : World) (q r : Request) → SameButPlaces v w → q.code ≡ r.code → (p p' : Wish) → SameWish p p' → (a b : Answer) → Answers v q p a v' → Answers w r p' b w' → Goes p a b v' w'
@@ -140,7 +140,7 @@ places_unseen v w (q ∷ qs) (r ∷ rs) (a ∷ told) (b ∷ said) (v' ∷ after)
     let one : Goes q.wish a b v' w' = one_goes v w v' w' q r s z.0.code q.wish r.wish z.0.wish a b (really v v' q a run.0 all.0) (really w w' r b run'.0 all'.0) in
     (one.0, rest one.1 (λ t. places_unseen v' w' qs rs told said after later t z.1 run.1 all.1 run'.1 all'.1))
   where
-    rest : SameButPlaces v' w' ⊎ (opens_result q.wish a ≡ true) → (SameButPlaces v' w' → AlikeUntilPublished qs told said) → Unless (opens_result q.wish a) (AlikeUntilPublished qs told said)
+    rest : SameButPlaces v' w' ⊎ (moves_to_published q.wish a ≡ true) → (SameButPlaces v' w' → AlikeUntilPublished qs told said) → Unless (moves_to_published q.wish a) (AlikeUntilPublished qs told said)
     rest (inl t) k = unless_any _ _ (k t)
     rest (inr e) k = subst (λ b. Unless b (AlikeUntilPublished qs told said)) (sym e) tt
 places_unseen v w (q ∷ qs) [] told said after later s z run all run' all' = absurd z

@@ -2,7 +2,6 @@
 use Rattle.std.proofs.Common.{◌≡◌, ◌⊎◌, inl, inr, ℕ, ◌+◌, Bool, true, false, List, [], ◌∷◌, ◌++◌, length, refl, sym, ◌∙◌, ap, subst, arith, append_assoc, append-nil}
 use Rattle.std.specs.Prelude.{Option, Some, None, ◌==◌, nat_le, codes}
 use Rattle.std.specs.List.{find}
-use Rattle.std.proofs.lemmas.Bool.{false≢true}
 use Rattle.std.proofs.lemmas.Bool.Decides.{nat_tests}
 use Rattle.std.proofs.lemmas.List.{length-append}
 use Rattle.portal_core.specs.declared.rows.Listing.{Listing}
@@ -10,69 +9,82 @@ use Rattle.portal_core.specs.declared.rows.Person.{Person}
 use Rattle.portal_core.specs.Words.{Key, equals, has}
 use Rattle.portal_core.specs.Faults.{ListFault, fault_at, choice_fault, ranking_fault, in_catalogue, is_applicant, lacks_one}
 use Rattle.portal_core.specs.Rolls.{Roll, RollFault, Taken, Faulty, Took, take_rows, one_new, one_same, conflict_at, roll_full}
-use Rattle.portal_core.specs.Legal.{IsBadChoice, IsBadRank, NoneBad, IsFirstBad, IsRefused, with_new, IsFirstRefused}
+use Rattle.portal_core.specs.Legal.{wrong_choice, wrong_rank, NoneWrong, IsFirstWrong, IsRefused, with_new, IsFirstRefused}
 
 -- lists of keys
 
--- where some faults are told, they are all told at one place
-told_at : (o : Option ListFault) (at : ℕ) (word : List ℕ) (f : ListFault) → o ≡ Some (fault_at at word) → o ≡ Some f → f.at ≡ at
-told_at o at word f so told =
-    let both : Some (fault_at at word) ≡ Some f = sym so ∙ told in
-    let one : fault_at at word ≡ f = cc in
-    sym (ap (λ (x : ListFault). x.at) one)
+-- a scan tells one fault
+told_once : (o : Option ListFault) (f g : ListFault) → o ≡ Some f → o ≡ Some g → g ≡ f
+told_once o f g so told =
+    let both : Some f ≡ Some g = sym so ∙ told in
+    let one : f ≡ g = cc in
+    sym one
 
-module _ (Bad : List Key → Key → Type 0) (scan : List Key → List Key → Option ListFault) where
-  -- the next key is bad and its fault is told at its place, or the scan goes on
+module _ (wrong : List Key → Key → Option (List ℕ)) (scan : List Key → List Key → Option ListFault) where
+  -- the next key is wrong and its fault is told at its position, or the scan goes on
+  abbrev StepsAt : List Key → Key → List Key → Type 0
+  StepsAt earlier k ks =
+      ((word : List ℕ) × (wrong earlier k ≡ Some word) × (scan earlier (k ∷ ks) ≡ Some (fault_at (length earlier + 1) word)))
+      ⊎ ((wrong earlier k ≡ None) × (scan earlier (k ∷ ks) ≡ scan (earlier ++ k ∷ []) ks))
+
   abbrev pub Steps : Type 0
-  Steps = (earlier : List Key) (k : Key) (ks : List Key)
-      → (Bad earlier k × ((f : ListFault) → scan earlier (k ∷ ks) ≡ Some f → f.at ≡ length earlier + 1)) ⊎ ((Bad earlier k → ⊥) × (scan earlier (k ∷ ks) ≡ scan (earlier ++ k ∷ []) ks))
+  Steps = (earlier : List Key) (k : Key) (ks : List Key) → StepsAt earlier k ks
 
   abbrev NoneFrom : List Key → List Key → Type 0
-  NoneFrom earlier list = (before : List Key) (k : Key) (after : List Key) → list ≡ before ++ k ∷ after → Bad (earlier ++ before) k → ⊥
+  NoneFrom earlier list = (before : List Key) (k : Key) (after : List Key) → list ≡ before ++ k ∷ after → wrong (earlier ++ before) k ≡ None
 
-  abbrev Found : List Key → List Key → ℕ → Type 0
-  Found earlier list at =
-      (front : List Key) × (k : Key) × (rest : List Key) × (list ≡ front ++ k ∷ rest) × (at ≡ length earlier + (length front + 1)) × Bad (earlier ++ front) k × NoneFrom earlier front
+  abbrev Found : List Key → List Key → ListFault → Type 0
+  Found earlier list f =
+      (front : List Key) × (k : Key) × (rest : List Key) × (list ≡ front ++ k ∷ rest) × (f.at ≡ length earlier + (length front + 1)) × (wrong (earlier ++ front) k ≡ Some f.word) × NoneFrom earlier front
 
   none_in : (earlier : List Key) → NoneFrom earlier []
-  none_in earlier [] k after e bad = cc
-  none_in earlier (x ∷ before) k after e bad = cc
+  none_in earlier [] k after e = cc
+  none_in earlier (x ∷ before) k after e = cc
 
-  none_more : (earlier : List Key) (k : Key) (ks : List Key) → (Bad earlier k → ⊥) → NoneFrom (earlier ++ k ∷ []) ks → NoneFrom earlier (k ∷ ks)
-  none_more earlier k ks good more [] y after e bad =
+  none_more : (earlier : List Key) (k : Key) (ks : List Key) → wrong earlier k ≡ None → NoneFrom (earlier ++ k ∷ []) ks → NoneFrom earlier (k ∷ ks)
+  none_more earlier k ks good more [] y after e =
       let one : k ≡ y = cc in
-      good (subst (Bad earlier) (sym one) (subst (λ xs. Bad xs y) (append-nil earlier) bad))
-  none_more earlier k ks good more (x ∷ before) y after e bad =
+      subst (λ xs. wrong xs y ≡ None) (sym (append-nil earlier)) (subst (λ z. wrong earlier z ≡ None) one good)
+  none_more earlier k ks good more (x ∷ before) y after e =
       let one : k ≡ x = cc in
       let rest : ks ≡ before ++ y ∷ after = cc in
-      more before y after rest (subst (λ xs. Bad xs y) (sym (append_assoc earlier (k ∷ []) before)) (subst (λ z. Bad (earlier ++ z ∷ before) y) (sym one) bad))
+      subst (λ z. wrong (earlier ++ z ∷ before) y ≡ None) one (subst (λ xs. wrong xs y ≡ None) (append_assoc earlier (k ∷ []) before) (more before y after rest))
 
-  later : (earlier : List Key) (k : Key) (ks : List Key) (at : ℕ) → (Bad earlier k → ⊥) → Found (earlier ++ k ∷ []) ks at → Found earlier (k ∷ ks) at
-  later earlier k ks at good (front, x, rest, parts, place, bad, none) = (
+  later : (earlier : List Key) (k : Key) (ks : List Key) (f : ListFault) → wrong earlier k ≡ None → Found (earlier ++ k ∷ []) ks f → Found earlier (k ∷ ks) f
+  later earlier k ks f good (front, x, rest, parts, position, word, none) = (
     k ∷ front,
     x,
     rest,
     ap (λ l. k ∷ l) parts,
-    omega (arith, place, length-append earlier (k ∷ [])),
-    subst (λ xs. Bad xs x) (append_assoc earlier (k ∷ []) front) bad,
+    omega (arith, position, length-append earlier (k ∷ [])),
+    subst (λ xs. wrong xs x ≡ Some f.word) (append_assoc earlier (k ∷ []) front) word,
     none_more earlier k front good none,
   )
 
-  scanned : Steps → (earlier list : List Key) (f : ListFault) → scan earlier list ≡ Some f → Found earlier list f.at ⊎ (NoneFrom earlier list × (scan (earlier ++ list) [] ≡ Some f))
+  here : (earlier : List Key) (k : Key) (ks : List Key) (f : ListFault) (word : List ℕ) → wrong earlier k ≡ Some word → f ≡ fault_at (length earlier + 1) word → Found earlier (k ∷ ks) f
+  here earlier k ks f word is same = (
+    [],
+    k,
+    ks,
+    refl,
+    omega (arith, ap (λ (x : ListFault). x.at) same),
+    subst (λ xs. wrong xs k ≡ Some f.word) (sym (append-nil earlier)) (is ∙ ap Some (sym (ap (λ (x : ListFault). x.word) same))),
+    none_in earlier,
+  )
+
+  scanned : Steps → (earlier list : List Key) (f : ListFault) → scan earlier list ≡ Some f → Found earlier list f ⊎ (NoneFrom earlier list × (scan (earlier ++ list) [] ≡ Some f))
   scanned steps earlier [] f e = inr (none_in earlier, subst (λ xs. scan xs [] ≡ Some f) (sym (append-nil earlier)) e)
   scanned steps earlier (k ∷ ks) f e = elim (steps earlier k ks) [
-    | inl (bad, at) ↦
-        let place : f.at ≡ length earlier + 1 = at f e in
-        inl ([], k, ks, refl, omega (arith, place), subst (λ xs. Bad xs k) (sym (append-nil earlier)) bad, none_in earlier)
+    | inl (word, is, told) ↦ inl (here earlier k ks f word is (told_once (scan earlier (k ∷ ks)) (fault_at (length earlier + 1) word) f told e))
     | inr (good, same) ↦ elim (scanned steps (earlier ++ k ∷ []) ks f (sym same ∙ e)) [
-      | inl found ↦ inl (later earlier k ks f.at good found)
+      | inl found ↦ inl (later earlier k ks f good found)
       | inr (none, end) ↦ inr (none_more earlier k ks good none, subst (λ xs. scan xs [] ≡ Some f) (append_assoc earlier (k ∷ []) ks) end)
     ]
   ]
 
-  pub first_bad : Steps → (list : List Key) (f : ListFault) → scan [] list ≡ Some f → IsFirstBad Bad list f.at ⊎ (NoneBad Bad list × (scan list [] ≡ Some f))
-  first_bad steps list f e = elim (scanned steps [] list f e) [
-    | inl (front, k, rest, parts, place, bad, none) ↦ inl (record { front = front; key = k; rest = rest; parts = parts; place = omega (arith, place); bad = bad; none_before = none })
+  pub first_wrong : Steps → (list : List Key) (f : ListFault) → scan [] list ≡ Some f → IsFirstWrong wrong list f ⊎ (NoneWrong wrong list × (scan list [] ≡ Some f))
+  first_wrong steps list f e = elim (scanned steps [] list f e) [
+    | inl (front, k, rest, parts, position, word, none) ↦ inl (record { front = front; key = k; rest = rest; parts = parts; position = omega (arith, position); word = word; none_before = none })
     | inr (none, end) ↦ inr (none, end)
   ]
 
@@ -82,26 +94,22 @@ module _ (catalogue : List Listing) where
   abbrev choices : List Key → List Key → Option ListFault
   choices earlier list = choice_fault catalogue (length earlier + 1) earlier list
 
-  choice_steps : Steps (IsBadChoice catalogue) choices
-  choice_steps earlier k ks = go (length earlier + 1 == 21) (in_catalogue catalogue k) (has earlier k) refl refl refl
+  choice_steps : Steps (wrong_choice catalogue) choices
+  choice_steps earlier k ks = go (length earlier == 20) (in_catalogue catalogue k) (has earlier k) refl refl refl
     where
-      go : (full known twice : Bool) → (length earlier + 1 == 21) ≡ full → in_catalogue catalogue k ≡ known → has earlier k ≡ twice
-          → (IsBadChoice catalogue earlier k × ((f : ListFault) → choices earlier (k ∷ ks) ≡ Some f → f.at ≡ length earlier + 1)) ⊎ ((IsBadChoice catalogue earlier k → ⊥) × (choices earlier (k ∷ ks) ≡ choices (earlier ++ k ∷ []) ks))
-      go true known twice ef ek et = inl (inl (grind (arith, nat_tests)), λ f e. told_at _ (length earlier + 1) (codes "too_long") f (rw ef refl) e)
-      go false false twice ef ek et = inl (inr (inl ek), λ f e. told_at _ (length earlier + 1) (codes "unknown_project") f (rw (ef, ek) refl) e)
-      go false true true ef ek et = inl (inr (inr et), λ f e. told_at _ (length earlier + 1) (codes "repeated") f (rw (ef, ek, et) refl) e)
-      go false true false ef ek et =
-          inr (
-            λ bad. elim bad [
-              | inl full ↦ let is_full : (length earlier + 1 == 21) ≡ true = grind (arith, nat_tests) in false≢true (sym ef ∙ is_full)
-              | inr (inl unknown) ↦ false≢true (sym unknown ∙ ek)
-              | inr (inr twice) ↦ false≢true (sym et ∙ twice)
-            ],
-            rw (ef, ek, et) (ap (λ n. choice_fault catalogue n (earlier ++ k ∷ []) ks) (omega (arith, length-append earlier (k ∷ [])))),
-          )
+      at_last : (full : Bool) → (length earlier == 20) ≡ full → (length earlier + 1 == 21) ≡ full
+      at_last true e = grind (arith, nat_tests)
+      at_last false e = grind (arith, nat_tests)
 
-  pub choice_first : (list : List Key) (f : ListFault) → choice_fault catalogue 1 [] list ≡ Some f → IsFirstBad (IsBadChoice catalogue) list f.at
-  choice_first list f e = elim (first_bad (IsBadChoice catalogue) choices choice_steps list f e) [
+      go : (full known twice : Bool) → (length earlier == 20) ≡ full → in_catalogue catalogue k ≡ known → has earlier k ≡ twice → StepsAt (wrong_choice catalogue) choices earlier k ks
+      go true known twice ef ek et = inl (codes "too_long", rw ef refl, rw (at_last true ef) refl)
+      go false false twice ef ek et = inl (codes "unknown_project", rw (ef, ek) refl, rw (at_last false ef, ek) refl)
+      go false true true ef ek et = inl (codes "repeated", rw (ef, ek, et) refl, rw (at_last false ef, ek, et) refl)
+      go false true false ef ek et =
+          inr (rw (ef, ek, et) refl, rw (at_last false ef, ek, et) (ap (λ n. choice_fault catalogue n (earlier ++ k ∷ []) ks) (omega (arith, length-append earlier (k ∷ [])))))
+
+  pub choice_first : (list : List Key) (f : ListFault) → choice_fault catalogue 1 [] list ≡ Some f → IsFirstWrong (wrong_choice catalogue) list f
+  choice_first list f e = elim (first_wrong (wrong_choice catalogue) choices choice_steps list f e) [
     | inl first ↦ first
     | inr (none, end) ↦ cc
   ]
@@ -112,26 +120,21 @@ module _ (applicants : List (Key × List Person)) where
   abbrev ranks : List Key → List Key → Option ListFault
   ranks earlier list = ranking_fault applicants (length earlier + 1) earlier list
 
-  rank_steps : Steps (IsBadRank applicants) ranks
+  rank_steps : Steps (wrong_rank applicants) ranks
   rank_steps earlier k ks = go (is_applicant applicants k) (has earlier k) refl refl
     where
-      go : (known twice : Bool) → is_applicant applicants k ≡ known → has earlier k ≡ twice
-          → (IsBadRank applicants earlier k × ((f : ListFault) → ranks earlier (k ∷ ks) ≡ Some f → f.at ≡ length earlier + 1)) ⊎ ((IsBadRank applicants earlier k → ⊥) × (ranks earlier (k ∷ ks) ≡ ranks (earlier ++ k ∷ []) ks))
-      go false twice ek et = inl (inl ek, λ f e. told_at _ (length earlier + 1) (codes "not_an_applicant") f (rw ek refl) e)
-      go true true ek et = inl (inr et, λ f e. told_at _ (length earlier + 1) (codes "repeated") f (rw (ek, et) refl) e)
-      go true false ek et =
-          inr (
-            λ bad. elim bad [ inl unknown ↦ false≢true (sym unknown ∙ ek) | inr twice ↦ false≢true (sym et ∙ twice) ],
-            rw (ek, et) (ap (λ n. ranking_fault applicants n (earlier ++ k ∷ []) ks) (omega (arith, length-append earlier (k ∷ [])))),
-          )
+      go : (known twice : Bool) → is_applicant applicants k ≡ known → has earlier k ≡ twice → StepsAt (wrong_rank applicants) ranks earlier k ks
+      go false twice ek et = inl (codes "not_an_applicant", rw ek refl, rw ek refl)
+      go true true ek et = inl (codes "repeated", rw (ek, et) refl, rw (ek, et) refl)
+      go true false ek et = inr (rw (ek, et) refl, rw (ek, et) (ap (λ n. ranking_fault applicants n (earlier ++ k ∷ []) ks) (omega (arith, length-append earlier (k ∷ [])))))
 
-  missing : (list : List Key) (f : ListFault) (lacks : Bool) → lacks_one applicants list ≡ lacks → ranks list [] ≡ Some f → (f.at ≡ 0) × (lacks_one applicants list ≡ true)
-  missing list f true so e = (told_at _ 0 (codes "missing") f (rw so refl) e, so)
+  missing : (list : List Key) (f : ListFault) (lacks : Bool) → lacks_one applicants list ≡ lacks → ranks list [] ≡ Some f → (f ≡ fault_at 0 (codes "missing")) × (lacks_one applicants list ≡ true)
+  missing list f true so e = (told_once (ranks list []) (fault_at 0 (codes "missing")) f (rw so refl) e, so)
   missing list f false so e = let none : ranks list [] ≡ None = rw so refl in let both : None ≡ Some f = sym none ∙ e in cc
 
   pub rank_first : (list : List Key) (f : ListFault) → ranking_fault applicants 1 [] list ≡ Some f
-      → IsFirstBad (IsBadRank applicants) list f.at ⊎ ((f.at ≡ 0) × NoneBad (IsBadRank applicants) list × (lacks_one applicants list ≡ true))
-  rank_first list f e = elim (first_bad (IsBadRank applicants) ranks rank_steps list f e) [
+      → IsFirstWrong (wrong_rank applicants) list f ⊎ ((f ≡ fault_at 0 (codes "missing")) × NoneWrong (wrong_rank applicants) list × (lacks_one applicants list ≡ true))
+  rank_first list f e = elim (first_wrong (wrong_rank applicants) ranks rank_steps list f e) [
     | inl first ↦ inl first
     | inr (none, end) ↦ let told = missing list f (lacks_one applicants list) refl end in inr (told.0, none, told.1)
   ]

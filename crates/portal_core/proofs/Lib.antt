@@ -45,4 +45,5 @@ pub mod HonestLists
 pub mod HonestGroups
 pub mod LeftOver
 mod BothRounds
+mod OverRuns
 mod BestShown

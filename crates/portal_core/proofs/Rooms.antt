@@ -5,7 +5,8 @@ use Rattle.std.specs.List.{list_any, filter_map, cons_option}
 use Rattle.std.proofs.lemmas.List.Sums.{length-filter}
 use Rattle.portal_core.specs.Words.{Key, equals, has}
 use Rattle.portal_core.specs.World.{Student, is_at, project_key, pairs_with, given_to, given_with, lowered_project}
-use Rattle.portal_core.specs.inner.Room.{pairs_to, pairs_among, own_keys, project_left, lecturer_left}
+use Rattle.portal_core.specs.Sheets.{students_at}
+use Rattle.portal_core.specs.inner.Room.{pairs_among, own_keys, project_left, lecturer_left}
 use Rattle.portal_core.specs.declared.rows.LecturerRow.{LecturerRow}
 use Rattle.portal_core.specs.declared.rows.ProjectRow.{ProjectRow}
 use Rattle.portal_core.proofs.AllLaws.{any_map, filtered_any}
@@ -49,7 +50,7 @@ module _ (ss : List Student) where
   abbrev pairs : List (Key × Key)
   pairs = pairs_with (λ s. s.earlier_placement) ss
 
-  to_is : (p : Key) → pairs_to pairs p ≡ given_to ss p
+  to_is : (p : Key) → students_at pairs p ≡ given_to ss p
   to_is p = counted (λ k. equals k p) (λ s. s.earlier_placement) ss ∙ (λ i. count_by (λ s. at_it p s.earlier_placement i) ss)
 
   among_is : (ps : List ProjectRow) (l : Key) → pairs_among pairs (own_keys ps l) ≡ given_with ps ss l
@@ -59,7 +60,7 @@ module _ (ss : List Student) where
   room_case {X} f n = elim (nat_lt 0 n) as (λ b. option_map f (cond b (Some n) None) ≡ cond b (Some (f n)) None) [ true ↦ refl | false ↦ refl ]
 
   pub project_left_is : (p : ProjectRow) → project_left pairs p ≡ cond (nat_lt 0 (lowered_project ss p).capacity) (Some (lowered_project ss p)) None
-  project_left_is p = room_case (λ n. record p { capacity = n }) (p.capacity - pairs_to pairs p.key) ∙ (λ i. cond (nat_lt 0 (p.capacity - to_is p.key i)) (Some (record p { capacity = p.capacity - to_is p.key i })) None)
+  project_left_is p = room_case (λ n. record p { capacity = n }) (p.capacity - students_at pairs p.key) ∙ (λ i. cond (nat_lt 0 (p.capacity - to_is p.key i)) (Some (record p { capacity = p.capacity - to_is p.key i })) None)
 
   pub lecturer_left_is : (ps : List ProjectRow) (l : LecturerRow) → lecturer_left ps pairs l
       ≡ cond (nat_lt 0 (l.capacity - given_with ps ss l.key)) (Some (record l { capacity = l.capacity - given_with ps ss l.key })) None

@@ -3,6 +3,8 @@ use Rattle.std.specs.Prelude.{◌≡◌, ◌<◌, ◌≤◌, true, false, List, 
 use Rattle.std.specs.List.{AllZip, AllByRecursion}
 use Rattle.spa_model.specs.Spa.{IsBest}
 use Rattle.spa_model.specs.Pairs.{number_in}
+use Rattle.portal_core.specs.declared.phase.Phase.TheVariants.{Published}
+use Rattle.portal_core.specs.declared.phase.Round.TheVariants.{First}
 use Rattle.portal_core.specs.declared.view.View.TheVariants as sees
 use Rattle.portal_core.specs.Words.{Key, has}
 use Rattle.portal_core.specs.World.{World, Lecturer, Student, first, is_left, is_second, is_published, in_play}
@@ -11,6 +13,8 @@ use Rattle.portal_core.specs.Sight.{StudentSees}
 use Rattle.portal_core.specs.View.{catalogue, view}
 use Rattle.portal_core.specs.Faults.{in_catalogue}
 use Rattle.portal_core.specs.Good.{Good}
+use Rattle.portal_core.specs.Answer.{Answer}
+use Rattle.portal_core.specs.Run.{Request, Run}
 
 -- a good world in published whose result is the best for the students
 pub record HasBest (w : World) : Type 0 where
@@ -40,7 +44,7 @@ RankAlike l k = (k.row ≡ l.row) × OrderAlike (unwrap_or l.ranking []) (unwrap
 abbrev pub ListAlike : (Key → Type 0) → Student → Student → Type 0
 ListAlike May x y = (y.row ≡ x.row) × ((May x.row.key → ⊥) → y.choice ≡ x.choice) × (y.earlier_placement ≡ x.earlier_placement)
 
--- worlds of one round, with the same rolls and, in the second, one first result, where the lists of the students with
+-- worlds of the same round, with the same rolls and, in the second, one first result, where the lists of the students with
 -- some keys may differ
 pub record DifferInLists (w v : World) (May : Key → Type 0) : Type 0 where
   pub round : v.round ≡ w.round
@@ -77,6 +81,15 @@ abbrev pub HonestOverBoth : Type 0
 HonestOverBoth =
     (w u : World) (code : Key) (a b : StudentSees) → HasBest w → Good u → is_second u.round ≡ true → DifferInOneList w (first u) a.me.key
     → view w code ≡ sees.Student a → view u code ≡ sees.Student b → IsNoWorse a.choices a.result b.result
+
+-- the same of every second round that a run reaches from a published first round v, which differs from w at most in the
+-- list of the caller
+abbrev pub HonestOverRuns : Type 0
+HonestOverRuns =
+    (w v : World) (code : Key) (a : StudentSees) (asked : List Request) (told : List Answer) (after : List World)
+    → HasBest w → Good v → v.round ≡ First → v.phase ≡ Published → DifferInOneList w v a.me.key
+    → view w code ≡ sees.Student a → Run v asked told after
+    → AllByRecursion (λ u. (b : StudentSees) → is_second u.round ≡ true → view u code ≡ sees.Student b → IsNoWorse a.choices a.result b.result) after
 
 -- a student of the group, and what the student is shown in the first and in the second, which is no better by the list
 -- of the first

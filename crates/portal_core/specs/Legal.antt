@@ -1,10 +1,10 @@
 -- Lists and rows that nothing is wrong with, and where a fault is told.
-use Rattle.std.specs.Prelude.{◌≡◌, ◌⊎◌, ℕ, ◌+◌, ◌<◌, ◌≤◌, true, false, List, [], ◌∷◌, ◌++◌, length, Some, None}
+use Rattle.std.specs.Prelude.{◌≡◌, ◌⊎◌, ℕ, ◌+◌, ◌<◌, ◌≤◌, true, false, not, if◌then◌else◌, ◌==◌, codes, List, [], ◌∷◌, ◌++◌, length, Option, Some, None}
 use Rattle.std.specs.List.{list_any, find}
 use Rattle.portal_core.specs.declared.rows.Listing.{Listing}
 use Rattle.portal_core.specs.declared.rows.Person.{Person}
 use Rattle.portal_core.specs.Words.{Key, equals, has}
-use Rattle.portal_core.specs.Faults.{in_catalogue, is_applicant}
+use Rattle.portal_core.specs.Faults.{ListFault, in_catalogue, is_applicant}
 use Rattle.portal_core.specs.Rolls.{Roll, RollFault, conflict_at, roll_full, Took, take_rows}
 
 -- new rows: no row before has the key, none is bad beside those before it, and there is room
@@ -13,27 +13,32 @@ AreFresh roll there [] = Unit {0}
 AreFresh roll there (r ∷ rs) =
     (list_any (λ x. equals (roll.key x) (roll.key r)) there ≡ false) × (roll.is_bad there r ≡ false) × (length there < roll.limit) × AreFresh roll (r ∷ there) rs
 
--- a project that may not come next in a student's list: it is the 21st, or unknown, or stands there already
-abbrev pub IsBadChoice : List Listing → List Key → Key → Type 0
-IsBadChoice catalogue earlier k = (length earlier ≡ 20) ⊎ ((in_catalogue catalogue k ≡ false) ⊎ (has earlier k ≡ true))
+-- what is wrong with a project that comes next in a student's list, in a word, if anything is
+abbrev pub wrong_choice : List Listing → List Key → Key → Option (List ℕ)
+wrong_choice catalogue earlier k =
+    if length earlier == 20 then Some (codes "too_long")
+    else if not (in_catalogue catalogue k) then Some (codes "unknown_project")
+    else if has earlier k then Some (codes "repeated")
+    else None
 
--- a student who may not come next in a ranking: no applicant, or there already
-abbrev pub IsBadRank : List (Key × List Person) → List Key → Key → Type 0
-IsBadRank applicants earlier k = (is_applicant applicants k ≡ false) ⊎ (has earlier k ≡ true)
+-- the same of a student who comes next in a ranking
+abbrev pub wrong_rank : List (Key × List Person) → List Key → Key → Option (List ℕ)
+wrong_rank applicants earlier k =
+    if not (is_applicant applicants k) then Some (codes "not_an_applicant") else if has earlier k then Some (codes "repeated") else None
 
--- no key of the list is bad after those before it
-abbrev pub NoneBad : (List Key → Key → Type 0) → List Key → Type 0
-NoneBad Bad list = (before : List Key) (k : Key) (after : List Key) → list ≡ before ++ k ∷ after → Bad before k → ⊥
+-- nothing is wrong with any key of the list, after those before it
+abbrev pub NoneWrong : (List Key → Key → Option (List ℕ)) → List Key → Type 0
+NoneWrong wrong list = (before : List Key) (k : Key) (after : List Key) → list ≡ before ++ k ∷ after → wrong before k ≡ None
 
--- the place of the first bad key of the list, counted from 1
-pub record IsFirstBad (Bad : List Key → Key → Type 0) (list : List Key) (at : ℕ) : Type 0 where
+-- the fault is that of the first wrong key of the list: its position, counted from 1, and what is wrong with it
+pub record IsFirstWrong (wrong : List Key → Key → Option (List ℕ)) (list : List Key) (fault : ListFault) : Type 0 where
   pub front : List Key
   pub key : Key
   pub rest : List Key
   pub parts : list ≡ front ++ key ∷ rest
-  pub place : at ≡ length front + 1
-  pub bad : Bad front key
-  pub none_before : NoneBad Bad front
+  pub position : fault.at ≡ length front + 1
+  pub word : wrong front key ≡ Some fault.word
+  pub none_before : NoneWrong wrong front
 
 -- a row that may not come to those that are there, and how it is told: one of them has its key and is another; or none
 -- has its key, and it is bad beside them or there is no room

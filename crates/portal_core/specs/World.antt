@@ -122,12 +122,19 @@ pairs_of w = pairs_with (shown_placement w.phase) w.students
 abbrev pub is_left : Student → Bool
 is_left s = is_none s.earlier_placement
 
--- how many students the first round gave to a project, and to a lecturer over all projects
+-- how many students a result gives to a project, and to a lecturer over all projects
+abbrev pub count_at : (Student → Option Key) → List Student → Key → ℕ
+count_at placement ss p = count_by (λ s. is_at p (placement s)) ss
+
+abbrev pub count_with : (Student → Option Key) → List ProjectRow → List Student → Key → ℕ
+count_with placement ps ss l = count_by (λ s. list_any (λ p. equals p.lecturer l && is_at p.key (placement s)) ps) ss
+
+-- how many the first round gave
 abbrev pub given_to : List Student → Key → ℕ
-given_to ss p = count_by (λ s. is_at p s.earlier_placement) ss
+given_to = count_at (λ s. s.earlier_placement)
 
 abbrev pub given_with : List ProjectRow → List Student → Key → ℕ
-given_with ps ss l = count_by (λ s. list_any (λ p. equals p.lecturer l && is_at p.key s.earlier_placement) ps) ss
+given_with = count_with (λ s. s.earlier_placement)
 
 abbrev pub lowered_lecturer : List ProjectRow → List Student → Lecturer → Lecturer
 lowered_lecturer ps ss l = record l { row = record l.row { capacity = l.row.capacity - given_with ps ss l.row.key } }
@@ -185,6 +192,6 @@ alone_lecturer l = record l { earlier_ranking = None }
 abbrev pub alone_student : Student → Student
 alone_student s = record s { earlier_choice = []; earlier_placement = None }
 
--- These rows as a world of one round, with nothing before it. What a round is played in is a good world so.
+-- These rows as a world of a single round, with nothing before it. What a round is played in is a good world so.
 abbrev pub alone : World → World
 alone w = record w { round = First; lecturers = map alone_lecturer w.lecturers; students = map alone_student w.students }

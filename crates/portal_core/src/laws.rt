@@ -1,14 +1,14 @@
 //! Laws over the definitions alone: what each caller may learn, whatever a keeper does.
 
-ghost use Rattle.std.specs.Prelude.{◌≡◌, ◌⊎◌, ◌++◌, ◌∷◌, [], List, map, true, false, Some, None};
+ghost use Rattle.std.specs.Prelude.{◌≡◌, ◌⊎◌, ◌++◌, ◌∷◌, [], List, map, codes, true, false, Some, None};
 ghost use Rattle.portal_core.specs.Words.{Key, equals, has};
 ghost use Rattle.portal_core.specs.World.{World, Lecturer, is_published, in_play, first, is_second, alone, student_key, applicants_of, is_from_ranking};
 ghost use Rattle.portal_core.specs.Good.{Good, KeepsCapacities, codes_of, IsChoice, IsRanking};
 ghost use Rattle.portal_core.specs.Instance.{instance};
-ghost use Rattle.portal_core.specs.Honest.{HasBest, HonestIsBest, HonestOverBoth, LeftFindsNone, NoGroupGains, ShowsBest};
-ghost use Rattle.portal_core.specs.Faults.{ListFault, choice_fault, ranking_fault, lacks_one};
+ghost use Rattle.portal_core.specs.Honest.{HasBest, HonestIsBest, HonestOverBoth, HonestOverRuns, LeftFindsNone, NoGroupGains, ShowsBest};
+ghost use Rattle.portal_core.specs.Faults.{ListFault, fault_at, choice_fault, ranking_fault, lacks_one};
 ghost use Rattle.portal_core.specs.Rolls.{RollFault, Faulty, Took, take_rows, lecturer_roll, project_roll, student_roll};
-ghost use Rattle.portal_core.specs.Legal.{AreFresh, IsBadChoice, IsBadRank, NoneBad, IsFirstBad, IsFirstRefused};
+ghost use Rattle.portal_core.specs.Legal.{AreFresh, wrong_choice, wrong_rank, NoneWrong, IsFirstWrong, IsFirstRefused};
 ghost use Rattle.portal_core.specs.Sight.{OfficeSees};
 ghost use Rattle.portal_core.specs.declared.rows.LecturerRow.{LecturerRow};
 ghost use Rattle.portal_core.specs.declared.rows.Person.{Person};
@@ -31,8 +31,8 @@ ghost use Rattle.std.specs.List.{AllZip, AllByRecursion};
 ghost use Rattle.portal_core.specs.examples.Worked.{worked, again, again_ranking, again_published, TellsWho, TellsApplicants, TellsLists, TellsMoves, TellsResult, TellsSheets, TellsFill, TellsOpening, TellsSecond};
 ghost use Rattle.portal_core.specs.declared.phase.Phase as phases;
 
-/// Two runs in which a caller starts with the same view and hears the same give the caller the same
-/// replies, and leave the caller the same view.
+/// Two runs without a 503 in which a caller starts with the same view and hears the same give the caller the
+/// same replies, and leave the caller the same view.
 pub fn same_replies()
     ensures { (c : Key) (w v : World) (asked others : List Request) (told said : List Answer)
         (after later : List World) (items : List HeardItem)
@@ -43,9 +43,9 @@ pub fn same_replies()
         × (view (end_of w after) c ≡ view (end_of v later) c) }
 {}
 
-/// No call of a student or lecturer changes what another student or lecturer, or a stranger, sees.
-/// Of one's own calls one sees one's own list change. A request of another that changes no row may be
-/// struck out.
+/// In a good world no call of a student or lecturer changes what another student or lecturer, or a stranger,
+/// sees. Of one's own calls, other than a move or new rows, one sees one's own list change. A request of
+/// another that changes no row may be struck out.
 pub fn others_unseen()
     ensures others { (w v : World) (c d : Key) (ask : AbstractCall) (reply : Answer)
         → Good w → Step w d ask reply v → IsMember (view w d)
@@ -105,8 +105,8 @@ pub fn results_stay()
 
 /// The round changes by one request alone: once the first round is published, the office moves to
 /// choosing and names the second. It is answered with that phase and that round, and leaves the second
-/// round, in which the first is kept as it was published. Any other request leaves the round as it was,
-/// and of a run the second round lasts to the end.
+/// round, in which a good world keeps the first as it was published. Any other request leaves the round as it
+/// was, and of a run the second round lasts to the end.
 pub fn round_opens()
     ensures step { (w v : World) (code : Key) (ask : AbstractCall) (reply : Answer)
         → Step w code ask reply v
@@ -135,8 +135,9 @@ pub fn one_run()
         → (told ≡ said) × (after ≡ later) }
 {}
 
-/// What is legal is taken: a list of at most 20 known projects, none twice; a ranking that lists each
-/// applicant once, and no other; new rows that are not bad, within the limit.
+/// No fault is found in what is legal: a list of at most 20 known projects, none twice; a ranking that lists
+/// each applicant once, and no other; new rows that are not bad, within the limit. A student who has a project
+/// of the first round is refused all the same.
 pub fn legal_is_taken()
     ensures choices { (catalogue : List Listing) (list : List Key)
         → IsChoice (map (λ (l : Listing). l.key) catalogue) list
@@ -156,17 +157,17 @@ pub fn legal_is_taken()
         → take_rows (student_roll v) 1 v.students rows ≡ Took rows 0 }
 {}
 
-/// A fault is told where it is first: of a student's list, of a ranking and of a roll. That an applicant is
-/// missing in a ranking is told at place 0, and only where no place has a fault; a roll that is full is told
+/// The first fault is told, with what is wrong there: of a student's list, of a ranking and of a roll. A missing
+/// applicant of a ranking is told at position 0, and only where no position has a fault. A full roll is told
 /// without a row.
 pub fn least_is_told()
     ensures choices { (catalogue : List Listing) (list : List Key) (fault : ListFault)
         → choice_fault catalogue 1 [] list ≡ Some fault
-        → IsFirstBad (IsBadChoice catalogue) list fault.at }
+        → IsFirstWrong (wrong_choice catalogue) list fault }
     ensures rankings { (applicants : List (Key × List Person)) (list : List Key) (fault : ListFault)
         → ranking_fault applicants 1 [] list ≡ Some fault
-        → IsFirstBad (IsBadRank applicants) list fault.at
-        ⊎ ((fault.at ≡ 0) × NoneBad (IsBadRank applicants) list
+        → IsFirstWrong (wrong_rank applicants) list fault
+        ⊎ ((fault ≡ fault_at 0 (codes "missing")) × NoneWrong (wrong_rank applicants) list
         × (lacks_one applicants list ≡ true)) }
     ensures lecturers { (v : OfficeSees) (rows : List LecturerRow) (fault : RollFault)
         → take_rows (lecturer_roll v) 1 v.lecturers rows ≡ Faulty fault
@@ -186,15 +187,15 @@ pub fn catalogue_whole()
         ≡ map (λ (p : ProjectRow). p.key) (in_play w).projects }
 {}
 
-/// What a round is played in is, alone, a good world of one round, with the same instance.
+/// What a round is played in is, alone, a good world of a single round, with the same instance.
 pub fn played_alone()
     ensures { (w : World) → Good w
         → Good (alone (in_play w)) × (instance (alone (in_play w)) ≡ instance w) }
 {}
 
-/// Two runs that differ at most in the order within students' lists, at the start and in what the
-/// students hand in, give equal replies up to and with the first accepted move to published, but for
-/// the replies to a student's own list.
+/// Two runs without a 503 that differ at most in the order within students' lists, at the start and in what
+/// the students hand in, give equal replies up to and with the first accepted move to published, but for the
+/// replies to a student's own list.
 pub fn places_unseen()
     ensures { (v w : World) (asked others : List Request) (told said : List Answer)
         (after later : List World)
@@ -236,9 +237,11 @@ pub fn honest_is_best()
 
 /// Who waits for the second round gains nothing: what a student is shown with the honest list in the first
 /// round is, by that list, at least as good as what is shown in any second round whose first round differs
-/// at most in the list of that student.
+/// at most in the list of that student. Every second round that a run reaches from a published first round
+/// is such a one.
 pub fn honest_over_both()
-    ensures { HonestOverBoth }
+    ensures worlds { HonestOverBoth }
+    ensures runs { HonestOverRuns }
 {}
 
 /// In a good world of the second round a student whom the first left finds no project of the first list in

@@ -4,7 +4,8 @@ ghost use Rattle.std.specs.Prelude.{◌≡◌, IfOk, map};
 ghost use Rattle.std.specs.List.{list_any};
 ghost use Rattle.portal_core.specs.Words.{equals};
 ghost use Rattle.portal_core.specs.inner.Room as meant;
-ghost use Rattle.portal_core.specs.inner.Room.{own_keys, pairs_to, pairs_among, room_of};
+ghost use Rattle.portal_core.specs.inner.Room.{own_keys, pairs_among, room_of};
+ghost use Rattle.portal_core.specs.Sheets.{students_at};
 
 use crate::rows::{LecturerRow, ProjectRow};
 use spa_rows::Key;
@@ -12,7 +13,7 @@ use std::alloc::{AllocError, Global};
 
 /// How many pairs give the project.
 fn given_to(pairs: &[(Key, Key)], project: &Key) -> usize
-    ensures { result ≡ pairs_to pairs.now project.now }
+    ensures { result ≡ students_at pairs.now project.now }
 {
     let mut count = 0usize;
     for pair in pairs {

@@ -3,12 +3,10 @@ use Rattle.std.specs.Prelude.{ℕ, ◌-◌, nat_lt, if◌then◌else◌, count_b
 use Rattle.portal_core.specs.declared.rows.LecturerRow.{LecturerRow}
 use Rattle.portal_core.specs.declared.rows.ProjectRow.{ProjectRow}
 use Rattle.portal_core.specs.Words.{Key, equals, has}
+use Rattle.portal_core.specs.Sheets.{students_at}
 use Rattle.portal_core.specs.World.{project_key}
 
--- how many pairs give the project, and how many give one of these
-abbrev pub pairs_to : List (Key × Key) → Key → ℕ
-pairs_to pairs p = count_by (λ (x : Key × Key). equals x.1 p) pairs
-
+-- how many pairs give one of these projects
 abbrev pub pairs_among : List (Key × Key) → List Key → ℕ
 pairs_among pairs keys = count_by (λ (x : Key × Key). has keys x.1) pairs
 
@@ -21,7 +19,7 @@ abbrev pub room_of : ℕ → ℕ → Option ℕ
 room_of capacity given = if nat_lt 0 (capacity - given) then Some (capacity - given) else None
 
 abbrev pub project_left : List (Key × Key) → ProjectRow → Option ProjectRow
-project_left pairs p = option_map (λ n. record p { capacity = n }) (room_of p.capacity (pairs_to pairs p.key))
+project_left pairs p = option_map (λ n. record p { capacity = n }) (room_of p.capacity (students_at pairs p.key))
 
 abbrev pub lecturer_left : List ProjectRow → List (Key × Key) → LecturerRow → Option LecturerRow
 lecturer_left projects pairs l = option_map (λ n. record l { capacity = n }) (room_of l.capacity (pairs_among pairs (own_keys projects l.key)))

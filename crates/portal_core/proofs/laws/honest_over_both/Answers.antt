@@ -1,5 +1,6 @@
 use Rattle.portal_core.proofs.BothRounds.{honest_over_both}
+use Rattle.portal_core.proofs.OverRuns.{honest_over_runs}
 use Rattle.portal_core.proofs.laws.honest_over_both.Goals as goal
 
 pub returns : goal.returns
-returns c = honest_over_both
+returns c = record { worlds = honest_over_both; runs = honest_over_runs }
