@@ -248,6 +248,8 @@ impl Keeper for ListKeeper {
 
     ghost clean = { λ _. Unit {0} };
 
+    ghost disk = { λ _. Unit {0} };
+
     ghost faults = { λ _. 0 };
 
     fn view(&mut self, alloc: Global, code: &[u8]) -> Result<View, KeepFault>

@@ -1,5 +1,6 @@
 -- What a change that was committed, or left all as it was, is to the store: whatever the change.
-use Rattle.std.proofs.Common.{inl, inr, ◌≡◌, ℕ, Bool, IsTrue, Ok, Err, Result, Option, IfOk, OnOk, OnErr, true, false, sym, ap, subst, ◌∙◌, arith}
+use Rattle.std.specs.Prelude.{◌↔◌}
+use Rattle.std.proofs.Common.{inl, inr, ◌≡◌, ℕ, Bool, IsTrue, Ok, Err, Result, Option, IfOk, OnOk, OnErr, true, false, refl, sym, ap, subst, ◌∙◌, arith}
 use Rattle.sqlite.specs.Effect.{Database}
 use Rattle.sqlite.specs.State.{HasCleanDisk, IsUnchanged, Survives}
 use Rattle.sqlite.specs.Tree.{Trees}
@@ -17,7 +18,7 @@ use Rattle.portal_core.specs.inner.ViewCache.{IsCacheOf}
 use Rattle.portal_core.specs.declared.view_cache.ViewCache.{ViewCache}
 use Rattle.portal_store.specs.World.{world_of}
 use Rattle.portal_list.specs.Entries.{AllEntries}
-use Rattle.portal_store.specs.Kept.{IsConsistent, HasChanged, IsTransition, Seen, IsCleanStore, Lasts, LastsInMemory, kept_world}
+use Rattle.portal_store.specs.Kept.{IsConsistent, HasChanged, IsTransition, Seen, HasDisk, DiskInMemory, IsCleanStore, KeepsClean, Lasts, LastsInMemory, kept_world}
 use Rattle.portal_store.specs.inner.Kept.{AreEntries, IsKept}
 use Rattle.portal_store.specs.Crash.{IsLeft}
 use Rattle.portal_store.specs.inner.Ending.{CommitsChange}
@@ -33,6 +34,15 @@ still g old new own kept idle stays = record {
       let was = kept.ready mine same.0 in
       record { settled = same.2 ∙ was.settled ∙ sym same.1; holds = subst IsConsistent (sym same.1) was.holds };
 }
+
+-- after an answer the disk had returned what was written before, if it has now, and then a clean store stayed clean
+lasts_by : {S V E : Type 0} (g : Ghosts S) (old new : Held S) (own : Bool) (few : ℕ) (before : Seen S) (P : Trees → Type 0) → ◌≡◌ {A = Seen S} (record { conn = old; own = own; faults = few }) before → Survives (state g old) (state g new) P
+    → (r : Result V E) (Q : Type 0) → (HasCleanDisk (state g new) → IsTrue own → OnOk r Q) → (Q → IsTrue (state g new).is_open)
+    → OnOk r (KeepsClean g before (record { conn = new; own = own; faults = few }))
+lasts_by g old new own few before P is s (Ok v) Q leaves up =
+    subst (λ b. KeepsClean g b (record { conn = new; own = own; faults = few })) is
+    (λ clean. (omega (arith, clean, s.clean), λ on. (on.0, up (leaves clean on.0))))
+lasts_by g old new own few before P is s (Err e) Q leaves up = tt
 
 -- `old` is the connection at the start of the call and `before` the store, as its caller sees it
 module _
@@ -146,6 +156,9 @@ module _
         → IsCleanStore g (record { conn = new; own = own; faults = few }) → AreEntries n (world_of (state g new).now.trees)
     change_told before m n was keeps follows stayed on = told_by before m n was (keeps (known on.0)) r follows stayed done stays on
 
+    pub change_lasts : OnOk r (KeepsClean g before (record { conn = new; own = own; faults = few }))
+    change_lasts = lasts_by g old new own few before _ is ends.crash r _ (λ clean mine. ends.ok (known mine) clean) (λ done. done.is_open)
+
     pub change_keeps : IsKept g new own
     change_keeps = kept_by r done stays
 
@@ -199,6 +212,9 @@ module _
   pub read_same : IsCleanStore g (record { conn = new; own = own; faults = few }) → world_of (state g new).now.trees ≡ kept_world g before
   read_same on = ap (λ (d : Database). world_of d.trees) (rest on.0 on.1).1 ∙ ap (λ s. kept_world g s) is
 
+  pub read_lasts : OnOk r (KeepsClean g before (record { conn = new; own = own; faults = few }))
+  read_lasts = lasts_by g old new own few before _ is asks.crash r _ (λ clean mine. asks.same (own_known mine) clean) (λ unchanged. unchanged.0.is_open)
+
   -- what is remembered stays right
   pub read_shown : (m n : ViewCache) → (IsCleanStore g (record { conn = old; own = own; faults = few }) → IsCacheOf m (world_of (state g old).now.trees)) → KeepsCache m n (state g old) (state g new)
       → IsCleanStore g (record { conn = new; own = own; faults = few }) → IsCacheOf n (world_of (state g new).now.trees)
@@ -222,12 +238,23 @@ pub when_ok : {V E : Type 0} (C : Type 0) (A B : V → Type 0) (r : Result V E) 
 when_ok C A B (Ok v) h more = more v h
 when_ok C A B (Err e) h more = tt
 
--- a clean store stays clean over what leaves the connection open
-pub lasts_by : {S : Type 0} (g : Ghosts S) (old new : Held S) (own : Bool) (few many : ℕ) (before : Seen S) (P : Trees → Type 0) → ◌≡◌ {A = Seen S} (record { conn = old; own = own; faults = few }) before
+-- a clean store stays clean unless the disk failed
+pub open_by : {S : Type 0} (g : Ghosts S) (old new : Held S) (own : Bool) (few many : ℕ) (before : Seen S) (P : Trees → Type 0) → ◌≡◌ {A = Seen S} (record { conn = old; own = own; faults = few }) before
     → (IsTrue own → Survives (state g old) (state g new) P) → Lasts g before (record { conn = new; own = own; faults = many })
-lasts_by g old new own few many before P is s =
+open_by g old new own few many before P is s =
     subst (λ b. Lasts g b (record { conn = new; own = own; faults = many })) is
     (λ clean on. elim ((s on.0).closes clean on.1) [ inl up ↦ inl (on.0, up) | inr failed ↦ inr failed ])
 
 pub lasts_in_memory : LastsInMemory
 lasts_in_memory old new lasts clean = elim (lasts (clean_if_open true true (λ no. absurd (cc)) clean.1) clean) [ inl on ↦ on | inr failed ↦ absurd (omega (arith, failed)) ]
+
+pub disk_in_memory : DiskInMemory
+disk_in_memory s = clean_if_open true true (λ no. absurd (cc)) refl
+
+-- a store that is opened over the connection of a clean one
+pub opened_again : {S : Type 0} (g : Ghosts S) (old : Seen S) (conn : Held S) → conn ≡ old.conn → (IsCleanStore g old → IsConsistent (state g conn).now) → (new : Seen S) → (IsTrue new.own ↔ IsCurrentSchema conn.schema)
+    → (IsCurrentSchema conn.schema → HasCleanDisk (state g new.conn) → IsUnchanged (state g conn) (state g new.conn)) → HasDisk g new → IsCleanStore g old → IsCleanStore g new × (kept_world g new ≡ kept_world g old)
+opened_again g old conn is kept new own same disk on =
+    let current = (kept on).1.current in
+    let shown = (same current disk).0 in
+    ((own.1 current, shown.is_open), ap (λ (d : Database). world_of d.trees) shown.now_is ∙ ap (λ h. world_of (state g h).now.trees) is)

@@ -3,6 +3,7 @@ pub mod Adding
 pub mod Again
 pub mod Applying
 pub mod Asked
+pub mod CatalogueLeft
 pub mod ChoiceTurns
 pub mod FillTurns
 pub mod Ended

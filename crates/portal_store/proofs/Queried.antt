@@ -1,5 +1,5 @@
 -- From what queries show of one caller to what the world says.
-use Rattle.std.proofs.Common.{◌≡◌, Option, option_map, List, [], ◌∷◌, refl, sym, ap, ap₂, ◌∙◌}
+use Rattle.std.proofs.Common.{◌≡◌, Option, option_map, List, [], ◌∷◌, refl, sym, ap, ◌∙◌}
 use Rattle.std.specs.List.{find}
 use Rattle.sqlite.specs.Order.{Row, column, bytes}
 use Rattle.sqlite.specs.Tree.{Trees}
@@ -8,26 +8,21 @@ use Rattle.portal_core.specs.declared.rows.Listing.{Listing}
 use Rattle.portal_core.specs.Words.{Key, equals}
 use Rattle.portal_core.specs.World.{World, Lecturer, Student}
 use Rattle.portal_core.specs.declared.phase.Phase.{Phase}
-use Rattle.portal_core.specs.View.{listings, catalogue, student_sees, lecturer_with, student_with}
+use Rattle.portal_core.specs.View.{catalogue, student_sees, lecturer_with, student_with}
 use Rattle.portal_core.proofs.AllLaws.{all_weaker}
-use Rattle.portal_core.proofs.Capacities.{first_plays}
 use Rattle.portal_core.specs.declared.phase.Round.{Round}
 use Rattle.portal_core.specs.declared.phase.Round.TheVariants.{First, Second}
 use Rattle.portal_tables.specs.Tables.{lecturer_tree, student_tree}
 use Rattle.portal_tables.specs.Changes.{has_text}
 use Rattle.portal_tables.specs.inner.Changes.{ListsBy, columns}
-use Rattle.portal_views.specs.inner.Contents.{AllRows}
 use Rattle.portal_store.specs.Kept.{IsConsistentIn}
 use Rattle.portal_tables.specs.inner.Rolls.{lecturer_columns, roll_columns}
 use Rattle.portal_store.specs.World.{world_in, lecturer_stored, student_stored}
 use Rattle.portal_tables.specs.inner.Shown.{as_list}
-use Rattle.portal_list.specs.inner.Shown.{offered}
-use Rattle.portal_list.proofs.Listings.{offered_rows}
-use Rattle.portal_views.specs.inner.Catalogue.{catalogue_shown}
 use Rattle.portal_views.specs.inner.Callers.{student_shown}
 use Rattle.portal_store.specs.inner.Queried.{lecturer_from, student_from}
 use Rattle.portal_tables.proofs.OneFound.{found}
-use Rattle.portal_store.proofs.Loaded.{lecturers_by_key, students_by_key, round_rows, world_first}
+use Rattle.portal_store.proofs.Loaded.{lecturers_by_key, students_by_key}
 use Rattle.portal_tables.proofs.Shapes.{IsLecturerRow, IsStudentRow, has_text_of, lecturer_rows_formed, student_rows_formed}
 
 -- a row of a roll, and as it is shown, stand for one lecturer or student
@@ -67,11 +62,3 @@ pub student_told : (round : Round) (db : Trees) (row : Row) (phase : Phase) (off
     → student_shown round db phase row offers ≡ student_sees (world_in round db) (student_from round db row)
 unfolding world_in
 student_told round db row phase offers at_phase all = λ i. student_shown round db (at_phase i) row (all i)
-
--- the catalogue of the first round
-
-pub catalogue_told : (db : Trees) → catalogue_shown db ≡ catalogue (world_in First db)
-catalogue_told db =
-    let rows = round_rows First db in
-    ap₂ offered (ap (λ (r : AllRows). r.lecturers) rows) (ap (λ (r : AllRows). r.projects) rows) ∙ offered_rows (world_in First db).lecturers (world_in First db).projects
-    ∙ ap (λ (u : World). listings u.lecturers u.projects) (sym (first_plays (world_in First db) (world_first db)))

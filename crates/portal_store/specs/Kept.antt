@@ -14,6 +14,7 @@ use Rattle.portal_core.specs.declared.phase.Round.{Round}
 use Rattle.portal_core.specs.declared.phase.Round.TheVariants.{First, Second}
 use Rattle.portal_core.specs.World.{World, is_setup}
 use Rattle.portal_core.specs.Change.{Change, changed}
+use Rattle.portal_core.specs.Counting.{StaysClean}
 use Rattle.portal_core.specs.Good.{Good}
 use Rattle.portal_tables.specs.ListTables.{tree_of}
 use Rattle.portal_tables.specs.Tables.{portal_tree, lecturer_tree, student_tree, second_tree, choice2_tree, ranked2_tree, ranking2_tree, assigned2_tree, own_trees, version}
@@ -127,3 +128,15 @@ kept_world g s = world_of (state g s.conn).now.trees
 -- a clean store in memory stays clean: there is no disk that could fail
 abbrev pub LastsInMemory : Type 0
 LastsInMemory = (old new : Seen MemStore) → Lasts over_memory old new → IsCleanStore over_memory old → IsCleanStore over_memory new
+
+-- the disk of a store has returned what was written so far
+abbrev pub HasDisk : {S : Type 0} → Ghosts S → Seen S → Type 0
+HasDisk g s = HasCleanDisk (state g s.conn)
+
+-- where it has, it had before, and then a clean store stayed clean
+abbrev pub KeepsClean : {S : Type 0} → Ghosts S → Seen S → Seen S → Type 0
+KeepsClean g old new = StaysClean (HasDisk g old) (HasDisk g new) (IsCleanStore g old) (IsCleanStore g new)
+
+-- the disk of a store in memory always has: there is none
+abbrev pub DiskInMemory : Type 0
+DiskInMemory = (s : Seen MemStore) → HasDisk over_memory s

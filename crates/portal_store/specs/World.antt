@@ -43,7 +43,7 @@ round_by n = if n == 0 then First else Second
 abbrev pub round_in : Trees → Round
 round_in db = round_by (second_phase db)
 
--- what the tables hold of one round
+-- what the tables hold of a single round
 
 abbrev pub phase_in : Round → Trees → Phase
 phase_in First db = phase_numbered (number_in (column (office_row db) 3))

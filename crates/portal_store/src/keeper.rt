@@ -12,7 +12,7 @@ ghost use Rattle.portal_core.specs.View as seen;
 ghost use Rattle.portal_core.specs.Instance as meant_by;
 ghost use Rattle.portal_tables.specs.Schema.{IsCurrentSchema};
 ghost use Rattle.portal_tables.specs.Steps.{Commits, IsAfter, LeavesOnly};
-ghost use Rattle.portal_store.specs.Kept.{IsCleanStore, Lasts, kept_world, IsTransition};
+ghost use Rattle.portal_store.specs.Kept.{HasDisk, IsCleanStore, KeepsClean, Lasts, kept_world, IsTransition};
 ghost use Rattle.portal_store.specs.Crash.{IsLeft};
 
 use crate::change::make;
@@ -47,7 +47,8 @@ impl<S: Alter> Store<S> {
         ensures same { IsCleanStore S.Store self.new
             → kept_world S.Store self.new ≡ kept_world S.Store self.old }
         ensures own { self.new.own ≡ self.old.own }
-        ensures lasts { Lasts S.Store self.old self.new }
+        ensures stays_open { Lasts S.Store self.old self.new }
+        ensures lasts { OnOk result (KeepsClean S.Store self.old self.new) }
         ensures counts { CountsFaults result self.old.faults self.new.faults }
     {
         if let Err(fault) = self.check_own() {
@@ -62,6 +63,8 @@ impl<S: Alter> Keeper for Store<S> {
 
     ghost clean = { λ s. IsCleanStore S.Store s };
 
+    ghost disk = { λ s. HasDisk S.Store s };
+
     ghost faults = { λ s. s.faults };
 
     /// What the caller with this code sees, by queries of what that caller may see.
@@ -73,7 +76,8 @@ impl<S: Alter> Keeper for Store<S> {
         ensures same { IsCleanStore S.Store self.new
             → kept_world S.Store self.new ≡ kept_world S.Store self.old }
         ensures own { self.new.own ≡ self.old.own }
-        ensures lasts { Lasts S.Store self.old self.new }
+        ensures stays_open { Lasts S.Store self.old self.new }
+        ensures lasts { OnOk result (KeepsClean S.Store self.old self.new) }
         ensures counts { CountsFaults result self.old.faults self.new.faults }
     {
         if let Err(fault) = self.check_own() {
@@ -97,7 +101,8 @@ impl<S: Alter> Keeper for Store<S> {
         ensures same { IsCleanStore S.Store self.new
             → kept_world S.Store self.new ≡ kept_world S.Store self.old }
         ensures own { self.new.own ≡ self.old.own }
-        ensures lasts { Lasts S.Store self.old self.new }
+        ensures stays_open { Lasts S.Store self.old self.new }
+        ensures lasts { OnOk result (KeepsClean S.Store self.old self.new) }
         ensures counts { CountsFaults result self.old.faults self.new.faults }
     {
         if let Err(fault) = self.check_own() {
@@ -122,7 +127,8 @@ impl<S: Alter> Keeper for Store<S> {
         ensures same { OnErr result (IsCleanStore S.Store self.new
             → kept_world S.Store self.new ≡ kept_world S.Store self.old) }
         ensures own { self.new.own ≡ self.old.own }
-        ensures lasts { Lasts S.Store self.old self.new }
+        ensures stays_open { Lasts S.Store self.old self.new }
+        ensures lasts { OnOk result (KeepsClean S.Store self.old self.new) }
         ensures counts { CountsFaults result self.old.faults self.new.faults }
         ensures commits { IsTrue self.old.own → HasCleanDisk (state S.Store self.new.conn)
             → OnOk result (Commits (IsTransition (change_model change.now)) (state S.Store self.old.conn)

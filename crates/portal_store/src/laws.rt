@@ -1,6 +1,6 @@
 //! Laws over the definitions alone: what a crash left can be opened or upgraded again.
 
-ghost use Rattle.portal_store.specs.Kept.{LastsInMemory};
+ghost use Rattle.portal_store.specs.Kept.{DiskInMemory, LastsInMemory};
 ghost use Rattle.portal_store.specs.Crash.{OpensAgain, OpensFresh, UpgradesAgain};
 
 /// What a crash of a change left shows the portal's own tables and a good world, whoever opens it: the world before the
@@ -24,4 +24,9 @@ pub fn upgrades_again()
 /// After every call that `Lasts` is said of, a store in memory that was clean is clean.
 pub fn lasts_in_memory()
     ensures { LastsInMemory }
+{}
+
+/// The disk of a store in memory has returned what was written: there is none.
+pub fn disk_in_memory()
+    ensures { DiskInMemory }
 {}

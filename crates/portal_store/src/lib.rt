@@ -11,7 +11,6 @@ mod keeper;
 pub mod laws;
 mod lists;
 mod load;
-pub mod memory;
 mod office;
 mod open;
 mod opening;

@@ -189,7 +189,8 @@ pub(crate) fn view_with<S: Alter>(
 }
 
 /// What the caller with the code sees: a student or a lecturer by queries of what that role may see, the office by
-/// queries of the rolls and of who has a list, an applicant and a place. The catalogue of a second round is made of all lists.
+/// queries of the rolls and of who has a list, an applicant and a place. For the catalogue of a second round the students' keys and the
+/// projects that the first gave them are read, and nothing else of them.
 ///
 /// # Errors
 ///
@@ -201,10 +202,9 @@ pub fn view<S: Alter>(
 ) -> Result<View, KeepFault>
     requires idle { conn.old.in_transaction ≡ false }
     ensures idle { conn.new.in_transaction ≡ false }
-    ensures shows { IsCurrentSchema conn.old.schema → HasCleanDisk (state S.Store conn.new)
-        → IfOk result (λ view. IsConsistent (state S.Store conn.old).now
-        → Good (world_of (shown S.Store conn.old))
-        → view ≡ seen.view (world_of (shown S.Store conn.old)) code.now) }
+    ensures shows { IsConsistent (state S.Store conn.old).now
+        → Good (world_of (shown S.Store conn.old)) → HasCleanDisk (state S.Store conn.new)
+        → IfOk result (λ view. view ≡ seen.view (world_of (shown S.Store conn.old)) code.now) }
     ensures asks { RunsQueryIn Second result (state S.Store conn.old) (state S.Store conn.new) }
 {
     let mut cache = ViewCache::nothing();

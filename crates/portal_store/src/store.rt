@@ -1,11 +1,14 @@
 //! The store, and what hands a connection back.
 
-ghost use Rattle.std.specs.Prelude.{◌≡◌, false};
+ghost use Rattle.std.specs.Prelude.{◌≡◌, false, IfOk};
+ghost use Rattle.sqlite.specs.Held.{state};
+ghost use Rattle.portal_store.specs.Kept.{HasDisk, IsCleanStore, IsConsistent, kept_world};
 
 use portal_core::ViewCache;
 use portal_list::Entries;
 use portal_tables::PortalSchema;
 use sqlite::{Alter, Connection};
+use std::alloc::Global;
 use std::marker::Model;
 
 /// The portal in a database.
@@ -87,10 +90,11 @@ pub enum UpgradeFault {
 }
 
 impl<S: Alter> Store<S> {
-    /// The connection, as it is, in no transaction.
+    /// The connection, as it is, in no transaction. The tables of a clean store are in it as the portal keeps them.
     pub fn into_connection(self) -> Connection<S>
         ensures same { result ≡ self.conn }
         ensures idle { result.in_transaction ≡ false }
+        ensures kept { IsCleanStore S.Store self → IsConsistent (state S.Store result).now }
     {
         let Store {
             conn,
@@ -101,5 +105,16 @@ impl<S: Alter> Store<S> {
             faults: _,
         } = self;
         conn
+    }
+
+    /// The store, closed and opened again over its connection. Where its disk returns what was written, a clean store is clean again and
+    /// has the same world. The refusals are those of `open`.
+    pub fn reopen(self, alloc: Global) -> Result<Store<S>, NotOpened<OpenFault, S>>
+        ensures lasts { IfOk result (λ s. HasDisk S.Store s → IsCleanStore S.Store self
+            → IsCleanStore S.Store s) }
+        ensures same { IfOk result (λ s. HasDisk S.Store s → IsCleanStore S.Store self
+            → kept_world S.Store s ≡ kept_world S.Store self) }
+    {
+        Store::open(alloc, self.into_connection())
     }
 }

@@ -1,7 +1,7 @@
 //! Makes the portal's tables.
 
 ghost use Rattle.std.specs.Prelude.{◌≡◌};
-ghost use Rattle.portal_tables.specs.Base.{false, OnOk, OnErr, IsTrue, HasCleanDisk, Survives, state};
+ghost use Rattle.portal_tables.specs.Base.{false, Err, OnOk, OnErr, IsTrue, HasCleanDisk, Survives, state};
 ghost use Rattle.portal_tables.specs.Steps.{Commits, IsAfter, LeavesOnly, Stays};
 ghost use Rattle.portal_tables.specs.inner.Steps.{Does, Made};
 ghost use Rattle.portal_tables.specs.Making.{Creates};
@@ -104,7 +104,7 @@ impl Step for MakePortal<'_> {
 }
 
 /// Makes the portal's tables, the row of the office and that of no second round in a transaction of their own. After an error
-/// nothing is there of them, and it is `Memory` for want of memory, else `Store`; after Ok a crash leaves them alone.
+/// nothing is there of them, and the fault is not `Damaged`; after Ok a crash leaves them alone.
 pub fn create_portal<S: Alter>(
     alloc: Global,
     conn: &mut Connection<S>,
@@ -119,6 +119,7 @@ pub fn create_portal<S: Alter>(
         → OnErr result (Stays (state S.Store conn.old) (state S.Store conn.new)) }
     ensures durable { HasCleanDisk (state S.Store conn.new)
         → OnOk result (LeavesOnly (state S.Store conn.new)) }
+    ensures fault { result ≡ Err TableFault.Damaged → ⊥ }
     ensures crash { Survives (state S.Store conn.old) (state S.Store conn.new)
         (IsAfter (Creates office.now) (state S.Store conn.old)) }
 {

@@ -1,18 +1,21 @@
 //! Reads which projects the results of both rounds give to students.
 
 ghost use Rattle.std.specs.Prelude.{◌≡◌, ◌≤◌, is_none, if◌then◌else◌};
-ghost use Rattle.portal_tables.specs.Base.{true, Err, None, IfOk, IfSome, option_map, length, map, AllByRecursion, filter_map, state, is_key, is_published, IsStudent, InSecond};
+ghost use Rattle.portal_tables.specs.Base.{true, Err, None, IfOk, IfSome, option_map, length, map, AllByRecursion, filter_map, state, is_key, is_published, IsStudent, First, InSecond};
 ghost use Rattle.portal_tables.specs.Tables.{assigned2_tree};
 ghost use Rattle.portal_tables.specs.Lists.{of_key};
-ghost use Rattle.portal_tables.specs.inner.Reading.{RunsQueriesIn, YieldsSound, OverSound};
+ghost use Rattle.portal_tables.specs.inner.Reading.{RunsQueries, RunsQueriesIn, Yields, YieldsSound, OverSound};
 ghost use Rattle.portal_tables.specs.inner.Shown.{as_list, first_cell, shown_name, shown_student};
 ghost use Rattle.portal_tables.specs.inner.Placements as meant;
 ghost use Rattle.portal_tables.specs.Placements.{second_placement};
-ghost use Rattle.portal_tables.specs.inner.Placements.{placement_shown, placement_before, result_shown, pair_shown, HasPlacement};
+ghost use Rattle.portal_tables.specs.inner.Placements.{placement_shown, placement_before, result_shown, pair_shown, HasFirstPlace, HasPlacement, HasKeys, pair_told, places_shown, first_pairs};
+ghost use Rattle.portal_tables.specs.inner.Rolls.{RollRises};
+ghost use Rattle.portal_tables.specs.declared.select.Roll.TheVariants.{Students};
 
 use crate::cells::{assigned_at, bytes_at, is_null, key_at};
 use crate::decode::{at_most_one, decoded};
 use crate::fault::TableFault;
+use crate::rolls::rising;
 use crate::select::{Query, read_rows};
 use portal_core::{Phase, Round};
 use spa_rows::Key;
@@ -72,7 +75,8 @@ pub(crate) fn placement_in<S: Alter>(
 
 /// The place that the round before gave to the student whose row this is.
 fn place_before_at(alloc: Global, round: Round, row: &Row) -> Result<Option<Key>, TableFault>
-    ensures { IfOk result (λ p. p ≡ placement_before round row.now) }
+    ensures ok { IfOk result (λ p. p ≡ placement_before round row.now) }
+    ensures damaged { result ≡ Err TableFault.Damaged → HasFirstPlace row.now → ⊥ }
 {
     match round {
         Round::First => Ok(None),
@@ -100,6 +104,9 @@ fn published_in<S: Alter>(
 ) -> Result<Option<Key>, TableFault>
     ensures ok { YieldsSound round S.Store conn.old conn.new result
         (λ db p. p ≡ (if is_published phase then placement_shown round db.trees row.now else None)) }
+    ensures damaged { OverSound round S.Store conn.old conn.new
+        (result ≡ Err TableFault.Damaged
+        → HasPlacement round (state S.Store conn.old).now.trees row.now → ⊥) }
     ensures reads { RunsQueriesIn round result (state S.Store conn.old) (state S.Store conn.new) }
 {
     match phase {
@@ -118,6 +125,9 @@ pub fn result_in<S: Alter>(
 ) -> Result<Option<Key>, TableFault>
     ensures ok { YieldsSound round S.Store conn.old conn.new result
         (λ db p. p ≡ result_shown round db.trees phase row.now) }
+    ensures damaged { OverSound round S.Store conn.old conn.new
+        (result ≡ Err TableFault.Damaged → HasFirstPlace row.now
+        → HasPlacement round (state S.Store conn.old).now.trees row.now → ⊥) }
     ensures reads { RunsQueriesIn round result (state S.Store conn.old) (state S.Store conn.new) }
 {
     if let Some(place) = place_before_at(alloc, round, row)? {
@@ -206,4 +216,47 @@ pub fn pairs_in<S: Alter>(
         }
     }
     Ok(pairs)
+}
+
+/// The pair of the student whose key and place these are, if there is a place.
+fn pair_at(alloc: Global, row: &Row) -> Result<Option<(Key, Key)>, TableFault>
+    ensures ok { IfOk result (λ pair. pair ≡ pair_told row.now) }
+    ensures damaged { result ≡ Err TableFault.Damaged → HasKeys row.now → ⊥ }
+{
+    match assigned_at(alloc, row, 1)? {
+        Some(project) => Ok(Some((key_at(alloc, row, 0)?, project))),
+        None => Ok(None),
+    }
+}
+
+/// The pairs of the students whose keys and places these are, in their order.
+fn pairs_at(alloc: Global, rows: &[Row]) -> Result<Vec<(Key, Key)>, TableFault>
+    ensures ok { IfOk result (λ v. v.items ≡ filter_map pair_told rows.now) }
+    ensures damaged { result ≡ Err TableFault.Damaged → AllByRecursion HasKeys rows.now → ⊥ }
+{
+    let mut pairs = Vec::new(alloc);
+    for row in rows {
+        if let Some(pair) = pair_at(alloc, row)? {
+            pairs.push(pair)?;
+        }
+    }
+    Ok(pairs)
+}
+
+/// The result of the first round, of keys and places alone: pairs of a student and a project, by student. The fault is `Damaged` where
+/// the students' keys do not rise, or a key or a place has not the form of a key.
+pub fn first_pairs_in<S: Alter>(
+    alloc: Global,
+    conn: &mut Connection<S>,
+) -> Result<Vec<(Key, Key)>, TableFault>
+    ensures ok { Yields S.Store conn.old conn.new result
+        (λ db v. v.items ≡ first_pairs db.trees) }
+    ensures damaged { OverSound First S.Store conn.old conn.new
+        (result ≡ Err TableFault.Damaged
+        → RollRises Students (state S.Store conn.old).now.trees
+        → AllByRecursion HasKeys (places_shown (state S.Store conn.old).now.trees) → ⊥) }
+    ensures reads { RunsQueries result (state S.Store conn.old) (state S.Store conn.new) }
+{
+    let rows = rising(alloc, conn, Query::FirstPlacements)?;
+    pairs_at(alloc, &rows)
 }

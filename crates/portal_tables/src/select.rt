@@ -65,6 +65,8 @@ pub enum Query<'a> {
     Listed(Round),
     /// The keys of a lecturer's projects, by key.
     ProjectsOf(&'a [u8]),
+    /// The result of the first round by student: key and assigned project, which is NULL where there is none.
+    FirstPlacements,
     /// The row of the second round: id and phase.
     Second,
     /// The lecturers with a ranking in the second round, by key.
@@ -135,6 +137,7 @@ impl<'a> Query<'a> {
                 "SELECT student FROM choice2 WHERE place = 1 ORDER BY student"
             }
             Query::ProjectsOf(_) => "SELECT key FROM project WHERE lecturer = ?1 ORDER BY key",
+            Query::FirstPlacements => "SELECT key, assigned FROM student ORDER BY key",
             Query::Second => "SELECT id, phase FROM second ORDER BY id",
             Query::SecondRanked => "SELECT lecturer FROM ranked2 ORDER BY lecturer",
             Query::SecondRankedBy(_) => {
@@ -188,6 +191,7 @@ impl<'a> Query<'a> {
             | Query::Whole(_)
             | Query::AllLists(_)
             | Query::Listed(_)
+            | Query::FirstPlacements
             | Query::Second
             | Query::SecondRanked
             | Query::SecondPlacements

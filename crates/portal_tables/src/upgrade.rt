@@ -28,8 +28,8 @@ impl Step for Upgrade {
     }
 }
 
-/// Makes all tables of the six, in a transaction of its own, and leaves what the six hold. After an error nothing is changed, and it is
-/// `Memory` for want of memory, else `Store`; a crash leaves the six as they were, or all tables, and after Ok all.
+/// Makes all tables of the six, in a transaction of its own, and leaves what the six hold. After an error nothing is changed, and the fault
+/// is not `Damaged`; a crash leaves the six as they were, or all tables, and after Ok all.
 pub fn upgrade_tables<S: Alter>(alloc: Global, conn: &mut Connection<S>) -> Result<(), TableFault>
     requires idle { conn.old.in_transaction ≡ false }
     ensures idle { conn.new.in_transaction ≡ false }

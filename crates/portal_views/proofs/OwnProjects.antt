@@ -1,7 +1,7 @@
 -- The projects that a query by lecturer shows, and those that the catalogue has of a lecturer, are those of the roll.
 use Rattle.std.specs.Prelude.{◌≡◌, ◌∷◌, ◌||◌, is_some}
 use Rattle.std.specs.List.{cons_option}
-use Rattle.portal_views.proofs.Base.{Bool, List, [], map, filter, sym, ap, subst, ◌∙◌, map-map, filter-map, IsPermutation, IsPermutation-filter, Row, column, bytes, Database, Key, equals, Rise, all_weaker, rise_kept, Projects, columns_of, project_tree, ListsBy, every, columns, has_text, row_key, by_key, first_cell, HasTables, own_keys_shown, AllByRecursion, true, false, cond, refl, Some, None, option_map, find, has, is_sym, all_map, LecturerRow, ProjectRow, Listing, listing_with, name_of, offered, own_listed, catalogue_shown, shown_lecturer, shown_project, lecturers_shown, projects_shown, Lecturers, lecturer_tree}
+use Rattle.portal_views.proofs.Base.{First, Bool, List, [], map, filter, sym, ap, subst, ◌∙◌, map-map, filter-map, IsPermutation, IsPermutation-filter, Row, column, bytes, Database, Key, equals, Rise, all_weaker, rise_kept, Projects, columns_of, project_tree, ListsBy, every, columns, has_text, row_key, by_key, first_cell, HasTables, own_keys_shown, AllByRecursion, true, false, cond, refl, Some, None, option_map, find, has, is_sym, all_map, LecturerRow, ProjectRow, Listing, listing_with, name_of, offered, own_listed, catalogue_shown, shown_lecturer, shown_project, lecturers_shown, projects_shown, Lecturers, lecturer_tree}
 use Rattle.portal_tables.proofs.Listed.{IsText, roll_shown}
 use Rattle.portal_tables.proofs.Lists.{filter_all}
 use Rattle.portal_tables.proofs.OneFound.{filter_alike}
@@ -53,7 +53,7 @@ none_left_out ls k (p ∷ ps) all =
       ]
     ]) all.0
 
-pub listed_are : (db : Database) → HasTables db → (k : Key) → own_listed (catalogue_shown db.trees) k ≡ own_keys_shown db.trees k
+pub listed_are : (db : Database) → HasTables db → (k : Key) → own_listed (catalogue_shown First db.trees) k ≡ own_keys_shown db.trees k
 listed_are db tables k =
     let table = db.trees project_tree in
     let roll = db.trees lecturer_tree in

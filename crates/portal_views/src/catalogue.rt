@@ -1,46 +1,151 @@
-//! The catalogue of the projects: each with its lecturer's name.
+//! The catalogue of the projects: each with its lecturer's name, and in the second round with the room that the first left.
 
 ghost use Rattle.std.specs.Prelude.{◌≡◌};
-ghost use Rattle.portal_list.specs.inner.Shown.{offered};
-ghost use Rattle.portal_views.specs.inner.Base.{IfOk, map, state};
-ghost use Rattle.portal_views.specs.inner.Catalogue.{catalogue_shown};
-ghost use Rattle.portal_tables.specs.inner.Reading.{RunsQueries, Yields};
+ghost use Rattle.portal_core.specs.inner.Room as left_by;
+ghost use Rattle.portal_core.specs.declared.phase.Round.TheVariants.{First, Second};
+ghost use Rattle.portal_views.specs.inner.Base.{Err, IfOk, AllByRecursion, IsLecturer, IsProject, filter_map, map, state};
+ghost use Rattle.portal_views.specs.inner.Catalogue.{offered_in, catalogue_shown, HasOffers, HasPairs};
+ghost use Rattle.portal_tables.specs.inner.Placements.{first_pairs};
+ghost use Rattle.portal_tables.specs.inner.Reading.{RunsQueries, Yields, OverSound};
+ghost use Rattle.portal_tables.specs.inner.Rolls.{lecturers_shown, projects_shown};
 ghost use Rattle.portal_tables.specs.inner.Shown.{shown_lecturer, shown_project};
 
-use portal_core::{LecturerRow, Listing, ProjectRow};
+use portal_core::{LecturerRow, Listing, ProjectRow, Round, lecturer_left, project_left};
 use portal_list::listings_of;
 use portal_tables::decode::decoded;
 use portal_tables::select::Roll;
-use portal_tables::{TableFault, roll_in};
+use portal_tables::{TableFault, first_pairs_in, roll_in};
+use spa_rows::Key;
 use sqlite::{Alter, Connection, Row};
-use std::alloc::Global;
+use std::alloc::{AllocError, Global};
 use std::rc::Rc;
 
-/// The catalogue of the rows that the rolls show.
-fn catalogue_of(
+/// The lecturers with room, each with the room that the first round's pairs left.
+fn lecturers_left(
+    alloc: Global,
+    lecturers: &[LecturerRow],
+    projects: &[ProjectRow],
+    pairs: &[(Key, Key)],
+) -> Result<Vec<LecturerRow>, AllocError>
+    ensures { IfOk result (λ v. v.items
+        ≡ filter_map (left_by.lecturer_left projects.now pairs.now) lecturers.now) }
+{
+    let mut found = Vec::new(alloc);
+    for lecturer in lecturers {
+        if let Some(left) = lecturer_left(alloc, projects, pairs, lecturer)? {
+            found.push(left)?;
+        }
+    }
+    Ok(found)
+}
+
+/// The projects with room, each with the room that the first round's pairs left.
+fn projects_left(
+    alloc: Global,
+    projects: &[ProjectRow],
+    pairs: &[(Key, Key)],
+) -> Result<Vec<ProjectRow>, AllocError>
+    ensures { IfOk result (λ v. v.items ≡ filter_map (left_by.project_left pairs.now) projects.now) }
+{
+    let mut found = Vec::new(alloc);
+    for project in projects {
+        if let Some(left) = project_left(alloc, pairs, project)? {
+            found.push(left)?;
+        }
+    }
+    Ok(found)
+}
+
+/// The catalogue of what the first round's pairs left: projects with room whose lecturers have room.
+fn listings_left(
+    alloc: Global,
+    lecturers: &[LecturerRow],
+    projects: &[ProjectRow],
+    pairs: &[(Key, Key)],
+) -> Result<Vec<Listing>, AllocError>
+    ensures { IfOk result (λ v. v.items
+        ≡ offered_in Second lecturers.now projects.now pairs.now) }
+{
+    let teaching = lecturers_left(alloc, lecturers, projects, pairs)?;
+    let vacant = projects_left(alloc, projects, pairs)?;
+    listings_of(alloc, &teaching, &vacant)
+}
+
+/// The catalogue of these rows in the round. In the second the first round's result is read.
+fn listings_in<S: Alter>(
+    alloc: Global,
+    conn: &mut Connection<S>,
+    round: Round,
+    lecturers: &[LecturerRow],
+    projects: &[ProjectRow],
+) -> Result<Vec<Listing>, TableFault>
+    ensures shows { Yields S.Store conn.old conn.new result (λ db v. v.items
+        ≡ offered_in round lecturers.now projects.now (first_pairs db.trees)) }
+    ensures damaged { OverSound First S.Store conn.old conn.new
+        (result ≡ Err TableFault.Damaged
+        → HasPairs round (state S.Store conn.old).now.trees → ⊥) }
+    ensures reads { RunsQueries result (state S.Store conn.old) (state S.Store conn.new) }
+{
+    match round {
+        Round::First => Ok(listings_of(alloc, lecturers, projects)?),
+        Round::Second => {
+            let pairs = first_pairs_in(alloc, conn)?;
+            Ok(listings_left(alloc, lecturers, projects, &pairs)?)
+        }
+    }
+}
+
+/// The lecturers and the projects that these rows of the rolls show.
+fn offers_of(
     alloc: Global,
     lecturers: &[Row],
     projects: &[Row],
-) -> Result<Rc<Vec<Listing>>, TableFault>
-    ensures { IfOk result (λ shared. shared.value.items
-        ≡ offered (map shown_lecturer lecturers.now) (map shown_project projects.now)) }
+) -> Result<(Vec<LecturerRow>, Vec<ProjectRow>), TableFault>
+    ensures lecturers { IfOk result (λ rows. rows.0.items ≡ map shown_lecturer lecturers.now) }
+    ensures projects { IfOk result (λ rows. rows.1.items ≡ map shown_project projects.now) }
+    ensures damaged { result ≡ Err TableFault.Damaged
+        → AllByRecursion (λ c. IsLecturer (shown_lecturer c)) lecturers.now
+        → AllByRecursion (λ c. IsProject (shown_project c)) projects.now → ⊥ }
 {
     let lecturers: Vec<LecturerRow> = decoded(alloc, lecturers)?;
     let projects: Vec<ProjectRow> = decoded(alloc, projects)?;
-    Ok(Rc::new(alloc, listings_of(alloc, &lecturers, &projects)?)?)
+    Ok((lecturers, projects))
 }
 
-/// The catalogue of the rolls in the tables, by the projects' keys. The fault is `Damaged` where the keys of a roll do not rise or a
-/// cell has not its form, `Store` where the store answered an error, `Memory` where there is not enough memory.
-pub fn catalogue_in<S: Alter>(
+/// The lecturers and the projects of the rolls, by key.
+fn offers_in<S: Alter>(
     alloc: Global,
     conn: &mut Connection<S>,
-) -> Result<Rc<Vec<Listing>>, TableFault>
-    ensures shows { Yields S.Store conn.old conn.new result
-        (λ db shared. shared.value.items ≡ catalogue_shown db.trees) }
+) -> Result<(Vec<LecturerRow>, Vec<ProjectRow>), TableFault>
+    ensures lecturers { Yields S.Store conn.old conn.new result
+        (λ db rows. rows.0.items ≡ map shown_lecturer (lecturers_shown db.trees)) }
+    ensures projects { Yields S.Store conn.old conn.new result
+        (λ db rows. rows.1.items ≡ map shown_project (projects_shown db.trees)) }
+    ensures damaged { OverSound First S.Store conn.old conn.new
+        (result ≡ Err TableFault.Damaged → HasOffers (state S.Store conn.old).now.trees → ⊥) }
     ensures reads { RunsQueries result (state S.Store conn.old) (state S.Store conn.new) }
 {
     let lecturers = roll_in(alloc, conn, Roll::Lecturers)?;
     let projects = roll_in(alloc, conn, Roll::Projects)?;
-    catalogue_of(alloc, &lecturers, &projects)
+    offers_of(alloc, &lecturers, &projects)
+}
+
+/// The catalogue of the tables in the round, by the projects' keys. Of students the second round's catalogue asks key and assigned project
+/// alone. The fault is `Damaged` where the keys of a roll do not rise or a cell that is read has not its form, `Store` where the store
+/// answered an error, `Memory` where there is not enough memory.
+pub fn catalogue_in<S: Alter>(
+    alloc: Global,
+    conn: &mut Connection<S>,
+    round: Round,
+) -> Result<Rc<Vec<Listing>>, TableFault>
+    ensures shows { Yields S.Store conn.old conn.new result
+        (λ db shared. shared.value.items ≡ catalogue_shown round db.trees) }
+    ensures damaged { OverSound First S.Store conn.old conn.new
+        (result ≡ Err TableFault.Damaged → HasOffers (state S.Store conn.old).now.trees
+        → HasPairs round (state S.Store conn.old).now.trees → ⊥) }
+    ensures reads { RunsQueries result (state S.Store conn.old) (state S.Store conn.new) }
+{
+    let offers = offers_in(alloc, conn)?;
+    let listings = listings_in(alloc, conn, round, &offers.0, &offers.1)?;
+    Ok(Rc::new(alloc, listings)?)
 }

@@ -2,10 +2,10 @@
 //! asked for by key.
 
 ghost use Rattle.std.specs.Prelude.{◌≡◌, ◌∷◌};
-ghost use Rattle.portal_views.specs.inner.Base.{[], IfOk, Some, map, column, bytes, state};
+ghost use Rattle.portal_views.specs.inner.Base.{[], Err, IfOk, Some, map, column, bytes, state};
 ghost use Rattle.portal_tables.specs.inner.Reading.{RunsQueriesIn, YieldsOf, YieldsSound};
 ghost use Rattle.portal_tables.specs.inner.Shown.{first_cell};
-ghost use Rattle.portal_views.specs.inner.Lines.{HasTables, told_line, in_round, applicant_at, applicant_lines};
+ghost use Rattle.portal_views.specs.inner.Lines.{HasTables, IsNamed, told_line, in_round, applicant_at, applicant_lines};
 
 use portal_core::{Person, Round};
 use portal_tables::cells::{assigned_at, bytes_at, key_at, name_at};
@@ -19,8 +19,9 @@ use std::alloc::{AllocError, Global};
 /// The person whose row of a roll this is: key and name come first. The fault is `Damaged` where one of them has not its form,
 /// `Memory` where there is not enough memory.
 pub(crate) fn person_at(alloc: Global, row: &Row) -> Result<Person, TableFault>
-    ensures { IfOk result (λ p. p
+    ensures ok { IfOk result (λ p. p
         ≡ record { key = first_cell row.now; name = bytes (column row.now 1) }) }
+    ensures damaged { result ≡ Err TableFault.Damaged → IsNamed row.now → ⊥ }
 {
     Ok(Person {
         key: key_at(alloc, row, 0)?,

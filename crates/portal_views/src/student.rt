@@ -1,9 +1,10 @@
 //! What a student sees, by queries of the own list and place.
 
 ghost use Rattle.std.specs.Prelude.{◌≡◌};
-ghost use Rattle.portal_views.specs.inner.Base.{IfOk, column, bytes, state};
-ghost use Rattle.portal_views.specs.inner.Callers.{student_sees_with, student_shown};
-ghost use Rattle.portal_tables.specs.inner.Reading.{RunsQueriesIn, YieldsSound};
+ghost use Rattle.portal_views.specs.inner.Base.{Err, IfOk, column, bytes, state};
+ghost use Rattle.portal_views.specs.inner.Callers.{IsReadable, student_sees_with, student_shown};
+ghost use Rattle.portal_tables.specs.inner.Reading.{RunsQueriesIn, YieldsSound, OverSound};
+ghost use Rattle.portal_views.specs.inner.Lines.{IsNamed};
 
 use crate::lines::person_at;
 use portal_core::{Listing, Phase, Round, StudentView};
@@ -25,8 +26,9 @@ fn student_view_of(
     choices: Vec<Key>,
     place: Option<Key>,
 ) -> Result<StudentView, TableFault>
-    ensures { IfOk result (λ v. v
+    ensures ok { IfOk result (λ v. v
         ≡ student_sees_with round phase row.now catalogue.value.items choices.items place) }
+    ensures damaged { result ≡ Err TableFault.Damaged → IsNamed row.now → ⊥ }
 {
     Ok(StudentView {
         round,
@@ -38,8 +40,9 @@ fn student_view_of(
     })
 }
 
-/// What the student sees whose row this is, in this round and phase, with the catalogue. The fault is `Damaged` where rows are not as the
-/// portal writes them, `Store` where the store answered an error, `Memory` where there is not enough memory.
+/// What the student sees whose row this is, in this round and phase, with the catalogue. The fault is `Damaged` where key, name, a
+/// name of the list or a place has not its form, the list has a gap or the second round gives two places, `Store` where the store answered
+/// an error, `Memory` where there is not enough memory.
 pub fn student_view<S: Alter>(
     alloc: Global,
     conn: &mut Connection<S>,
@@ -50,6 +53,9 @@ pub fn student_view<S: Alter>(
 ) -> Result<StudentView, TableFault>
     ensures shows { YieldsSound round S.Store conn.old conn.new result
         (λ db v. v ≡ student_shown round db.trees phase row.now catalogue.value.items) }
+    ensures damaged { OverSound round S.Store conn.old conn.new
+        (result ≡ Err TableFault.Damaged
+        → IsReadable round (state S.Store conn.old).now.trees row.now → ⊥) }
     ensures reads { RunsQueriesIn round result (state S.Store conn.old) (state S.Store conn.new) }
 {
     let student = key_at(alloc, row, 0)?;

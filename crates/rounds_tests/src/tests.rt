@@ -1,5 +1,6 @@
 //! A desk over a database in memory, or on a disk that fails, by the bytes of its requests and replies.
 
+mod failed_reads;
 mod second;
 mod second_damages;
 mod second_lists;

@@ -219,7 +219,7 @@ fn seen_by_lee(
     let [lee] = rows.as_slice() else {
         panic!(rt; "no row");
     };
-    let Ok(catalogue) = catalogue_in(alloc, conn) else {
+    let Ok(catalogue) = catalogue_in(alloc, conn, Round::First) else {
         panic!(rt; "no catalogue");
     };
     let view = lecturer_view(alloc, conn, round, Phase::Published, lee, catalogue);
@@ -293,7 +293,7 @@ fn is_seen_by_office(
     wanted: &str,
 ) {
     let alloc = rt.alloc();
-    let Ok(catalogue) = catalogue_in(alloc, conn) else {
+    let Ok(catalogue) = catalogue_in(alloc, conn, Round::First) else {
         panic!(rt; "no catalogue");
     };
     let office = Office {

@@ -1,11 +1,13 @@
 -- The project that a round's result gives to a student: of the first round in the student's row, of the second in `assigned2`.
-use Rattle.std.specs.Prelude.{◌≡◌, ◌≤◌, if◌then◌else◌, is_none}
-use Rattle.portal_tables.specs.Base.{Option, Some, None, option_map, IfSome, true, length, Row, column, Trees, Round, First, Second, Phase, Key, is_key, is_published}
+use Rattle.std.specs.Prelude.{◌≡◌, ◌≤◌, ◌∷◌, if◌then◌else◌, is_none}
+use Rattle.portal_tables.specs.Base.{List, [], map, filter_map, Option, Some, None, option_map, IfSome, true, length, Row, column, Trees, Round, First, Second, Phase, Key, is_key, is_published}
 use Rattle.portal_tables.specs.Lists.{of_key}
 use Rattle.portal_tables.specs.Shown.{text_or_none}
 use Rattle.portal_tables.specs.inner.Shown.{first_cell}
-use Rattle.portal_tables.specs.Tables.{assigned2_tree}
+use Rattle.portal_tables.specs.Tables.{student_tree, assigned2_tree}
 use Rattle.portal_tables.specs.Placements.{second_placement}
+use Rattle.portal_tables.specs.inner.Changes.{columns}
+use Rattle.portal_tables.specs.inner.Rolls.{by_key}
 
 -- the place in a round of the student whose row is shown
 abbrev pub placement_shown : Round → Trees → Row → Option Key
@@ -30,7 +32,27 @@ placement_asked round (Some phase) db c = result_shown round db phase c
 abbrev pub pair_shown : Round → Option Phase → Trees → Row → Option (Key × Key)
 pair_shown round phase db c = option_map (λ p. (first_cell c, p)) (placement_asked round phase db c)
 
+-- the first round's place, if there is one, has the form of a key
+abbrev pub HasFirstPlace : Row → Type 0
+HasFirstPlace c = IfSome (text_or_none (column c 3)) (λ p. is_key p ≡ true)
+
 -- what the reading of a place asks: it has the form of a key, and in the second round there is no more than one row of the student
 abbrev pub HasPlacement : Round → Trees → Row → Type 0
-HasPlacement First db c = IfSome (placement_shown First db c) (λ p. is_key p ≡ true)
+HasPlacement First db c = HasFirstPlace c
 HasPlacement Second db c = IfSome (placement_shown Second db c) (λ p. is_key p ≡ true) × (length (of_key (first_cell c) (db assigned2_tree)) ≤ 1)
+
+-- of the first round alone: the key and the place of each student, by key
+abbrev pub places_shown : Trees → List Row
+places_shown db = map (columns (1 ∷ 4 ∷ [])) (by_key (db student_tree))
+
+-- the pair of a student who has a place
+abbrev pub pair_told : Row → Option (Key × Key)
+pair_told c = option_map (λ p. (first_cell c, p)) (text_or_none (column c 1))
+
+-- key and place have the form of a key
+abbrev pub HasKeys : Row → Type 0
+HasKeys c = (is_key (first_cell c) ≡ true) × IfSome (text_or_none (column c 1)) (λ p. is_key p ≡ true)
+
+-- the result of the first round
+abbrev pub first_pairs : Trees → List (Key × Key)
+first_pairs db = filter_map pair_told (places_shown db)

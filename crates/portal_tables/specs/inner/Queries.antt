@@ -2,7 +2,7 @@
 use Rattle.std.specs.Prelude.{◌∷◌, ◌++◌}
 use Rattle.portal_tables.specs.Base.{codes, ℕ, List, [], Bool, Words, Row, Trees, Round, First, InSecond}
 use Rattle.portal_tables.specs.declared.select.Query.{Query}
-use Rattle.portal_tables.specs.declared.select.Query.TheVariants.{Office, Whole, LecturerByCode, StudentByCode, LecturerByKey, StudentTold, AllLists, ListOf, Choosers, Listed, ProjectsOf, Numbers, Second, SecondRanked, SecondRankedBy, SecondPlacements, SecondPlaceOf}
+use Rattle.portal_tables.specs.declared.select.Query.TheVariants.{Office, Whole, LecturerByCode, StudentByCode, LecturerByKey, StudentTold, AllLists, ListOf, Choosers, Listed, ProjectsOf, Numbers, FirstPlacements, Second, SecondRanked, SecondRankedBy, SecondPlacements, SecondPlaceOf}
 use Rattle.portal_tables.specs.declared.select.Roll.{Roll}
 use Rattle.portal_tables.specs.declared.select.Roll.TheVariants.{Lecturers, Projects, Students}
 use Rattle.portal_tables.specs.declared.select.Table.{Table}
@@ -68,6 +68,7 @@ selection (ListOf lists owner) = record { tree = tree_of lists; passes = has_tex
 selection (Choosers round project) = record { tree = tree_of (choice_table round); passes = has_text 3 project.now; by = 1 ∷ []; shown = 1 ∷ [] }
 selection (ProjectsOf lecturer) = record { tree = project_tree; passes = has_text 2 lecturer.now; by = 1 ∷ []; shown = 1 ∷ [] }
 selection (Listed round) = record { tree = tree_of (choice_table round); passes = has_number 2 1; by = 1 ∷ []; shown = 1 ∷ [] }
+selection FirstPlacements = record { tree = student_tree; passes = every; by = 1 ∷ []; shown = 1 ∷ 4 ∷ [] }
 selection Second = record { tree = second_tree; passes = every; by = 0 ∷ []; shown = 0 ∷ 2 ∷ [] }
 selection SecondRanked = record { tree = ranked2_tree; passes = every; by = 1 ∷ []; shown = 1 ∷ [] }
 selection (SecondRankedBy lecturer) = record { tree = ranked2_tree; passes = has_text 1 lecturer.now; by = 1 ∷ []; shown = 1 ∷ [] }
@@ -103,6 +104,7 @@ query_text (ListOf lists owner) = let t = names lists in codes "SELECT place, " 
 query_text (Choosers round project) = codes "SELECT student FROM " ++ (names (choice_table round)).name ++ codes " WHERE project = ?1 ORDER BY student"
 query_text (ProjectsOf lecturer) = codes "SELECT key FROM project WHERE lecturer = ?1 ORDER BY key"
 query_text (Listed round) = codes "SELECT student FROM " ++ (names (choice_table round)).name ++ codes " WHERE place = 1 ORDER BY student"
+query_text FirstPlacements = codes "SELECT key, assigned FROM student ORDER BY key"
 query_text Second = codes "SELECT id, phase FROM second ORDER BY id"
 query_text SecondRanked = codes "SELECT lecturer FROM ranked2 ORDER BY lecturer"
 query_text (SecondRankedBy lecturer) = codes "SELECT lecturer FROM ranked2 WHERE lecturer = ?1 ORDER BY lecturer"

@@ -1,10 +1,13 @@
 -- What a lecturer or a student sees, of the own row and of what the tables hold.
-use Rattle.std.specs.Prelude.{if◌then◌else◌}
-use Rattle.portal_views.specs.inner.Base.{Vec, List, [], map, filter, Option, Global, Row, column, bytes, Trees, number_in, Phase, Round, First, Second, Listing, Person, StudentSees, LecturerSees, Key, equals, is_at, is_from_ranking, is_published, put_all}
+use Rattle.std.specs.Prelude.{◌≡◌, true, if◌then◌else◌}
+use Rattle.spa_rows.specs.Form.{is_key}
+use Rattle.portal_tables.specs.ListTables.{choice_table, tree_of}
+use Rattle.portal_tables.specs.Lists.{of_key, IsWhole}
+use Rattle.portal_views.specs.inner.Base.{AllByRecursion, Vec, List, [], map, filter, Option, Global, Row, column, bytes, Trees, number_in, Phase, Round, First, Second, Listing, Person, StudentSees, LecturerSees, Key, equals, is_at, is_from_ranking, is_published, put_all}
 use Rattle.portal_views.specs.declared.lines.ApplicantLine.{ApplicantLine}
-use Rattle.portal_views.specs.inner.Lines.{applicant_lines}
+use Rattle.portal_views.specs.inner.Lines.{IsNamed, applicant_lines}
 use Rattle.portal_tables.specs.inner.Owners.{choice_shown, ranking_shown}
-use Rattle.portal_tables.specs.inner.Placements.{result_shown}
+use Rattle.portal_tables.specs.inner.Placements.{result_shown, HasFirstPlace, HasPlacement}
 use Rattle.portal_tables.specs.inner.Rolls.{projects_shown}
 use Rattle.portal_tables.specs.inner.Shown.{first_cell}
 
@@ -80,3 +83,11 @@ student_sees_with round phase c offers choices place =
 
 abbrev pub student_shown : Round → Trees → Phase → Row → List Listing → StudentSees
 student_shown round db phase c offers = student_sees_with round phase c offers (choice_shown round db c) (result_shown round db phase c)
+
+-- what the reading of a student's view asks: key, name and places have their forms, and the list of the round has no gap
+pub record IsReadable (round : Round) (db : Trees) (c : Row) : Type 0 where
+  pub person : IsNamed c
+  pub whole : IsWhole (of_key (first_cell c) (db (tree_of (choice_table round))))
+  pub names : AllByRecursion (λ k. is_key k ≡ true) (choice_shown round db c)
+  pub first : HasFirstPlace c
+  pub place : HasPlacement round db c

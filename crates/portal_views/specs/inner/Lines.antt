@@ -1,4 +1,7 @@
 -- What may be told of students, of the rows of the tables.
+use Rattle.std.specs.Prelude.{◌≡◌, true}
+use Rattle.portal_core.specs.Form.{is_name}
+use Rattle.spa_rows.specs.Form.{is_key}
 use Rattle.portal_views.specs.inner.Base.{Round, First, Second, List, map, filter, Option, option_map, AllByRecursion, find, Row, column, bytes, Trees, Database, IsDatabase, Key, equals, has}
 use Rattle.portal_tables.specs.Tables.{own_trees}
 use Rattle.portal_tables.specs.Placements.{second_placement}
@@ -17,6 +20,10 @@ pub record HasTables (db : Database) : Type 0 where
   pub current : IsCurrentSchema db.schema
   pub sound : IsDatabase db
   pub apart : AllByRecursion (λ t. RowNumbersDiffer (db.trees t)) own_trees
+
+-- key and name, which come first, have their forms
+abbrev pub IsNamed : Row → Type 0
+IsNamed c = (is_key (first_cell c) ≡ true) × (is_name (bytes (column c 1)) ≡ true)
 
 -- what is told of the student whose row is shown, with the place in a round
 abbrev pub shown_line : Round → Trees → Row → ApplicantLine

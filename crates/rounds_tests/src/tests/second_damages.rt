@@ -4,6 +4,8 @@ use crate::tests::steps::{Deed, does_parts, fresh};
 use crate::tests::wide::{
     CHOOSING, PUBLISHED, RANKING, ROLLS, SECOND_CHOOSING, SECOND_PUBLISHED, SECOND_RANKING,
 };
+use portal_core::{Listing, StudentView, View};
+use portal_store::queries::view;
 use portal_store::{NotOpened, OpenFault, Store};
 use sqlite::{Connection, MemStore};
 use std::process::Abort;
@@ -296,4 +298,48 @@ fn nothing_else_is_told(rt: HostRuntime) {
 fn other_tables_are_told(rt: HostRuntime) {
     in_ranking(&rt, NO_PORTAL, Some(OpenFault::NotPortal));
     in_ranking(&rt, OTHER_VERSION, Some(OpenFault::OtherVersion));
+}
+
+/// What another person's rows may not be: of a student, of lists and of the second result.
+const OF_OTHERS: &[&str] = &[
+    "UPDATE student SET code = 'short' WHERE key = 'S4'",
+    "UPDATE student SET name = '' WHERE key = 'S5'",
+    "UPDATE student SET code = '' WHERE key = 'S1'",
+    "DELETE FROM choice2 WHERE student = 'S4' AND place = 1",
+    "UPDATE choice2 SET place = 7 WHERE student = 'S5'",
+    "UPDATE choice SET place = 3 WHERE student = 'S1'",
+    "INSERT INTO ranking2 (lecturer, place, student) VALUES ('L2', 5, 'S4')",
+    "INSERT INTO assigned2 (student, project) VALUES ('S4', 'P3')",
+];
+
+/// The project has this key and so much room.
+fn offers(rt: &(impl Abort + AllocGlobal), listing: &Listing, key: &[u8], room: u32) {
+    assert_eq!(rt; listing.key.as_bytes(), key);
+    assert_eq!(rt; listing.capacity, room);
+}
+
+/// The view is that of S6: a list of P4, and the projects that the first round left, with what is left of their room.
+fn is_of_fay(rt: &(impl Abort + AllocGlobal), student: &StudentView) {
+    assert_eq!(rt; student.me.key.as_bytes(), b"S6".as_slice());
+    assert!(rt; student.choices.len() == 1 && student.result.is_none());
+    assert_eq!(rt; student.choices[0].as_bytes(), b"P4".as_slice());
+    assert!(rt; student.catalogue.len() == 3);
+    offers(rt, &student.catalogue[0], b"P3", 1);
+    offers(rt, &student.catalogue[1], b"P4", 2);
+    offers(rt, &student.catalogue[2], b"P5", 1);
+}
+
+/// A student of the second round is shown the same, whatever rows others have.
+#[test]
+fn a_view_reads_no_other_row(rt: HostRuntime) {
+    let played = [ROLLS, CHOOSING, RANKING, PUBLISHED, SECOND_CHOOSING];
+    for text in OF_OTHERS {
+        let mut conn = database(&rt, &played);
+        conn.execute_batch(text).expect(&rt, "statements");
+        assert!(rt; conn.is_autocommit());
+        match view(rt.alloc(), &mut conn, b"stud-code-6").expect(&rt, "a view") {
+            View::Student(student) => is_of_fay(&rt, &student),
+            _ => assert!(rt; false, "no student"),
+        }
+    }
 }

@@ -6,7 +6,7 @@ use crate::tests::trial::Fault;
 use std::process::Abort;
 
 /// The portal is made, and a first round played in it that leaves places and students.
-const FIRST: &[Ask] = &[
+pub(crate) const FIRST: &[Ask] = &[
     Ask::Making,
     Ask::Request(
         "POST",
@@ -34,7 +34,7 @@ const FIRST: &[Ask] = &[
 ];
 
 /// The second round is opened, two hand in lists, and one is replaced.
-const OPENED: &[Ask] = &[
+pub(crate) const OPENED: &[Ask] = &[
     Ask::Request("POST", "/phase", OFFICE, OPENING),
     Ask::Request(
         "PUT",
@@ -57,7 +57,7 @@ const OPENED: &[Ask] = &[
 ];
 
 /// The lists are closed, a ranking is put and replaced, what is missing filled, and the result published.
-const RANKED: &[Ask] = &[
+pub(crate) const RANKED: &[Ask] = &[
     Ask::Request("POST", "/phase", OFFICE, r#"{"phase":"ranking"}"#),
     Ask::Request("PUT", "/ranking", MOE, r#"{"students":["S4","S5"]}"#),
     Ask::Request("PUT", "/ranking", MOE, r#"{"students":["S5","S4"]}"#),

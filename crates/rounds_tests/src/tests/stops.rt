@@ -11,11 +11,11 @@ use sqlite_disk::{Crash, Disk, Memory};
 use std::process::Abort;
 
 /// A connection to two files that fail as a plan says.
-type TrialConnection<'a> = Connection<FileStore<Trial<'a, Memory>>>;
+pub(crate) type TrialConnection<'a> = Connection<FileStore<Trial<'a, Memory>>>;
 
 /// What the two files of a database hold.
 #[derive(Drop)]
-struct Image {
+pub(crate) struct Image {
     log: Vec<u8>,
     db: Vec<u8>,
 }
@@ -30,7 +30,7 @@ fn memory(rt: &(impl Abort + AllocGlobal), bytes: &[u8]) -> Memory {
 
 /// Little memory for pages, so that a change writes before its end and reads again, and a short log, so that it is copied into
 /// the database in between.
-const TIGHT: Options = Options {
+pub(crate) const TIGHT: Options = Options {
     cache_pages: 4,
     spill_pages: 4,
     checkpoint_frames: 12,
@@ -38,7 +38,7 @@ const TIGHT: Options = Options {
 };
 
 /// A connection to files that hold this.
-fn connected<'a>(
+pub(crate) fn connected<'a>(
     rt: &(impl Abort + AllocGlobal),
     image: &Image,
     plan: &'a Plan,
@@ -55,7 +55,10 @@ fn connected<'a>(
 }
 
 /// What the files hold: all that was written, and what of it is safe.
-fn left_of(rt: &(impl Abort + AllocGlobal), conn: TrialConnection<'_>) -> (Image, Image) {
+pub(crate) fn left_of(
+    rt: &(impl Abort + AllocGlobal),
+    conn: TrialConnection<'_>,
+) -> (Image, Image) {
     let files = match conn.close_files() {
         Ok(files) => files,
         Err((_, store)) => store.close(),
@@ -208,7 +211,7 @@ fn upgrades<'a>(
 }
 
 /// The portal in the files, which is there.
-fn desk_over<'a>(
+pub(crate) fn desk_over<'a>(
     rt: &(impl Abort + AllocGlobal),
     conn: TrialConnection<'a>,
 ) -> Desk<Store<FileStore<Trial<'a, Memory>>>> {
@@ -330,7 +333,7 @@ fn faults_of(rt: &(impl Abort + AllocGlobal), case: &Case, fault: Fault) -> u64 
 }
 
 /// The portal is made, and the three rolls come.
-const SETUP: &[Ask] = &[
+pub(crate) const SETUP: &[Ask] = &[
     Ask::Making,
     Ask::Request(
         "POST",
@@ -353,7 +356,7 @@ const SETUP: &[Ask] = &[
 ];
 
 /// A phase, two lists, and one that is replaced.
-const CHOOSING: &[Ask] = &[
+pub(crate) const CHOOSING: &[Ask] = &[
     Ask::Request("POST", "/phase", OFFICE, r#"{"phase":"choosing"}"#),
     Ask::Request("PUT", "/choices", ANN, r#"{"projects":["P1","P2"]}"#),
     Ask::Request("PUT", "/choices", BEA, r#"{"projects":["P1","P3"]}"#),
@@ -361,7 +364,7 @@ const CHOOSING: &[Ask] = &[
 ];
 
 /// A phase, a ranking and one that is replaced, what is missing filled, and the publication.
-const RANKING: &[Ask] = &[
+pub(crate) const RANKING: &[Ask] = &[
     Ask::Request("POST", "/phase", OFFICE, r#"{"phase":"ranking"}"#),
     Ask::Request("PUT", "/ranking", LEE, r#"{"students":["S1","S2"]}"#),
     Ask::Request("PUT", "/ranking", LEE, r#"{"students":["S2","S1"]}"#),
@@ -370,7 +373,7 @@ const RANKING: &[Ask] = &[
 ];
 
 /// Files of an empty database.
-fn blank(rt: &(impl Abort + AllocGlobal)) -> Image {
+pub(crate) fn blank(rt: &(impl Abort + AllocGlobal)) -> Image {
     let empty = Image {
         log: Vec::new(rt.alloc()),
         db: Vec::new(rt.alloc()),
@@ -389,7 +392,7 @@ fn after(rt: &(impl Abort + AllocGlobal), before: Image, asks: &[Ask]) -> Image 
 }
 
 /// The files after these parts of a year.
-fn files_after(rt: &(impl Abort + AllocGlobal), played: &[&[Ask]]) -> Image {
+pub(crate) fn files_after(rt: &(impl Abort + AllocGlobal), played: &[&[Ask]]) -> Image {
     let mut image = blank(rt);
     for part in played {
         image = after(rt, image, part);
@@ -557,7 +560,7 @@ fn a_read_fails_in_an_upgrade(rt: HostRuntime) {
 }
 
 /// Why the serving of these bytes stopped early, and what was written.
-fn stopped<K: Keeper>(
+pub(crate) fn stopped<K: Keeper>(
     rt: &(impl Abort + AllocGlobal),
     desk: &mut Desk<K>,
     bytes: &[u8],

@@ -350,19 +350,27 @@ fn is_of_ann(rt: &impl Abort, student: &StudentView) {
     assert!(rt; student.result.is_none());
 }
 
-/// A student's view is made of that student's rows, and is the same where another student's row is of no good world.
+/// What another person's rows may not be.
+const OF_OTHERS: &[&str] = &[
+    "UPDATE student SET assigned = 'P3' WHERE key = 'S2'",
+    "UPDATE student SET code = 'short' WHERE key = 'S2'",
+    "UPDATE student SET name = '' WHERE key = 'S3'",
+    "UPDATE student SET key = 'S 3' WHERE key = 'S3'",
+    "UPDATE choice SET place = 7 WHERE student = 'S2' AND place = 1",
+    "INSERT INTO ranking (lecturer, place, student) VALUES ('L1', 2, 'S1')",
+];
+
+/// A student's view is made of that student's rows, and is the same where another person's rows are of no good world.
 #[test]
 fn a_view_reads_no_other_row(rt: HostRuntime) {
-    let mut desk = fresh(&rt);
-    play_parts(&rt, &mut desk, Year::Choosing.played());
-    let mut conn = changed(
-        &rt,
-        desk,
-        "UPDATE student SET assigned = 'P3' WHERE key = 'S2'",
-    );
-    assert!(rt; conn.is_autocommit());
-    match view(rt.alloc(), &mut conn, ANN.as_bytes()).expect(&rt, "a view") {
-        View::Student(student) => is_of_ann(&rt, &student),
-        _ => assert!(rt; false, "no student"),
+    for statements in OF_OTHERS {
+        let mut desk = fresh(&rt);
+        play_parts(&rt, &mut desk, Year::Choosing.played());
+        let mut conn = changed(&rt, desk, statements);
+        assert!(rt; conn.is_autocommit());
+        match view(rt.alloc(), &mut conn, ANN.as_bytes()).expect(&rt, "a view") {
+            View::Student(student) => is_of_ann(&rt, &student),
+            _ => assert!(rt; false, "no student"),
+        }
     }
 }

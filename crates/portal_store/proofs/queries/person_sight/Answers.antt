@@ -6,6 +6,7 @@ use Rattle.sqlite.specs.State.{HasCleanDisk}
 use Rattle.portal_core.specs.View.{catalogue, sight_of, caller_among, lecturer_with, student_with, OfficeCaller}
 use Rattle.portal_core.specs.World.{Lecturer}
 use Rattle.portal_core.specs.declared.phase.Round.{Round}
+use Rattle.portal_core.specs.declared.phase.Round.TheVariants.{First}
 use Rattle.portal_core.specs.declared.view.View.TheVariants.{Lecturer as LecturerSight}
 use Rattle.portal_views.specs.inner.Callers.{lecturer_shown}
 use Rattle.portal_views.specs.inner.Lines.{HasTables}
@@ -15,7 +16,7 @@ use Rattle.portal_store.specs.inner.Queried.{lecturer_from}
 use Rattle.portal_store.specs.World.{world_in}
 use Rattle.portal_store.proofs.Applying.{lecturer_told}
 use Rattle.portal_store.proofs.Holding.{has_tables}
-use Rattle.portal_store.proofs.Queried.{catalogue_told}
+use Rattle.portal_store.proofs.CatalogueLeft.{catalogue_told}
 use Rattle.portal_store.proofs.ViewCache.{listed_then, cache_start, row_then}
 use Rattle.portal_store.proofs.queries.person_sight.Goals as goal
 
@@ -54,7 +55,7 @@ returns-clause-shows g c holds clean phase other good right =
     let row = c.in-Some.row in
     let late = clean_before (state g.S.Store c.shared_catalogue.new.conn) e _ c.in_ok-lecturer_view.ensures.reads.crash clean in
     let listed = listed_then round c.in_ok-row.field-0 c.in_ok-catalogue.catalogue offers c.args.cache.now a _ _ c.in_ok-row.ensures.reads c.in_ok-catalogue.ensures.reads c.in_ok-catalogue.ensures.shows holds late right in
-    let offered : IsCatalogue round a.now.trees offers = λ first. listed.0 ∙ ap (λ (r : Round). catalogue (world_in r a.now.trees)) first ∙ sym (catalogue_told a.now.trees) in
+    let offered : IsCatalogue round a.now.trees offers = λ first. listed.0 ∙ ap (λ (r : Round). catalogue (world_in r a.now.trees)) first ∙ sym (catalogue_told First a.now.trees) in
     let told = subst (λ (x : Database). HasTables x → HasCleanDisk e → IsCatalogue round x.trees offers → c.in_ok-lecturer_view.field-0 ≡ lecturer_shown round x.trees c.args.phase row offers) listed.1 c.in_ok-lecturer_view.ensures.shows (has_tables a.now holds) clean offered
     ∙ lecturer_told round a.now.trees holds.second good row c.args.phase offers phase listed.0 in
     let found = ap (option_map (lecturer_from round a.now.trees)) (sym c.in-Some.is) ∙ c.in_ok-row.ensures.found round holds (clean_before _ _ _ c.in_ok-catalogue.ensures.reads.crash late) in

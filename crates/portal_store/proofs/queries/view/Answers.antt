@@ -3,4 +3,4 @@ use Rattle.portal_store.proofs.queries.view.Goals as goal
 
 -- nothing is remembered
 pub returns-clause-shows : goal.returns-clause-shows
-returns-clause-shows g c own clean = IfOk-weaker c.view_with.result _ _ (λ view shows holds good. shows holds good (c.nothing-cache.ensures _)) (c.view_with.ensures.shows own clean)
+returns-clause-shows g c holds good clean = IfOk-weaker c.view_with.result _ _ (λ view shows. shows holds good (c.nothing-cache.ensures _)) (c.view_with.ensures.shows holds.1.current clean)

@@ -4,7 +4,7 @@ use Rattle.sqlite.specs.Held.{Held, state}
 use Rattle.sqlite.proofs.StateLemmas.{survives_weaker}
 use Rattle.portal_core.specs.Meaning.{change_model}
 use Rattle.portal_tables.proofs.Runs.{clean_if_open}
-use Rattle.portal_store.proofs.Keeps.{lasts_by, change_keeps, change_shown, change_told, change_left, change_clean, change_made, change_same}
+use Rattle.portal_store.proofs.Keeps.{open_by, change_keeps, change_lasts, change_shown, change_told, change_left, change_clean, change_made, change_same}
 use Rattle.portal_tables.specs.Schema.{IsCurrentSchema}
 use Rattle.portal_store.specs.Kept.{Seen, IsTransition}
 use Rattle.portal_tables.specs.Steps.{IsAfter}
@@ -44,9 +44,9 @@ returns-clause-left g c =
     change_left g.S.Store (change_model c.args.change.now) c.self.inside.conn c.make-made.new.conn c.self.inside.own c.self.inside.faults c.args.self.now c.self.view_is c.self.invariant.kept c.make-made.ensures.idle c.in_default.ensures (law g c.make-made.new.conn) c.requires.good c.requires.leaves_good
     (g.met.S.Store.settled c.self.inside.conn.store) c.make-made.ensures.ends.crash
 
-pub returns-clause-lasts : goal.returns-clause-lasts
-returns-clause-lasts g c =
-    lasts_by g.S.Store c.self.inside.conn c.make-made.new.conn c.self.inside.own c.self.inside.faults c.make-made.new.faults c.args.self.now _ c.self.view_is
+pub returns-clause-stays_open : goal.returns-clause-stays_open
+returns-clause-stays_open g c =
+    open_by g.S.Store c.self.inside.conn c.make-made.new.conn c.self.inside.own c.self.inside.faults c.make-made.new.faults c.args.self.now _ c.self.view_is
     (λ mine. survives_weaker (state g.S.Store c.self.inside.conn) (state g.S.Store c.make-made.new.conn) _ _ (λ clean db left. left (subst (λ (s : Seen _). IsTrue s.own → IsCurrentSchema s.conn.schema) (sym c.self.view_is) c.in_default.ensures mine)) c.make-made.ensures.ends.crash)
 
 pub returns-clause-crash : goal.returns-clause-crash
@@ -56,3 +56,8 @@ returns-clause-crash g c own =
     let current = subst (λ (s : Seen _). IsTrue s.own → IsCurrentSchema s.conn.schema) (sym c.self.view_is) c.in_default.ensures (subst (λ (s : Seen _). IsTrue s.own) (sym c.self.view_is) own) in
     subst (λ (s : Seen _). Survives (state g.S.Store s.conn) new (IsAfter (IsTransition change) (state g.S.Store s.conn))) c.self.view_is
     (survives_weaker (state g.S.Store c.self.inside.conn) new _ _ (λ clean db left. left current) c.make-made.ensures.ends.crash)
+
+pub returns-clause-lasts : goal.returns-clause-lasts
+returns-clause-lasts g c =
+    change_lasts g.S.Store (change_model c.args.change.now) c.self.inside.conn c.make-made.new.conn c.self.inside.own c.self.inside.faults c.args.self.now c.self.view_is c.self.invariant.kept c.make-made.ensures.idle c.in_default.ensures (law g c.make-made.new.conn) c.requires.good c.requires.leaves_good
+    c.make-made.result c.make-made.ensures.ends

@@ -7,7 +7,7 @@ use Rattle.portal_core.specs.Instance.{instance}
 use Rattle.std.proofs.lemmas.Result.{IfOk-weaker}
 use Rattle.portal_store.specs.Kept.{IsCleanStore, kept_world}
 use Rattle.portal_store.specs.inner.Kept.{AreEntries}
-use Rattle.portal_store.proofs.Keeps.{lasts_by, read_keeps, read_shown, read_still, read_clean, read_same, read_holds, when_ok}
+use Rattle.portal_store.proofs.Keeps.{open_by, read_keeps, read_lasts, read_shown, read_still, read_clean, read_same, read_holds, when_ok}
 use Rattle.portal_store.proofs.keeper.StoreKeeper.instance.Given.{Over}
 use Rattle.portal_store.proofs.keeper.StoreKeeper.instance.Goals as goal
 
@@ -54,7 +54,12 @@ returns-in-Some-clause-instance g c =
     ∙ ap (λ s. instance (kept_world g.S.Store s)) c.self.view_is)
     c.instance_of.ensures.instance
 
+pub returns-in-None-clause-stays_open : goal.returns-in-None-clause-stays_open
+returns-in-None-clause-stays_open g c =
+    open_by g.S.Store c.self.inside.conn c.instance_in.new.conn c.self.inside.own c.self.inside.faults c.instance_in.new.faults c.args.self.now _ c.self.view_is
+    (λ mine. c.instance_in.ensures.asks.crash)
+
 pub returns-in-None-clause-lasts : goal.returns-in-None-clause-lasts
 returns-in-None-clause-lasts g c =
-    lasts_by g.S.Store c.self.inside.conn c.instance_in.new.conn c.self.inside.own c.self.inside.faults c.instance_in.new.faults c.args.self.now _ c.self.view_is
-    (λ mine. c.instance_in.ensures.asks.crash)
+    read_lasts g.S.Store c.self.inside.conn c.instance_in.new.conn c.self.inside.own c.self.inside.faults c.args.self.now c.self.view_is c.self.invariant.kept c.instance_in.ensures.idle c.in_default.ensures (law g c.instance_in.new.conn)
+    c.instance_in.result c.instance_in.ensures.asks

@@ -7,7 +7,7 @@ use Rattle.portal_core.specs.Good.{Good}
 use Rattle.portal_core.specs.View as seen
 use Rattle.portal_store.specs.World.{world_of}
 use Rattle.portal_store.specs.Kept.{IsCleanStore, kept_world}
-use Rattle.portal_store.proofs.Keeps.{lasts_by, read_keeps, read_shown, read_still, read_clean, read_same, read_holds, when_ok}
+use Rattle.portal_store.proofs.Keeps.{open_by, read_keeps, read_lasts, read_shown, read_still, read_clean, read_same, read_holds, when_ok}
 use Rattle.portal_store.proofs.keeper.StoreKeeper.view.Given.{Over}
 use Rattle.portal_store.proofs.keeper.StoreKeeper.view.Goals as goal
 
@@ -45,7 +45,12 @@ returns-clause-shown g c =
     c.view_with.result c.view_with.ensures.asks _ (λ own clean holds. IfOk-weaker c.view_with.result _ (λ view. Good (world_of (state g.S.Store c.self.inside.conn).now.trees) → view ≡ seen.view (world_of (state g.S.Store c.self.inside.conn).now.trees) code) (λ view shows good. shows holds good right) (c.view_with.ensures.shows own clean)) on)
     (λ view shows on good. shows on (subst (λ s. Good (kept_world g.S.Store s)) (sym c.self.view_is) good) ∙ ap (λ s. seen.view (kept_world g.S.Store s) code) c.self.view_is)
 
+pub returns-clause-stays_open : goal.returns-clause-stays_open
+returns-clause-stays_open g c =
+    open_by g.S.Store c.self.inside.conn c.view_with.new.conn c.self.inside.own c.self.inside.faults c.view_with.new.faults c.args.self.now _ c.self.view_is
+    (λ mine. c.view_with.ensures.asks.crash)
+
 pub returns-clause-lasts : goal.returns-clause-lasts
 returns-clause-lasts g c =
-    lasts_by g.S.Store c.self.inside.conn c.view_with.new.conn c.self.inside.own c.self.inside.faults c.view_with.new.faults c.args.self.now _ c.self.view_is
-    (λ mine. c.view_with.ensures.asks.crash)
+    read_lasts g.S.Store c.self.inside.conn c.view_with.new.conn c.self.inside.own c.self.inside.faults c.args.self.now c.self.view_is c.self.invariant.kept c.view_with.ensures.idle c.in_default.ensures (law g c.view_with.new.conn)
+    c.view_with.result c.view_with.ensures.asks

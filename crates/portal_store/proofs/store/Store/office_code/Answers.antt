@@ -7,7 +7,7 @@ use Rattle.portal_core.specs.declared.phase.Round.TheVariants.{First}
 use Rattle.portal_store.specs.Kept.{kept_world}
 use Rattle.portal_store.proofs.Asked.{asks_all}
 use Rattle.portal_tables.proofs.Owned.{current_own}
-use Rattle.portal_store.proofs.Keeps.{lasts_by, read_keeps, read_shown, read_still, read_clean, read_same, read_holds}
+use Rattle.portal_store.proofs.Keeps.{open_by, read_keeps, read_lasts, read_shown, read_still, read_clean, read_same, read_holds}
 use Rattle.portal_store.proofs.store.Store.office_code.Given.{Over}
 use Rattle.portal_store.proofs.store.Store.office_code.Goals as goal
 
@@ -40,7 +40,12 @@ returns-clause-code g c on =
     (read_holds g.S.Store c.self.inside.conn c.office_of.new.conn c.self.inside.own c.self.inside.faults c.args.self.now c.self.view_is c.self.invariant.kept c.office_of.ensures.idle c.in_default.ensures (law g c.office_of.new.conn)
     c.office_of.result (asks_all First c.office_of.result (state g.S.Store c.self.inside.conn) (state g.S.Store c.office_of.new.conn) c.office_of.ensures.asks) _ (λ own clean holds. c.office_of.ensures.code (current_own _ own) holds.1.sound clean) on)
 
+pub returns-clause-stays_open : goal.returns-clause-stays_open
+returns-clause-stays_open g c =
+    open_by g.S.Store c.self.inside.conn c.office_of.new.conn c.self.inside.own c.self.inside.faults c.office_of.new.faults c.args.self.now _ c.self.view_is
+    (λ mine. c.office_of.ensures.asks.crash)
+
 pub returns-clause-lasts : goal.returns-clause-lasts
 returns-clause-lasts g c =
-    lasts_by g.S.Store c.self.inside.conn c.office_of.new.conn c.self.inside.own c.self.inside.faults c.office_of.new.faults c.args.self.now _ c.self.view_is
-    (λ mine. c.office_of.ensures.asks.crash)
+    read_lasts g.S.Store c.self.inside.conn c.office_of.new.conn c.self.inside.own c.self.inside.faults c.args.self.now c.self.view_is c.self.invariant.kept c.office_of.ensures.idle c.in_default.ensures (law g c.office_of.new.conn)
+    c.office_of.result (asks_all First c.office_of.result (state g.S.Store c.self.inside.conn) (state g.S.Store c.office_of.new.conn) c.office_of.ensures.asks)

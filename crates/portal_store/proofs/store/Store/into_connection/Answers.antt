@@ -1,0 +1,9 @@
+use Rattle.std.proofs.Common.{sym, subst}
+use Rattle.sqlite.specs.Held.{state}
+use Rattle.portal_store.specs.Kept.{IsCleanStore, IsConsistent}
+use Rattle.portal_store.proofs.store.Store.into_connection.Goals as goal
+
+pub returns-clause-kept : goal.returns-clause-kept
+returns-clause-kept g c on =
+    let here = subst (λ s. IsCleanStore g.S.Store s) (sym c.self.view_is) on in
+    (c.self.invariant.kept.ready here.0 here.1).holds
