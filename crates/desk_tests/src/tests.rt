@@ -2,6 +2,7 @@
 
 mod conversation;
 mod devices;
+mod each;
 mod failing;
 mod frames;
 mod heads;

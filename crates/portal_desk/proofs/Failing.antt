@@ -1,6 +1,11 @@
--- That the desk fails exactly where its keeper's faults rise.
+-- That the desk fails exactly where its keeper's faults rise, and what keeps a keeper clean over several calls.
 use Rattle.std.proofs.Common.{◌≡◌, ℕ, ◌+◌, Bool, true, false, refl, sym, ◌∙◌, ap}
+use Rattle.portal_core.specs.Counting.{StaysClean}
 use Rattle.portal_desk.specs.Outcome.{FailsByCount}
+
+-- what keeps a keeper clean, over one call after another
+pub lasts_then : (a b c d e f : Type 0) → StaysClean a b d e → StaysClean b c e f → StaysClean a c d f
+lasts_then a b c d e f h k = λ now. let after = k now in let before = h after.0 in (before.0, λ was. after.1 (before.1 was))
 
 -- one after another
 pub fails_then : (a b c : Bool) (x y z : ℕ) → FailsByCount a b x y → FailsByCount b c y z → FailsByCount a c x z

@@ -1,6 +1,6 @@
 -- The bytes of the replies to one caller.
 use Rattle.std.proofs.Common.{◌≡◌, ℕ, inl, inr, Bool, true, false, List, [], ◌∷◌, ◌++◌, refl, sym, ap, ◌∙◌, subst}
-use Rattle.std.specs.Prelude.{if◌then◌else◌}
+use Rattle.std.specs.Prelude.{if◌then◌else◌, Option, Some}
 use Rattle.std.specs.List.{AllZip}
 use Rattle.portal_core.specs.Words.{Key, equals}
 use Rattle.portal_core.specs.World.{World}
@@ -9,12 +9,16 @@ use Rattle.portal_core.specs.declared.view.View.{View as Sight}
 use Rattle.portal_core.specs.Answer.{Answer}
 use Rattle.portal_core.specs.Run.{Run, end_of}
 use Rattle.portal_core.specs.Heard.{HeardItem, Asked, Sees, own_item, SeenIf, Heard, replies_to}
-use Rattle.portal_core.specs.Places.{SameButPlaces, SameRequest, AlikeUntilPublished, has_places, opens_result}
+use Rattle.portal_core.specs.Places.{SameButPlaces, SameRequest, AlikeUntilPublished, has_places, moves_to_published}
 use Rattle.portal_core.proofs.Hearing.{same_replies}
 use Rattle.portal_core.proofs.Disclosed.{places_unseen, unless_map}
 use Rattle.portal_wire.specs.Text.{reply_text}
-use Rattle.portal_wire.specs.Conversation.{Exchange, asked_in, told_in, text, exchange_text}
-use Rattle.portal_desk.specs.Visits.{Visit, IsVisit, AreVisits, AreAnswered, exchanges_of, worlds_of, Hears, texts_to, replies_in, AlikeTexts, Session, AreServed, AllTellOf}
+use Rattle.portal_wire.specs.Conversation.{Rest, Exchange, asked_in, told_in, text, exchange_text}
+use Rattle.portal_desk.specs.Keeping.{KeeperState}
+use Rattle.portal_desk.specs.declared.served.Cause.{Cause}
+use Rattle.portal_desk.specs.declared.served.Cause.TheVariants as cause
+use Rattle.portal_desk.specs.Serving.{Deals, Wrote}
+use Rattle.portal_desk.specs.Visits.{Finish, Ended, Stopped, Tells, ServesUntil, Visit, IsVisit, AreVisits, AreAnswered, exchanges_of, worlds_of, Hears, texts_to, replies_in, AlikeTexts, Session, IsSession, AreServed, AllTellOf}
 
 -- the marks of the caller's own requests
 marks : List HeardItem → List (Bool × Bool)
@@ -64,7 +68,7 @@ Run-append w [] fs (u ∷ us) vs run next = absurd run
 Run-append w (e ∷ es) fs [] vs run next = absurd run
 Run-append w (e ∷ es) fs (u ∷ us) vs run next = (run.0, Run-append u es fs us vs run.1 next)
 
-whole_run : (w : World) (vs : List Visit) → AreVisits w vs → Run w (asked_in (exchanges_of vs)) (told_in (exchanges_of vs)) (worlds_of vs)
+pub whole_run : (w : World) (vs : List Visit) → AreVisits w vs → Run w (asked_in (exchanges_of vs)) (told_in (exchanges_of vs)) (worlds_of vs)
 whole_run w [] visits = tt
 whole_run w (v ∷ vs) (first, rest) = Run-append w v.exchanges (exchanges_of vs) v.worlds (worlds_of vs) first.run (whole_run (end_of w v.worlds) vs rest)
 
@@ -89,7 +93,7 @@ alike [] fs zip told = tt
 alike (e ∷ es) [] zip told = tt
 alike (e ∷ es) (f ∷ fs) zip told = (
   unless_map (has_places e.request.wish) _ _ (text_same e f zip.0) told.0,
-  unless_map (opens_result e.request.wish e.reply) _ _ (alike es fs zip.1) told.1,
+  unless_map (moves_to_published e.request.wish e.reply) _ _ (alike es fs zip.1) told.1,
 )
 
 pub same_places : (w v : World) (visits others : List Visit) → SameButPlaces w v
@@ -99,35 +103,75 @@ same_places w v visits others same zip are all were also =
     alike (exchanges_of visits) (exchanges_of others) zip
     (places_unseen w v _ _ _ _ (worlds_of visits) (worlds_of others) same zip (whole_run w visits are) all (whole_run v others were) also)
 
+-- what a call of `serve` did, however it ended
+pub record Done (finish : Finish) (es : List Exchange) (old new : KeeperState) (before after bytes : List ℕ) (count : ℕ) : Type 0 where
+  pub rest : Rest
+  pub deals : Deals old new bytes count es rest
+  pub written : List ℕ
+  pub adds : after ≡ before ++ written
+  pub tells : Tells finish bytes es written
+
+-- what was written after a fault, apart from what was there before
+record Apart (why : Cause) (failed : Bool) (es : List Exchange) (rest : Rest) (left : Option (List ℕ)) (before after : List ℕ) : Type 0 where
+  written : List ℕ
+  adds : after ≡ before ++ written
+  wrote : Wrote why failed es rest left (Some []) (Some written)
+
+apart : (why : Cause) (failed : Bool) (es : List Exchange) (rest : Rest) (left : Option (List ℕ)) (before after : List ℕ)
+    → Wrote why failed es rest left (Some before) (Some after) → Apart why failed es rest left before after
+apart cause.Read failed es rest left before after (seen, adds) = record { written = text es; adds = adds; wrote = (seen, refl) }
+apart cause.Write failed es rest left before after (inl (front, e, k, is, adds)) =
+    record { written = _; adds = adds; wrote = inl (front, e, k, is, refl) }
+apart cause.Write failed es rest left before after (inr (end, closing, k, ends, adds)) =
+    record { written = _; adds = adds; wrote = inr (end, closing, k, ends, refl) }
+apart cause.Memory failed es rest left before after (inl (front, e, is, adds)) =
+    record { written = _; adds = adds; wrote = inl (front, e, is, refl) }
+apart cause.Memory failed es rest left before after (inr adds) = record { written = text es; adds = adds; wrote = inr refl }
+apart cause.Store failed es rest left before after (fails, front, e, is, same, adds) =
+    record { written = _; adds = adds; wrote = (fails, front, e, is, same, refl) }
+
+pub done : (finish : Finish) (es : List Exchange) (old new : KeeperState) (before after bytes : List ℕ) (count : ℕ)
+    → ServesUntil finish es old new (Some before) (Some after) bytes count → Done finish es old new before after bytes count
+done (Ended ending) es old new before after bytes count (rest, closing, deals, ends, adds) =
+    record { rest = rest; deals = deals; written = text es ++ closing; adds = adds; tells = (closing, (rest, deals.leads, ends), refl) }
+done (Stopped why failed left) es old new before after bytes count (rest, deals, wrote) =
+    let w = apart why failed es rest left before after wrote in
+    record { rest = rest; deals = deals; written = w.written; adds = w.adds; tells = (rest, deals.leads, w.wrote) }
+
+pub session_done : {K : Type 0} (state : K → KeeperState) (s : Session K) → IsSession state s
+    → Done s.finish s.exchanges (state s.old) (state s.new) s.before s.after s.bytes s.count
+session_done state s session = done s.finish s.exchanges (state s.old) (state s.new) s.before s.after s.bytes s.count session
+
 -- what was told of streams that were served one after another
-pub are_visits : {K : Type 0} (clean : K → Type 0) (world : K → World) (k : K) (ss : List (Session K)) → AreServed clean world k ss
-    → (vs : List Visit) × AllTellOf ss vs × AreVisits (world k) vs
-are_visits clean world k [] served = ([], tt, tt)
-are_visits clean world k (s ∷ ss) (same, is_clean, tells, later) =
-    let r = tells.3.reaches is_clean in
-    let v : Visit = record { bytes = s.bytes; written = text tells.0 ++ tells.2; ending = s.ending; exchanges = tells.0; worlds = r.0 } in
-    let more = are_visits clean world s.new ss later in (
+pub are_visits : {K : Type 0} (state : K → KeeperState) (k : K) (ss : List (Session K)) → AreServed state k ss
+    → (vs : List Visit) × AllTellOf ss vs × AreVisits (state k).world vs
+are_visits state k [] served = ([], tt, tt)
+are_visits state k (s ∷ ss) (same, is_clean, session, later) =
+    let d = session_done state s session in
+    let r = d.deals.reaches is_clean in
+    let v : Visit = record { bytes = s.bytes; written = d.written; finish = s.finish; exchanges = s.exchanges; worlds = r.0 } in
+    let more = are_visits state s.new ss later in (
       v ∷ more.0,
-      (record { bytes = refl; ending = refl; count = tells.3.counted; written = tells.5 }, more.1),
+      (record { bytes = refl; finish = refl; exchanges = refl; count = d.deals.counted; written = d.adds }, more.1),
       (
-        subst (λ w. IsVisit w v) same (record { closing = tells.2; requests = (tells.1, tells.3.leads, tells.4); run = r.1; text = refl }),
+        subst (λ w. IsVisit w v) same (record { tells = d.tells; run = r.1 }),
         subst (λ w. AreVisits w more.0) (r.2 ∙ ap (λ w. end_of w r.0) same) more.2,
       ),
     )
 
-pub equal : {K L : Type 0} (clean : K → Type 0) (world : K → World) (spotless : L → Type 0) (realm : L → World) (c : Key) (k : K) (l : L)
-    (ss : List (Session K)) (ts : List (Session L)) → AreServed clean world k ss → AreServed spotless realm l ts → view (world k) c ≡ view (realm l) c
-    → (first second : List Visit) × AllTellOf ss first × AreVisits (world k) first × AllTellOf ts second × AreVisits (realm l) second
-    × ((items : List HeardItem) → AreAnswered first → AreAnswered second → Hears c (world k) first items → Hears c (realm l) second items
+pub equal : {K L : Type 0} (state : K → KeeperState) (states : L → KeeperState) (c : Key) (k : K) (l : L)
+    (ss : List (Session K)) (ts : List (Session L)) → AreServed state k ss → AreServed states l ts → view (state k).world c ≡ view (states l).world c
+    → (first second : List Visit) × AllTellOf ss first × AreVisits (state k).world first × AllTellOf ts second × AreVisits (states l).world second
+    × ((items : List HeardItem) → AreAnswered first → AreAnswered second → Hears c (state k).world first items → Hears c (states l).world second items
     → replies_in c first ≡ replies_in c second)
-equal clean world spotless realm c k l ss ts served others same =
-    let a = are_visits clean world k ss served in
-    let b = are_visits spotless realm l ts others in (
+equal state states c k l ss ts served others same =
+    let a = are_visits state k ss served in
+    let b = are_visits states l ts others in (
       a.0,
       b.0,
       a.1,
       a.2,
       b.1,
       b.2,
-      λ items all also heard listened. (same_bytes c (world k) (realm l) a.0 b.0 items a.2 all heard b.2 also listened same).0,
+      λ items all also heard listened. (same_bytes c (state k).world (states l).world a.0 b.0 items a.2 all heard b.2 also listened same).0,
     )

@@ -9,3 +9,4 @@ pub mod Sent
 pub mod Telling
 pub mod Heeding
 pub mod Failing
+pub mod Promised

@@ -2,7 +2,7 @@
 use Rattle.std.proofs.Common.{◌≡◌, ℕ, ◌+◌, ◌-◌, Bool, true, false, List, [], ◌∷◌, ◌++◌, length, refl, sym, ap, ◌∙◌, subst, arith, append-nil, append_assoc}
 use Rattle.std.specs.Bool.{MatchBool}
 use Rattle.portal_core.specs.World.{World}
-use Rattle.portal_core.specs.Run.{Request, Run, Serves, end_of}
+use Rattle.portal_core.specs.Run.{Request, Run, Serves, AllAnswered, end_of}
 use Rattle.portal_frame.specs.Stream.{Asked, Opens, whole}
 use Rattle.portal_wire.specs.Conversation.{request_of, closes_at, Rest, more, shut, Leads, Exchange, asked_in, told_in, text, exchange_text, Reaches}
 
@@ -21,6 +21,11 @@ Run-snoc w u v (x ∷ es) e (y ∷ worlds) run same step =
 
 pub Reaches-snoc : (w u v : World) (es : List Exchange) (e : Exchange) → Reaches w es u → Serves u e.request e.reply v → Reaches w (es ++ e ∷ []) v
 Reaches-snoc w u v es e (worlds, run, same) step = let r = Run-snoc w u v es e worlds run same step in (worlds ++ v ∷ [], r.0, r.1)
+
+-- where no reply is 503, none is in either part
+pub answered_apart : (es fs : List Exchange) → AllAnswered (told_in (es ++ fs)) → AllAnswered (told_in es) × AllAnswered (told_in fs)
+answered_apart [] fs all = (tt, all)
+answered_apart (e ∷ es) fs all = let rest = answered_apart es fs all.1 in ((all.0, rest.0), rest.1)
 
 -- what is left after a request
 abbrev pub after_one : Bool → Asked → List ℕ → Rest

@@ -2,6 +2,8 @@ pub mod Kept
 pub mod Devices
 pub mod Play
 pub mod Outcome
+pub mod Keeping
 pub mod Serving
 pub mod Visits
+pub mod Headline
 pub mod inner

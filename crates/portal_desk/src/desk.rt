@@ -1,8 +1,9 @@
 //! Acts on requests, and serves streams of them.
 
-ghost use Rattle.std.specs.Prelude.{◌≡◌, ◌||◌, ℕ, ◌+◌, ◌*◌, ◌-◌, ◌<◌, ◌≤◌, true, false, List, IfSome, IfOk, OnOk, IfErr, MatchResult};
+ghost use Rattle.std.specs.Prelude.{◌≡◌, ◌≢◌, ◌||◌, ℕ, ◌+◌, ◌*◌, ◌-◌, ◌<◌, ◌≤◌, true, false, List, IfSome, IfOk, OnOk, IfErr, MatchResult};
 ghost use Rattle.std.specs.Io.KnownBytes.{Appends};
 ghost use Rattle.portal_frame.specs.Stream.{seen, is_head};
+ghost use Rattle.portal_core.specs.Counting.{StaysClean};
 ghost use Rattle.portal_core.specs.Good.{Good};
 ghost use Rattle.portal_core.specs.Meaning.{reply_model, body_model};
 ghost use Rattle.portal_core.specs.Run.{Serves, unavailable};
@@ -10,6 +11,7 @@ ghost use Rattle.portal_wire.specs.Conversation.{request_of, closes_at, last, la
 ghost use Rattle.portal_wire.specs.Text.{reply_text};
 ghost use Rattle.portal_core.specs.Answer.{HasWholeNumbers};
 ghost use Rattle.portal_desk.specs.Devices.{FailsAfter, TakesAtMost};
+ghost use Rattle.portal_desk.specs.Keeping.{state_of};
 ghost use Rattle.portal_desk.specs.Outcome.{is_store, TurnsAway, FailsByCount};
 ghost use Rattle.portal_desk.specs.Serving.{ServesWhole, Stops, Blames, AtFirst};
 ghost use Rattle.portal_desk.specs.inner.Serving.{Broke, Replied};
@@ -95,6 +97,9 @@ impl<K: Keeper> Desk<K> {
     /// and once the store has failed every later reply is.
     pub fn respond(&mut self, alloc: Global, request: &Request) -> Reply
         ensures clean { K.clean self.new.keeper → K.clean self.old.keeper }
+        ensures lasts { reply_model result ≢ unavailable
+            → StaysClean (K.disk self.old.keeper) (K.disk self.new.keeper)
+            (K.clean self.old.keeper) (K.clean self.new.keeper) }
         ensures serves { K.clean self.new.keeper
             → Serves (K.world self.old.keeper) (request_of request.now.close (seen request.now))
             (reply_model result) (K.world self.new.keeper) }
@@ -128,13 +133,15 @@ impl<K: Keeper> Desk<K> {
         sink: &mut W,
     ) -> Result<(), Cause>
         ensures clean { K.clean self.new.keeper → K.clean self.old.keeper }
-        ensures ok { OnOk result (Replied (K.clean self.new.keeper) (K.world self.old.keeper)
-            (K.world self.new.keeper) (request_of closes (seen request.now))
+        ensures ok { OnOk result (Replied (state_of K.disk K.clean K.world self.old.keeper)
+            (state_of K.disk K.clean K.world self.new.keeper)
+            (request_of closes (seen request.now))
             (λ reply. (self.new.failed ≡ false)
             × Appends (W.contents sink.old) (W.contents sink.new)
             (reply_text reply (is_head request.now.method.items) closes))) }
-        ensures err { IfErr result (λ cause. Replied (K.clean self.new.keeper)
-            (K.world self.old.keeper) (K.world self.new.keeper)
+        ensures err { IfErr result (λ cause. Replied
+            (state_of K.disk K.clean K.world self.old.keeper)
+            (state_of K.disk K.clean K.world self.new.keeper)
             (request_of closes (seen request.now))
             (λ reply. Broke cause self.new.failed reply (is_head request.now.method.items) closes
             (W.contents sink.old) (W.contents sink.new))) }
@@ -175,13 +182,13 @@ impl<K: Keeper> Desk<K> {
     ) -> Result<Served, ServeFault>
         ensures clean { K.clean self.new.keeper → K.clean self.old.keeper }
         ensures served { IfOk result (λ served. IfSome (R.remaining source.old) (λ bytes.
-            ServesWhole (K.clean self.new.keeper) (K.world self.old.keeper)
-            (K.world self.new.keeper) (W.contents sink.old) (W.contents sink.new) bytes
-            served.requests (last served.ending))) }
+            ServesWhole (state_of K.disk K.clean K.world self.old.keeper)
+            (state_of K.disk K.clean K.world self.new.keeper) (W.contents sink.old)
+            (W.contents sink.new) bytes served.requests (last served.ending))) }
         ensures stopped { IfErr result (λ fault. IfSome (R.remaining source.old) (λ bytes.
-            Stops fault.cause self.new.failed (K.clean self.new.keeper) (K.world self.old.keeper)
-            (K.world self.new.keeper) (R.remaining source.new) (W.contents sink.old)
-            (W.contents sink.new) bytes fault.requests)) }
+            Stops fault.cause self.new.failed (state_of K.disk K.clean K.world self.old.keeper)
+            (state_of K.disk K.clean K.world self.new.keeper) (R.remaining source.new)
+            (W.contents sink.old) (W.contents sink.new) bytes fault.requests)) }
         ensures blames { IfErr result (λ fault. Blames fault.cause (R.failed source.old)
             (R.failed source.new) (W.failed sink.old) (W.failed sink.new)) }
         ensures taken { TakesAtMost (256 * 1064960) (R.remaining source.old)

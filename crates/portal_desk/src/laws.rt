@@ -9,9 +9,12 @@ ghost use Rattle.portal_core.specs.Run.{end_of};
 ghost use Rattle.portal_core.specs.Heard.{HeardItem};
 ghost use Rattle.portal_core.specs.Places.{SameButPlaces, SameRequest};
 ghost use Rattle.portal_wire.specs.Conversation.{asked_in};
+ghost use Rattle.portal_desk.specs.Headline.{IsServed, MainPromise};
+ghost use Rattle.portal_desk.specs.Keeping.{state_of};
 ghost use Rattle.portal_desk.specs.Visits.{Visit, AreVisits, AreAnswered, exchanges_of, worlds_of, Hears, replies_in, AlikeTexts, Session, AreServed, AllTellOf};
 
 use portal_core::Keeper;
+use portal_core::laws::{published_best, run_good};
 
 /// Of any two lists of streams, each served stream after stream with no reply 503: where a caller
 /// starts with the same view and hears the same, the replies to the caller are the same bytes, and so
@@ -33,7 +36,8 @@ pub fn same_bytes()
 
 /// What `serve` tells of streams that were served one after another over a clean keeper are visits.
 pub fn served_is_visit<K: Keeper>()
-    ensures { (k : K) (sessions : List (Session K)) → AreServed K.clean K.world k sessions
+    ensures { (k : K) (sessions : List (Session K))
+        → AreServed (state_of K.disk K.clean K.world) k sessions
         → (visits : List Visit) × AllTellOf sessions visits × AreVisits (K.world k) visits }
 {}
 
@@ -42,7 +46,8 @@ pub fn served_is_visit<K: Keeper>()
 /// the same in both, the replies to that caller are equal byte for byte.
 pub fn equal_byte_for_byte<K: Keeper, L: Keeper>()
     ensures { (c : Key) (k : K) (l : L) (sessions : List (Session K)) (others : List (Session L))
-        → AreServed K.clean K.world k sessions → AreServed L.clean L.world l others
+        → AreServed (state_of K.disk K.clean K.world) k sessions
+        → AreServed (state_of L.disk L.clean L.world) l others
         → view (K.world k) c ≡ view (L.world l) c
         → (first second : List Visit) × AllTellOf sessions first × AreVisits (K.world k) first
         × AllTellOf others second × AreVisits (L.world l) second
@@ -50,3 +55,23 @@ pub fn equal_byte_for_byte<K: Keeper, L: Keeper>()
         → Hears c (K.world k) first items → Hears c (L.world l) second items
         → replies_in c first ≡ replies_in c second) }
 {}
+
+/// The main promise. Two desks have each served a list of streams, one after another, over keepers of
+/// any kind; a call may have stopped before its stream ended. Each first keeper was clean and kept a
+/// good world, no reply was 503, and each last keeper's disk has returned what was written. Between
+/// two streams a keeper may have been closed and opened again. Then there are visits that tell of
+/// these streams.
+///
+/// Each world in them is good, so that each published result is stable; and what a step publishes is
+/// the best for the students. No request of a student or a lecturer shows anything to another caller
+/// but the office. Where a caller starts with the same view and hears the same in both lists, the
+/// replies to that caller are equal byte for byte, and so is the last view.
+pub fn headline<K: Keeper, L: Keeper>()
+    ensures { (k : K) (l : L) (sessions : List (Session K)) (others : List (Session L))
+        → IsServed (state_of K.disk K.clean K.world) k sessions
+        → IsServed (state_of L.disk L.clean L.world) l others
+        → MainPromise (K.world k) (L.world l) sessions others }
+{
+    run_good();
+    published_best();
+}

@@ -4,7 +4,7 @@ ghost use Rattle.std.specs.Prelude.{◌≡◌, IfOk, OnOk, OnErr};
 ghost use Rattle.spa_model.specs.Spa.{IsMatching};
 ghost use Rattle.portal_core.specs.Answer as answer;
 ghost use Rattle.portal_core.specs.Answer.{Publish};
-ghost use Rattle.portal_core.specs.Counting.{CountsFaults};
+ghost use Rattle.portal_core.specs.Counting.{CountsFaults, StaysClean};
 ghost use Rattle.portal_core.specs.Good.{Good, CanPublish};
 ghost use Rattle.portal_core.specs.Instance.{pairs_by};
 ghost use Rattle.portal_core.specs.Meaning.{call_model, decision_model, act_model, reply_model, body_model};
@@ -72,6 +72,8 @@ fn ask<K: Keeper>(
     call: &Call,
 ) -> Result<Decision, KeepFault>
     ensures clean { K.clean keeper.new → K.clean keeper.old }
+    ensures lasts { OnOk result (StaysClean (K.disk keeper.old) (K.disk keeper.new)
+        (K.clean keeper.old) (K.clean keeper.new)) }
     ensures decided { IfOk result (λ d. K.clean keeper.new → Good (K.world keeper.old)
         → decision_model d ≡ answer.decision (seen.view (K.world keeper.old) code.now) (call_model call.now)) }
     ensures whole { IfOk result (λ d. IsTold (decision_model d).reply.body) }
@@ -119,6 +121,8 @@ fn publish<K: Keeper>(alloc: Global, keeper: &mut K) -> Result<(), KeepFault>
     requires good { K.clean keeper.old → Good (K.world keeper.old) }
     requires ready { K.clean keeper.old → CanPublish (K.world keeper.old) }
     ensures clean { K.clean keeper.new → K.clean keeper.old }
+    ensures lasts { OnOk result (StaysClean (K.disk keeper.old) (K.disk keeper.new)
+        (K.clean keeper.old) (K.clean keeper.new)) }
     ensures made { OnOk result (K.clean keeper.new
         → StepLeaves (K.world keeper.old) Publish (K.world keeper.new)) }
     ensures same { OnErr result (K.clean keeper.new → K.world keeper.new ≡ K.world keeper.old) }
@@ -136,6 +140,8 @@ fn perform<K: Keeper>(alloc: Global, keeper: &mut K, act: Act) -> Result<(), Kee
     requires good { K.clean keeper.old → Good (K.world keeper.old) }
     requires can { K.clean keeper.old → CanDo (K.world keeper.old) (act_model act) }
     ensures clean { K.clean keeper.new → K.clean keeper.old }
+    ensures lasts { OnOk result (StaysClean (K.disk keeper.old) (K.disk keeper.new)
+        (K.clean keeper.old) (K.clean keeper.new)) }
     ensures made { OnOk result (K.clean keeper.new
         → StepLeaves (K.world keeper.old) (act_model act) (K.world keeper.new)) }
     ensures same { OnErr result (K.clean keeper.new → K.world keeper.new ≡ K.world keeper.old) }
@@ -158,6 +164,8 @@ pub fn play<K: Keeper>(
     requires good { K.clean keeper.old → Good (K.world keeper.old) }
     requires form { HasForm (call_model call.now) }
     ensures clean { K.clean keeper.new → K.clean keeper.old }
+    ensures lasts { OnOk result (StaysClean (K.disk keeper.old) (K.disk keeper.new)
+        (K.clean keeper.old) (K.clean keeper.new)) }
     ensures step { IfOk result (λ r. K.clean keeper.new
         → Step (K.world keeper.old) code.now (call_model call.now) (reply_model r) (K.world keeper.new)) }
     ensures same { OnErr result (K.clean keeper.new → K.world keeper.new ≡ K.world keeper.old) }

@@ -48,6 +48,8 @@ impl Keeper for Failing {
 
     ghost clean = { λ failing. ⊥ };
 
+    ghost disk = { λ failing. Unit {0} };
+
     ghost faults = { λ failing. length failing.faults.items };
 
     fn view(&mut self, alloc: Global, code: &[u8]) -> Result<View, KeepFault> {

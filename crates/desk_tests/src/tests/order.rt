@@ -31,6 +31,8 @@ impl<'a> Keeper for Noting<'a> {
 
     ghost clean = { λ noting. Unit {0} };
 
+    ghost disk = { λ noting. Unit {0} };
+
     ghost faults = { λ noting. 0 };
 
     fn view(&mut self, alloc: Global, code: &[u8]) -> Result<View, KeepFault> {

@@ -1,19 +1,20 @@
 -- What a desk did for a stream.
-use Rattle.std.specs.Prelude.{◌≡◌, ℕ, Bool, true, ◌||◌, List, [], take, Option}
+use Rattle.std.specs.Prelude.{◌≡◌, ◌≢◌, ℕ, Bool, true, ◌||◌, List, [], take, Option}
 use Rattle.std.specs.Io.KnownBytes.{Appends}
-use Rattle.portal_core.specs.World.{World}
+use Rattle.portal_core.specs.Counting.{StaysClean}
 use Rattle.portal_core.specs.Answer.{Answer}
 use Rattle.portal_core.specs.Run.{Request, Serves, unavailable}
 use Rattle.portal_desk.specs.declared.served.Cause.{Cause}
 use Rattle.portal_desk.specs.declared.served.Cause.TheVariants as cause
 use Rattle.portal_wire.specs.Text.{reply_text}
 use Rattle.portal_wire.specs.Conversation.{more, Exchange, text}
+use Rattle.portal_desk.specs.Keeping.{KeeperState}
 use Rattle.portal_desk.specs.Serving.{Deals}
 
 -- so far, with the bytes that are left
-abbrev pub ServesPart : Type 0 → World → World → Option (List ℕ) → Option (List ℕ) → List ℕ → List ℕ → ℕ → Type 0
-ServesPart clean old new before after bytes left count =
-    (es : List Exchange) × Deals clean old new bytes count es (more left) × Appends before after (text es)
+abbrev pub ServesPart : KeeperState → KeeperState → Option (List ℕ) → Option (List ℕ) → List ℕ → List ℕ → ℕ → Type 0
+ServesPart old new before after bytes left count =
+    (es : List Exchange) × Deals old new bytes count es (more left) × Appends before after (text es)
 
 -- a first part of a text that could not be written whole
 abbrev pub Partly : Cause → Option (List ℕ) → Option (List ℕ) → List ℕ → Type 0
@@ -21,9 +22,14 @@ Partly cause.Write before after text = (k : ℕ) × Appends before after (take k
 Partly cause.Memory before after text = Appends before after []
 Partly _ before after text = ⊥
 
--- some reply, as the step of the run, with a fact
-abbrev pub Replied : Type 0 → World → World → Request → (Answer → Type 0) → Type 0
-Replied clean old new r P = (reply : Answer) × (clean → Serves old r reply new) × P reply
+-- one reply: the step of the run, where the keeper is clean, and what keeps it clean, where the reply is not 503
+pub record Acted (old new : KeeperState) (r : Request) (reply : Answer) : Type 0 where
+  pub serves : new.clean → Serves old.world r reply new.world
+  pub lasts : reply ≢ unavailable → StaysClean old.disk new.disk old.clean new.clean
+
+-- some reply, with a fact
+abbrev pub Replied : KeeperState → KeeperState → Request → (Answer → Type 0) → Type 0
+Replied old new r P = (reply : Answer) × Acted old new r reply × P reply
 
 -- what one answer that failed wrote
 abbrev pub Broke : Cause → Bool → Answer → Bool → Bool → Option (List ℕ) → Option (List ℕ) → Type 0

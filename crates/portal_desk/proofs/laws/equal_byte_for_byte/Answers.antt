@@ -1,6 +1,7 @@
+use Rattle.portal_desk.specs.Keeping.{state_of}
 use Rattle.portal_desk.proofs.Heeding as heeding
 use Rattle.portal_desk.proofs.laws.equal_byte_for_byte.Goals as goal
 
 pub returns : goal.returns
 returns g c = λ caller k l sessions others served also same.
-    heeding.equal g.K.Keeper.clean g.K.Keeper.world g.L.Keeper.clean g.L.Keeper.world caller k l sessions others served also same
+    heeding.equal (state_of g.K.Keeper.disk g.K.Keeper.clean g.K.Keeper.world) (state_of g.L.Keeper.disk g.L.Keeper.clean g.L.Keeper.world) caller k l sessions others served also same

@@ -7,29 +7,29 @@ use Rattle.portal_desk.proofs.desk.Desk.serve.Goals as goal
 
 pub returns-in-End-clause-served : goal.returns-in-End-clause-served
 returns-in-End-clause-served g c =
-    rw (c.served.ensures.requests, c.served.ensures.ending) (end_known _ _ _ _ _ _ _ _ _ _ _ c.loop-found.invariant.told (rw c.in-End.is at c.in-Ok.ensures.follows))
+    rw (c.served.ensures.requests, c.served.ensures.ending) (end_known _ _ _ _ _ _ _ _ _ _ c.loop-found.invariant.told (rw c.in-End.is at c.in-Ok.ensures.follows))
 
 pub returns-in-Bad-clause-served : goal.returns-in-Bad-clause-served
 returns-in-Bad-clause-served g c =
     rw (c.served-in-Bad.ensures.requests, c.served-in-Bad.ensures.ending)
-    (bad_known _ _ _ _ _ _ _ _ _ _ _ _ c.in-Bad.refusal c.in-Bad.head_only c.loop-found.invariant.told (rw c.in-Bad.is at c.in-Ok.ensures.follows)
+    (bad_known _ _ _ _ _ _ _ _ _ _ _ c.in-Bad.refusal c.in-Bad.head_only c.loop-found.invariant.told (rw c.in-Bad.is at c.in-Ok.ensures.follows)
     c.in-Ok-send_refusal.ensures.ok)
 
 pub returns-in-Err-clause-stopped : goal.returns-in-Err-clause-stopped
 returns-in-Err-clause-stopped g c =
     rw (c.stopped-in-Err.ensures.cause, c.stopped-in-Err.ensures.requests)
-    (cut_known _ _ _ c.in-Err.cause _ _ _ _ _ _ _ _ _ _ _ c.in-Bad.refusal c.in-Bad.head_only c.loop-found.invariant.told (rw c.in-Bad.is at c.in-Ok.ensures.follows)
+    (cut_known _ _ _ c.in-Err.cause _ _ _ _ _ _ _ _ _ _ c.in-Bad.refusal c.in-Bad.head_only c.loop-found.invariant.told (rw c.in-Bad.is at c.in-Ok.ensures.follows)
     c.in-Err.ensures.err)
 
 pub returns-in-Err-answer-clause-stopped : goal.returns-in-Err-answer-clause-stopped
 returns-in-Err-answer-clause-stopped g c =
     rw (c.stopped-in-Err-answer.ensures.cause, c.stopped-in-Err-answer.ensures.requests)
-    (broke_known _ _ _ c.in-Err-answer.cause _ _ _ _ _ _ _ _ _ _ _ _ c.loop-found.done c.in-Request.request c.in-Request.used c.closes_now-closes.result
+    (broke_known _ _ _ c.in-Err-answer.cause _ _ _ _ _ _ _ _ _ _ c.loop-found.done c.in-Request.request c.in-Request.used c.closes_now-closes.result
     c.loop-found.invariant.told c.answer.ensures.clean (rw c.in-Request.is at c.in-Ok.ensures.follows) c.closes_now-closes.ensures c.in-Err-answer.ensures.err)
 
 pub returns-then-closes-clause-served : goal.returns-then-closes-clause-served
 returns-then-closes-clause-served g c =
-    let closed = closes_known _ _ _ _ _ _ _ _ _ _ _ _ _ c.loop-found.done c.in-Request.request c.in-Request.used c.closes_now-closes.result
+    let closed = closes_known _ _ _ _ _ _ _ _ _ _ _ c.loop-found.done c.in-Request.request c.in-Request.used c.closes_now-closes.result
     c.loop-found.invariant.told c.answer.ensures.clean (rw c.in-Request.is at c.in-Ok.ensures.follows)
     (c.in-Ok-answer.ensures.ok.0, c.in-Ok-answer.ensures.ok.1, c.in-Ok-answer.ensures.ok.2.1) c.if-closes.true c.closes_now-closes.ensures in
     rw (c.served-then-closes.ensures.requests, c.served-then-closes.ensures.ending, c.ending_of.ensures) closed
@@ -49,7 +49,7 @@ loop-found-preserved g c =
       waits = λ f. absurd (still_failed _ _ _ (λ e. (x.waits e).1) c.answer.ensures.stays c.in-Ok-answer.ensures.ok.2.0 f);
       held = cut_held c.in-Request.used _ _ c.cut_front.ensures c.in-Ok.ensures.held;
       taken = cut_taken _ c.in-Request.used _ _ _ _ (rw c.in-Request.is at c.in-Ok.ensures.within).1 c.cut_front.ensures (follows_taken _ _ _ _ _ _ _ x.taken c.in-Ok.ensures.follows);
-      told = more_known _ _ _ _ _ _ _ _ _ _ _ _ _ c.cut_front.new.buffer.items c.loop-found.done c.in-Request.request c.in-Request.used c.closes_now-closes.result
+      told = more_known _ _ _ _ _ _ _ _ _ _ _ c.cut_front.new.buffer.items c.loop-found.done c.in-Request.request c.in-Request.used c.closes_now-closes.result
           x.told c.answer.ensures.clean (rw c.in-Request.is at c.in-Ok.ensures.follows)
           (c.in-Ok-answer.ensures.ok.0, c.in-Ok-answer.ensures.ok.1, c.in-Ok-answer.ensures.ok.2.1) c.if-closes.false c.closes_now-closes.ensures c.cut_front.ensures;
     }

@@ -1,4 +1,5 @@
 use Rattle.std.proofs.Common.{◌≡◌, true, ◌-◌, ◌<◌, ◌≤◌, length}
+use Rattle.portal_desk.specs.Keeping.{state_of}
 use Rattle.portal_desk.specs.Outcome.{FailsByCount}
 use Rattle.portal_desk.proofs.Taking.{TakenBy}
 use Rattle.portal_desk.proofs.Telling.{SoFar}
@@ -20,6 +21,6 @@ invariant-loop-found g l = record {
   waits : l.initial.self.failed ≡ true → (l.done ≡ 0) × (l.self ≡ l.initial.self);
   held : length l.buffer.items ≤ 1064960;
   taken : TakenBy l.done (length l.buffer.items) (g.R.Source.remaining l.initial.source) (g.R.Source.remaining l.source);
-  told : SoFar (g.R.Source.remaining l.initial.source) (g.R.Source.remaining l.source) (g.K.Keeper.clean l.self.keeper)
-      (g.K.Keeper.world l.initial.self.keeper) (g.K.Keeper.world l.self.keeper) (g.W.Sink.contents l.initial.sink) (g.W.Sink.contents l.sink) l.buffer.items l.done;
+  told : SoFar (g.R.Source.remaining l.initial.source) (g.R.Source.remaining l.source)
+      (state_of g.K.Keeper.disk g.K.Keeper.clean g.K.Keeper.world l.initial.self.keeper) (state_of g.K.Keeper.disk g.K.Keeper.clean g.K.Keeper.world l.self.keeper) (g.W.Sink.contents l.initial.sink) (g.W.Sink.contents l.sink) l.buffer.items l.done;
 }

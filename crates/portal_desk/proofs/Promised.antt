@@ -1,0 +1,158 @@
+-- The main promise, from what each call of `serve` tells.
+use Rattle.std.specs.Prelude.{Some}
+use Rattle.std.proofs.Math.Seq.{take-suc}
+use Rattle.std.proofs.lemmas.List.{map-append}
+use Rattle.std.proofs.Common.{◌≡◌, ℕ, ◌+◌, ◌<◌, length, take, map, get_or, add-one, inl, inr, true, false, List, [], ◌∷◌, ◌++◌, refl, sym, ap, ◌∙◌, subst}
+use Rattle.std.proofs.lemmas.Bool.{both_ways}
+use Rattle.std.specs.List.{AllByRecursion}
+use Rattle.portal_core.specs.Words.{Key}
+use Rattle.portal_core.specs.World.{World, is_published}
+use Rattle.portal_core.specs.View.{view}
+use Rattle.portal_core.specs.AbstractCall.{AbstractCall}
+use Rattle.portal_core.specs.Answer.{Answer}
+use Rattle.portal_core.specs.Good.{Good}
+use Rattle.portal_core.specs.Honest.{HasBest, ShowsBest}
+use Rattle.portal_core.specs.Run.{Request, Wish, Calls, Refused, Step, Run, Answers, Serves, AllAnswered}
+use Rattle.portal_core.proofs.Unseen.{others}
+use Rattle.portal_wire.specs.Conversation.{Last, asked_in, told_in}
+use Rattle.portal_desk.specs.Keeping.{KeeperState}
+use Rattle.portal_desk.specs.Serving.{ServesWhole}
+use Rattle.portal_desk.specs.Visits.{Ended, Visit, AreVisits, exchanges_of, worlds_of, Session, IsSession, AreServed, AllTellOf}
+use Rattle.portal_desk.specs.Headline.{AreServedOn, left_by, exchanges_in, IsServed, IsUnseen, AreUnseen, PublishesBest, IsUpheld, MainPromise, IsEnded, AreOf, ServesEach}
+use Rattle.portal_desk.proofs.Heeding.{session_done, are_visits, whole_run, same_bytes}
+use Rattle.portal_desk.proofs.Steps.{answered_apart}
+
+-- what the last disk returned keeps each keeper clean
+pub stays_served : {K : Type 0} (state : K → KeeperState) (k : K) (ss : List (Session K)) → AreServedOn state k ss → AllAnswered (told_in (exchanges_in ss))
+    → (state (left_by k ss)).disk → (state k).disk × ((state k).clean → AreServed state k ss)
+stays_served state k [] served all last = (last, λ on. tt)
+stays_served state k (s ∷ ss) (resumes, session, later) all last =
+    let apart = answered_apart s.exchanges (exchanges_in ss) all in
+    let next = stays_served state s.new ss later apart.1 last in
+    let own = (session_done state s session).deals.lasts apart.0 next.0 in
+    let before = resumes own.0 in (
+      before.0,
+      λ on. let start = before.1 on in let now = own.1 start.0 in (start.1, now, session, next.1 now),
+    )
+
+-- the visits have the streams' own requests and replies
+pub same_exchanges : {K : Type 0} (ss : List (Session K)) (vs : List Visit) → AllTellOf ss vs → exchanges_in ss ≡ exchanges_of vs
+same_exchanges [] [] tell = refl
+same_exchanges [] (v ∷ vs) tell = absurd tell
+same_exchanges (s ∷ ss) [] tell = absurd tell
+same_exchanges (s ∷ ss) (v ∷ vs) tell =
+    ap (λ es. es ++ exchanges_in ss) (sym tell.0.exchanges) ∙ ap (λ es. v.exchanges ++ es) (same_exchanges ss vs tell.1)
+
+-- one step
+
+answered_unseen : (c : Key) (w v : World) (r : Request) (wish : Wish) (a : Answer) → Good w → Answers w r wish a v → IsUnseen c w r v
+answered_unseen c w v r (Calls ask) a good step = λ member other office. others w v c r.code ask a good step member other office
+answered_unseen c w v r (Refused refusal) a good step = λ member other office. ap (λ u. view u c) step.1
+
+one_unseen : (c : Key) (w v : World) (r : Request) (a : Answer) → Good w → Serves w r a v → IsUnseen c w r v
+one_unseen c w v r a good (inl step) = answered_unseen c w v r r.wish a good step
+one_unseen c w v r a good (inr none) = λ member other office. ap (λ u. view u c) none.1
+
+-- what the laws of good worlds and of results say
+abbrev pub RunsGood : Type 0
+RunsGood = (w : World) (asked : List Request) (told : List Answer) (after : List World) → Good w → Run w asked told after → AllByRecursion Good after
+
+abbrev pub StepsBest : Type 0
+StepsBest =
+    (w v : World) (code : Key) (ask : AbstractCall) (reply : Answer) → Good w → is_published w.phase ≡ false → Step w code ask reply v
+    → is_published v.phase ≡ true → HasBest v
+
+abbrev pub RunsBest : Type 0
+RunsBest = (w : World) (asked : List Request) (told : List Answer) (after : List World) → ShowsBest w → Run w asked told after → AllByRecursion ShowsBest after
+
+not_published : (w v : World) → v ≡ w → is_published w.phase ≡ false → is_published v.phase ≡ true → HasBest v
+not_published w v same off on = absurd (both_ways (is_published w.phase) off (ap (λ (u : World). is_published u.phase) (sym same) ∙ on))
+
+answered_best : StepsBest → (w v : World) (r : Request) (wish : Wish) (a : Answer) → Good w → Answers w r wish a v
+    → is_published w.phase ≡ false → is_published v.phase ≡ true → HasBest v
+answered_best step_best w v r (Calls ask) a good step off on = step_best w v r.code ask a good off step on
+answered_best step_best w v r (Refused refusal) a good step off on = not_published w v step.1 off on
+
+one_best : StepsBest → (w v : World) (r : Request) (a : Answer) → Good w → Serves w r a v
+    → is_published w.phase ≡ false → is_published v.phase ≡ true → HasBest v
+one_best step_best w v r a good (inl step) off on = answered_best step_best w v r r.wish a good step off on
+one_best step_best w v r a good (inr none) off on = not_published w v none.1 off on
+
+-- a run
+
+are_unseen : (c : Key) (w : World) (rs : List Request) (told : List Answer) (vs : List World) → Good w → AllByRecursion Good vs → Run w rs told vs → AreUnseen c w rs vs
+are_unseen c w [] told vs good all run = tt
+are_unseen c w (r ∷ rs) told [] good all run = tt
+are_unseen c w (r ∷ rs) [] (v ∷ vs) good all run = absurd run
+are_unseen c w (r ∷ rs) (a ∷ told) (v ∷ vs) good all run = (one_unseen c w v r a good run.0, are_unseen c v rs told vs all.0 all.1 run.1)
+
+publishes_best : StepsBest → (w : World) (rs : List Request) (told : List Answer) (vs : List World) → Good w → AllByRecursion Good vs → Run w rs told vs
+    → PublishesBest w vs
+publishes_best step_best w rs told [] good all run = tt
+publishes_best step_best w [] [] (v ∷ vs) good all run = absurd run
+publishes_best step_best w [] (a ∷ told) (v ∷ vs) good all run = absurd run
+publishes_best step_best w (r ∷ rs) [] (v ∷ vs) good all run = absurd run
+publishes_best step_best w (r ∷ rs) (a ∷ told) (v ∷ vs) good all run =
+    (one_best step_best w v r a good run.0, publishes_best step_best v rs told vs all.0 all.1 run.1)
+
+pub upheld : RunsGood → StepsBest → RunsBest → (w : World) (visits : List Visit) → Good w → AreVisits w visits → IsUpheld w visits
+upheld run_good step_best run_best w visits good are =
+    let run = whole_run w visits are in
+    let all = run_good w (asked_in (exchanges_of visits)) (told_in (exchanges_of visits)) (worlds_of visits) good run in
+    record {
+      are = are;
+      good = all;
+      unseen = λ c. are_unseen c w _ _ (worlds_of visits) good all run;
+      published = publishes_best step_best w _ _ (worlds_of visits) good all run;
+      best = λ first. run_best w _ _ (worlds_of visits) first run;
+    }
+
+pub headline : RunsGood → StepsBest → RunsBest → {K L : Type 0} (state : K → KeeperState) (states : L → KeeperState) (k : K) (l : L)
+    (ss : List (Session K)) (ts : List (Session L)) → IsServed state k ss → IsServed states l ts → MainPromise (state k).world (states l).world ss ts
+headline run_good step_best run_best state states k l ss ts one other =
+    let a = are_visits state k ss ((stays_served state k ss one.served one.answered one.disk).1 one.clean) in
+    let b = are_visits states l ts ((stays_served states l ts other.served other.answered other.disk).1 other.clean) in
+    let all = subst (λ es. AllAnswered (told_in es)) (same_exchanges ss a.0 a.1) one.answered in
+    let also = subst (λ es. AllAnswered (told_in es)) (same_exchanges ts b.0 b.1) other.answered in (
+      a.0,
+      b.0,
+      a.1,
+      b.1,
+      upheld run_good step_best run_best (state k).world a.0 one.good a.2,
+      upheld run_good step_best run_best (states l).world b.0 other.good b.2,
+      λ c items alike heard listened. same_bytes c (state k).world (states l).world a.0 b.0 items a.2 all heard b.2 also listened alike,
+    )
+
+-- one stream more
+
+one_more : {K : Type 0} (state : K → KeeperState) (k : K) (ss : List (Session K)) (s : Session K) → AreServedOn state k ss → left_by k ss ≡ s.old → IsSession state s
+    → AreServedOn state k (ss ++ s ∷ [])
+one_more state k [] s served same did = (λ now. (subst (λ j. (state j).disk) (sym same) now, λ on. (subst (λ j. (state j).clean) same on, ap (λ j. (state j).world) (sym same))), did, tt)
+one_more state k (x ∷ ss) s (first, told, rest) same did = (first, told, one_more state x.new ss s rest same did)
+
+left_more : {K : Type 0} (k : K) (ss : List (Session K)) (s : Session K) → left_by k (ss ++ s ∷ []) ≡ s.new
+left_more k [] s = refl
+left_more k (x ∷ ss) s = left_more x.new ss s
+
+of_more : {K : Type 0} (ss : List (Session K)) (xs ts : List (List ℕ)) (s : Session K) → AreOf ss xs ts → s.before ≡ [] → IsEnded s.finish
+    → AreOf (ss ++ s ∷ []) (xs ++ s.bytes ∷ []) (ts ++ s.after ∷ [])
+of_more [] [] [] s are none ended = (refl, none, refl, ended, tt)
+of_more [] (x ∷ xs) ts s are none ended = absurd are
+of_more [] [] (t ∷ ts) s are none ended = absurd are
+of_more (r ∷ ss) [] ts s are none ended = absurd are
+of_more (r ∷ ss) (x ∷ xs) [] s are none ended = absurd are
+of_more (r ∷ ss) (x ∷ xs) (t ∷ ts) s are none ended = (are.0, are.1, are.2, are.3, of_more ss xs ts s are.4 none ended)
+
+pub each_more : {K : Type 0} (state : K → KeeperState) (k old new : K) (xs ts : List (List ℕ)) (x t : List ℕ) (count : ℕ) (ending : Last) → ServesEach state k old xs ts
+    → ServesWhole (state old) (state new) (Some []) (Some t) x count ending → ServesEach state k new (xs ++ x ∷ []) (ts ++ t ∷ [])
+each_more {K = K} state k old new xs ts x t count ending (ss, served, same, are) (es, did) =
+    let s : Session K = record { old = old; new = new; bytes = x; before = []; after = t; count = count; finish = Ended ending; exchanges = es } in
+    (ss ++ s ∷ [], one_more state k ss s served same did, left_more k ss s, of_more ss xs ts s are refl tt)
+
+pub each_next : {K A B : Type 0} (state : K → KeeperState) (k old new : K) (f : A → List ℕ) (h : B → List ℕ) (xs : List A) (i : ℕ) (d : A) (ts : List B) (t : B)
+    (count : ℕ) (ending : Last) → i < length xs → ServesEach state k old (map f (take i xs)) (map h ts)
+    → ServesWhole (state old) (state new) (Some []) (Some (h t)) (f (get_or xs i d)) count ending
+    → ServesEach state k new (map f (take (i + 1) xs)) (map h (ts ++ t ∷ []))
+each_next state k old new f h xs i d ts t count ending within served did =
+    rw (add-one i, take-suc xs i d within, map-append f (take i xs) (get_or xs i d ∷ []), map-append h ts (t ∷ []))
+    (each_more state k old new (map f (take i xs)) (map h ts) (f (get_or xs i d)) (h t) count ending served did)

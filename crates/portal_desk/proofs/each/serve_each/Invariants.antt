@@ -1,0 +1,9 @@
+use Rattle.std.proofs.Common.{map, take}
+use Rattle.portal_desk.specs.Headline.{ServesEach}
+use Rattle.portal_desk.specs.Keeping.{state_of}
+use Rattle.portal_desk.proofs.each.serve_each.Given as goal
+
+abbrev pub invariant-loop-stream : goal.invariant-loop-stream
+invariant-loop-stream g l =
+    ServesEach (state_of g.K.Keeper.disk g.K.Keeper.clean g.K.Keeper.world) l.initial.desk.keeper l.desk.keeper
+    (map (λ stream. stream.now) (take l.stream-index l.streams)) (map (λ text. text.items) l.texts.items)

@@ -1,0 +1,35 @@
+//! Serves streams one after another, each from memory into memory.
+
+ghost use Rattle.std.specs.Prelude.{List, IfSome, map};
+ghost use Rattle.portal_desk.specs.Headline.{ServesEach};
+ghost use Rattle.portal_desk.specs.Keeping.{state_of};
+
+use crate::desk::Desk;
+use crate::devices::Counted;
+use portal_core::Keeper;
+use std::alloc::Global;
+
+/// Serves streams one after another, and gives what was written for each. There is no answer where
+/// serving a stream failed, or memory ran out.
+pub fn serve_each<K: Keeper>(
+    alloc: Global,
+    desk: &mut Desk<K>,
+    streams: &[&[u8]],
+) -> Option<Vec<Vec<u8>>>
+    ensures served { IfSome result (λ texts. ServesEach (state_of K.disk K.clean K.world)
+        desk.old.keeper desk.new.keeper (map (λ stream. stream.now) streams.now)
+        (map (λ text. text.items) texts.items)) }
+{
+    let mut texts = Vec::new(alloc);
+    for stream in streams {
+        let mut source = Counted::new(*stream);
+        let mut sink = Counted::new(Vec::new(alloc));
+        let Ok(_) = desk.serve(alloc, &mut source, &mut sink) else {
+            return None;
+        };
+        let Ok(()) = texts.push(sink.into_inner()) else {
+            return None;
+        };
+    }
+    Some(texts)
+}

@@ -1,0 +1,32 @@
+//! The main promise, of the portal as a whole: a desk over a store.
+#![tactic(auto)]
+
+ghost use Rattle.std.specs.Prelude.{IfSome, map};
+ghost use Rattle.portal_store.specs.Made.{first_world};
+ghost use Rattle.portal_whole.specs.Whole.{KeepsPromise};
+
+use portal_core::Code;
+use portal_core::laws::{published_best, run_good};
+use portal_desk::{Desk, serve_each};
+use portal_store::Store;
+use portal_store::laws::disk_in_memory;
+use std::alloc::Global;
+
+#[cfg(test)]
+mod tests;
+
+/// Serves streams one after another over a new portal in memory, and gives what was written for each.
+/// There is no answer where serving a stream failed, or memory ran out.
+pub fn replies_in_memory(alloc: Global, office: Code, streams: &[&[u8]]) -> Option<Vec<Vec<u8>>>
+    ensures promised { IfSome result (λ texts. KeepsPromise (first_world office)
+        (map (λ stream. stream.now) streams.now) (map (λ text. text.items) texts.items)) }
+{
+    run_good();
+    published_best();
+    disk_in_memory();
+    let Ok(store) = Store::create_memory(alloc, office) else {
+        return None;
+    };
+    let mut desk = Desk::new(store);
+    serve_each(alloc, &mut desk, streams)
+}
