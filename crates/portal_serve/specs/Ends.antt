@@ -15,3 +15,11 @@ is_of_connection Store = false
 abbrev pub is_own_fault : Result Served ServeFault → Bool
 is_own_fault (Ok served) = false
 is_own_fault (Err fault) = is_of_connection fault.cause
+
+abbrev pub is_store : Cause → Bool
+is_store Store = true
+is_store _ = false
+
+abbrev pub is_store_fault : Result Served ServeFault → Bool
+is_store_fault (Ok served) = false
+is_store_fault (Err fault) = is_store fault.cause

@@ -17,3 +17,8 @@ IsOfficeReport Nobody text = ⊥
 IsOfficeReport (Office v) text = text ≡ told_of v
 IsOfficeReport (Lecturer v) text = ⊥
 IsOfficeReport (Student v) text = ⊥
+
+-- it is not the office that sees this
+abbrev pub IsOther : Sight → Type 0
+IsOther (Office v) = ⊥
+IsOther _ = Unit {0}

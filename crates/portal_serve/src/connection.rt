@@ -1,10 +1,10 @@
-//! One connection of a socket, on which nobody is waited for without end.
+//! One connection, on which nobody is waited for without end.
 
-use portal_desk::{read_again, write_again};
+use crate::stream::TimedStream;
+use portal_desk::read_again;
 use std::cell::Cell;
 use std::io;
 use std::io::{ErrorKind, Read, Write};
-use std::net::{Shutdown, TcpStream};
 use std::time::{Clock, Duration, Instant};
 
 /// How many seconds a connection may be silent.
@@ -27,9 +27,9 @@ const PIECE: usize = 4096;
 
 /// What a connection has of its time.
 #[derive(Drop)]
-pub(crate) struct Connection<'a, T: Clock> {
+pub(crate) struct Connection<'a, T: Clock, S: TimedStream> {
     clock: &'a T,
-    stream: &'a TcpStream,
+    stream: &'a S,
     /// When the connection was first read from.
     began: Cell<Option<Instant>>,
     /// When the first byte of the request came that is not answered yet, or may have come.
@@ -42,8 +42,8 @@ fn too_late() -> io::Error {
     io::Error::from(ErrorKind::TimedOut)
 }
 
-impl<'a, T: Clock> Connection<'a, T> {
-    pub(crate) fn new(clock: &'a T, stream: &'a TcpStream) -> Connection<'a, T> {
+impl<'a, T: Clock, S: TimedStream> Connection<'a, T, S> {
+    pub(crate) fn new(clock: &'a T, stream: &'a S) -> Connection<'a, T, S> {
         Connection {
             clock,
             stream,
@@ -110,14 +110,15 @@ impl<'a, T: Clock> Connection<'a, T> {
     /// reset, and a reply may be lost. So nothing more is sent, and what still comes is dropped: within the connection's time,
     /// for 60 seconds and 1,064,960 bytes at most, and until the client is silent for 5 seconds.
     pub(crate) fn end(&self) -> io::Result<()> {
-        self.stream.shutdown(Shutdown::Write)?;
-        let began = Some(Instant::now(self.clock)?);
+        self.stream.end_writing()?;
+        let mut reader = PartingReader {
+            connection: self,
+            began: Some(Instant::now(self.clock)?),
+        };
         let mut piece = [0u8; PIECE];
         let mut room = DROPPED;
         for _ in 0..DROPPED {
-            self.stream.set_read_timeout(Some(self.parting(began)?))?;
-            let mut stream = self.stream;
-            let n = read_again(&mut stream, &mut piece)?;
+            let n = read_again(&mut reader, &mut piece)?;
             if n == 0 || n >= room {
                 return Ok(());
             }
@@ -129,18 +130,14 @@ impl<'a, T: Clock> Connection<'a, T> {
 
 /// Reads of a connection, none of which waits longer than the request may take.
 #[derive(Drop)]
-pub(crate) struct ConnectionReader<'a, T: Clock> {
-    pub(crate) connection: &'a Connection<'a, T>,
+pub(crate) struct ConnectionReader<'a, T: Clock, S: TimedStream> {
+    pub(crate) connection: &'a Connection<'a, T, S>,
 }
 
-impl<'a, T: Clock> Read for ConnectionReader<'a, T> {
+impl<'a, T: Clock, S: TimedStream> Read for ConnectionReader<'a, T, S> {
     fn read(&mut self, buf: &mut [u8]) -> io::Result<usize> {
         let connection = self.connection;
-        connection
-            .stream
-            .set_read_timeout(Some(connection.patience()?))?;
-        let mut stream = connection.stream;
-        let n = read_again(&mut stream, buf)?;
+        let n = connection.stream.read_within(buf, connection.patience()?)?;
         if n > 0 {
             connection.note_asked()?;
         }
@@ -148,21 +145,34 @@ impl<'a, T: Clock> Read for ConnectionReader<'a, T> {
     }
 }
 
-/// Writes to a connection, none of which waits longer than the reply may take.
+/// Reads of what is dropped at the end of a connection.
 #[derive(Drop)]
-pub(crate) struct ConnectionWriter<'a, T: Clock> {
-    pub(crate) connection: &'a Connection<'a, T>,
+struct PartingReader<'a, T: Clock, S: TimedStream> {
+    connection: &'a Connection<'a, T, S>,
+    began: Option<Instant>,
 }
 
-impl<'a, T: Clock> Write for ConnectionWriter<'a, T> {
+impl<'a, T: Clock, S: TimedStream> Read for PartingReader<'a, T, S> {
+    fn read(&mut self, buf: &mut [u8]) -> io::Result<usize> {
+        let connection = self.connection;
+        connection
+            .stream
+            .read_within(buf, connection.parting(self.began)?)
+    }
+}
+
+/// Writes to a connection, none of which waits longer than the reply may take.
+#[derive(Drop)]
+pub(crate) struct ConnectionWriter<'a, T: Clock, S: TimedStream> {
+    pub(crate) connection: &'a Connection<'a, T, S>,
+}
+
+impl<'a, T: Clock, S: TimedStream> Write for ConnectionWriter<'a, T, S> {
     fn write(&mut self, buf: &[u8]) -> io::Result<usize> {
         let connection = self.connection;
         connection.note_told()?;
-        connection
-            .stream
-            .set_write_timeout(Some(connection.left(connection.told.get(), WHOLE)?))?;
-        let mut stream = connection.stream;
-        write_again(&mut stream, buf)
+        let timeout = connection.left(connection.told.get(), WHOLE)?;
+        connection.stream.write_within(buf, timeout)
     }
 
     fn flush(&mut self) -> io::Result<()> {

@@ -1,14 +1,14 @@
-//! Serves the connections of a socket, one after another.
+//! Serves connections, one after another.
 
-ghost use Rattle.std.specs.Prelude.{◌≡◌, ◌≢◌, ◌+◌, ◌-◌, ◌^◌, ◌<◌, ◌≤◌, true, if◌then◌else◌};
+ghost use Rattle.std.specs.Prelude.{◌≡◌, ◌≢◌, ◌+◌, ◌-◌, ◌^◌, ◌<◌, ◌≤◌, true, if◌then◌else◌, List, Option, None, IfSome};
+ghost use Rattle.std.specs.Option.{option_to_list};
 ghost use Rattle.portal_desk.specs.Outcome.{FailsByCount};
 ghost use Rattle.portal_serve.specs.Ends.{is_own_fault};
+ghost use Rattle.portal_serve.specs.Hall.{Adds, Settles, Tells};
+ghost use Rattle.portal_serve.specs.declared.hall.Outcome.{Outcome};
 
-use crate::connection::{Connection, ConnectionReader, ConnectionWriter};
 use portal_core::Keeper;
-use portal_desk::{Cause, Counted, Desk, ServeFault, Served};
-use std::net::TcpListener;
-use std::time::Clock;
+use portal_desk::{Cause, Desk, ServeFault, Served};
 
 /// Why no more connections are taken.
 #[derive(Clone, Copy, Debug, Drop, PartialEq, Eq)]
@@ -17,7 +17,7 @@ pub enum Ended {
     Full,
     /// The desk has failed.
     StoreFault,
-    /// The listener answered an error.
+    /// No connection could be had.
     ListenFault,
 }
 
@@ -31,8 +31,38 @@ pub struct Hall {
     pub ended: Ended,
 }
 
+/// What came of a connection.
+#[derive(Clone, Copy, Debug, Drop, PartialEq, Eq)]
+pub struct Outcome {
+    /// How it ended.
+    pub ended: Result<Served, ServeFault>,
+    /// Whether the desk had failed then.
+    pub failed: bool,
+}
+
+/// Gives connections, one after another, and serves each on a desk.
+pub trait Connections {
+    /// What came of the connections so far, where it is told.
+    ghost outcomes: { Self → Option (List Outcome) } = { λ _. None };
+
+    /// No connection can be had.
+    ghost over: { Self → Type 0 } = { λ _. Unit {0} };
+
+    /// Serves the next connection, and tells what came of it; none where no connection can be had.
+    fn serve_next<K: Keeper>(&mut self, desk: &mut Desk<K>) -> Option<Outcome>
+        ensures clean { K.clean desk.new.keeper → K.clean desk.old.keeper }
+        ensures adds { Adds (outcomes self.old) (outcomes self.new) (option_to_list result) }
+        ensures failed { IfSome result (λ outcome. outcome.failed ≡ desk.new.failed) }
+        ensures settles { IfSome result (λ outcome.
+            Settles outcome.ended desk.old.failed desk.new.failed) }
+        ensures counts { FailsByCount desk.old.failed desk.new.failed (K.faults desk.old.keeper)
+            (K.faults desk.new.keeper) }
+        ensures none { result ≡ None → desk.new ≡ desk.old }
+        ensures over { result ≡ None → over self.new };
+}
+
 /// Whether a connection ended by a fault of its own: the reader's, the writer's or want of memory, and not the store's.
-fn is_fault(ended: &Result<Served, ServeFault>) -> bool
+pub(crate) fn is_fault(ended: &Result<Served, ServeFault>) -> bool
     ensures { result ≡ is_own_fault ended.now }
 {
     match ended {
@@ -52,20 +82,20 @@ fn faults_with(faults: u32, ended: &Result<Served, ServeFault>) -> u32
     if is_fault(ended) { faults + 1 } else { faults }
 }
 
-/// Serves connections of a listener, one after another: so many, or until the desk fails or the listener does. A
-/// connection that is silent for 30 seconds, whose request is not whole 60 seconds after its first byte (or after the
-/// reply before it began to be written, since that byte may have come with the request before), that does not take a
-/// reply in 60 seconds, or that asks for more 300 seconds after it began, ends by a fault.
-pub fn serve_on<T: Clock + AllocGlobal, K: Keeper>(
-    rt: &T,
-    listener: &TcpListener,
-    connections: u32,
+/// Serves one connection after another: so many, or until the desk fails or none can be had.
+pub fn serve_each<C: Connections, K: Keeper>(
+    connections: &mut C,
+    most: u32,
     desk: &mut Desk<K>,
 ) -> Hall
+    ensures told { (outcomes : List Outcome)
+        × Adds (C.outcomes connections.old) (C.outcomes connections.new) outcomes
+        × Tells result outcomes }
     ensures clean { K.clean desk.new.keeper → K.clean desk.old.keeper }
     ensures faults { result.faults ≤ result.accepted }
-    ensures accepted { result.accepted ≤ connections }
-    ensures full { result.ended ≡ Ended.Full → result.accepted ≡ connections }
+    ensures accepted { result.accepted ≤ most }
+    ensures full { result.ended ≡ Ended.Full → result.accepted ≡ most }
+    ensures listen { result.ended ≡ Ended.ListenFault → C.over connections.new }
     ensures store { result.ended ≡ Ended.StoreFault → desk.new.failed ≡ true }
     ensures calm { result.ended ≢ Ended.StoreFault → desk.new.failed ≡ desk.old.failed }
     ensures shut { result.ended ≢ Ended.StoreFault → desk.new.failed ≡ true → result.accepted ≡ 0 }
@@ -73,29 +103,16 @@ pub fn serve_on<T: Clock + AllocGlobal, K: Keeper>(
         (K.faults desk.new.keeper) }
 {
     let mut faults = 0u32;
-    for accepted in 0..connections {
-        let Ok((stream, _)) = listener.accept() else {
+    for accepted in 0..most {
+        let Some(outcome) = connections.serve_next(desk) else {
             return closed(accepted, faults, Ended::ListenFault);
         };
-        let _ = stream.set_nodelay(true);
-        let connection = Connection::new(rt, &stream);
-        let mut reader = Counted::new(ConnectionReader {
-            connection: &connection,
-        });
-        let mut writer = Counted::new(ConnectionWriter {
-            connection: &connection,
-        });
-        let ended = desk.serve(rt.alloc(), &mut reader, &mut writer);
-        faults = faults_with(faults, &ended);
-        if !is_fault(&ended) {
-            // The last reply stands whole: the connection is ended so that the client has it.
-            let _ = connection.end();
-        }
-        if desk.failed() {
+        faults = faults_with(faults, &outcome.ended);
+        if outcome.failed {
             return closed(accepted + 1, faults, Ended::StoreFault);
         }
     }
-    closed(connections, faults, Ended::Full)
+    closed(most, faults, Ended::Full)
 }
 
 fn closed(accepted: u32, faults: u32, ended: Ended) -> Hall

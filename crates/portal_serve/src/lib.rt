@@ -4,9 +4,13 @@
 mod borrowed;
 mod connection;
 mod hall;
+mod listening;
 mod piping;
 mod reporting;
+mod stream;
 
-pub use hall::{Ended, Hall, serve_on};
+pub use hall::{Connections, Ended, Hall, Outcome, serve_each};
+pub use listening::{serve_on, serve_stream};
 pub use piping::pipe;
 pub use reporting::{Unreported, report};
+pub use stream::TimedStream;

@@ -2,6 +2,7 @@
 
 ghost use Rattle.std.specs.Prelude.{◌≡◌, ◌*◌, true, IfOk, OnOk, IfErr, IfSome};
 ghost use Rattle.portal_desk.specs.Serving.{ServesWhole, Stops, AtFirst};
+ghost use Rattle.portal_desk.specs.Keeping.{state_of};
 ghost use Rattle.portal_desk.specs.Outcome.{FailsByCount};
 ghost use Rattle.portal_desk.specs.declared.served.Cause.TheVariants.{Read as ReadFailed, Store as StoreFailed};
 ghost use Rattle.portal_desk.specs.Devices.{TakesAtMost};
@@ -26,13 +27,13 @@ pub fn pipe<K: Keeper, R: Read, W: Write>(
 ) -> Result<Served, ServeFault>
     ensures clean { K.clean desk.new.keeper → K.clean desk.old.keeper }
     ensures served { IfOk result (λ served. IfSome (R.remaining reader.old) (λ bytes.
-        ServesWhole (K.clean desk.new.keeper) (K.world desk.old.keeper) (K.world desk.new.keeper)
-        (W.contents writer.old) (W.contents writer.new) bytes served.requests
-        (last served.ending))) }
+        ServesWhole (state_of K.disk K.clean K.world desk.old.keeper)
+        (state_of K.disk K.clean K.world desk.new.keeper) (W.contents writer.old)
+        (W.contents writer.new) bytes served.requests (last served.ending))) }
     ensures stopped { IfErr result (λ fault. IfSome (R.remaining reader.old) (λ bytes.
-        Stops fault.cause desk.new.failed (K.clean desk.new.keeper) (K.world desk.old.keeper)
-        (K.world desk.new.keeper) (R.remaining reader.new) (W.contents writer.old)
-        (W.contents writer.new) bytes fault.requests)) }
+        Stops fault.cause desk.new.failed (state_of K.disk K.clean K.world desk.old.keeper)
+        (state_of K.disk K.clean K.world desk.new.keeper) (R.remaining reader.new)
+        (W.contents writer.old) (W.contents writer.new) bytes fault.requests)) }
     ensures taken { TakesAtMost (256 * 1064960) (R.remaining reader.old) (R.remaining reader.new) }
     ensures stays { desk.old.failed ≡ true → desk.new ≡ desk.old }
     ensures none { IfOk result (λ served. desk.old.failed ≡ true → served.requests ≡ 0) }

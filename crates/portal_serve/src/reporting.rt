@@ -1,9 +1,9 @@
 //! What the office is told of a year.
 
-ghost use Rattle.std.specs.Prelude.{◌≡◌, IfOk};
+ghost use Rattle.std.specs.Prelude.{◌≡◌, ◌+◌, Err, IfOk};
 ghost use Rattle.portal_core.specs.Good.{Good};
 ghost use Rattle.portal_core.specs.View.{office_sees};
-ghost use Rattle.portal_serve.specs.Report.{told_of, IsOfficeReport};
+ghost use Rattle.portal_serve.specs.Report.{told_of, IsOfficeReport, IsOther};
 
 use portal_core::{Code, KeepFault, Keeper, OfficeView, View};
 use portal_reports::{allocation_text, status_text};
@@ -34,11 +34,15 @@ fn text_of(alloc: Global, view: &OfficeView) -> Result<Vec<u8>, AllocError>
 
 /// The report, if it is the office that sees this.
 fn told(alloc: Global, view: &View) -> Result<Vec<u8>, Unreported>
-    ensures { IfOk result (λ text. IsOfficeReport view.now text.items) }
+    ensures text { IfOk result (λ text. IsOfficeReport view.now text.items) }
+    ensures other { result ≡ Err Unreported.Store → IsOther view.now }
 {
-    match view {
-        View::Office(office) => text_of(alloc, office).map_err(|_| Unreported::Memory),
-        _ => Err(Unreported::Store),
+    let View::Office(office) = view else {
+        return Err(Unreported::Store);
+    };
+    match text_of(alloc, office) {
+        Ok(text) => Ok(text),
+        Err(_) => Err(Unreported::Memory),
     }
 }
 
@@ -56,6 +60,9 @@ pub fn report<K: Keeper>(
     ensures same { K.clean keeper.new → K.world keeper.new ≡ K.world keeper.old }
     ensures text { IfOk result (λ text. K.clean keeper.new → Good (K.world keeper.old)
         → text.items ≡ told_of (office_sees (K.world keeper.old))) }
+    ensures store { result ≡ Err Unreported.Store → K.clean keeper.new → Good (K.world keeper.old)
+        → (K.world keeper.old).office ≡ office.now
+        → K.faults keeper.new ≡ K.faults keeper.old + 1 }
 {
     match keeper.view(alloc, office.as_bytes()) {
         Ok(view) => told(alloc, &view),

@@ -7,4 +7,4 @@ use Rattle.portal_serve.proofs.reporting.report.Goals as goal
 pub returns-in-Ok-clause-text : goal.returns-in-Ok-clause-text
 returns-in-Ok-clause-text g c =
     IfOk-weaker c.told.result _ _
-    (λ text h on good. told_is (g.K.Keeper.world c.args.keeper.now) c.as_bytes.result.now text.items (subst (λ v. IsOfficeReport v text.items) (c.in-Ok.ensures.shown on good) h)) c.told.ensures
+    (λ text h on good. told_is (g.K.Keeper.world c.args.keeper.now) c.as_bytes.result.now text.items (subst (λ v. IsOfficeReport v text.items) (c.in-Ok.ensures.shown on good) h)) c.told.ensures.text

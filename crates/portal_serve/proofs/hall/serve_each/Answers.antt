@@ -1,0 +1,23 @@
+use Rattle.std.proofs.Common.{◌∙◌, ◌+◌, rules, subst, sym}
+use Rattle.portal_serve.proofs.Outcomes.{Passed, passed_few, passed_more, told_failed}
+use Rattle.portal_serve.proofs.hall.serve_each.Goals as goal
+
+pub returns-then-outcome-clause-told : goal.returns-then-outcome-clause-told
+returns-then-outcome-clause-told g c =
+    told_failed _ _ _ c.in-Some.outcome c.loop-accepted.accepted c.loop-accepted.faults c.loop-accepted.invariant.told c.in-Some.ensures.adds c.if-outcome.true
+    c.closed-then-outcome.result c.closed-then-outcome.ensures.accepted (c.closed-then-outcome.ensures.faults ∙ c.faults_with-faults.ensures) c.closed-then-outcome.ensures.ended
+
+pub loop-accepted-preserved : goal.loop-accepted-preserved
+loop-accepted-preserved g c =
+    let more : Passed _ _ (c.loop-accepted.accepted + 1) c.faults_with-faults.result =
+    subst (Passed _ _ (c.loop-accepted.accepted + 1)) (sym c.faults_with-faults.ensures)
+    (passed_more _ _ _ c.in-Some.outcome _ _ c.loop-accepted.accepted c.loop-accepted.faults c.loop-accepted.invariant.told c.in-Some.ensures.adds c.in-Some.ensures.settles
+    c.in-Some.ensures.failed c.if-outcome.false) in
+    record {
+      clean = search rules;
+      few = passed_few _ _ _ _ more;
+      told = more;
+      counts = search rules;
+      shut = search rules;
+      calm = search rules;
+    }

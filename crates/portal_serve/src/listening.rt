@@ -1,0 +1,93 @@
+//! Serves the connections of a socket.
+
+ghost use Rattle.std.specs.Prelude.{◌≡◌, ◌≢◌, ◌≤◌, true, List, IfOk, IfErr};
+ghost use Rattle.portal_desk.specs.Outcome.{FailsByCount};
+ghost use Rattle.portal_desk.specs.Serving.{AtFirst};
+ghost use Rattle.portal_serve.specs.Hall.{Settles, Tells};
+ghost use Rattle.portal_serve.specs.declared.hall.Outcome.{Outcome};
+
+use crate::connection::{Connection, ConnectionReader, ConnectionWriter};
+use crate::hall::{Connections, Ended, Hall, Outcome, is_fault, serve_each};
+use crate::stream::TimedStream;
+use portal_core::Keeper;
+use portal_desk::{Counted, Desk, ServeFault, Served};
+use std::net::TcpListener;
+use std::time::Clock;
+
+/// Serves one connection. Where it is silent for 30 seconds, where a request is not whole 60 seconds after its first byte
+/// (or after the reply before it began to be written, since that byte may have come with the request before), where a
+/// reply is not taken in 60 seconds, or where more is asked for 300 seconds after it began, it ends by a fault.
+///
+/// # Errors
+///
+/// The stream failed or had no more time, memory ran out, or the store failed.
+pub fn serve_stream<T: Clock + AllocGlobal, S: TimedStream, K: Keeper>(
+    rt: &T,
+    stream: &S,
+    desk: &mut Desk<K>,
+) -> Result<Served, ServeFault>
+    ensures clean { K.clean desk.new.keeper → K.clean desk.old.keeper }
+    ensures stays { desk.old.failed ≡ true → desk.new ≡ desk.old }
+    ensures none { IfOk result (λ served. desk.old.failed ≡ true → served.requests ≡ 0) }
+    ensures first { IfErr result (λ fault. desk.old.failed ≡ true
+        → AtFirst fault.cause fault.requests) }
+    ensures counts { FailsByCount desk.old.failed desk.new.failed (K.faults desk.old.keeper)
+        (K.faults desk.new.keeper) }
+    ensures settles { Settles result desk.old.failed desk.new.failed }
+{
+    let connection = Connection::new(rt, stream);
+    let mut reader = Counted::new(ConnectionReader {
+        connection: &connection,
+    });
+    let mut writer = Counted::new(ConnectionWriter {
+        connection: &connection,
+    });
+    let ended = desk.serve(rt.alloc(), &mut reader, &mut writer);
+    if !is_fault(&ended) {
+        // The last reply stands whole: the connection is ended so that the client has it.
+        let _ = connection.end();
+    }
+    ended
+}
+
+/// The connections of a listener, which tells nothing of what came of them.
+#[derive(Drop)]
+struct Listening<'a, T> {
+    rt: &'a T,
+    listener: &'a TcpListener,
+}
+
+impl<'a, T: Clock + AllocGlobal> Connections for Listening<'a, T> {
+    fn serve_next<K: Keeper>(&mut self, desk: &mut Desk<K>) -> Option<Outcome> {
+        let Ok((stream, _)) = self.listener.accept() else {
+            return None;
+        };
+        let _ = stream.set_nodelay(true);
+        let ended = serve_stream(self.rt, &stream, desk);
+        let failed = desk.failed();
+        Some(Outcome { ended, failed })
+    }
+}
+
+/// Serves connections of a listener, one after another: so many, or until the desk fails or the listener does. Each has the
+/// time that `serve_stream` tells.
+pub fn serve_on<T: Clock + AllocGlobal, K: Keeper>(
+    rt: &T,
+    listener: &TcpListener,
+    connections: u32,
+    desk: &mut Desk<K>,
+) -> Hall
+    ensures told { (outcomes : List Outcome) × Tells result outcomes }
+    ensures clean { K.clean desk.new.keeper → K.clean desk.old.keeper }
+    ensures faults { result.faults ≤ result.accepted }
+    ensures accepted { result.accepted ≤ connections }
+    ensures full { result.ended ≡ Ended.Full → result.accepted ≡ connections }
+    ensures store { result.ended ≡ Ended.StoreFault → desk.new.failed ≡ true }
+    ensures calm { result.ended ≢ Ended.StoreFault → desk.new.failed ≡ desk.old.failed }
+    ensures shut { result.ended ≢ Ended.StoreFault → desk.new.failed ≡ true → result.accepted ≡ 0 }
+    ensures counts { FailsByCount desk.old.failed desk.new.failed (K.faults desk.old.keeper)
+        (K.faults desk.new.keeper) }
+{
+    let mut listening = Listening { rt, listener };
+    serve_each(&mut listening, connections, desk)
+}

@@ -1,0 +1,147 @@
+//! A clock that a test moves, and a caller who acts by it.
+
+use portal_serve::TimedStream;
+use std::cell::Cell;
+use std::io;
+use std::io::{ErrorKind, Read};
+use std::time::{Clock, Duration};
+
+/// A clock that goes on only while somebody waits.
+#[derive(Drop)]
+pub(crate) struct TestClock {
+    seconds: Cell<u64>,
+}
+
+impl TestClock {
+    pub(crate) fn new() -> TestClock {
+        TestClock {
+            seconds: Cell::new(0),
+        }
+    }
+
+    /// How many seconds have gone.
+    pub(crate) fn seconds(&self) -> u64 {
+        self.seconds.get()
+    }
+
+    /// Waits so many seconds, or until the timeout, which is an error.
+    fn wait(&self, seconds: u64, timeout: Duration) -> io::Result<()> {
+        let most = timeout.as_secs();
+        let waited = seconds.min(most);
+        self.seconds.set(self.seconds.get().saturating_add(waited));
+        if seconds > most {
+            return Err(io::Error::from(ErrorKind::WouldBlock));
+        }
+        Ok(())
+    }
+}
+
+impl Clock for TestClock {
+    fn monotonic(&self) -> io::Result<Duration> {
+        Ok(Duration::from_secs(self.seconds.get()))
+    }
+
+    fn since_1970(&self) -> io::Result<Duration> {
+        self.monotonic()
+    }
+}
+
+/// What the server meets when it reads.
+#[derive(Clone, Copy, Debug)]
+pub(crate) enum Act {
+    /// The caller sends this.
+    Sends(&'static str),
+    /// A signal interrupts the wait.
+    Signal,
+    /// The caller sends no more.
+    Ends,
+}
+
+/// How a caller takes replies.
+#[derive(Clone, Copy, Debug)]
+pub(crate) struct Pace {
+    /// How many bytes at a time.
+    pub(crate) bytes: usize,
+    /// How many seconds each time takes.
+    pub(crate) seconds: u64,
+    /// How many signals interrupt the first write, each after that time.
+    pub(crate) signals: u64,
+}
+
+/// Takes all at once.
+pub(crate) const PROMPT: Pace = Pace {
+    bytes: 4_096,
+    seconds: 0,
+    signals: 0,
+};
+
+/// A caller: what is met, each after so many seconds of waiting, and then silence.
+#[derive(Drop)]
+pub(crate) struct Caller<'a> {
+    clock: &'a TestClock,
+    acts: &'a [(u64, Act)],
+    pace: Pace,
+    /// How many of them were met.
+    met: Cell<usize>,
+    /// How many signals are still to come.
+    signals: Cell<u64>,
+    /// How many bytes of replies were taken.
+    taken: Cell<usize>,
+}
+
+impl<'a> Caller<'a> {
+    pub(crate) fn new(clock: &'a TestClock, acts: &'a [(u64, Act)], pace: Pace) -> Caller<'a> {
+        Caller {
+            clock,
+            acts,
+            pace,
+            met: Cell::new(0),
+            signals: Cell::new(pace.signals),
+            taken: Cell::new(0),
+        }
+    }
+
+    /// How many bytes of replies were taken.
+    pub(crate) fn taken(&self) -> usize {
+        self.taken.get()
+    }
+}
+
+impl<'a> TimedStream for Caller<'a> {
+    fn read_within(&self, buf: &mut [u8], timeout: Duration) -> io::Result<usize> {
+        let Some((seconds, act)) = self.acts.get(self.met.get()) else {
+            self.clock.wait(u64::MAX, timeout)?;
+            return Ok(0);
+        };
+        self.clock.wait(*seconds, timeout)?;
+        let met = self.met.get().saturating_add(1);
+        match act {
+            Act::Sends(text) => {
+                self.met.set(met);
+                let mut bytes = text.as_bytes();
+                bytes.read(buf)
+            }
+            Act::Signal => {
+                self.met.set(met);
+                Err(io::Error::from(ErrorKind::Interrupted))
+            }
+            Act::Ends => Ok(0),
+        }
+    }
+
+    fn write_within(&self, buf: &[u8], timeout: Duration) -> io::Result<usize> {
+        self.clock.wait(self.pace.seconds, timeout)?;
+        let signals = self.signals.get();
+        if signals > 0 {
+            self.signals.set(signals.saturating_sub(1));
+            return Err(io::Error::from(ErrorKind::Interrupted));
+        }
+        let n = buf.len().min(self.pace.bytes);
+        self.taken.set(self.taken.get().saturating_add(n));
+        Ok(n)
+    }
+
+    fn end_writing(&self) -> io::Result<()> {
+        Ok(())
+    }
+}

@@ -1,0 +1,233 @@
+//! How many connections are taken, and what came of each.
+
+ghost use Rattle.std.specs.Prelude.{◌≡◌, ◌<◌, ◌∷◌, ◌++◌, [], Some, vec_len, vec_capacity};
+ghost use Rattle.portal_core.specs.Counting.{CountsFaults};
+
+use crate::tests::callers::Act::{Ends, Sends};
+use crate::tests::callers::{Act, Caller, PROMPT, TestClock};
+use crate::tests::{ME, fresh_keeper};
+use portal_core::{Change, KeepFault, Keeper, View};
+use portal_desk::{Cause, Desk, Ending, ServeFault, Served};
+use portal_list::ListKeeper;
+use portal_serve::{Connections, Ended, Hall, Outcome, serve_each, serve_stream};
+use spa_model::Instance;
+use std::alloc::Global;
+use std::process::Abort;
+
+/// Callers, one after another, and what came of those who were served.
+#[derive(Drop)]
+struct Queue<'a> {
+    alloc: Global,
+    clock: &'a TestClock,
+    callers: &'a [&'a [(u64, Act)]],
+    /// How many of them were served.
+    served: usize,
+    outcomes: Vec<Outcome>,
+}
+
+/// Adds what came of a connection, in the room that there is.
+fn note(outcomes: &mut Vec<Outcome>, outcome: Outcome)
+    requires { vec_len outcomes.old < vec_capacity outcomes.old }
+    ensures { outcomes.new.items ≡ outcomes.old.items ++ outcome ∷ [] }
+{
+    if outcomes.push(outcome).is_err() {
+        unreachable!();
+    }
+}
+
+impl<'a> Connections for Queue<'a> {
+    ghost outcomes = { λ queue. Some queue.outcomes.items };
+
+    fn serve_next<K: Keeper>(&mut self, desk: &mut Desk<K>) -> Option<Outcome> {
+        let Some(acts) = self.callers.get(self.served) else {
+            return None;
+        };
+        if self.outcomes.reserve(1).is_err() {
+            return None;
+        }
+        self.served = self.served.saturating_add(1);
+        let caller = Caller::new(self.clock, acts, PROMPT);
+        let ended = serve_stream(&(self.clock, self.alloc), &caller, desk);
+        let failed = desk.failed();
+        let outcome = Outcome { ended, failed };
+        note(&mut self.outcomes, outcome);
+        Some(outcome)
+    }
+}
+
+/// Shows what a keeper in vectors shows, so many times, and then fails.
+#[derive(Drop)]
+struct Failing {
+    kept: ListKeeper,
+    left: u32,
+    faults: u64,
+}
+
+impl Failing {
+    /// Fails, and counts it.
+    fn fail<T: Drop>(&mut self) -> Result<T, KeepFault>
+        ensures { CountsFaults result self.old.faults self.new.faults }
+    {
+        match self.faults.checked_add(1) {
+            Some(faults) => {
+                self.faults = faults;
+                Err(KeepFault::Store)
+            }
+            None => Err(KeepFault::Memory),
+        }
+    }
+}
+
+impl Keeper for Failing {
+    ghost world = { λ failing. failing.kept };
+
+    ghost clean = { λ failing. ⊥ };
+
+    ghost disk = { λ failing. Unit {0} };
+
+    ghost faults = { λ failing. failing.faults };
+
+    fn view(&mut self, alloc: Global, code: &[u8]) -> Result<View, KeepFault> {
+        if self.left == 0 {
+            return self.fail();
+        }
+        self.left -= 1;
+        self.kept.view(alloc, code)
+    }
+
+    fn instance(&mut self, alloc: Global) -> Result<Instance, KeepFault> {
+        let _alloc = alloc;
+        self.fail()
+    }
+
+    fn apply(&mut self, alloc: Global, change: &Change) -> Result<(), KeepFault> {
+        let _alloc = alloc;
+        let _change = change;
+        self.fail()
+    }
+}
+
+/// A caller who asks once.
+const ASKS: &[(u64, Act)] = &[(0, Sends(ME)), (0, Ends)];
+
+/// A caller who asks once, and then falls silent in the middle of a request.
+const BREAKS: &[(u64, Act)] = &[(0, Sends(ME)), (0, Sends("GET"))];
+
+/// A connection that was served to its end, on a desk that has not failed.
+fn served(requests: u32) -> Outcome {
+    Outcome {
+        ended: Ok(Served {
+            requests,
+            ending: Ending::End,
+        }),
+        failed: false,
+    }
+}
+
+/// A connection that ended by a fault after so many requests.
+fn broken(cause: Cause, requests: u32, failed: bool) -> Outcome {
+    Outcome {
+        ended: Err(ServeFault { cause, requests }),
+        failed,
+    }
+}
+
+/// Of these callers so many are asked for, and this comes of them.
+fn come<K: Keeper>(
+    rt: &(impl Abort + AllocGlobal),
+    desk: &mut Desk<K>,
+    callers: &[&[(u64, Act)]],
+    most: u32,
+    hall: Hall,
+    outcomes: &[Outcome],
+) {
+    let clock = TestClock::new();
+    let mut queue = Queue {
+        alloc: rt.alloc(),
+        clock: &clock,
+        callers,
+        served: 0,
+        outcomes: Vec::new(rt.alloc()),
+    };
+    let found = serve_each(&mut queue, most, desk);
+    assert_eq!(rt; found, hall);
+    assert_eq!(rt; queue.outcomes.as_slice(), outcomes);
+    assert_eq!(rt; queue.served, outcomes.len());
+}
+
+/// Shows what a keeper in vectors shows, so many times.
+fn desk_failing_after(rt: &(impl Abort + AllocGlobal), left: u32) -> Desk<Failing> {
+    Desk::new(Failing {
+        kept: fresh_keeper(rt),
+        left,
+        faults: 0,
+    })
+}
+
+#[test]
+fn as_many_as_are_asked_for(rt: HostRuntime) {
+    let mut desk = Desk::new(fresh_keeper(&rt));
+    let callers = [ASKS, BREAKS, ASKS, BREAKS, BREAKS, ASKS];
+    let hall = Hall {
+        accepted: 5,
+        faults: 3,
+        ended: Ended::Full,
+    };
+    let fault = broken(Cause::Read, 1, false);
+    let outcomes = [served(1), fault, served(1), fault, fault];
+    come(&rt, &mut desk, &callers, 5, hall, &outcomes);
+    let none = Hall {
+        accepted: 0,
+        faults: 0,
+        ended: Ended::Full,
+    };
+    come(&rt, &mut desk, &callers, 0, none, &[]);
+}
+
+#[test]
+fn as_many_as_come(rt: HostRuntime) {
+    let mut desk = Desk::new(fresh_keeper(&rt));
+    let hall = Hall {
+        accepted: 2,
+        faults: 1,
+        ended: Ended::ListenFault,
+    };
+    let outcomes = [broken(Cause::Read, 1, false), served(1)];
+    come(&rt, &mut desk, &[BREAKS, ASKS], 9, hall, &outcomes);
+}
+
+#[test]
+fn nobody_after_a_fault_of_the_store(rt: HostRuntime) {
+    let mut desk = desk_failing_after(&rt, 2);
+    let hall = Hall {
+        accepted: 3,
+        faults: 1,
+        ended: Ended::StoreFault,
+    };
+    let outcomes = [
+        broken(Cause::Read, 1, false),
+        served(1),
+        broken(Cause::Store, 1, true),
+    ];
+    let callers = [BREAKS, ASKS, ASKS, ASKS, BREAKS];
+    come(&rt, &mut desk, &callers, 9, hall, &outcomes);
+}
+
+#[test]
+fn one_on_a_desk_that_had_failed(rt: HostRuntime) {
+    let mut desk = desk_failing_after(&rt, 0);
+    let hall = Hall {
+        accepted: 1,
+        faults: 0,
+        ended: Ended::StoreFault,
+    };
+    let outcomes = [broken(Cause::Store, 1, true)];
+    come(&rt, &mut desk, &[ASKS, ASKS], 9, hall, &outcomes);
+    come(&rt, &mut desk, &[ASKS, ASKS], 9, hall, &outcomes);
+    let none = Hall {
+        accepted: 0,
+        faults: 0,
+        ended: Ended::Full,
+    };
+    come(&rt, &mut desk, &[ASKS], 0, none, &[]);
+}

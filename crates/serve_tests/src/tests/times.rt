@@ -1,0 +1,199 @@
+//! How long a connection may take, by a clock that goes on only while somebody waits.
+
+use crate::tests::callers::Act::{Ends, Sends, Signal};
+use crate::tests::callers::{Act, Caller, PROMPT, Pace, TestClock};
+use crate::tests::{ME, fresh_keeper};
+use portal_desk::{Cause, Desk, Ending, ServeFault, Served};
+use portal_serve::serve_stream;
+use std::process::Abort;
+
+/// The same request, the last of its connection. Its reply has 118 bytes.
+const LAST: &str = "GET /me HTTP/1.1\r\nHost: h\r\nConnection: close\r\n\r\n";
+
+/// A caller who takes replies at this pace is served, ends so, and takes so many bytes; the clock then shows so many seconds.
+fn comes(
+    rt: &(impl Abort + AllocGlobal),
+    acts: &[(u64, Act)],
+    pace: Pace,
+    ended: Result<Served, ServeFault>,
+    bytes: usize,
+    seconds: u64,
+) {
+    let clock = TestClock::new();
+    let caller = Caller::new(&clock, acts, pace);
+    let mut desk = Desk::new(fresh_keeper(rt));
+    let found = serve_stream(&(&clock, rt.alloc()), &caller, &mut desk);
+    assert_eq!(rt; found, ended);
+    assert_eq!(rt; caller.taken(), bytes);
+    assert_eq!(rt; clock.seconds(), seconds);
+}
+
+/// A connection that ended by a fault after so many requests.
+fn fault(cause: Cause, requests: u32) -> Result<Served, ServeFault> {
+    Err(ServeFault { cause, requests })
+}
+
+/// A connection whose caller sent no more after so many requests.
+fn end(requests: u32) -> Result<Served, ServeFault> {
+    Ok(Served {
+        requests,
+        ending: Ending::End,
+    })
+}
+
+/// A connection whose caller asked for its end by the last of so many requests.
+fn closed(requests: u32) -> Result<Served, ServeFault> {
+    Ok(Served {
+        requests,
+        ending: Ending::Closed,
+    })
+}
+
+#[test]
+fn silence_ends_after_30_seconds(rt: HostRuntime) {
+    comes(&rt, &[], PROMPT, fault(Cause::Read, 0), 0, 30);
+    let late = [(31, Sends(ME))];
+    comes(&rt, &late, PROMPT, fault(Cause::Read, 0), 0, 30);
+    let one = [(29, Sends(ME)), (31, Sends(ME))];
+    comes(&rt, &one, PROMPT, fault(Cause::Read, 1), 99, 59);
+}
+
+#[test]
+fn a_kept_connection_ends_after_300_seconds(rt: HostRuntime) {
+    let kept = [(29, Sends(ME)); 20];
+    comes(&rt, &kept, PROMPT, fault(Cause::Read, 10), 990, 300);
+}
+
+#[test]
+fn a_request_has_60_seconds(rt: HostRuntime) {
+    let slow = [
+        (10, Sends("GET /me")),
+        (29, Sends(" HTTP/1.1\r\n")),
+        (29, Sends("Host: h\r\n")),
+        (3, Sends("\r\n")),
+    ];
+    comes(&rt, &slow, PROMPT, fault(Cause::Read, 0), 0, 70);
+    let whole = [
+        (10, Sends("GET /me")),
+        (29, Sends(" HTTP/1.1\r\n")),
+        (29, Sends("Host: h\r\n")),
+        (1, Sends("\r\n")),
+        (0, Ends),
+    ];
+    comes(&rt, &whole, PROMPT, end(1), 99, 69);
+}
+
+#[test]
+fn each_request_has_60_seconds_of_its_own(rt: HostRuntime) {
+    let first = (5, Sends("GET /me HTTP/1.1\r\n"));
+    let middle = (25, Sends("Host: h\r\n"));
+    let last = (25, Sends("\r\n"));
+    let three = [
+        first,
+        middle,
+        last,
+        first,
+        middle,
+        last,
+        first,
+        middle,
+        last,
+        (0, Ends),
+    ];
+    comes(&rt, &three, PROMPT, end(3), 297, 165);
+}
+
+#[test]
+fn a_first_byte_may_come_with_the_request_before(rt: HostRuntime) {
+    let both = (0, Sends("GET /me HTTP/1.1\r\nHost: h\r\n\r\nGET /me"));
+    let slow = Pace {
+        bytes: 4_096,
+        seconds: 5,
+        signals: 0,
+    };
+    let late = [
+        both,
+        (29, Sends(" HTTP/1.1\r\n")),
+        (27, Sends("Host: h\r\n\r\n")),
+    ];
+    comes(&rt, &late, slow, fault(Cause::Read, 1), 99, 60);
+    let timely = [
+        both,
+        (29, Sends(" HTTP/1.1\r\n")),
+        (25, Sends("Host: h\r\n\r\n")),
+        (0, Ends),
+    ];
+    comes(&rt, &timely, slow, end(2), 198, 64);
+}
+
+#[test]
+fn each_reply_has_60_seconds_of_its_own(rt: HostRuntime) {
+    let two_pieces = Pace {
+        bytes: 50,
+        seconds: 25,
+        signals: 0,
+    };
+    let three = [(0, Sends(ME)), (10, Sends(ME)), (10, Sends(ME)), (0, Ends)];
+    comes(&rt, &three, two_pieces, end(3), 297, 170);
+    let three_pieces = Pace {
+        bytes: 40,
+        seconds: 25,
+        signals: 0,
+    };
+    let one = [(0, Sends(ME))];
+    comes(&rt, &one, three_pieces, fault(Cause::Write, 1), 80, 60);
+}
+
+#[test]
+fn a_signal_is_no_fault(rt: HostRuntime) {
+    let begun = [
+        (20, Sends("GET /me")),
+        (25, Signal),
+        (25, Signal),
+        (5, Sends(" HTTP/1.1\r\nHost: h\r\n\r\n")),
+        (5, Signal),
+        (0, Ends),
+    ];
+    comes(&rt, &begun, PROMPT, end(1), 99, 80);
+}
+
+#[test]
+fn a_signal_gives_no_time(rt: HostRuntime) {
+    let begun = [
+        (20, Sends("GET /me")),
+        (25, Signal),
+        (25, Signal),
+        (25, Sends(" HTTP/1.1\r\nHost: h\r\n\r\n")),
+    ];
+    comes(&rt, &begun, PROMPT, fault(Cause::Read, 0), 0, 80);
+    let one = [(0, Sends(ME)), (0, Ends)];
+    let twice = Pace {
+        bytes: 4_096,
+        seconds: 19,
+        signals: 2,
+    };
+    comes(&rt, &one, twice, end(1), 99, 57);
+    let thrice = Pace {
+        bytes: 4_096,
+        seconds: 19,
+        signals: 3,
+    };
+    comes(&rt, &one, thrice, fault(Cause::Write, 1), 0, 60);
+}
+
+/// A caller who sends a byte every 4 seconds after the reply that closes.
+const TALKS: (u64, Act) = (4, Sends("x"));
+
+#[test]
+fn a_caller_is_parted_from_in_time(rt: HostRuntime) {
+    let falls_silent = [(0, Sends(LAST)), TALKS, (4, Signal), TALKS, (6, Sends("x"))];
+    comes(&rt, &falls_silent, PROMPT, closed(1), 118, 17);
+    let mut goes_on = [TALKS; 20];
+    goes_on[0] = (10, Sends(LAST));
+    comes(&rt, &goes_on, PROMPT, closed(1), 118, 70);
+    let mut at_the_end = [(29, Sends(ME)); 13];
+    at_the_end[10] = (5, Sends(LAST));
+    at_the_end[11] = TALKS;
+    at_the_end[12] = TALKS;
+    comes(&rt, &at_the_end, PROMPT, closed(11), 1108, 300);
+}
