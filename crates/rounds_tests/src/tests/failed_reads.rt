@@ -52,7 +52,7 @@ fn fails(rt: &(impl Abort + AllocGlobal), image: &Image, ask: Request, least: u6
 fn look(rt: &(impl Abort + AllocGlobal), played: &[&[Ask]], student: &'static str) {
     let image = files_after(rt, played);
     fails(rt, &image, ("GET", "/status", OFFICE, ""), 1);
-    fails(rt, &image, ("GET", "/applicants", LEE, ""), 1);
+    fails(rt, &image, ("GET", "/me", LEE, ""), 1);
     fails(rt, &image, ("GET", "/choices", student, ""), 1);
 }
 
