@@ -36,16 +36,16 @@ fn fails_at(rt: &(impl Abort + AllocGlobal), image: &Image, ask: Request, reads:
     came
 }
 
-/// Each read of the request fails in turn; there are so many at least.
+/// Reads of the request fail: each of the first sixteen, and later ones at growing distances. There are so many at least.
 fn fails(rt: &(impl Abort + AllocGlobal), image: &Image, ask: Request, least: u64) {
     let mut reads = 0u64;
     for _ in 0..1_000 {
         if !fails_at(rt, image, ask, reads) {
             break;
         }
-        reads = reads.saturating_add(1);
+        reads = reads.saturating_add(reads / 16).saturating_add(1);
     }
-    assert!(rt; reads >= least && reads < 1_000, "{reads} reads");
+    assert!(rt; reads >= least && reads < 10_000, "{reads} reads");
 }
 
 /// In this part of a year the office, a lecturer and a student look.
