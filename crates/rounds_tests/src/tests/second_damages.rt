@@ -306,7 +306,7 @@ const OF_OTHERS: &[&str] = &[
     "UPDATE student SET name = '' WHERE key = 'S5'",
     "UPDATE student SET code = '' WHERE key = 'S1'",
     "DELETE FROM choice2 WHERE student = 'S4' AND place = 1",
-    "UPDATE choice2 SET place = 7 WHERE student = 'S5'",
+    "UPDATE choice2 SET place = 7 WHERE student = 'S5' AND place = 1",
     "UPDATE choice SET place = 3 WHERE student = 'S1'",
     "INSERT INTO ranking2 (lecturer, place, student) VALUES ('L2', 5, 'S4')",
     "INSERT INTO assigned2 (student, project) VALUES ('S4', 'P3')",
