@@ -1,4 +1,5 @@
-//! The answer to an instance file: its blocking pairs or its best matching, or what is wrong with it.
+//! The answer to an instance file: its blocking pairs or its best matching, or what is wrong with
+//! it.
 #![tactic(auto)]
 
 mod answer;

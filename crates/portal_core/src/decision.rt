@@ -52,11 +52,13 @@ pub enum Change {
     /// New rows of the roll of students.
     Students(Vec<StudentRow>),
     Phase(Phase),
-    /// The current round's result, as pairs of a student and a project; the phase becomes published.
+    /// The current round's result, as pairs of a student and a project; the phase becomes
+    /// published.
     Result(Vec<(Key, Key)>),
     /// Each lecturer still to rank gets the applicants in the order of their keys.
     Fill,
-    /// The second round opens, where the first is published: its lists, rankings and places are laid by.
+    /// The second round opens, where the first is published: its lists, rankings and places are
+    /// laid by.
     SecondRound,
 }
 

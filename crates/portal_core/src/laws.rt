@@ -1,14 +1,20 @@
 //! Laws over the definitions alone: what each caller may learn, whatever a keeper does.
 
-ghost use Rattle.std.specs.Prelude.{◌≡◌, ◌⊎◌, ◌++◌, ◌∷◌, [], List, map, codes, true, false, Some, None};
+ghost use Rattle.std.specs.Prelude.{◌≡◌, ◌⊎◌, ◌++◌, ◌∷◌, [], List, map, codes, true, false, Some};
+ghost use Rattle.std.specs.Prelude.{None};
 ghost use Rattle.portal_core.specs.Words.{Key, equals, has};
-ghost use Rattle.portal_core.specs.World.{World, Lecturer, is_published, in_play, first, is_second, alone, student_key, applicants_of, is_from_ranking};
+ghost use Rattle.portal_core.specs.World.{World, Lecturer, is_published, in_play, first, is_second};
+ghost use Rattle.portal_core.specs.World.{alone, student_key, applicants_of, is_from_ranking};
 ghost use Rattle.portal_core.specs.Good.{Good, KeepsCapacities, codes_of, IsChoice, IsRanking};
 ghost use Rattle.portal_core.specs.Instance.{instance};
-ghost use Rattle.portal_core.specs.Honest.{HasBest, HonestIsBest, HonestOverBoth, HonestOverRuns, LeftFindsNone, NoGroupGains, ShowsBest};
-ghost use Rattle.portal_core.specs.Faults.{ListFault, fault_at, choice_fault, ranking_fault, lacks_one};
-ghost use Rattle.portal_core.specs.Rolls.{RollFault, Faulty, Took, take_rows, lecturer_roll, project_roll, student_roll};
-ghost use Rattle.portal_core.specs.Legal.{AreFresh, wrong_choice, wrong_rank, NoneWrong, IsFirstWrong, IsFirstRefused};
+ghost use Rattle.portal_core.specs.Honest.{HasBest, HonestIsBest, HonestOverBoth, HonestOverRuns};
+ghost use Rattle.portal_core.specs.Honest.{LeftFindsNone, NoGroupGains, ShowsBest};
+ghost use Rattle.portal_core.specs.Faults.{ListFault, fault_at, choice_fault, ranking_fault};
+ghost use Rattle.portal_core.specs.Faults.{lacks_one};
+ghost use Rattle.portal_core.specs.Rolls.{RollFault, Faulty, Took, take_rows, lecturer_roll};
+ghost use Rattle.portal_core.specs.Rolls.{project_roll, student_roll};
+ghost use Rattle.portal_core.specs.Legal.{AreFresh, wrong_choice, wrong_rank, NoneWrong};
+ghost use Rattle.portal_core.specs.Legal.{IsFirstWrong, IsFirstRefused};
 ghost use Rattle.portal_core.specs.Sight.{OfficeSees};
 ghost use Rattle.portal_core.specs.declared.rows.LecturerRow.{LecturerRow};
 ghost use Rattle.portal_core.specs.declared.rows.Person.{Person};
@@ -20,7 +26,8 @@ ghost use Rattle.portal_core.specs.declared.view.View.TheVariants as sees;
 ghost use Rattle.portal_core.specs.declared.rows.Listing.{Listing};
 ghost use Rattle.portal_core.specs.declared.rows.ProjectRow.{ProjectRow};
 ghost use Rattle.portal_core.specs.Run.{Request, Step, Serves, Calls, Run, AllAnswered, end_of};
-ghost use Rattle.portal_core.specs.Heard.{IsMember, IsIdle, is_move_or_add, HeardItem, Heard, replies_to};
+ghost use Rattle.portal_core.specs.Heard.{IsMember, IsIdle, is_move_or_add, HeardItem, Heard};
+ghost use Rattle.portal_core.specs.Heard.{replies_to};
 ghost use Rattle.portal_core.specs.Results.{ShowsStill};
 ghost use Rattle.portal_core.specs.Change.{SecondRound, changed};
 ghost use Rattle.portal_core.specs.Opening.{OpensSecond, OpensOnce};
@@ -28,11 +35,14 @@ ghost use Rattle.portal_core.specs.declared.phase.Phase.TheVariants.{Choosing, P
 ghost use Rattle.portal_core.specs.declared.phase.Round.TheVariants.{First, Second};
 ghost use Rattle.portal_core.specs.Places.{SameButPlaces, SameRequest, AlikeUntilPublished};
 ghost use Rattle.std.specs.List.{AllZip, AllByRecursion};
-ghost use Rattle.portal_core.specs.examples.Worked.{worked, again, again_ranking, again_published, TellsWho, TellsApplicants, TellsLists, TellsMoves, TellsResult, TellsSheets, TellsFill, TellsOpening, TellsSecond};
+ghost use Rattle.portal_core.specs.examples.Worked.{worked, again, again_ranking, again_published};
+ghost use Rattle.portal_core.specs.examples.Worked.{TellsWho, TellsApplicants, TellsLists};
+ghost use Rattle.portal_core.specs.examples.Worked.{TellsMoves, TellsResult, TellsSheets};
+ghost use Rattle.portal_core.specs.examples.Worked.{TellsFill, TellsOpening, TellsSecond};
 ghost use Rattle.portal_core.specs.declared.phase.Phase as phases;
 
-/// Two runs without a 503 in which a caller starts with the same view and hears the same give the caller the
-/// same replies, and leave the caller the same view.
+/// Two runs without a 503 in which a caller starts with the same view and hears the same give the
+/// caller the same replies, and leave the caller the same view.
 pub fn same_replies()
     ensures { (c : Key) (w v : World) (asked others : List Request) (told said : List Answer)
         (after later : List World) (items : List HeardItem)
@@ -43,9 +53,9 @@ pub fn same_replies()
         × (view (end_of w after) c ≡ view (end_of v later) c) }
 {}
 
-/// In a good world no call of a student or lecturer changes what another student or lecturer, or a stranger,
-/// sees. Of one's own calls, other than a move or new rows, one sees one's own list change. A request of
-/// another that changes no row may be struck out.
+/// In a good world no call of a student or lecturer changes what another student or lecturer, or a
+/// stranger, sees. Of one's own calls, other than a move or new rows, one sees one's own list
+/// change. A request of another that changes no row may be struck out.
 pub fn others_unseen()
     ensures others { (w v : World) (c d : Key) (ask : AbstractCall) (reply : Answer)
         → Good w → Step w d ask reply v → IsMember (view w d)
@@ -72,8 +82,9 @@ pub fn heard_once()
         → Heard c w asked after items → Heard c w asked after others → items ≡ others }
 {}
 
-/// A step from a good world leads to a good world, in which the results of both rounds together keep
-/// the capacities of the rolls. Of the second round a step leaves the first as it was published.
+/// A step from a good world leads to a good world, in which the results of both rounds together
+/// keep the capacities of the rolls. Of the second round a step leaves the first as it was
+/// published.
 pub fn step_good()
     ensures good { (w v : World) (code : Key) (ask : AbstractCall) (reply : Answer) → Good w
         → Step w code ask reply v → Good v }
@@ -84,7 +95,8 @@ pub fn step_good()
         → (v.round ≡ w.round) × (first v ≡ first w) }
 {}
 
-/// Each world that a run reaches from a good world is good, so that every published result is stable.
+/// Each world that a run reaches from a good world is good, so that every published result is
+/// stable.
 pub fn run_good()
     ensures { (w : World) (asked : List Request) (told : List Answer) (after : List World)
         → Good w → Run w asked told after → AllByRecursion Good after }
@@ -104,9 +116,9 @@ pub fn results_stay()
 {}
 
 /// The round changes by one request alone: once the first round is published, the office moves to
-/// choosing and names the second. It is answered with that phase and that round, and leaves the second
-/// round, in which a good world keeps the first as it was published. Any other request leaves the round as it
-/// was, and of a run the second round lasts to the end.
+/// choosing and names the second. It is answered with that phase and that round, and leaves the
+/// second round, in which a good world keeps the first as it was published. Any other request
+/// leaves the round as it was, and of a run the second round lasts to the end.
 pub fn round_opens()
     ensures step { (w v : World) (code : Key) (ask : AbstractCall) (reply : Answer)
         → Step w code ask reply v
@@ -126,8 +138,8 @@ pub fn step_once()
         → Step w code ask a v → Step w code ask b u → (a ≡ b) × (v ≡ u) }
 {}
 
-/// Two runs that nothing fails, from one world over one list of requests, give equal replies and leave
-/// equal worlds after each request.
+/// Two runs that nothing fails, from one world over one list of requests, give equal replies and
+/// leave equal worlds after each request.
 pub fn one_run()
     ensures { (w : World) (asked : List Request) (told said : List Answer)
         (after later : List World)
@@ -135,9 +147,9 @@ pub fn one_run()
         → (told ≡ said) × (after ≡ later) }
 {}
 
-/// No fault is found in what is legal: a list of at most 20 known projects, none twice; a ranking that lists
-/// each applicant once, and no other; new rows that are not bad, within the limit. A student who has a project
-/// of the first round is refused all the same.
+/// No fault is found in what is legal: a list of at most 20 known projects, none twice; a ranking
+/// that lists each applicant once, and no other; new rows that are not bad, within the limit. A
+/// student who has a project of the first round is refused all the same.
 pub fn legal_is_taken()
     ensures choices { (catalogue : List Listing) (list : List Key)
         → IsChoice (map (λ (l : Listing). l.key) catalogue) list
@@ -157,9 +169,9 @@ pub fn legal_is_taken()
         → take_rows (student_roll v) 1 v.students rows ≡ Took rows 0 }
 {}
 
-/// The first fault is told, with what is wrong there: of a student's list, of a ranking and of a roll. A missing
-/// applicant of a ranking is told at position 0, and only where no position has a fault. A full roll is told
-/// without a row.
+/// The first fault is told, with what is wrong there: of a student's list, of a ranking and of a
+/// roll. A missing applicant of a ranking is told at position 0, and only where no position has a
+/// fault. A full roll is told without a row.
 pub fn least_is_told()
     ensures choices { (catalogue : List Listing) (list : List Key) (fault : ListFault)
         → choice_fault catalogue 1 [] list ≡ Some fault
@@ -193,9 +205,9 @@ pub fn played_alone()
         → Good (alone (in_play w)) × (instance (alone (in_play w)) ≡ instance w) }
 {}
 
-/// Two runs without a 503 that differ at most in the order within students' lists, at the start and in what
-/// the students hand in, give equal replies up to and with the first accepted move to published, but for the
-/// replies to a student's own list.
+/// Two runs without a 503 that differ at most in the order within students' lists, at the start and
+/// in what the students hand in, give equal replies up to and with the first accepted move to
+/// published, but for the replies to a student's own list.
 pub fn places_unseen()
     ensures { (v w : World) (asked others : List Request) (told said : List Answer)
         (after later : List World)
@@ -215,9 +227,9 @@ pub fn named_by_code()
         → view w c ≡ sees.Nobody }
 {}
 
-/// What is published is the best for the students: a world that a step publishes has its best result; and
-/// where each result that a world shows is the best, as in one that shows none, so it is in each world that
-/// a run reaches.
+/// What is published is the best for the students: a world that a step publishes has its best
+/// result; and where each result that a world shows is the best, as in one that shows none, so it
+/// is in each world that a run reaches.
 pub fn published_best()
     ensures step { (w v : World) (code : Key) (ask : AbstractCall) (reply : Answer)
         → Good w → is_published w.phase ≡ false → Step w code ask reply v
@@ -228,31 +240,32 @@ pub fn published_best()
         → ShowsBest w }
 {}
 
-/// What a student is shown with the honest list is, by that list, at least as good as what is shown with
-/// another: of two good worlds of the same round that differ at most in the list of one student, the first
-/// in published with its best result, where each lecturer orders the same students alike.
+/// What a student is shown with the honest list is, by that list, at least as good as what is shown
+/// with another: of two good worlds of the same round that differ at most in the list of one
+/// student, the first in published with its best result, where each lecturer orders the same
+/// students alike.
 pub fn honest_is_best()
     ensures { HonestIsBest }
 {}
 
-/// Who waits for the second round gains nothing: what a student is shown with the honest list in the first
-/// round is, by that list, at least as good as what is shown in any second round whose first round differs
-/// at most in the list of that student. Every second round that a run reaches from a published first round
-/// is such a one.
+/// Who waits for the second round gains nothing: what a student is shown with the honest list in
+/// the first round is, by that list, at least as good as what is shown in any second round whose
+/// first round differs at most in the list of that student. Every second round that a run reaches
+/// from a published first round is such a one.
 pub fn honest_over_both()
     ensures worlds { HonestOverBoth }
     ensures runs { HonestOverRuns }
 {}
 
-/// In a good world of the second round a student whom the first left finds no project of the first list in
-/// the catalogue: each of them is full, or its lecturer is.
+/// In a good world of the second round a student whom the first left finds no project of the first
+/// list in the catalogue: each of them is full, or its lecturer is.
 pub fn left_finds_none()
     ensures { LeftFindsNone }
 {}
 
-/// Whatever the students of a group list together, not all of them are shown a project that is better, by the
-/// own honest list, than what honest lists give: of two such worlds that differ at most in their lists, where
-/// one of the group at least takes part in the round.
+/// Whatever the students of a group list together, not all of them are shown a project that is
+/// better, by the own honest list, than what honest lists give: of two such worlds that differ at
+/// most in their lists, where one of the group at least takes part in the round.
 pub fn no_group_gains()
     ensures { NoGroupGains }
 {}

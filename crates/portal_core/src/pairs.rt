@@ -9,8 +9,9 @@ use std::alloc::{AllocError, Global};
 use std::collections::HashMap;
 use std::marker::Model;
 
-/// The pairs of a result, each a student and a project, to be asked for a student's project. Where a student stands twice, the first pair
-/// counts. Keys can be made that its table tells apart one by one; a search then looks at each pair once at most.
+/// The pairs of a result, each a student and a project, to be asked for a student's project. Where
+/// a student stands twice, the first pair counts. Keys can be made that its table tells apart one
+/// by one; a search then looks at each pair once at most.
 #[derive(Drop)]
 pub struct Pairs<'a> {
     pairs: &'a [(Key, Key)],

@@ -12,8 +12,8 @@ use std::alloc::{AllocError, Global};
 use std::collections::HashMap;
 use std::marker::Model;
 
-/// The result, to be asked for each student's project. Keys can be made that its tables tell apart one by one; a
-/// search then looks at each row once at most.
+/// The result, to be asked for each student's project. Keys can be made that its tables tell apart
+/// one by one; a search then looks at each row once at most.
 #[derive(Drop)]
 pub struct Placings<'a> {
     view: &'a OfficeView,

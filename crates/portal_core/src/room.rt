@@ -73,8 +73,8 @@ fn room_of(capacity: u32, given: usize) -> Option<u32>
     }
 }
 
-/// The project with the room that the first round left, if it left any. The pairs are that round's result. The error is want of
-/// memory.
+/// The project with the room that the first round left, if it left any. The pairs are that round's
+/// result. The error is want of memory.
 pub fn project_left(
     alloc: Global,
     pairs: &[(Key, Key)],
@@ -92,8 +92,8 @@ pub fn project_left(
     }
 }
 
-/// The lecturer with the room that the first round left over all projects, if it left any. The pairs are that round's result. The
-/// error is want of memory.
+/// The lecturer with the room that the first round left over all projects, if it left any. The
+/// pairs are that round's result. The error is want of memory.
 pub fn lecturer_left(
     alloc: Global,
     projects: &[ProjectRow],

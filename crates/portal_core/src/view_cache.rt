@@ -15,8 +15,8 @@ use crate::view::OfficeView;
 use spa_rows::Key;
 use std::rc::Rc;
 
-/// What a keeper remembers of what it showed, and would show again of the same world. Beside a keeper of which each
-/// view costs queries, it spares those that would answer as before.
+/// What a keeper remembers of what it showed, and would show again of the same world. Beside a
+/// keeper of which each view costs queries, it spares those that would answer as before.
 #[derive(Drop)]
 pub struct ViewCache {
     /// The catalogue, once it was shown.
@@ -36,8 +36,9 @@ impl ViewCache {
         }
     }
 
-    /// Keeps of what is remembered what still holds after the change: the catalogue unless it is one of a roll that is shown in
-    /// it or the second round opens, and what the office sees where the change tells it.
+    /// Keeps of what is remembered what still holds after the change: the catalogue unless it is
+    /// one of a roll that is shown in it or the second round opens, and what the office sees where
+    /// the change tells it.
     fn refresh(&mut self, change: &Change)
         ensures { (w : World) → IsCacheOf self.old w
             → IsCacheOf self.new (changed w (change_model change.now)) }
@@ -56,8 +57,9 @@ impl ViewCache {
         }
     }
 
-    /// Remembers of the changed world, where the change was made, what was remembered and still holds; where it was refused,
-    /// whatever the error, all that was remembered stays. It takes no memory.
+    /// Remembers of the changed world, where the change was made, what was remembered and still
+    /// holds; where it was refused, whatever the error, all that was remembered stays. It takes no
+    /// memory.
     pub fn follow<E>(&mut self, change: &Change, made: &Result<(), E>)
         ensures made { OnOk made.now
             ((w : World) → IsCacheOf self.old w
@@ -108,7 +110,8 @@ fn after_ranking(view: OfficeView, lecturer: &Key, students: &[Key]) -> Option<O
     })
 }
 
-/// What the office sees after the missing rankings were made: the same, but that nobody is still to rank.
+/// What the office sees after the missing rankings were made: the same, but that nobody is still to
+/// rank.
 fn after_fill(mut view: OfficeView) -> OfficeView
     ensures { (w : World) → view ≡ office_sees w → result ≡ office_sees (changed w Fill) }
 {

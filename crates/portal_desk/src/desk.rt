@@ -1,6 +1,7 @@
 //! Acts on requests, and serves streams of them.
 
-ghost use Rattle.std.specs.Prelude.{◌≡◌, ◌≢◌, ◌||◌, ℕ, ◌+◌, ◌*◌, ◌-◌, ◌<◌, ◌≤◌, true, false, List, IfSome, IfOk, OnOk, IfErr, MatchResult};
+ghost use Rattle.std.specs.Prelude.{◌≡◌, ◌≢◌, ◌||◌, ℕ, ◌+◌, ◌*◌, ◌-◌, ◌<◌, ◌≤◌, true, false, List};
+ghost use Rattle.std.specs.Prelude.{IfSome, IfOk, OnOk, IfErr, MatchResult};
 ghost use Rattle.std.specs.Io.KnownBytes.{Appends};
 ghost use Rattle.portal_frame.specs.Stream.{seen, is_head};
 ghost use Rattle.portal_core.specs.Counting.{StaysClean};
@@ -15,7 +16,9 @@ ghost use Rattle.portal_desk.specs.Keeping.{state_of};
 ghost use Rattle.portal_desk.specs.Outcome.{is_store, TurnsAway, FailsByCount};
 ghost use Rattle.portal_desk.specs.Serving.{ServesWhole, Stops, Blames, AtFirst};
 ghost use Rattle.portal_desk.specs.inner.Serving.{Broke, Replied};
-ghost use Rattle.portal_desk.specs.declared.served.Cause.TheVariants.{Read as ReadFailed, Write as WriteFailed, Store as StoreFailed};
+ghost use Rattle.portal_desk.specs.declared.served.Cause.TheVariants.{Read as ReadFailed};
+ghost use Rattle.portal_desk.specs.declared.served.Cause.TheVariants.{Write as WriteFailed};
+ghost use Rattle.portal_desk.specs.declared.served.Cause.TheVariants.{Store as StoreFailed};
 
 use crate::devices::{Sink, Source};
 use crate::playing::play;
@@ -93,8 +96,8 @@ impl<K: Keeper> Desk<K> {
         }
     }
 
-    /// Acts on one request, as one step of the world. Where memory or the store fails the reply is 503,
-    /// and once the store has failed every later reply is.
+    /// Acts on one request, as one step of the world. Where memory or the store fails the reply is
+    /// 503, and once the store has failed every later reply is.
     pub fn respond(&mut self, alloc: Global, request: &Request) -> Reply
         ensures clean { K.clean self.new.keeper → K.clean self.old.keeper }
         ensures lasts { reply_model result ≢ unavailable
@@ -168,8 +171,8 @@ impl<K: Keeper> Desk<K> {
         Ok(())
     }
 
-    /// Serves the requests of a stream, one after another: each acts, and its reply is written whole,
-    /// before more is read.
+    /// Serves the requests of a stream, one after another: each acts, and its reply is written
+    /// whole, before more is read.
     ///
     /// # Errors
     ///

@@ -48,8 +48,8 @@ pub trait Sink {
     /// How many calls failed, or the greatest number.
     ghost failed: { Self → ℕ };
 
-    /// Takes some bytes, at least one where there is one. A call that fails counts once, and moves no
-    /// byte.
+    /// Takes some bytes, at least one where there is one. A call that fails counts once, and moves
+    /// no byte.
     fn write(&mut self, buf: &[u8]) -> Result<usize, Failed>
         ensures bound { WritesAtMost result buf.now }
         ensures some { IfOk result (λ n. 0 < length buf.now → 0 < n) }
@@ -62,9 +62,9 @@ pub trait Sink {
         ensures { result ≡ failed self.now };
 }
 
-/// A reader or a writer of std, with a count of the calls that failed: it passes on what the reader or
-/// writer answers, tries again where a signal interrupted it, and only another error of it, or a write
-/// that takes none of some bytes, is `Failed`.
+/// A reader or a writer of std, with a count of the calls that failed: it passes on what the reader
+/// or writer answers, tries again where a signal interrupted it, and only another error of it, or a
+/// write that takes none of some bytes, is `Failed`.
 #[derive(Drop)]
 pub struct Counted<T> {
     inner: T,

@@ -11,16 +11,18 @@ ghost use Rattle.portal_core.specs.Places.{SameButPlaces, SameRequest};
 ghost use Rattle.portal_wire.specs.Conversation.{asked_in};
 ghost use Rattle.portal_desk.specs.Headline.{IsServed, MainPromise};
 ghost use Rattle.portal_desk.specs.Keeping.{state_of};
-ghost use Rattle.portal_desk.specs.Visits.{Visit, AreVisits, AreAnswered, exchanges_of, worlds_of, Hears, replies_in, AlikeTexts, Session, AreServed, AllTellOf};
+ghost use Rattle.portal_desk.specs.Visits.{Visit, AreVisits, AreAnswered, exchanges_of, worlds_of};
+ghost use Rattle.portal_desk.specs.Visits.{Hears, replies_in, AlikeTexts, Session, AreServed};
+ghost use Rattle.portal_desk.specs.Visits.{AllTellOf};
 
 use portal_core::Keeper;
 use portal_core::laws::{published_best, run_good};
 
 /// Of any two lists of streams, each served stream after stream with no reply 503: where a caller
-/// starts with the same view and hears the same, the replies to the caller are the same bytes, and so
-/// is the last view. And where two worlds differ at most in the order within students' lists, and what
-/// is asked too, the replies are the same bytes, up to and with the first accepted move to published,
-/// but for the replies to a student's own list.
+/// starts with the same view and hears the same, the replies to the caller are the same bytes, and
+/// so is the last view. And where two worlds differ at most in the order within students' lists,
+/// and what is asked too, the replies are the same bytes, up to and with the first accepted move to
+/// published, but for the replies to a student's own list.
 pub fn same_bytes()
     ensures replies { (c : Key) (w v : World) (visits others : List Visit) (items : List HeardItem)
         → AreVisits w visits → AreAnswered visits → Hears c w visits items
@@ -41,9 +43,9 @@ pub fn served_is_visit<K: Keeper>()
         → (visits : List Visit) × AllTellOf sessions visits × AreVisits (K.world k) visits }
 {}
 
-/// Two lists of streams that any two desks have served, over keepers of any kind. What they wrote is
-/// told by visits; and where no reply in them is 503, and a caller starts with the same view and hears
-/// the same in both, the replies to that caller are equal byte for byte.
+/// Two lists of streams that any two desks have served, over keepers of any kind. What they wrote
+/// is told by visits; and where no reply in them is 503, and a caller starts with the same view and
+/// hears the same in both, the replies to that caller are equal byte for byte.
 pub fn equal_byte_for_byte<K: Keeper, L: Keeper>()
     ensures { (c : Key) (k : K) (l : L) (sessions : List (Session K)) (others : List (Session L))
         → AreServed (state_of K.disk K.clean K.world) k sessions
@@ -56,16 +58,16 @@ pub fn equal_byte_for_byte<K: Keeper, L: Keeper>()
         → replies_in c first ≡ replies_in c second) }
 {}
 
-/// The main promise. Two desks have each served a list of streams, one after another, over keepers of
-/// any kind; a call may have stopped before its stream ended. Each first keeper was clean and kept a
-/// good world, no reply was 503, and each last keeper's disk has returned what was written. Between
-/// two streams a keeper may have been closed and opened again. Then there are visits that tell of
-/// these streams.
+/// The main promise. Two desks have each served a list of streams, one after another, over keepers
+/// of any kind; a call may have stopped before its stream ended. Each first keeper was clean and
+/// kept a good world, no reply was 503, and each last keeper's disk has returned what was written.
+/// Between two streams a keeper may have been closed and opened again. Then there are visits that
+/// tell of these streams.
 ///
-/// Each world in them is good, so that each published result is stable; and what a step publishes is
-/// the best for the students. No request of a student or a lecturer shows anything to another caller
-/// but the office. Where a caller starts with the same view and hears the same in both lists, the
-/// replies to that caller are equal byte for byte, and so is the last view.
+/// Each world in them is good, so that each published result is stable; and what a step publishes
+/// is the best for the students. No request of a student or a lecturer shows anything to another
+/// caller but the office. Where a caller starts with the same view and hears the same in both
+/// lists, the replies to that caller are equal byte for byte, and so is the last view.
 pub fn headline<K: Keeper, L: Keeper>()
     ensures { (k : K) (l : L) (sessions : List (Session K)) (others : List (Session L))
         → IsServed (state_of K.disk K.clean K.world) k sessions

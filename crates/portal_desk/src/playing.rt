@@ -7,7 +7,8 @@ ghost use Rattle.portal_core.specs.Answer.{Publish};
 ghost use Rattle.portal_core.specs.Counting.{CountsFaults, StaysClean};
 ghost use Rattle.portal_core.specs.Good.{Good, CanPublish};
 ghost use Rattle.portal_core.specs.Instance.{pairs_by};
-ghost use Rattle.portal_core.specs.Meaning.{call_model, decision_model, act_model, reply_model, body_model};
+ghost use Rattle.portal_core.specs.Meaning.{call_model, decision_model, act_model, reply_model};
+ghost use Rattle.portal_core.specs.Meaning.{body_model};
 ghost use Rattle.portal_core.specs.Run.{HasForm, StepLeaves, Step};
 ghost use Rattle.portal_core.specs.View as seen;
 ghost use Rattle.portal_core.specs.Answer.{HasWholeNumbers};
@@ -56,7 +57,8 @@ fn written(alloc: Global, view: &View, act: &Act, reply: Reply) -> Result<Reply,
 
 /// What is decided for a caller who sees this, its sheet written.
 fn decide_whole(alloc: Global, view: &View, call: &Call) -> Result<Decision, AllocError>
-    ensures decided { IfOk result (λ d. decision_model d ≡ answer.decision view.now (call_model call.now)) }
+    ensures decided { IfOk result (λ d. decision_model d
+        ≡ answer.decision view.now (call_model call.now)) }
     ensures whole { IfOk result (λ d. IsTold (decision_model d).reply.body) }
 {
     let Decision { reply, act } = decide(alloc, view, call)?;
@@ -75,7 +77,8 @@ fn ask<K: Keeper>(
     ensures lasts { OnOk result (StaysClean (K.disk keeper.old) (K.disk keeper.new)
         (K.clean keeper.old) (K.clean keeper.new)) }
     ensures decided { IfOk result (λ d. K.clean keeper.new → Good (K.world keeper.old)
-        → decision_model d ≡ answer.decision (seen.view (K.world keeper.old) code.now) (call_model call.now)) }
+        → decision_model d ≡ answer.decision (seen.view (K.world keeper.old) code.now)
+        (call_model call.now)) }
     ensures whole { IfOk result (λ d. IsTold (decision_model d).reply.body) }
     ensures same { K.clean keeper.new → K.world keeper.new ≡ K.world keeper.old }
     ensures counts { CountsFaults result (K.faults keeper.old) (K.faults keeper.new) }
@@ -167,7 +170,8 @@ pub fn play<K: Keeper>(
     ensures lasts { OnOk result (StaysClean (K.disk keeper.old) (K.disk keeper.new)
         (K.clean keeper.old) (K.clean keeper.new)) }
     ensures step { IfOk result (λ r. K.clean keeper.new
-        → Step (K.world keeper.old) code.now (call_model call.now) (reply_model r) (K.world keeper.new)) }
+        → Step (K.world keeper.old) code.now (call_model call.now) (reply_model r)
+        (K.world keeper.new)) }
     ensures same { OnErr result (K.clean keeper.new → K.world keeper.new ≡ K.world keeper.old) }
     ensures counts { CountsFaults result (K.faults keeper.old) (K.faults keeper.new) }
     ensures good { K.clean keeper.new → Good (K.world keeper.new) }

@@ -1,9 +1,12 @@
 //! Reads a stream up to its next request.
 
-ghost use Rattle.std.specs.Prelude.{◌≡◌, ◌≢◌, ℕ, ◌+◌, ◌-◌, ◌<◌, ◌≤◌, List, length, drop, IfOk, OnErr, IfErr, OnOk, if◌then◌else◌};
+ghost use Rattle.std.specs.Prelude.{◌≡◌, ◌≢◌, ℕ, ◌+◌, ◌-◌, ◌<◌, ◌≤◌, List, length, drop, IfOk};
+ghost use Rattle.std.specs.Prelude.{OnErr, IfErr, OnOk, if◌then◌else◌};
 ghost use Rattle.portal_desk.specs.Devices.{FailsAfter, TakesAtMost};
-ghost use Rattle.portal_desk.specs.inner.Reading.{ReadsMore, Follows, IsWithin, KeepsStream, HoldsNone};
-ghost use Rattle.portal_desk.specs.declared.reading.FrameFault.TheVariants.{Memory as OutOfMemory, Read as ReadFailed};
+ghost use Rattle.portal_desk.specs.inner.Reading.{ReadsMore, Follows, IsWithin, KeepsStream};
+ghost use Rattle.portal_desk.specs.inner.Reading.{HoldsNone};
+ghost use Rattle.portal_desk.specs.declared.reading.FrameFault.TheVariants.{Memory as OutOfMemory};
+ghost use Rattle.portal_desk.specs.declared.reading.FrameFault.TheVariants.{Read as ReadFailed};
 
 use crate::devices::{Failed, Source};
 use portal_frame::{Frame, frame};

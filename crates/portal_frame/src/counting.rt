@@ -1,7 +1,8 @@
 //! The lines of a head, counted.
 
 ghost use Rattle.std.specs.Prelude.{◌≡◌, ◌≤◌};
-ghost use Rattle.portal_frame.specs.inner.Counting.{lines_from, step as step_of, stops as stops_at, counts as counted};
+ghost use Rattle.portal_frame.specs.inner.Counting.{lines_from, step as step_of, stops as stops_at};
+ghost use Rattle.portal_frame.specs.inner.Counting.{counts as counted};
 ghost use Rattle.portal_frame.specs.Lines.{is_overlong};
 
 /// A place in the lines of a head.

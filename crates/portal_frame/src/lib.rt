@@ -4,7 +4,8 @@
 ghost use Rattle.std.specs.Prelude.{◌≡◌, ℕ, ◌<◌, ◌≤◌, ◌⊎◌, List, ◌++◌, length, IfOk};
 ghost use Rattle.httparse.specs.Grammar.{MayBecomeRequest, RequestHead};
 ghost use Rattle.httparse.specs.Spans.{RequestExceeds};
-ghost use Rattle.portal_frame.specs.Stream.{Framed, IsDue, IsWithinLimits, HasNoHead, IsHead, is_blank};
+ghost use Rattle.portal_frame.specs.Stream.{Framed, IsDue, IsWithinLimits, HasNoHead, IsHead};
+ghost use Rattle.portal_frame.specs.Stream.{is_blank};
 
 mod closing;
 mod counting;
@@ -117,9 +118,9 @@ fn frame_head(
 
 /// What the bytes of a stream so far are, which may go on unless it has ended.
 ///
-/// Answers `Need` while a head or a body is not whole, `End` where nothing is left, a request and how
-/// many bytes it takes, or the refusal of the first fault. Each answer but `Need` stands however the
-/// stream goes on. An error is want of memory alone.
+/// Answers `Need` while a head or a body is not whole, `End` where nothing is left, a request and
+/// how many bytes it takes, or the refusal of the first fault. Each answer but `Need` stands
+/// however the stream goes on. An error is want of memory alone.
 pub fn frame(alloc: Global, bytes: &[u8], ended: bool) -> Result<Frame, AllocError>
     ensures framed { IfOk result (Framed bytes.now ended) }
     ensures due { IfOk result (IsDue bytes.now ended) }

@@ -1,6 +1,7 @@
 //! Which students want a project, looked up by hashing.
 
-ghost use Rattle.std.specs.Prelude.{◌≡◌, ◌<◌, ◌==◌, ◌||◌, ◌&&◌, ℕ, List, map, length, get_or, false, IfOk, OnOk};
+ghost use Rattle.std.specs.Prelude.{◌≡◌, ◌<◌, ◌==◌, ◌||◌, ◌&&◌, ℕ, List, map, length, get_or};
+ghost use Rattle.std.specs.Prelude.{false, IfOk, OnOk};
 ghost use Rattle.std.specs.Borrow.{Bor};
 ghost use Rattle.std.specs.List.{list_any};
 ghost use Rattle.portal_core.specs.Words.{Key as Text, equals, has};
@@ -14,8 +15,8 @@ use std::alloc::{AllocError, Global};
 use std::collections::HashMap;
 use std::marker::Model;
 
-/// A roll of students, to be asked whose list holds a project. Keys can be made that its table tells apart one by one; a search then
-/// looks at each project once at most.
+/// A roll of students, to be asked whose list holds a project. Keys can be made that its table
+/// tells apart one by one; a search then looks at each project once at most.
 #[derive(Drop)]
 pub(crate) struct ApplicantIndex<'a> {
     students: &'a [StudentEntry],

@@ -1,6 +1,7 @@
 //! Finds rows by their keys, and puts rows where their keys belong.
 
-ghost use Rattle.std.specs.Prelude.{◌≡◌, ◌<◌, ◌≤◌, ◌+◌, true, false, length, IfSome, IfNone, slice_index_or, insert, vec_len, vec_capacity};
+ghost use Rattle.std.specs.Prelude.{◌≡◌, ◌<◌, ◌≤◌, ◌+◌, true, false, length, IfSome, IfNone};
+ghost use Rattle.std.specs.Prelude.{slice_index_or, insert, vec_len, vec_capacity};
 ghost use Rattle.std.specs.List.{list_any};
 ghost use Rattle.portal_core.specs.Words.{equals, put, put_all};
 
@@ -12,7 +13,8 @@ pub(crate) fn index_of<T: Keyed>(rows: &[T], key: &Key) -> Option<usize>
     ensures some { IfSome result
         (λ i. (i < length rows.now)
         × ((d : T) → equals (T.key_of (slice_index_or rows.now i d)) key.now ≡ true)) }
-    ensures none { IfNone result (list_any (λ row. equals (T.key_of row) key.now) rows.now ≡ false) }
+    ensures none { IfNone result (list_any (λ row. equals (T.key_of row) key.now) rows.now
+        ≡ false) }
 {
     for (i, row) in rows.iter().enumerate() {
         if *row.key() == *key {

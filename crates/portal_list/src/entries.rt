@@ -1,4 +1,5 @@
-//! The entries: the rows of the rolls, each with what its owner has made, and how they follow a change.
+//! The entries: the rows of the rolls, each with what its owner has made, and how they follow a
+//! change.
 
 ghost use Rattle.std.specs.Prelude.{◌≡◌, true, false, Ok, IfOk, OnOk, OnErr, map};
 ghost use Rattle.portal_core.specs.World.{World};
@@ -13,7 +14,8 @@ use spa_rows::Key;
 use std::alloc::{AllocError, Global};
 use std::marker::Model;
 
-/// A lecturer's row, and the ranking of the round if one is there; in the second round also that of the first.
+/// A lecturer's row, and the ranking of the round if one is there; in the second round also that of
+/// the first.
 #[derive(Drop)]
 pub(crate) struct LecturerEntry {
     pub row: LecturerRow,
@@ -34,8 +36,8 @@ impl Model for LecturerEntry {
     } };
 }
 
-/// A student's row, the list of projects, and the project that the result gives, of the round; in the second round also those
-/// of the first.
+/// A student's row, the list of projects, and the project that the result gives, of the round; in
+/// the second round also those of the first.
 #[derive(Drop)]
 pub(crate) struct StudentEntry {
     pub row: StudentRow,
@@ -91,8 +93,9 @@ impl Entries {
         place_all(alloc, &mut self.students, pairs)
     }
 
-    /// Follows a change of a list, a ranking, the phase, or a fill, and says so. New rolls, the result and the second round are not
-    /// followed; then, and where memory is short, all stays as it was.
+    /// Follows a change of a list, a ranking, the phase, or a fill, and says so. New rolls, the
+    /// result and the second round are not followed; then, and where memory is short, all stays as
+    /// it was.
     pub fn follow(&mut self, alloc: Global, change: &Change) -> Result<bool, AllocError>
         ensures followed { IfOk result (λ yes. yes ≡ is_followed (change_model change.now)) }
         ensures made { result ≡ Ok true → (w : World) → Sound w → HasEntries self.old w

@@ -35,11 +35,12 @@ fn with_applicants(
 }
 
 impl Entries {
-    /// The lecturers who are still to rank, in the order of the roll, each with the keys of the applicants in their order: the
-    /// rankings that a fill would put.
+    /// The lecturers who are still to rank, in the order of the roll, each with the keys of the
+    /// applicants in their order: the rankings that a fill would put.
     pub fn fills(&self, alloc: Global) -> Result<Vec<(Key, Vec<Key>)>, AllocError>
         ensures { IfOk result (λ v. (w : World) → HasEntries self.now w
-            → map {B = words.Key × List words.Key} (λ f. (f.0, f.1.items)) v.items ≡ fill_missing w) }
+            → map {B = words.Key × List words.Key} (λ f. (f.0, f.1.items)) v.items
+            ≡ fill_missing w) }
     {
         let lecturers = waiting(alloc, &self.lecturers, &self.projects, &self.students)?;
         with_applicants(alloc, &lecturers, &self.projects, &self.students)

@@ -1,7 +1,8 @@
 //! Puts rows, lists and pairs together to the entries of lecturers and of students.
 
 ghost use Rattle.std.specs.Prelude.{◌≡◌, IfOk, map, option_map};
-ghost use Rattle.portal_list.specs.inner.Fit.{next_for, rest_for, earlier_for, earlier_rest, lecturers_fitting, students_fitting};
+ghost use Rattle.portal_list.specs.inner.Fit.{next_for, rest_for, earlier_for, earlier_rest};
+ghost use Rattle.portal_list.specs.inner.Fit.{lecturers_fitting, students_fitting};
 
 use crate::entries::{LecturerEntry, StudentEntry};
 use portal_core::{LecturerRow, Round, StudentRow};
@@ -25,7 +26,8 @@ fn take_for<V: Drop>(rest: &mut VecDeque<(Key, V)>, key: &Key) -> Option<V>
     Some(value)
 }
 
-/// The list of the earlier round: in the second round what stands next, if it is for this key; in the first an empty one.
+/// The list of the earlier round: in the second round what stands next, if it is for this key; in
+/// the first an empty one.
 fn earlier_for(
     alloc: Global,
     round: Round,
@@ -43,7 +45,8 @@ fn earlier_for(
     }
 }
 
-/// The lecturers with their rankings, also those of the earlier round, each of which is for one of them, in their order.
+/// The lecturers with their rankings, also those of the earlier round, each of which is for one of
+/// them, in their order.
 pub(crate) fn lecturer_entries(
     alloc: Global,
     rows: Vec<LecturerRow>,
@@ -73,8 +76,8 @@ pub(crate) fn lecturer_entries(
     })
 }
 
-/// The students with their lists and places, also those of the earlier round, where each has a list, in the second round two, and
-/// each list and place is for one of them, in their order.
+/// The students with their lists and places, also those of the earlier round, where each has a
+/// list, in the second round two, and each list and place is for one of them, in their order.
 pub(crate) fn student_entries(
     alloc: Global,
     round: Round,

@@ -96,7 +96,8 @@ fn rolls_of_rows_fit(alloc: Global, rows: &WorldRows) -> Result<bool, AllocError
 
 /// The keeper of these rows, if they are those of a world.
 fn fitted(alloc: Global, rows: WorldRows) -> Result<Option<ListKeeper>, AllocError>
-    ensures { IfOk result (λ found. MatchOption found ((w : World) → rows ≡ world_rows w → Sound w → ⊥)
+    ensures { IfOk result (λ found. MatchOption found ((w : World) → rows ≡ world_rows w → Sound w
+        → ⊥)
         (λ keeper. IsFitted rows keeper)) }
 {
     let WorldRows {
@@ -170,12 +171,13 @@ impl ListKeeper {
 }
 
 impl Entries {
-    /// The entries of the rows of a sound world. No list is judged: of other rows entries may come that mean nothing, or
-    /// `NotGood`.
+    /// The entries of the rows of a sound world. No list is judged: of other rows entries may come
+    /// that mean nothing, or `NotGood`.
     pub fn from_rows(alloc: Global, rows: WorldRows) -> Result<Entries, RowsFault>
         ensures entries { IfOk result (λ e. (w : World) → rows ≡ world_rows w → Sound w
             → HasEntries e w) }
-        ensures refused { result ≡ Err RowsFault.NotGood → (w : World) → rows ≡ world_rows w → Sound w
+        ensures refused { result ≡ Err RowsFault.NotGood → (w : World) → rows ≡ world_rows w
+            → Sound w
             → ⊥ }
     {
         match fitted(alloc, rows)? {

@@ -165,7 +165,8 @@ impl ListKeeper {
         }
     }
 
-    /// Whether the world is good: what each round published is a stable matching, and what the first made is sound.
+    /// Whether the world is good: what each round published is a stable matching, and what the
+    /// first made is sound.
     pub fn is_good(&self, alloc: Global) -> Result<bool, AllocError>
         requires { Sound self.now }
         ensures { IfOk result (λ good. IsTrue good ↔ Good self.now) }

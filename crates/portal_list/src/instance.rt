@@ -7,7 +7,8 @@ ghost use Rattle.portal_core.specs.declared.phase.Round.TheVariants.{First};
 ghost use Rattle.portal_core.specs.Good.{Sound};
 ghost use Rattle.portal_core.specs.Instance as meant_by;
 ghost use Rattle.portal_list.specs.Entries.{HasEntries};
-ghost use Rattle.portal_list.specs.inner.Lines.{instance_lecturer, instance_project, instance_student, instance_rows};
+ghost use Rattle.portal_list.specs.inner.Lines.{instance_lecturer, instance_project};
+ghost use Rattle.portal_list.specs.inner.Lines.{instance_student, instance_rows};
 
 use crate::entries::{Entries, LecturerEntry, StudentEntry};
 use crate::from_rows::RowsFault;
@@ -112,7 +113,8 @@ fn rows_of(alloc: Global, entries: &Entries) -> Result<InstanceRows, AllocError>
     })
 }
 
-/// The instance of the entries of a first round, which are not judged; `NotGood` where they have none.
+/// The instance of the entries of a first round, which are not judged; `NotGood` where they have
+/// none.
 fn instance_among(alloc: Global, entries: &Entries) -> Result<Instance, RowsFault>
     requires { entries.now.round ≡ First }
     ensures instance { IfOk result (λ instance. (w : World) → HasEntries entries.now w → Sound w
@@ -148,8 +150,8 @@ pub(crate) fn instance_of(alloc: Global, entries: &Entries) -> Result<Instance, 
 }
 
 impl Entries {
-    /// The instance of the round of the entries of a sound world in which nobody is still to rank. They are not judged: of others
-    /// an instance may come that means nothing, or `NotGood`.
+    /// The instance of the round of the entries of a sound world in which nobody is still to rank.
+    /// They are not judged: of others an instance may come that means nothing, or `NotGood`.
     pub fn instance(&self, alloc: Global) -> Result<Instance, RowsFault>
         ensures instance { IfOk result (λ instance. (w : World) → HasEntries self.now w → Sound w
             → instance ≡ meant_by.instance w) }

@@ -4,7 +4,8 @@ ghost use Rattle.std.specs.Prelude.{◌≡◌, true, [], IfOk, IfErr, OnOk, OnEr
 ghost use Rattle.portal_core.specs.View as seen;
 ghost use Rattle.portal_core.specs.Good.{Good, Sound, CanPublish};
 ghost use Rattle.portal_core.specs.Instance as meant_by;
-ghost use Rattle.portal_core.specs.Change.{changed, Lecturers, Projects, Students, Placements, SecondRound};
+ghost use Rattle.portal_core.specs.Change.{changed, Lecturers, Projects, Students, Placements};
+ghost use Rattle.portal_core.specs.Change.{SecondRound};
 ghost use Rattle.portal_core.specs.Meaning.{change_model};
 ghost use Rattle.portal_list.specs.Entries.{is_followed};
 
@@ -45,7 +46,8 @@ impl Model for ListKeeper {
 
     ghost view = { λ k. world_with k.phase k.office k.entries };
 
-    ghost invariant = { λ k. IfSome k.catalogue (λ shared. shared.value.items ≡ catalogue_in k.entries) };
+    ghost invariant = { λ k. IfSome k.catalogue (λ shared. shared.value.items
+        ≡ catalogue_in k.entries) };
 }
 
 impl ListKeeper {
@@ -195,7 +197,8 @@ impl ListKeeper {
         }
     }
 
-    /// Gives each student who takes part the project of the pairs, or none, and publishes the result.
+    /// Gives each student who takes part the project of the pairs, or none, and publishes the
+    /// result.
     fn publish(&mut self, alloc: Global, pairs: &[(Key, Key)]) -> Result<(), AllocError>
         ensures made { OnOk result (self.new ≡ changed self.old (Placements pairs.now)) }
         ensures same { OnErr result (self.new ≡ self.old) }

@@ -5,7 +5,9 @@ ghost use Rattle.std.specs.List.{AllByRecursion};
 ghost use Rattle.portal_core.specs.Words.{has, Rise};
 ghost use Rattle.portal_core.specs.World.{project_key, student_key};
 ghost use Rattle.portal_core.specs.Good.{IsChoice, IsRanking};
-ghost use Rattle.portal_list.specs.inner.Parts.{PhaseFits, HasNothingEarlier, IsOutIfPlaced, RoundFits, HasChoices, applicant_keys, HasRanking, ListsFit};
+ghost use Rattle.portal_list.specs.inner.Parts.{PhaseFits, HasNothingEarlier, IsOutIfPlaced};
+ghost use Rattle.portal_list.specs.inner.Parts.{RoundFits, HasChoices, applicant_keys, HasRanking};
+ghost use Rattle.portal_list.specs.inner.Parts.{ListsFit};
 
 use crate::applicant_index::ApplicantIndex;
 use crate::distinct::keys_are_distinct;
@@ -96,7 +98,8 @@ fn have_no_earlier_rankings(lecturers: &[LecturerEntry]) -> bool
     true
 }
 
-/// Whether who has a project of the first round has made no list of the second, and has no place of it.
+/// Whether who has a project of the first round has made no list of the second, and has no place of
+/// it.
 fn is_out_if_placed(student: &StudentEntry) -> bool
     ensures { IsTrue result ↔ IsOutIfPlaced student.now }
 {
@@ -219,8 +222,8 @@ fn is_ranking(alloc: Global, applicants: &[&Key], ranking: &[Key]) -> Result<boo
     keys_are_distinct(alloc, ranking)
 }
 
-/// Whether the ranking, if there is one, is one of the applicants; where it is asked for, it has to be
-/// there if there are any.
+/// Whether the ranking, if there is one, is one of the applicants; where it is asked for, it has to
+/// be there if there are any.
 fn is_ranked(
     alloc: Global,
     asked: bool,
@@ -238,7 +241,8 @@ fn is_ranked(
     }
 }
 
-/// Whether the lecturer's ranking is one of the applicants, who are looked for only where that matters.
+/// Whether the lecturer's ranking is one of the applicants, who are looked for only where that
+/// matters.
 fn ranking_fits(
     alloc: Global,
     asked: bool,

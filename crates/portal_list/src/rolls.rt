@@ -4,7 +4,8 @@ ghost use Rattle.std.specs.Prelude.{◌≡◌, ◌↔◌, IfOk, IsTrue, true, ma
 ghost use Rattle.std.specs.List.{AllByRecursion};
 ghost use Rattle.portal_core.specs.Words.{has, Rise, AreDistinct};
 ghost use Rattle.portal_core.specs.Good.{IsLecturer, IsProject, IsStudent};
-ghost use Rattle.portal_list.specs.inner.Parts.{codes_in, lecturer_row_keys, KeysRise, AreFew, RollsFit};
+ghost use Rattle.portal_list.specs.inner.Parts.{codes_in, lecturer_row_keys, KeysRise, AreFew};
+ghost use Rattle.portal_list.specs.inner.Parts.{RollsFit};
 
 use crate::distinct::are_distinct;
 use crate::keyed::{is_known, keys_rise};

@@ -27,7 +27,8 @@ pub(crate) fn lecturer_with<'a>(
     lecturers: &'a [LecturerEntry],
     code: &[u8],
 ) -> Option<&'a LecturerEntry>
-    ensures { option_map (λ l. l.now) result ≡ find (λ l. equals l.row.code code.now) lecturers.now }
+    ensures { option_map (λ l. l.now) result ≡ find
+        (λ l. equals l.row.code code.now) lecturers.now }
 {
     for lecturer in lecturers {
         if lecturer.row.code.as_bytes() == code {

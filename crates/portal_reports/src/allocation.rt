@@ -57,8 +57,8 @@ fn put_projects(text: &mut Vec<u8>, alloc: Global, view: &OfficeView) -> Result<
     Ok(())
 }
 
-/// The result: a line for each student by key, a line for each project by key, and how many students
-/// have a project. An error is want of memory.
+/// The result: a line for each student by key, a line for each project by key, and how many
+/// students have a project. An error is want of memory.
 pub fn allocation_text(alloc: Global, view: &OfficeView) -> Result<Vec<u8>, AllocError>
     ensures { IfOk result (λ text. text.items ≡ sheet.report_text view.now) }
 {

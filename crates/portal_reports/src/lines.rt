@@ -1,6 +1,7 @@
 //! The lines of the office's texts.
 
-ghost use Rattle.std.specs.Prelude.{◌≡◌, ◌++◌, IfOk, IsTrue, Some, None, codes, decimal, string_bytes};
+ghost use Rattle.std.specs.Prelude.{◌≡◌, ◌++◌, IfOk, IsTrue, Some, None, codes, decimal};
+ghost use Rattle.std.specs.Prelude.{string_bytes};
 ghost use Rattle.portal_core.specs.Sheets as sheet;
 ghost use Rattle.portal_reports.specs.Status as spec;
 

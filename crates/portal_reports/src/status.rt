@@ -64,8 +64,9 @@ fn put_assigned(text: &mut Vec<u8>, alloc: Global, view: &OfficeView) -> Result<
     }
 }
 
-/// The state of the round: the phase, in the second round its number, the sizes of the rolls, how many lists
-/// and rankings are missing, and, once a result is there, how many students have a project. An error is want of memory.
+/// The state of the round: the phase, in the second round its number, the sizes of the rolls, how
+/// many lists and rankings are missing, and, once a result is there, how many students have a
+/// project. An error is want of memory.
 pub fn status_text(alloc: Global, view: &OfficeView) -> Result<Vec<u8>, AllocError>
     ensures { IfOk result (λ text. text.items ≡ spec.status_text view.now) }
 {

@@ -26,7 +26,8 @@ fn put_student(
     student: &StudentRow,
 ) -> Result<(), AllocError>
     ensures { OnOk result ((text : List ℕ) → HasWritten writer.old text
-        → HasWritten writer.new (text ++ sheet.csv_record (sheet.student_fields placings.now student.now))) }
+        → HasWritten writer.new (text ++ sheet.csv_record
+        (sheet.student_fields placings.now student.now))) }
 {
     let key = student.key.as_bytes();
     let name = student.name.as_bytes();
@@ -58,7 +59,8 @@ fn text_of(writer: Writer<Vec<u8>>) -> Result<Vec<u8>, AllocError>
     }
 }
 
-/// The result as CSV: a header, and a record for each student by key. An error is want of memory alone.
+/// The result as CSV: a header, and a record for each student by key. An error is want of memory
+/// alone.
 pub fn write_allocation(alloc: Global, view: &OfficeView) -> Result<Vec<u8>, AllocError>
     ensures { IfOk result (λ text. text.items ≡ sheet.csv_text view.now) }
 {

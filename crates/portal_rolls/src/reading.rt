@@ -13,7 +13,8 @@ use crate::record::take_record;
 use csv::{ByteRecord, Reader, ReaderBuilder};
 use std::alloc::Global;
 
-/// A kind of file: the names of its columns, how many records may stand under them, and what a record says.
+/// A kind of file: the names of its columns, how many records may stand under them, and what a
+/// record says.
 pub(crate) trait Kind {
     /// What one record says.
     type Line: Drop;

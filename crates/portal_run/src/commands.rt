@@ -1,6 +1,7 @@
 //! The commands.
 
-ghost use Rattle.std.specs.Prelude.{◌≡◌, ◌*◌, ◌<◌, ◌≤◌, ◌⊎◌, ◌∷◌, [], codes, drop, map, None, IfSome, IfOk, IsErr, IsTrue};
+ghost use Rattle.std.specs.Prelude.{◌≡◌, ◌*◌, ◌<◌, ◌≤◌, ◌⊎◌, ◌∷◌, [], codes, drop, map, None};
+ghost use Rattle.std.specs.Prelude.{IfSome, IfOk, IsErr, IsTrue};
 ghost use Rattle.clap.specs.Words.{Text};
 ghost use Rattle.portal_words.specs.Line.{is_file_word};
 ghost use Rattle.portal_run.specs.Run.{WritesAnswer, AnswersSome, IsOfFile, IsUpgrade, task_of};
@@ -51,7 +52,8 @@ fn answer_opened<F: Read + Drop, W: Write>(
 ) -> u8
     ensures bound { result ≤ 3 }
     ensures answers { IfOk opened (λ f. result < 3
-        → WritesAnswer task (F.remaining f) result (W.contents writer.old) (W.contents writer.new)) }
+        → WritesAnswer task (F.remaining f) result (W.contents writer.old)
+        (W.contents writer.new)) }
     ensures some { result < 3 → AnswersSome task result (W.contents writer.old)
         (W.contents writer.new) }
     ensures closed { IsErr opened → result ≡ 3 }
@@ -84,9 +86,10 @@ fn answer_file<R: Read, W: Write>(
     }
 }
 
-/// Does a command, and gives the exit status. What `check` and `solve` write of a file that is named is the answer, by that
-/// command's own task, to what the opened file gave; 3 where it could not be read or written. `upgrade` says in one line, with its
-/// own status, that it is done or why it is not.
+/// Does a command, and gives the exit status. What `check` and `solve` write of a file that is
+/// named is the answer, by that command's own task, to what the opened file gave; 3 where it could
+/// not be read or written. `upgrade` says in one line, with its own status, that it is done or why
+/// it is not.
 #[tactic(auto, using(crate::proofs::Taken::few_taken, crate::proofs::Taken::same_left))]
 pub fn perform<R: Read, W: Write>(
     rt: &HostRuntime,
@@ -125,9 +128,10 @@ pub fn perform<R: Read, W: Write>(
     }
 }
 
-/// Does what the words ask for, and gives the exit status. At most 272,629,760 bytes are taken from a reader that tells its
-/// bytes, and for a command on instance files at most 4,194,305. What `check FILE` and `solve FILE` write, where no `-` stands in
-/// front of the name, is an answer by that command's own task; 3 where the file could not be read or the answer not written.
+/// Does what the words ask for, and gives the exit status. At most 272,629,760 bytes are taken from
+/// a reader that tells its bytes, and for a command on instance files at most 4,194,305. What
+/// `check FILE` and `solve FILE` write, where no `-` stands in front of the name, is an answer by
+/// that command's own task; 3 where the file could not be read or the answer not written.
 #[tactic(auto, using(crate::proofs::Taken::same_left))]
 pub fn run<S: AsStr, R: Read, W: Write>(
     rt: &HostRuntime,
@@ -149,11 +153,13 @@ pub fn run<S: AsStr, R: Read, W: Write>(
     ensures check_file { (file : Text)
         → drop 1 (map S.text words.entry.now) ≡ codes "check" ∷ file ∷ []
         → IsTrue (is_file_word file)
-        → result < 3 → AnswersSome Task.Check result (W.contents writer.old) (W.contents writer.new) }
+        → result < 3 → AnswersSome Task.Check result (W.contents writer.old)
+        (W.contents writer.new) }
     ensures solve_file { (file : Text)
         → drop 1 (map S.text words.entry.now) ≡ codes "solve" ∷ file ∷ []
         → IsTrue (is_file_word file)
-        → result < 3 → AnswersSome Task.Solve result (W.contents writer.old) (W.contents writer.new) }
+        → result < 3 → AnswersSome Task.Solve result (W.contents writer.old)
+        (W.contents writer.new) }
 {
     match command_of(rt.alloc(), words) {
         Ok(Asked::Do(command)) => perform(rt, command, reader, writer),

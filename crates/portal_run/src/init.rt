@@ -76,8 +76,8 @@ fn create(rt: &HostRuntime, path: &str, office: Code) -> Result<(), Refusal> {
     }
 }
 
-/// Makes the database of a file, whose office has the code of the first line of the input. A text that is no code is
-/// told before the file is looked at.
+/// Makes the database of a file, whose office has the code of the first line of the input. A text
+/// that is no code is told before the file is looked at.
 pub(crate) fn init<R: Read, W: Write>(
     rt: &HostRuntime,
     path: &str,

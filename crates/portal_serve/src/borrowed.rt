@@ -5,8 +5,9 @@ ghost use Rattle.std.specs.Prelude.{◌≡◌};
 use portal_desk::{Failed, Sink, Source, read_again, write_again};
 use std::io::{Read, Write};
 
-/// A reader or a writer of somebody else, with a count of the calls that failed: it passes on what the reader or writer
-/// answers, and only an error of it, or a write that takes none of some bytes, is `Failed`.
+/// A reader or a writer of somebody else, with a count of the calls that failed: it passes on what
+/// the reader or writer answers, and only an error of it, or a write that takes none of some bytes,
+/// is `Failed`.
 #[derive(Drop)]
 pub(crate) struct Borrowed<'a, T> {
     device: &'a mut T,

@@ -19,7 +19,8 @@ const LONGEST: u64 = 300;
 /// How many seconds a client may be silent that still sends when its connection is at its end.
 const PARTING: u64 = 5;
 
-/// The most bytes that are dropped when a connection is at its end: the longest head and the longest body.
+/// The most bytes that are dropped when a connection is at its end: the longest head and the
+/// longest body.
 const DROPPED: usize = 1_064_960;
 
 /// The most bytes of one read that drops them.
@@ -65,8 +66,8 @@ impl<'a, T: Clock, S: TimedStream> Connection<'a, T, S> {
         }
     }
 
-    /// How long the next read may wait: while the request, and the connection, have time left, and no longer than a
-    /// connection may be silent.
+    /// How long the next read may wait: while the request, and the connection, have time left, and
+    /// no longer than a connection may be silent.
     fn patience(&self) -> io::Result<Duration> {
         if self.began.get().is_none() {
             self.began.set(Some(Instant::now(self.clock)?));
@@ -76,8 +77,9 @@ impl<'a, T: Clock, S: TimedStream> Connection<'a, T, S> {
         Ok(whole.min(longest).min(Duration::from_secs(SILENCE)))
     }
 
-    /// Notes that bytes of a request came. Where a reply was written since the last read, the request's first bytes may have
-    /// come with the one before it: its time then began with that reply.
+    /// Notes that bytes of a request came. Where a reply was written since the last read, the
+    /// request's first bytes may have come with the one before it: its time then began with that
+    /// reply.
     fn note_asked(&self) -> io::Result<()> {
         let replied = self.told.get();
         self.told.set(None);
@@ -106,9 +108,10 @@ impl<'a, T: Clock, S: TimedStream> Connection<'a, T, S> {
         Ok(whole.min(longest).min(Duration::from_secs(PARTING)))
     }
 
-    /// Ends the connection so that what was written reaches the client: a connection that is closed with bytes unread is
-    /// reset, and a reply may be lost. So nothing more is sent, and what still comes is dropped: within the connection's time,
-    /// for 60 seconds and 1,064,960 bytes at most, and until the client is silent for 5 seconds.
+    /// Ends the connection so that what was written reaches the client: a connection that is closed
+    /// with bytes unread is reset, and a reply may be lost. So nothing more is sent, and what still
+    /// comes is dropped: within the connection's time, for 60 seconds and 1,064,960 bytes at most,
+    /// and until the client is silent for 5 seconds.
     pub(crate) fn end(&self) -> io::Result<()> {
         self.stream.end_writing()?;
         let mut reader = PartingReader {

@@ -1,6 +1,7 @@
 //! Serves connections, one after another.
 
-ghost use Rattle.std.specs.Prelude.{◌≡◌, ◌≢◌, ◌+◌, ◌-◌, ◌^◌, ◌<◌, ◌≤◌, true, if◌then◌else◌, List, Option, None, IfSome};
+ghost use Rattle.std.specs.Prelude.{◌≡◌, ◌≢◌, ◌+◌, ◌-◌, ◌^◌, ◌<◌, ◌≤◌, true, if◌then◌else◌, List};
+ghost use Rattle.std.specs.Prelude.{Option, None, IfSome};
 ghost use Rattle.std.specs.Option.{option_to_list};
 ghost use Rattle.portal_desk.specs.Outcome.{FailsByCount};
 ghost use Rattle.portal_serve.specs.Ends.{is_own_fault};
@@ -61,7 +62,8 @@ pub trait Connections {
         ensures over { result ≡ None → over self.new };
 }
 
-/// Whether a connection ended by a fault of its own: the reader's, the writer's or want of memory, and not the store's.
+/// Whether a connection ended by a fault of its own: the reader's, the writer's or want of memory,
+/// and not the store's.
 pub(crate) fn is_fault(ended: &Result<Served, ServeFault>) -> bool
     ensures { result ≡ is_own_fault ended.now }
 {

@@ -1,4 +1,5 @@
-//! Serves connections over any keeper: those of a socket, one after another, or the one of a reader and a writer.
+//! Serves connections over any keeper: those of a socket, one after another, or the one of a reader
+//! and a writer.
 #![tactic(auto)]
 
 mod borrowed;

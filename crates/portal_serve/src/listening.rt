@@ -14,9 +14,10 @@ use portal_desk::{Counted, Desk, ServeFault, Served};
 use std::net::TcpListener;
 use std::time::Clock;
 
-/// Serves one connection. Where it is silent for 30 seconds, where a request is not whole 60 seconds after its first byte
-/// (or after the reply before it began to be written, since that byte may have come with the request before), where a
-/// reply is not taken in 60 seconds, or where more is asked for 300 seconds after it began, it ends by a fault.
+/// Serves one connection. Where it is silent for 30 seconds, where a request is not whole 60
+/// seconds after its first byte (or after the reply before it began to be written, since that byte
+/// may have come with the request before), where a reply is not taken in 60 seconds, or where more
+/// is asked for 300 seconds after it began, it ends by a fault.
 ///
 /// # Errors
 ///
@@ -69,8 +70,8 @@ impl<'a, T: Clock + AllocGlobal> Connections for Listening<'a, T> {
     }
 }
 
-/// Serves connections of a listener, one after another: so many, or until the desk fails or the listener does. Each has the
-/// time that `serve_stream` tells.
+/// Serves connections of a listener, one after another: so many, or until the desk fails or the
+/// listener does. Each has the time that `serve_stream` tells.
 pub fn serve_on<T: Clock + AllocGlobal, K: Keeper>(
     rt: &T,
     listener: &TcpListener,

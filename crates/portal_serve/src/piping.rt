@@ -4,7 +4,8 @@ ghost use Rattle.std.specs.Prelude.{◌≡◌, ◌*◌, true, IfOk, OnOk, IfErr,
 ghost use Rattle.portal_desk.specs.Serving.{ServesWhole, Stops, AtFirst};
 ghost use Rattle.portal_desk.specs.Keeping.{state_of};
 ghost use Rattle.portal_desk.specs.Outcome.{FailsByCount};
-ghost use Rattle.portal_desk.specs.declared.served.Cause.TheVariants.{Read as ReadFailed, Store as StoreFailed};
+ghost use Rattle.portal_desk.specs.declared.served.Cause.TheVariants.{Read as ReadFailed};
+ghost use Rattle.portal_desk.specs.declared.served.Cause.TheVariants.{Store as StoreFailed};
 ghost use Rattle.portal_desk.specs.Devices.{TakesAtMost};
 ghost use Rattle.portal_wire.specs.Conversation.{last};
 

@@ -26,8 +26,8 @@ use portal_tables::{TableFault, commit};
 use sqlite::{Alter, Connection};
 use std::alloc::Global;
 
-/// Takes the step of the change in a round and commits it, or leaves all as it was; the entries stay those of the world before. `Damaged`
-/// where rows that are read are those of no good world.
+/// Takes the step of the change in a round and commits it, or leaves all as it was; the entries
+/// stay those of the world before. `Damaged` where rows that are read are those of no good world.
 fn take_in<S: Alter>(
     alloc: Global,
     conn: &mut Connection<S>,
@@ -38,7 +38,8 @@ fn take_in<S: Alter>(
     requires idle { conn.old.in_transaction ≡ false }
     ensures idle { conn.new.in_transaction ≡ false }
     ensures ends { is_opening (change_model change.now) ≡ false
-        → CommitsChange (IsTransitionIn round (change_model change.now)) result (state S.Store conn.old)
+        → CommitsChange (IsTransitionIn round (change_model change.now)) result
+        (state S.Store conn.old)
         (state S.Store conn.new) }
     ensures opens { change_model change.now ≡ SecondRound
         → CommitsChange (IsTransitionFrom round SecondRound) result (state S.Store conn.old)
@@ -69,8 +70,8 @@ fn take_in<S: Alter>(
     }
 }
 
-/// Takes the step of the change and commits it, or leaves all as it was; the entries stay those of the world before. `Damaged` where
-/// rows that are read are those of no good world.
+/// Takes the step of the change and commits it, or leaves all as it was; the entries stay those of
+/// the world before. `Damaged` where rows that are read are those of no good world.
 fn take<S: Alter>(
     alloc: Global,
     conn: &mut Connection<S>,
@@ -89,8 +90,9 @@ fn take<S: Alter>(
     take_in(alloc, conn, entries, round, change)
 }
 
-/// Makes the change and commits it, or leaves all as it was; the entries stay those of the world before. A fault of the
-/// store is counted, and so are rows that are read and are those of no good world.
+/// Makes the change and commits it, or leaves all as it was; the entries stay those of the world
+/// before. A fault of the store is counted, and so are rows that are read and are those of no good
+/// world.
 pub(crate) fn make<S: Alter>(
     alloc: Global,
     conn: &mut Connection<S>,

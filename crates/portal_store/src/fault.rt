@@ -1,4 +1,5 @@
-//! What an error of the connection, of the tables or of their rows means to who makes or opens a store.
+//! What an error of the connection, of the tables or of their rows means to who makes or opens a
+//! store.
 
 ghost use Rattle.std.specs.Prelude.{◌≡◌, ◌≢◌, ◌↔◌, ◌+◌, ◌-◌, ◌^◌};
 ghost use Rattle.sqlite.specs.Tree.{Trees};
@@ -50,8 +51,8 @@ pub(crate) fn open_fault_of(error: Error) -> OpenFault
     }
 }
 
-/// What it means that a table cannot be queried: a fault of the device is one of the store, and all else says that the table
-/// is not there as the portal has it.
+/// What it means that a table cannot be queried: a fault of the device is one of the store, and all
+/// else says that the table is not there as the portal has it.
 pub(crate) fn table_fault_of(error: Error) -> OpenFault
     ensures damaged { result ≢ OpenFault.Damaged }
     ensures version { result ≢ OpenFault.OtherVersion }
@@ -119,8 +120,8 @@ pub(crate) fn upgrading_fault_of(fault: TableFault) -> UpgradeFault
     }
 }
 
-/// What the keeper says of a fault, which is counted where it is one of the store. Once the count is at its top, which no run
-/// comes to, `Memory` is said of any.
+/// What the keeper says of a fault, which is counted where it is one of the store. Once the count
+/// is at its top, which no run comes to, `Memory` is said of any.
 pub(crate) fn told(faults: &mut u64, fault: TableFault) -> KeepFault
     ensures memory { result ≡ KeepFault.Memory → faults.new ≡ faults.old }
     ensures store { result ≡ KeepFault.Store → faults.new ≡ faults.old + 1 }

@@ -43,8 +43,9 @@ impl Step for PutRankings<'_> {
     }
 }
 
-/// Gives each lecturer still to rank the applicants, in the order of their keys; the entries that are read for it stay at hand.
-/// `Damaged` where the rows that are read are those of no sound world.
+/// Gives each lecturer still to rank the applicants, in the order of their keys; the entries that
+/// are read for it stay at hand. `Damaged` where the rows that are read are those of no sound
+/// world.
 pub(crate) fn fill_rankings<S: Alter>(
     alloc: Global,
     conn: &mut Connection<S>,

@@ -23,8 +23,8 @@ fn after(alloc: Global, mut entries: Entries, change: &Change) -> Option<Entries
     }
 }
 
-/// After a change that was made the entries of the changed world, or none: where memory is short, and of rolls and the result, which no
-/// entries follow. Otherwise what was remembered stays.
+/// After a change that was made the entries of the changed world, or none: where memory is short,
+/// and of rolls and the result, which no entries follow. Otherwise what was remembered stays.
 pub(crate) fn follow(
     alloc: Global,
     entries: &mut Option<Entries>,

@@ -21,7 +21,8 @@ use spa_model::Instance;
 use sqlite::{Alter, Connection};
 use std::alloc::Global;
 
-/// The instance of these entries, which are not judged. Where they have none, that is a fault of the store, and counted.
+/// The instance of these entries, which are not judged. Where they have none, that is a fault of
+/// the store, and counted.
 pub(crate) fn instance_of(
     alloc: Global,
     entries: &Entries,
@@ -37,8 +38,8 @@ pub(crate) fn instance_of(
     }
 }
 
-/// The instance of the rolls, the lists and the rankings, as they stand in the tables: no list is judged. A fault of the store is
-/// counted.
+/// The instance of the rolls, the lists and the rankings, as they stand in the tables: no list is
+/// judged. A fault of the store is counted.
 pub(crate) fn instance_in<S: Alter>(
     alloc: Global,
     conn: &mut Connection<S>,

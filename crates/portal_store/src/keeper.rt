@@ -12,7 +12,8 @@ ghost use Rattle.portal_core.specs.View as seen;
 ghost use Rattle.portal_core.specs.Instance as meant_by;
 ghost use Rattle.portal_tables.specs.Schema.{IsCurrentSchema};
 ghost use Rattle.portal_tables.specs.Steps.{Commits, IsAfter, LeavesOnly};
-ghost use Rattle.portal_store.specs.Kept.{HasDisk, IsCleanStore, KeepsClean, Lasts, kept_world, IsTransition};
+ghost use Rattle.portal_store.specs.Kept.{HasDisk, IsCleanStore, KeepsClean, Lasts, kept_world};
+ghost use Rattle.portal_store.specs.Kept.{IsTransition};
 ghost use Rattle.portal_store.specs.Crash.{IsLeft};
 
 use crate::change::make;
@@ -39,7 +40,8 @@ impl<S: Alter> Store<S> {
         Err(TableFault::Store)
     }
 
-    /// The code of the office. `Store` comes for an error of the connection, and where there is no row of the office.
+    /// The code of the office. `Store` comes for an error of the connection, and where there is no
+    /// row of the office.
     pub fn office_code(&mut self, alloc: Global) -> Result<Code, KeepFault>
         ensures clean { IsCleanStore S.Store self.new → IsCleanStore S.Store self.old }
         ensures code { IsCleanStore S.Store self.new
@@ -92,7 +94,8 @@ impl<S: Alter> Keeper for Store<S> {
         )
     }
 
-    /// The instance of the world of the tables: of the entries that are remembered, or of what is read.
+    /// The instance of the world of the tables: of the entries that are remembered, or of what is
+    /// read.
     fn instance(&mut self, alloc: Global) -> Result<Instance, KeepFault>
         requires good { IsCleanStore S.Store self.old → Good (kept_world S.Store self.old) }
         ensures clean { IsCleanStore S.Store self.new → IsCleanStore S.Store self.old }
@@ -114,8 +117,9 @@ impl<S: Alter> Keeper for Store<S> {
         }
     }
 
-    /// Makes one change of a good world, which has to leave a good world, in one transaction. After Ok the change is on the
-    /// disk. `Memory` and `Store` leave all as it was, where the store is clean; a crash leaves the tables before or after.
+    /// Makes one change of a good world, which has to leave a good world, in one transaction. After
+    /// Ok the change is on the disk. `Memory` and `Store` leave all as it was, where the store is
+    /// clean; a crash leaves the tables before or after.
     fn apply(&mut self, alloc: Global, change: &Change) -> Result<(), KeepFault>
         requires good { IsCleanStore S.Store self.old → Good (kept_world S.Store self.old) }
         requires leaves_good { IsCleanStore S.Store self.old
@@ -131,7 +135,8 @@ impl<S: Alter> Keeper for Store<S> {
         ensures lasts { OnOk result (KeepsClean S.Store self.old self.new) }
         ensures counts { CountsFaults result self.old.faults self.new.faults }
         ensures commits { IsTrue self.old.own → HasCleanDisk (state S.Store self.new.conn)
-            → OnOk result (Commits (IsTransition (change_model change.now)) (state S.Store self.old.conn)
+            → OnOk result (Commits (IsTransition (change_model change.now))
+            (state S.Store self.old.conn)
             (state S.Store self.new.conn)) }
         ensures durable { IsTrue self.old.own → HasCleanDisk (state S.Store self.new.conn)
             → OnOk result (LeavesOnly (state S.Store self.new.conn)) }

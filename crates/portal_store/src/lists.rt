@@ -37,7 +37,8 @@ fn rankings_of(round: Round) -> Lists
     }
 }
 
-/// The student's list becomes these projects, best first. A list that is longer than any may be is refused as too big.
+/// The student's list becomes these projects, best first. A list that is longer than any may be is
+/// refused as too big.
 pub(crate) struct PutChoices<'a> {
     pub round: Round,
     pub student: &'a Key,
@@ -57,8 +58,9 @@ impl Step for PutChoices<'_> {
     }
 }
 
-/// The ranking of a lecturer who is on the roll becomes these students, best first, and a row says that it is there: of the first round the
-/// lecturer's own, of the second one of `ranked2`. As `PutChoices` otherwise.
+/// The ranking of a lecturer who is on the roll becomes these students, best first, and a row says
+/// that it is there: of the first round the lecturer's own, of the second one of `ranked2`. As
+/// `PutChoices` otherwise.
 pub(crate) struct PutRanking<'a> {
     pub round: Round,
     pub lecturer: &'a Key,

@@ -114,8 +114,8 @@ pub(crate) fn load<S: Alter>(
     }
 }
 
-/// The entries of the world that the tables stand for. No list is judged: where the world is not sound, `Damaged` or entries may come
-/// that mean nothing.
+/// The entries of the world that the tables stand for. No list is judged: where the world is not
+/// sound, `Damaged` or entries may come that mean nothing.
 pub(crate) fn load_entries<S: Alter>(
     alloc: Global,
     conn: &mut Connection<S>,

@@ -13,10 +13,12 @@ ghost use Rattle.portal_tables.specs.Reading.{RunsQueryIn};
 ghost use Rattle.portal_tables.specs.inner.Reading.{RunsQuery, OverSound};
 ghost use Rattle.portal_tables.specs.Steps.{Stays};
 ghost use Rattle.portal_list.specs.Entries.{HasEntries};
-ghost use Rattle.portal_store.specs.Kept.{AllNumbersDiffer, AreEmpty, HasSecond, HasGoodWorld, HasGoodWorldIn, IsCleanStore, kept_world, later_trees};
+ghost use Rattle.portal_store.specs.Kept.{AllNumbersDiffer, AreEmpty, HasSecond, HasGoodWorld};
+ghost use Rattle.portal_store.specs.Kept.{HasGoodWorldIn, IsCleanStore, kept_world, later_trees};
 ghost use Rattle.portal_store.specs.World.{phase_in, round_in, world_of};
 ghost use Rattle.portal_store.specs.Asked.{Refutes};
-ghost use Rattle.portal_store.specs.inner.Asked.{NumbersDiffer, Denies, IsJudged, SaysNothing, Admits};
+ghost use Rattle.portal_store.specs.inner.Asked.{NumbersDiffer, Denies, IsJudged, SaysNothing};
+ghost use Rattle.portal_store.specs.inner.Asked.{Admits};
 ghost use Rattle.portal_store.specs.Reading.{shown};
 ghost use Rattle.portal_store.specs.inner.Reading.{ReadsAll, OverLive, queried_rows};
 
@@ -33,7 +35,8 @@ use portal_tables::{PortalSchema, VERSION, row_numbers_differ, second_in};
 use sqlite::{Alter, Connection};
 use std::alloc::Global;
 
-/// Whether each of the second round's tables can be queried. Those that are the portal's own can, and are not asked.
+/// Whether each of the second round's tables can be queried. Those that are the portal's own can,
+/// and are not asked.
 fn see_second_tables<S: Alter>(conn: &mut Connection<S>, own: bool) -> Result<(), OpenFault>
     requires idle { conn.old.in_transaction ≡ false }
     ensures idle { conn.new.in_transaction ≡ false }
@@ -106,7 +109,8 @@ fn see_published<S: Alter>(alloc: Global, conn: &mut Connection<S>) -> Result<()
     }
 }
 
-/// Whether what `second` tells is so: of no second round nothing is there, and the first is published before it.
+/// Whether what `second` tells is so: of no second round nothing is there, and the first is
+/// published before it.
 fn see_second<S: Alter>(alloc: Global, conn: &mut Connection<S>) -> Result<(), OpenFault>
     requires idle { conn.old.in_transaction ≡ false }
     ensures idle { conn.new.in_transaction ≡ false }
@@ -177,7 +181,8 @@ fn see_world<S: Alter>(alloc: Global, conn: &mut Connection<S>) -> Result<Entrie
     }
 }
 
-/// What is tested of the tables of both rounds, in this order: the numbers of rows, what `second` tells, and the world, whose entries come.
+/// What is tested of the tables of both rounds, in this order: the numbers of rows, what `second`
+/// tells, and the world, whose entries come.
 fn judge_both<S: Alter>(alloc: Global, conn: &mut Connection<S>) -> Result<Entries, OpenFault>
     requires idle { conn.old.in_transaction ≡ false }
     ensures idle { conn.new.in_transaction ≡ false }
@@ -194,8 +199,9 @@ fn judge_both<S: Alter>(alloc: Global, conn: &mut Connection<S>) -> Result<Entri
     see_world(alloc, conn)
 }
 
-/// What is tested of the tables, in this order: whether those of the first round can be queried and are of the version, whether those of
-/// the second can be, and what they show. `own` says that they are the portal's own. The entries of their world come.
+/// What is tested of the tables, in this order: whether those of the first round can be queried and
+/// are of the version, whether those of the second can be, and what they show. `own` says that they
+/// are the portal's own. The entries of their world come.
 fn examine<S: Alter>(
     alloc: Global,
     conn: &mut Connection<S>,
@@ -218,15 +224,18 @@ fn examine<S: Alter>(
 }
 
 impl<S: Alter> Store<S> {
-    /// Opens the portal in a database that has its tables, where they stand for a good world. A refusal hands the connection
-    /// back: `NotPortal` where a table cannot be queried or `portal` has no row, `OtherVersion` where that row is of another
-    /// version than 2, `Damaged` where it is of version 2 and the rows stand for no good world, `Store` for an error of the
-    /// connection, and `Memory`. The first three tell of the tables, and never come from a fault of the device or want of
-    /// memory. The version is looked at before the tables of the second round.
+    /// Opens the portal in a database that has its tables, where they stand for a good world. A
+    /// refusal hands the connection back: `NotPortal` where a table cannot be queried or `portal`
+    /// has no row, `OtherVersion` where that row is of another version than 2, `Damaged` where it
+    /// is of version 2 and the rows stand for no good world, `Store` for an error of the
+    /// connection, and `Memory`. The first three tell of the tables, and never come from a fault of
+    /// the device or want of memory. The version is looked at before the tables of the second
+    /// round.
     pub fn open(alloc: Global, mut conn: Connection<S>) -> Result<Store<S>, NotOpened<OpenFault, S>>
         requires idle { conn.in_transaction ≡ false }
         ensures own { IfOk result (λ s. IsTrue s.own ↔ IsCurrentSchema conn.schema) }
-        ensures same { IfOk result (λ s. IsCurrentSchema conn.schema → HasCleanDisk (state S.Store s.conn)
+        ensures same { IfOk result (λ s. IsCurrentSchema conn.schema
+            → HasCleanDisk (state S.Store s.conn)
             → IsUnchanged (state S.Store conn) (state S.Store s.conn)) }
         ensures stands { IfOk result (λ s. IsCurrentSchema conn.schema
             → HasCleanDisk (state S.Store s.conn)

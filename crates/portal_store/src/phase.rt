@@ -34,8 +34,8 @@ impl Step for SetPhase {
     }
 }
 
-/// Moves the portal to this phase. Where no entries are at hand they are read first, so that a publication finds them. `Damaged` where the
-/// rows that are read are those of no sound world.
+/// Moves the portal to this phase. Where no entries are at hand they are read first, so that a
+/// publication finds them. `Damaged` where the rows that are read are those of no sound world.
 pub(crate) fn set_phase<S: Alter>(
     alloc: Global,
     conn: &mut Connection<S>,

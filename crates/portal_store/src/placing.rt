@@ -49,7 +49,8 @@ fn assignments<'a>(
     Ok(all)
 }
 
-/// The result of the first round is made public, where the rows are the roll of students: their places, and then the phase.
+/// The result of the first round is made public, where the rows are the roll of students: their
+/// places, and then the phase.
 struct PutResult<'a> {
     rows: &'a [Row],
     pairs: &'a [(Key, Key)],
@@ -77,7 +78,8 @@ fn is_left(row: &Row) -> bool
     }
 }
 
-/// What the pairs say of the student of whom the row is shown, who has no project of the first round.
+/// What the pairs say of the student of whom the row is shown, who has no project of the first
+/// round.
 fn pair_left(alloc: Global, row: &Row, pairs: &Pairs<'_>) -> Result<Option<(Key, Key)>, TableFault>
     ensures { IfOk result (λ o. o ≡ pair_left pairs.now row.now) }
 {
@@ -108,7 +110,8 @@ fn pairs_left(
     Ok(found)
 }
 
-/// The result of the second round is made public, of those who have no project of the first: their pairs, and then the phase.
+/// The result of the second round is made public, of those who have no project of the first: their
+/// pairs, and then the phase.
 struct PutSecond<'a> {
     left: &'a [(Key, Key)],
 }
@@ -123,8 +126,9 @@ impl Step for PutSecond<'_> {
     }
 }
 
-/// Gives each student who takes part in the round the project of the first pair with the student's key, or none where there is no such
-/// pair, and sets the phase to published, all in one transaction. After an error nothing is changed; after Ok a crash leaves the result.
+/// Gives each student who takes part in the round the project of the first pair with the student's
+/// key, or none where there is no such pair, and sets the phase to published, all in one
+/// transaction. After an error nothing is changed; after Ok a crash leaves the result.
 pub(crate) fn publish<S: Alter>(
     alloc: Global,
     conn: &mut Connection<S>,

@@ -147,7 +147,8 @@ fn sight<S: Alter>(
 ) -> Result<View, TableFault>
     requires idle { conn.old.in_transaction ≡ false }
     ensures idle { conn.new.in_transaction ≡ false }
-    ensures shows { IsConsistent (state S.Store conn.old).now → HasCleanDisk (state S.Store conn.new)
+    ensures shows { IsConsistent (state S.Store conn.old).now
+        → HasCleanDisk (state S.Store conn.new)
         → Good (world_of (shown S.Store conn.old))
         → IsCacheOf cache.old (world_of (shown S.Store conn.old))
         → IfOk result (λ view. view ≡ seen.view (world_of (shown S.Store conn.old)) code.now) }
@@ -162,7 +163,8 @@ fn sight<S: Alter>(
     person_sight(alloc, conn, round, cache, office.phase, code)
 }
 
-/// What the caller with the code sees, with what is remembered, or is from now on. A fault of the store is counted.
+/// What the caller with the code sees, with what is remembered, or is from now on. A fault of the
+/// store is counted.
 pub(crate) fn view_with<S: Alter>(
     alloc: Global,
     conn: &mut Connection<S>,
@@ -188,9 +190,10 @@ pub(crate) fn view_with<S: Alter>(
     }
 }
 
-/// What the caller with the code sees: a student or a lecturer by queries of what that role may see, the office by
-/// queries of the rolls and of who has a list, an applicant and a place. For the catalogue of a second round the students' keys and the
-/// projects that the first gave them are read, and nothing else of them.
+/// What the caller with the code sees: a student or a lecturer by queries of what that role may
+/// see, the office by queries of the rolls and of who has a list, an applicant and a place. For the
+/// catalogue of a second round the students' keys and the projects that the first gave them are
+/// read, and nothing else of them.
 ///
 /// # Errors
 ///

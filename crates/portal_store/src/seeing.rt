@@ -1,13 +1,16 @@
-//! Looks at tables before a store is opened over them: that each can be queried, the version, the numbers of rows, and the world.
+//! Looks at tables before a store is opened over them: that each can be queried, the version, the
+//! numbers of rows, and the world.
 
-ghost use Rattle.std.specs.Prelude.{◌≡◌, ◌≢◌, ◌↔◌, ◌⊎◌, false, true, [], ◌∷◌, pos, Ok, Err, List, IfOk, IfErr, OnOk, IsTrue};
+ghost use Rattle.std.specs.Prelude.{◌≡◌, ◌≢◌, ◌↔◌, ◌⊎◌, false, true, [], ◌∷◌, pos, Ok, Err, List};
+ghost use Rattle.std.specs.Prelude.{IfOk, IfErr, OnOk, IsTrue};
 ghost use Rattle.sqlite.specs.declared.types.Value.TheVariants.{Int};
 ghost use Rattle.sqlite.specs.Order.{Row as Cells, column};
 ghost use Rattle.sqlite.specs.State.{HasCleanDisk};
 ghost use Rattle.sqlite.specs.Held.{state};
 ghost use Rattle.portal_core.specs.Good.{Good, Sound};
 ghost use Rattle.portal_core.specs.declared.phase.Round.TheVariants.{First};
-ghost use Rattle.portal_tables.specs.Tables.{lecturer_tree, project_tree, student_tree, choice_tree, ranking_tree};
+ghost use Rattle.portal_tables.specs.Tables.{lecturer_tree, project_tree, student_tree};
+ghost use Rattle.portal_tables.specs.Tables.{choice_tree, ranking_tree};
 ghost use Rattle.portal_tables.specs.Schema.{HasFirstSchema};
 ghost use Rattle.portal_tables.specs.inner.Reading.{RunsQuery, OverSound};
 ghost use Rattle.portal_list.specs.Entries.{HasEntries};
@@ -41,7 +44,8 @@ pub(crate) fn seen(answer: Result<Vec<Row>, Error>) -> Result<(), OpenFault>
     }
 }
 
-/// Whether each of the first round's tables can be queried. Those that are the portal's own can, and are not asked.
+/// Whether each of the first round's tables can be queried. Those that are the portal's own can,
+/// and are not asked.
 fn see_tables<S: Alter>(conn: &mut Connection<S>, own: bool) -> Result<(), OpenFault>
     requires idle { conn.old.in_transaction ≡ false }
     ensures idle { conn.new.in_transaction ≡ false }
@@ -109,7 +113,8 @@ fn see_office<S: Alter>(conn: &mut Connection<S>, version: u32) -> Result<(), Op
     }
 }
 
-/// Whether the first round's tables can be queried, and are of this version; `own` says that they are the portal's own.
+/// Whether the first round's tables can be queried, and are of this version; `own` says that they
+/// are the portal's own.
 pub(crate) fn see_first<S: Alter>(
     conn: &mut Connection<S>,
     own: bool,
@@ -118,16 +123,19 @@ pub(crate) fn see_first<S: Alter>(
     requires idle { conn.old.in_transaction ≡ false }
     ensures idle { conn.new.in_transaction ≡ false }
     ensures asks { IsTrue own → RunsQuery result (state S.Store conn.old) (state S.Store conn.new) }
-    ensures refused { IsTrue own → HasFirstSchema conn.old.schema → HasCleanDisk (state S.Store conn.new)
+    ensures refused { IsTrue own → HasFirstSchema conn.old.schema
+        → HasCleanDisk (state S.Store conn.new)
         → IfErr result (λ fault. RefusalSays fault version (Unit {0}) (shown S.Store conn.old)) }
-    ensures version { IsTrue own → HasFirstSchema conn.old.schema → HasCleanDisk (state S.Store conn.new)
+    ensures version { IsTrue own → HasFirstSchema conn.old.schema
+        → HasCleanDisk (state S.Store conn.new)
         → OnOk result (HasVersion version (shown S.Store conn.old)) }
 {
     see_tables(conn, own)?;
     see_office(conn, version)
 }
 
-/// What the answer on the numbers of rows means: those of a sound store differ, so that all else is a fault of the store.
+/// What the answer on the numbers of rows means: those of a sound store differ, so that all else is
+/// a fault of the store.
 pub(crate) fn judge_numbers(answer: Result<bool, Error>) -> Result<(), OpenFault>
     ensures ok { OnOk result (answer ≡ Ok true) }
     ensures refused { IfErr result SaysNothing }
@@ -161,7 +169,8 @@ fn see_lists_numbers<S: Alter>(conn: &mut Connection<S>) -> Result<(), OpenFault
     ensures asks { RunsQuery result (state S.Store conn.old) (state S.Store conn.new) }
     ensures refused { IfErr result SaysNothing }
     ensures apart { HasFirstSchema conn.old.schema → HasCleanDisk (state S.Store conn.new)
-        → OnOk result (AllNumbersDiffer (choice_tree ∷ ranking_tree ∷ []) (shown S.Store conn.old)) }
+        → OnOk result (AllNumbersDiffer (choice_tree ∷ ranking_tree ∷ [])
+        (shown S.Store conn.old)) }
 {
     judge_numbers(row_numbers_differ(conn, Table::OfLists(Lists::Choices)))?;
     judge_numbers(row_numbers_differ(conn, Table::OfLists(Lists::Rankings)))
@@ -220,7 +229,8 @@ pub(crate) fn see_first_numbers<S: Alter>(conn: &mut Connection<S>) -> Result<()
     see_lists_numbers(conn)
 }
 
-/// What is tested of the first round's tables, of a version, in this order: the numbers of rows, and the world, whose entries come.
+/// What is tested of the first round's tables, of a version, in this order: the numbers of rows,
+/// and the world, whose entries come.
 pub(crate) fn judge_first<S: Alter>(
     alloc: Global,
     conn: &mut Connection<S>,

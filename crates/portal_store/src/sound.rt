@@ -19,7 +19,8 @@ use portal_tables::TableFault;
 use sqlite::{Alter, Connection};
 use std::alloc::Global;
 
-/// A keeper of the rows of the first round in tables of this version; it is sound, and may lack stability.
+/// A keeper of the rows of the first round in tables of this version; it is sound, and may lack
+/// stability.
 pub(crate) fn first_keeper<S: Alter>(
     alloc: Global,
     conn: &mut Connection<S>,

@@ -90,7 +90,8 @@ pub enum UpgradeFault {
 }
 
 impl<S: Alter> Store<S> {
-    /// The connection, as it is, in no transaction. The tables of a clean store are in it as the portal keeps them.
+    /// The connection, as it is, in no transaction. The tables of a clean store are in it as the
+    /// portal keeps them.
     pub fn into_connection(self) -> Connection<S>
         ensures same { result ≡ self.conn }
         ensures idle { result.in_transaction ≡ false }
@@ -107,8 +108,9 @@ impl<S: Alter> Store<S> {
         conn
     }
 
-    /// The store, closed and opened again over its connection. Where its disk returns what was written, a clean store is clean again and
-    /// has the same world. The refusals are those of `open`.
+    /// The store, closed and opened again over its connection. Where its disk returns what was
+    /// written, a clean store is clean again and has the same world. The refusals are those of
+    /// `open`.
     pub fn reopen(self, alloc: Global) -> Result<Store<S>, NotOpened<OpenFault, S>>
         ensures lasts { IfOk result (λ s. HasDisk S.Store s → IsCleanStore S.Store self
             → IsCleanStore S.Store s) }

@@ -30,8 +30,9 @@ use portal_tables::{FIRST_VERSION, PortalSchema, upgrade_tables};
 use sqlite::{Alter, Connection};
 use std::alloc::Global;
 
-/// What is tested of the tables of version 1, in this order: whether they can be queried and are of the version, and what they show. `own`
-/// says that they are the portal's own. The entries of their world come.
+/// What is tested of the tables of version 1, in this order: whether they can be queried and are of
+/// the version, and what they show. `own` says that they are the portal's own. The entries of their
+/// world come.
 fn examine_first<S: Alter>(
     alloc: Global,
     conn: &mut Connection<S>,
@@ -52,7 +53,8 @@ fn examine_first<S: Alter>(
     judge_first(alloc, conn, FIRST_VERSION)
 }
 
-/// Upgrades the tables where they pass and no name is taken; the entries of their world come. `own` says that they are the portal's own.
+/// Upgrades the tables where they pass and no name is taken; the entries of their world come. `own`
+/// says that they are the portal's own.
 fn upgraded<S: Alter>(
     alloc: Global,
     conn: &mut Connection<S>,
@@ -61,7 +63,8 @@ fn upgraded<S: Alter>(
 ) -> Result<Entries, UpgradeFault>
     requires idle { conn.old.in_transaction ≡ false }
     ensures idle { conn.new.in_transaction ≡ false }
-    ensures made { IsTrue own → HasFirstSchema conn.old.schema → HasCleanDisk (state S.Store conn.new)
+    ensures made { IsTrue own → HasFirstSchema conn.old.schema
+        → HasCleanDisk (state S.Store conn.new)
         → OnOk result (Commits Upgrades (state S.Store conn.old) (state S.Store conn.new)) }
     ensures admits { IsTrue own → OverLive First S.Store conn.old conn.new
         (OnOk result (AdmitsAs first_version (shown S.Store conn.old))) }
@@ -72,7 +75,8 @@ fn upgraded<S: Alter>(
         ⊎ Bars fault (shown S.Store conn.old))) }
     ensures exists { result ≡ Err UpgradeFault.Exists → IsTrue is_taken }
     ensures free { OnOk result (is_taken ≡ false) }
-    ensures err { IsTrue own → HasFirstSchema conn.old.schema → HasCleanDisk (state S.Store conn.new)
+    ensures err { IsTrue own → HasFirstSchema conn.old.schema
+        → HasCleanDisk (state S.Store conn.new)
         → IsTrue (state S.Store conn.new).is_open
         → OnErr result (Stays (state S.Store conn.old) (state S.Store conn.new)) }
     ensures durable { HasCleanDisk (state S.Store conn.new)
@@ -96,19 +100,22 @@ fn upgraded<S: Alter>(
 }
 
 impl<S: Alter> Store<S> {
-    /// Makes the tables of version 2 of those of version 1, in one transaction, where they stand for a good world, which stays. A refusal
-    /// hands the connection back, and the file holds what it held where the connection is clean: `NotPortal` where a table of version 1
-    /// cannot be queried or `portal` has no row, `OtherVersion` where that row is of another version than 1, `Damaged` where it is of
-    /// version 1 and the rows stand for no good world, `Exists` where a table or a view of one of the five new names is there, `Store`
-    /// for an error of the connection, and `Memory`. The first four come in this order, and never from a fault of the device or want of
-    /// memory.
+    /// Makes the tables of version 2 of those of version 1, in one transaction, where they stand
+    /// for a good world, which stays. A refusal hands the connection back, and the file holds what
+    /// it held where the connection is clean: `NotPortal` where a table of version 1 cannot be
+    /// queried or `portal` has no row, `OtherVersion` where that row is of another version than 1,
+    /// `Damaged` where it is of version 1 and the rows stand for no good world, `Exists` where a
+    /// table or a view of one of the five new names is there, `Store` for an error of the
+    /// connection, and `Memory`. The first four come in this order, and never from a fault of the
+    /// device or want of memory.
     pub fn upgrade(
         alloc: Global,
         mut conn: Connection<S>,
     ) -> Result<Store<S>, NotOpened<UpgradeFault, S>>
         requires idle { conn.in_transaction ≡ false }
         ensures own { IfOk result (λ s. IsTrue s.own ↔ IsFirstSchema conn.schema) }
-        ensures made { IfOk result (λ s. IsFirstSchema conn.schema → HasCleanDisk (state S.Store s.conn)
+        ensures made { IfOk result (λ s. IsFirstSchema conn.schema
+            → HasCleanDisk (state S.Store s.conn)
             → Commits Upgrades (state S.Store conn) (state S.Store s.conn)) }
         ensures stands { IfOk result (λ s. IsFirstSchema conn.schema
             → HasCleanDisk (state S.Store s.conn)

@@ -47,7 +47,8 @@ fn set_assigned<S: Alter>(tx: &mut Transaction<'_, S>, a: &Assignment<'_>) -> Re
     )
 }
 
-/// Writes the project of each of these students, or that there is none, one after another. The first error ends it, and is handed on.
+/// Writes the project of each of these students, or that there is none, one after another. The
+/// first error ends it, and is handed on.
 pub fn assign_all<S: Alter>(
     tx: &mut Transaction<'_, S>,
     all: &[Assignment<'_>],

@@ -1,7 +1,8 @@
 //! From one cell of a row that a query shows to a key, a name, a code or a number.
 
 ghost use Rattle.std.specs.Prelude.{◌≡◌, ◌≤◌, is_none};
-ghost use Rattle.portal_tables.specs.Base.{true, false, Err, IfOk, IfSome, column, bytes, number_in, is_key, is_code, is_name};
+ghost use Rattle.portal_tables.specs.Base.{true, false, Err, IfOk, IfSome, column, bytes};
+ghost use Rattle.portal_tables.specs.Base.{number_in, is_key, is_code, is_name};
 ghost use Rattle.portal_tables.specs.Shown.{text_or_none};
 
 use crate::fault::TableFault;
@@ -32,7 +33,8 @@ pub(crate) fn number_at(row: &Row, at: usize) -> u64
     }
 }
 
-/// The key in a cell. The fault is `Damaged` where the bytes have not the form of a key, and `Memory` where they cannot be copied.
+/// The key in a cell. The fault is `Damaged` where the bytes have not the form of a key, and
+/// `Memory` where they cannot be copied.
 pub fn key_at(alloc: Global, row: &Row, at: usize) -> Result<Key, TableFault>
     ensures ok { IfOk result (λ key. key ≡ bytes (column row.now at)) }
     ensures damaged { result ≡ Err TableFault.Damaged → is_key (bytes (column row.now at)) ≡ false }
@@ -83,7 +85,8 @@ pub fn capacity_at(row: &Row, at: usize) -> Result<u32, TableFault>
     Ok(number as u32)
 }
 
-/// The key in a cell that may be NULL, or none. The fault is `Damaged` where anything else is there.
+/// The key in a cell that may be NULL, or none. The fault is `Damaged` where anything else is
+/// there.
 pub fn assigned_at(alloc: Global, row: &Row, at: usize) -> Result<Option<Key>, TableFault>
     ensures ok { IfOk result (λ key. key ≡ text_or_none (column row.now at)) }
     ensures damaged { result ≡ Err TableFault.Damaged

@@ -1,9 +1,13 @@
 //! From the rows that queries show to the rows of rolls, lists and pairs.
 
 ghost use Rattle.std.specs.Prelude.{◌≡◌, ◌↔◌, ◌≤◌};
-ghost use Rattle.portal_tables.specs.Base.{true, Err, IfOk, IsTrue, length, map, ⊤, AllByRecursion, Cells, is_key, IsLecturer, IsProject, IsStudent, Rise, is_before};
+ghost use Rattle.portal_tables.specs.Base.{true, Err, IfOk, IsTrue, length, map, ⊤, AllByRecursion};
+ghost use Rattle.portal_tables.specs.Base.{Cells, is_key, IsLecturer, IsProject, IsStudent, Rise};
+ghost use Rattle.portal_tables.specs.Base.{is_before};
 ghost use Rattle.portal_tables.specs.Lists.{CountUp};
-ghost use Rattle.portal_tables.specs.inner.Shown.{as_list, first_cell, shown_lecturer, shown_project, shown_student, shown_rank, shown_name};
+ghost use Rattle.portal_tables.specs.inner.Shown.{as_list, first_cell, shown_lecturer};
+ghost use Rattle.portal_tables.specs.inner.Shown.{shown_project, shown_student, shown_rank};
+ghost use Rattle.portal_tables.specs.inner.Shown.{shown_name};
 
 use crate::cells::{bytes_at, capacity_at, code_at, key_at, name_at, number_at};
 use crate::fault::TableFault;
@@ -12,8 +16,8 @@ use spa_rows::Key;
 use sqlite::Row;
 use std::alloc::Global;
 
-/// What a row that a query shows is decoded to. The fault is `Damaged` at most where the row is not fine, `Memory` where
-/// there is not enough memory.
+/// What a row that a query shows is decoded to. The fault is `Damaged` at most where the row is not
+/// fine, `Memory` where there is not enough memory.
 pub trait FromCells: Drop {
     /// What a row with these cells is decoded to.
     ghost shown: { Cells → Self };
@@ -142,8 +146,8 @@ fn do_count_up(rows: &[Row]) -> bool
     true
 }
 
-/// The names of a list whose rows show place and name. The fault is `Damaged` where the places are not 1, 2 and so on, or a
-/// name has not the form of a key.
+/// The names of a list whose rows show place and name. The fault is `Damaged` where the places are
+/// not 1, 2 and so on, or a name has not the form of a key.
 pub(crate) fn list_from(alloc: Global, rows: &[Row]) -> Result<Vec<Key>, TableFault>
     ensures names { IfOk result (λ v. v.items ≡ map shown_name rows.now) }
     ensures whole { IfOk result (λ v. CountUp 1 (map shown_rank rows.now)) }

@@ -1,12 +1,16 @@
 //! The lists of the owners whose rows are shown: one owner's by a query, or several in turn.
 
 ghost use Rattle.std.specs.Prelude.{◌≡◌, ◌↔◌, ◌∷◌, if◌then◌else◌};
-ghost use Rattle.portal_tables.specs.Base.{[], false, true, Ok, Err, IfOk, OnOk, IsTrue, Some, None, option_map, map, AllByRecursion, filter_map, HasCleanDisk, state, is_key, has, Rise};
+ghost use Rattle.portal_tables.specs.Base.{[], false, true, Ok, Err, IfOk, OnOk, IsTrue, Some};
+ghost use Rattle.portal_tables.specs.Base.{None, option_map, map, AllByRecursion, filter_map};
+ghost use Rattle.portal_tables.specs.Base.{HasCleanDisk, state, is_key, has, Rise};
 ghost use Rattle.portal_tables.specs.Schema.{HasRound};
 ghost use Rattle.portal_tables.specs.Lists.{of_key, IsWhole, chosen};
-ghost use Rattle.portal_tables.specs.inner.Reading.{RunsQueriesIn, YieldsIn, YieldsSound, OverSound};
+ghost use Rattle.portal_tables.specs.inner.Reading.{RunsQueriesIn, YieldsIn, YieldsSound};
+ghost use Rattle.portal_tables.specs.inner.Reading.{OverSound};
 ghost use Rattle.portal_tables.specs.ListTables.{round_of, tree_of};
-ghost use Rattle.portal_tables.specs.inner.Owners.{AreOwned, has_list, entry, with_list, IsRead, IsFine};
+ghost use Rattle.portal_tables.specs.inner.Owners.{AreOwned, has_list, entry, with_list, IsRead};
+ghost use Rattle.portal_tables.specs.inner.Owners.{IsFine};
 ghost use Rattle.portal_tables.specs.inner.Shown.{first_cell};
 
 use crate::cells::{bytes_at, key_at, number_at};
@@ -19,8 +23,9 @@ use spa_rows::Key;
 use sqlite::{Alter, Connection, Row};
 use std::alloc::Global;
 
-/// One owner's list, whose places are 1, 2 and so on. The fault is `Damaged` where they are not or a name is no key, `Store` where the
-/// store answered an error, and `Memory` where that was want of memory or the list has no room.
+/// One owner's list, whose places are 1, 2 and so on. The fault is `Damaged` where they are not or
+/// a name is no key, `Store` where the store answered an error, and `Memory` where that was want of
+/// memory or the list has no room.
 pub fn list_in<S: Alter>(
     alloc: Global,
     conn: &mut Connection<S>,
@@ -46,7 +51,8 @@ pub fn list_in<S: Alter>(
     list_from(alloc, &rows)
 }
 
-/// Whether the owner whose row this is has a list. A query is made for a ranking of the second round alone. The fault is that of the store.
+/// Whether the owner whose row this is has a list. A query is made for a ranking of the second
+/// round alone. The fault is that of the store.
 pub fn has_list_in<S: Alter>(
     conn: &mut Connection<S>,
     lists: Lists,
@@ -109,8 +115,9 @@ pub fn entry_in<S: Alter>(
     kept_entry(is_there, key, list)
 }
 
-/// The lists of the owners whose rows are shown, by a query for each. The fault is `Damaged` where an owner's key is none, a list is
-/// not one that `list_in` would give, or a lecturer has rows and no ranking; else as there.
+/// The lists of the owners whose rows are shown, by a query for each. The fault is `Damaged` where
+/// an owner's key is none, a list is not one that `list_in` would give, or a lecturer has rows and
+/// no ranking; else as there.
 fn entries_each<S: Alter>(
     alloc: Global,
     conn: &mut Connection<S>,
@@ -156,8 +163,8 @@ fn are_owned(owners: &[Row], rows: &[Row]) -> bool
     do_rise(owners) && are_named(owners, rows)
 }
 
-/// Tells `Damaged` where a row of the lists is of nobody among the owners, whose keys are to rise. The foreign keys of a sound database
-/// leave no such row; a program that does not keep them may.
+/// Tells `Damaged` where a row of the lists is of nobody among the owners, whose keys are to rise.
+/// The foreign keys of a sound database leave no such row; a program that does not keep them may.
 fn see_owners<S: Alter>(
     alloc: Global,
     conn: &mut Connection<S>,
@@ -179,9 +186,9 @@ fn see_owners<S: Alter>(
     }
 }
 
-/// The lists of the owners whose rows are shown, by a query for each. The fault is `Damaged` where the owners' keys do not rise, a row
-/// is of none of them, an owner's key is none, a list is not one that `list_in` would give, or a lecturer has rows and no ranking; else
-/// as there.
+/// The lists of the owners whose rows are shown, by a query for each. The fault is `Damaged` where
+/// the owners' keys do not rise, a row is of none of them, an owner's key is none, a list is not
+/// one that `list_in` would give, or a lecturer has rows and no ranking; else as there.
 pub fn entries_in<S: Alter>(
     alloc: Global,
     conn: &mut Connection<S>,

@@ -30,7 +30,8 @@ impl<T: Drop> From<AllocFailed<T>> for TableFault {
 
 /// Want of memory is told as that, and every other error as one of the store.
 impl From<Error> for TableFault {
-    ghost from_gives = { λ error fault. ((fault ≡ Memory) ↔ (error ≡ SqliteFailure OutOfMemory)) × (fault ≡ Damaged → ⊥) };
+    ghost from_gives = { λ error fault. ((fault ≡ Memory) ↔ (error ≡ SqliteFailure OutOfMemory))
+        × (fault ≡ Damaged → ⊥) };
 
     fn from(error: Error) -> TableFault {
         match error {
@@ -48,7 +49,8 @@ impl From<AllocError> for TableFault {
     }
 }
 
-/// To a keeper, rows that are not as the portal writes them are a fault of its store, and want of memory alone is not.
+/// To a keeper, rows that are not as the portal writes them are a fault of its store, and want of
+/// memory alone is not.
 impl From<TableFault> for KeepFault {
     ghost from_gives = { λ fault told. (told ≡ keep.Memory) ↔ (fault ≡ Memory) };
 

@@ -1,4 +1,5 @@
-//! Rows more: the office's row, that of the second round, and rows of the other tables, eight in a statement where there are as many.
+//! Rows more: the office's row, that of the second round, and rows of the other tables, eight in a
+//! statement where there are as many.
 
 ghost use Rattle.std.specs.Prelude.{◌≡◌, ◌<◌, ◌≤◌, ◌++◌, ◌∷◌};
 ghost use Rattle.portal_tables.specs.Base.{ℕ, [], pos, map, OnOk, flat_map, Row, bound};
@@ -91,7 +92,8 @@ fn write_rows<S: Alter, R, T: Target<R>>(
     write(tx, text, &values)
 }
 
-/// Adds the rows to the table, in turn. The first error ends it, and is handed on; it may be want of memory.
+/// Adds the rows to the table, in turn. The first error ends it, and is handed on; it may be want
+/// of memory.
 pub fn add_all<S: Alter, R, T: Target<R>>(
     alloc: Global,
     tx: &mut Transaction<'_, S>,

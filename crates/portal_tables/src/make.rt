@@ -1,7 +1,8 @@
 //! Makes the portal's tables.
 
 ghost use Rattle.std.specs.Prelude.{◌≡◌};
-ghost use Rattle.portal_tables.specs.Base.{false, Err, OnOk, OnErr, IsTrue, HasCleanDisk, Survives, state};
+ghost use Rattle.portal_tables.specs.Base.{false, Err, OnOk, OnErr, IsTrue, HasCleanDisk, Survives};
+ghost use Rattle.portal_tables.specs.Base.{state};
 ghost use Rattle.portal_tables.specs.Steps.{Commits, IsAfter, LeavesOnly, Stays};
 ghost use Rattle.portal_tables.specs.inner.Steps.{Does, Made};
 ghost use Rattle.portal_tables.specs.Making.{Creates};
@@ -78,8 +79,8 @@ pub(crate) fn make_second<S: Alter>(tx: &mut Transaction<'_, S>) -> Result<(), E
     write(tx, ASSIGNED2, &[])
 }
 
-/// Makes the portal's tables, all empty, where the database has no table. An error of the store is handed on; the transaction
-/// should then be dropped, which undoes it.
+/// Makes the portal's tables, all empty, where the database has no table. An error of the store is
+/// handed on; the transaction should then be dropped, which undoes it.
 pub(crate) fn make_tables<S: Alter>(tx: &mut Transaction<'_, S>) -> Result<(), Error>
     ensures { Does S.Store (Made Makes) result tx.old tx.new }
 {
@@ -87,7 +88,8 @@ pub(crate) fn make_tables<S: Alter>(tx: &mut Transaction<'_, S>) -> Result<(), E
     make_second(tx)
 }
 
-/// The tables with the row of the office, of this code, and that of no second round; all other tables are empty.
+/// The tables with the row of the office, of this code, and that of no second round; all other
+/// tables are empty.
 struct MakePortal<'a> {
     office: &'a [u8],
 }
@@ -103,8 +105,9 @@ impl Step for MakePortal<'_> {
     }
 }
 
-/// Makes the portal's tables, the row of the office and that of no second round in a transaction of their own. After an error
-/// nothing is there of them, and the fault is not `Damaged`; after Ok a crash leaves them alone.
+/// Makes the portal's tables, the row of the office and that of no second round in a transaction of
+/// their own. After an error nothing is there of them, and the fault is not `Damaged`; after Ok a
+/// crash leaves them alone.
 pub fn create_portal<S: Alter>(
     alloc: Global,
     conn: &mut Connection<S>,

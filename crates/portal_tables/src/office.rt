@@ -1,7 +1,9 @@
 //! The row of the office: how it is read, and what number a phase has in it.
 
 ghost use Rattle.std.specs.Prelude.{◌≡◌, ◌↔◌, ◌∷◌};
-ghost use Rattle.portal_tables.specs.Base.{[], pos, true, false, Err, IfOk, IfSome, IfNone, OnOk, OnErr, IsTrue, List, ℕ, Int, Words, Cells, column, HasCleanDisk, state, is_code, ThePhase, First};
+ghost use Rattle.portal_tables.specs.Base.{[], pos, true, false, Err, IfOk, IfSome, IfNone, OnOk};
+ghost use Rattle.portal_tables.specs.Base.{OnErr, IsTrue, List, ℕ, Int, Words, Cells, column};
+ghost use Rattle.portal_tables.specs.Base.{HasCleanDisk, state, is_code, ThePhase, First};
 ghost use Rattle.portal_tables.specs.Tables.{portal_tree};
 ghost use Rattle.portal_tables.specs.Schema.{HasFirstSchema};
 ghost use Rattle.portal_tables.specs.inner.Reading.{RunsQuery, OverSound};
@@ -95,7 +97,8 @@ fn office_at(alloc: Global, row: &Row, version: u32) -> Result<Office, TableFaul
     Ok(Office { phase, code })
 }
 
-/// The office, of the only row of its table. The fault is `Damaged` where there is not one row, with id 1, the version, a phase and a code.
+/// The office, of the only row of its table. The fault is `Damaged` where there is not one row,
+/// with id 1, the version, a phase and a code.
 fn office_from(alloc: Global, rows: &[Row], version: u32) -> Result<Office, TableFault>
     ensures ok { IfOk result (λ office. (row : Cells) × (rows.now ≡ row ∷ [])
         × IsOffice version office.phase office.code row) }
@@ -109,8 +112,8 @@ fn office_from(alloc: Global, rows: &[Row], version: u32) -> Result<Office, Tabl
     }
 }
 
-/// The office, of its table. The fault is `Damaged` where the table has not the one row, of this version, `Store` where the store
-/// answered an error.
+/// The office, of its table. The fault is `Damaged` where the table has not the one row, of this
+/// version, `Store` where the store answered an error.
 pub fn office_in<S: Alter>(
     alloc: Global,
     conn: &mut Connection<S>,

@@ -1,14 +1,20 @@
 //! Reads which projects the results of both rounds give to students.
 
 ghost use Rattle.std.specs.Prelude.{◌≡◌, ◌≤◌, is_none, if◌then◌else◌};
-ghost use Rattle.portal_tables.specs.Base.{true, Err, None, IfOk, IfSome, option_map, length, map, AllByRecursion, filter_map, state, is_key, is_published, IsStudent, First, InSecond};
+ghost use Rattle.portal_tables.specs.Base.{true, Err, None, IfOk, IfSome, option_map, length, map};
+ghost use Rattle.portal_tables.specs.Base.{AllByRecursion, filter_map, state, is_key, is_published};
+ghost use Rattle.portal_tables.specs.Base.{IsStudent, First, InSecond};
 ghost use Rattle.portal_tables.specs.Tables.{assigned2_tree};
 ghost use Rattle.portal_tables.specs.Lists.{of_key};
-ghost use Rattle.portal_tables.specs.inner.Reading.{RunsQueries, RunsQueriesIn, Yields, YieldsSound, OverSound};
+ghost use Rattle.portal_tables.specs.inner.Reading.{RunsQueries, RunsQueriesIn, Yields};
+ghost use Rattle.portal_tables.specs.inner.Reading.{YieldsSound, OverSound};
 ghost use Rattle.portal_tables.specs.inner.Shown.{as_list, first_cell, shown_name, shown_student};
 ghost use Rattle.portal_tables.specs.inner.Placements as meant;
 ghost use Rattle.portal_tables.specs.Placements.{second_placement};
-ghost use Rattle.portal_tables.specs.inner.Placements.{placement_shown, placement_before, result_shown, pair_shown, HasFirstPlace, HasPlacement, HasKeys, pair_told, places_shown, first_pairs};
+ghost use Rattle.portal_tables.specs.inner.Placements.{placement_shown, placement_before};
+ghost use Rattle.portal_tables.specs.inner.Placements.{result_shown, pair_shown, HasFirstPlace};
+ghost use Rattle.portal_tables.specs.inner.Placements.{HasPlacement, HasKeys, pair_told};
+ghost use Rattle.portal_tables.specs.inner.Placements.{places_shown, first_pairs};
 ghost use Rattle.portal_tables.specs.inner.Rolls.{RollRises};
 ghost use Rattle.portal_tables.specs.declared.select.Roll.TheVariants.{Students};
 
@@ -52,8 +58,9 @@ pub fn second_placement_in<S: Alter>(
     only_name(alloc, &rows)
 }
 
-/// The place in a round of the student whose row this is. The fault is `Damaged` where it is no key or the second round has several,
-/// `Store` where the store answered an error, `Memory` where there is not enough memory.
+/// The place in a round of the student whose row this is. The fault is `Damaged` where it is no key
+/// or the second round has several, `Store` where the store answered an error, `Memory` where there
+/// is not enough memory.
 pub(crate) fn placement_in<S: Alter>(
     alloc: Global,
     conn: &mut Connection<S>,
@@ -103,7 +110,8 @@ fn published_in<S: Alter>(
     row: &Row,
 ) -> Result<Option<Key>, TableFault>
     ensures ok { YieldsSound round S.Store conn.old conn.new result
-        (λ db p. p ≡ (if is_published phase then placement_shown round db.trees row.now else None)) }
+        (λ db p. p ≡
+        (if is_published phase then placement_shown round db.trees row.now else None)) }
     ensures damaged { OverSound round S.Store conn.old conn.new
         (result ≡ Err TableFault.Damaged
         → HasPlacement round (state S.Store conn.old).now.trees row.now → ⊥) }
@@ -115,7 +123,8 @@ fn published_in<S: Alter>(
     }
 }
 
-/// The place that the student whose row this is is shown in the phase. The faults are those of `placement_in`.
+/// The place that the student whose row this is is shown in the phase. The faults are those of
+/// `placement_in`.
 pub fn result_in<S: Alter>(
     alloc: Global,
     conn: &mut Connection<S>,
@@ -136,7 +145,8 @@ pub fn result_in<S: Alter>(
     published_in(alloc, conn, round, phase, row)
 }
 
-/// The place in a round of the student whose row this is, or with a phase the one that is shown in it.
+/// The place in a round of the student whose row this is, or with a phase the one that is shown in
+/// it.
 fn placement_asked<S: Alter>(
     alloc: Global,
     conn: &mut Connection<S>,
@@ -192,8 +202,9 @@ fn pair_in<S: Alter>(
     with_placement(alloc, row, place)
 }
 
-/// A round's result, or with a phase what is shown in it of all results: the pairs of the students whose rows these are, in their
-/// order. The faults are those of `placement_in`, and `Damaged` where a student's key is none.
+/// A round's result, or with a phase what is shown in it of all results: the pairs of the students
+/// whose rows these are, in their order. The faults are those of `placement_in`, and `Damaged`
+/// where a student's key is none.
 pub fn pairs_in<S: Alter>(
     alloc: Global,
     conn: &mut Connection<S>,
@@ -243,8 +254,9 @@ fn pairs_at(alloc: Global, rows: &[Row]) -> Result<Vec<(Key, Key)>, TableFault>
     Ok(pairs)
 }
 
-/// The result of the first round, of keys and places alone: pairs of a student and a project, by student. The fault is `Damaged` where
-/// the students' keys do not rise, or a key or a place has not the form of a key.
+/// The result of the first round, of keys and places alone: pairs of a student and a project, by
+/// student. The fault is `Damaged` where the students' keys do not rise, or a key or a place has
+/// not the form of a key.
 pub fn first_pairs_in<S: Alter>(
     alloc: Global,
     conn: &mut Connection<S>,

@@ -49,8 +49,9 @@ fn places_of<'a>(
     Ok(rows)
 }
 
-/// The owner's list becomes these items, best first, in place of any other. A list that is longer than any may be is refused as too
-/// big; the first error of the store ends it and is handed on, and it may be want of memory.
+/// The owner's list becomes these items, best first, in place of any other. A list that is longer
+/// than any may be is refused as too big; the first error of the store ends it and is handed on,
+/// and it may be want of memory.
 pub fn put_list<S: Alter>(
     alloc: Global,
     tx: &mut Transaction<'_, S>,

@@ -1,12 +1,17 @@
 //! The three rolls of the portal, read by key and decoded.
 
 ghost use Rattle.std.specs.Prelude.{◌≡◌};
-ghost use Rattle.portal_tables.specs.Base.{Err, IfOk, List, Cells, map, AllByRecursion, HasCleanDisk, state, IsLecturer, IsProject, IsStudent, Rise, First};
+ghost use Rattle.portal_tables.specs.Base.{Err, IfOk, List, Cells, map, AllByRecursion};
+ghost use Rattle.portal_tables.specs.Base.{HasCleanDisk, state, IsLecturer, IsProject, IsStudent};
+ghost use Rattle.portal_tables.specs.Base.{Rise, First};
 ghost use Rattle.portal_tables.specs.Schema.{HasRound};
 ghost use Rattle.portal_tables.specs.inner.Queries.{Shows, round_asked};
-ghost use Rattle.portal_tables.specs.inner.Reading.{RunsQueries, RunsQueriesIn, Yields, YieldsIn, OverSound};
-ghost use Rattle.portal_tables.specs.inner.Rolls.{roll_rows, RollRises, lecturers_shown, projects_shown, students_shown, RollsRise};
-ghost use Rattle.portal_tables.specs.inner.Shown.{first_cell, shown_lecturer, shown_project, shown_student};
+ghost use Rattle.portal_tables.specs.inner.Reading.{RunsQueries, RunsQueriesIn, Yields, YieldsIn};
+ghost use Rattle.portal_tables.specs.inner.Reading.{OverSound};
+ghost use Rattle.portal_tables.specs.inner.Rolls.{roll_rows, RollRises, lecturers_shown};
+ghost use Rattle.portal_tables.specs.inner.Rolls.{projects_shown, students_shown, RollsRise};
+ghost use Rattle.portal_tables.specs.inner.Shown.{first_cell, shown_lecturer, shown_project};
+ghost use Rattle.portal_tables.specs.inner.Shown.{shown_student};
 
 use crate::decode::{decoded, do_rise};
 use crate::fault::TableFault;
@@ -38,8 +43,9 @@ fn risen(rows: Vec<Row>) -> Result<Vec<Row>, TableFault>
     }
 }
 
-/// The rows that a query shows, if the keys that they begin with rise. The fault is `Damaged` where they do not, `Store` where the store
-/// answered an error, `Memory` where there is not enough memory.
+/// The rows that a query shows, if the keys that they begin with rise. The fault is `Damaged` where
+/// they do not, `Store` where the store answered an error, `Memory` where there is not enough
+/// memory.
 pub fn rising<S: Alter>(
     alloc: Global,
     conn: &mut Connection<S>,
@@ -59,7 +65,8 @@ pub fn rising<S: Alter>(
     risen(rows)
 }
 
-/// A roll by key. The fault is `Damaged` where the keys do not rise, `Store` where the store answered an error.
+/// A roll by key. The fault is `Damaged` where the keys do not rise, `Store` where the store
+/// answered an error.
 pub fn roll_in<S: Alter>(
     alloc: Global,
     conn: &mut Connection<S>,
@@ -106,7 +113,8 @@ pub struct Parts {
     pub students: Vec<StudentRow>,
 }
 
-/// The rows of the rolls, decoded. The fault is `Damaged` where a cell has not the form that it is to have.
+/// The rows of the rolls, decoded. The fault is `Damaged` where a cell has not the form that it is
+/// to have.
 pub fn parts_of(alloc: Global, rolls: &Rolls) -> Result<Parts, TableFault>
     ensures lecturers { IfOk result (λ p. p.lecturers.items
         ≡ map shown_lecturer rolls.now.lecturers.items) }

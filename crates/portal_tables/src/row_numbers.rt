@@ -1,4 +1,5 @@
-//! Whether the rows of a table have numbers of their own: what removes or changes rows goes by their numbers.
+//! Whether the rows of a table have numbers of their own: what removes or changes rows goes by
+//! their numbers.
 
 ghost use Rattle.std.specs.Prelude.{◌≡◌};
 ghost use Rattle.portal_tables.specs.Base.{true, IfSome, IsTrue, None, state, Int, column};

@@ -1,10 +1,13 @@
-//! Whether the tables are those that the portal makes, but for the terms of their checks and defaults: a scratch connection
-//! in memory has the portal's own, and the two schemas are compared part by part.
+//! Whether the tables are those that the portal makes, but for the terms of their checks and
+//! defaults: a scratch connection in memory has the portal's own, and the two schemas are compared
+//! part by part.
 
 ghost use Rattle.std.specs.Prelude.{◌≡◌, ◌↔◌};
-ghost use Rattle.portal_tables.specs.Base.{IsTrue, [], length, false, IfOk, OnOk, Option, None, AllZip};
+ghost use Rattle.portal_tables.specs.Base.{IsTrue, [], length, false, IfOk, OnOk, Option, None};
+ghost use Rattle.portal_tables.specs.Base.{AllZip};
 ghost use Rattle.portal_tables.specs.Tables.{no_schema, portal_schema};
-ghost use Rattle.portal_tables.specs.Schema.{SameRules, SameDefaults, SameTable, SameSchema, IsCurrentSchema, IsFirstSchema, HasFirstSchema};
+ghost use Rattle.portal_tables.specs.Schema.{SameRules, SameDefaults, SameTable, SameSchema};
+ghost use Rattle.portal_tables.specs.Schema.{IsCurrentSchema, IsFirstSchema, HasFirstSchema};
 
 use crate::make::make_tables;
 use sqlite::{Alter, Connection, Error, MemStore};
@@ -193,8 +196,8 @@ impl PortalSchema {
         Ok(PortalSchema { conn })
     }
 
-    /// Whether the tables of a connection are those that `make_tables` makes, and no other table, index or view is there.
-    /// It reads nothing of the database.
+    /// Whether the tables of a connection are those that `make_tables` makes, and no other table,
+    /// index or view is there. It reads nothing of the database.
     pub fn fits<S: Alter>(&self, conn: &Connection<S>) -> bool
         ensures current { IsTrue result ↔ IsCurrentSchema conn.now.schema }
         ensures own { IsTrue result → HasFirstSchema conn.now.schema }

@@ -1,7 +1,9 @@
-//! Reads and writes the tables of the second round: its phase, who has a ranking in it, and its result.
+//! Reads and writes the tables of the second round: its phase, who has a ranking in it, and its
+//! result.
 
 ghost use Rattle.std.specs.Prelude.{◌≡◌, ◌∷◌};
-ghost use Rattle.portal_tables.specs.Base.{[], pos, Err, IfOk, HasCleanDisk, state, ThePhase, Second, InSecond};
+ghost use Rattle.portal_tables.specs.Base.{[], pos, Err, IfOk, HasCleanDisk, state, ThePhase};
+ghost use Rattle.portal_tables.specs.Base.{Second, InSecond};
 ghost use Rattle.portal_tables.specs.Tables.{second_tree, assigned2_tree};
 ghost use Rattle.portal_tables.specs.Schema.{IsCurrentSchema};
 ghost use Rattle.portal_tables.specs.Office.{number_of_phase, IsSecond};
@@ -23,7 +25,8 @@ use sqlite::types::{ToSql, ValueRef};
 use sqlite::{Alter, Connection, Error, Row, Transaction};
 use std::alloc::{AllocError, Global};
 
-/// The phase of the second round, of the only row of its table: setup where there is no second round.
+/// The phase of the second round, of the only row of its table: setup where there is no second
+/// round.
 fn second_from(rows: &[Row]) -> Result<Phase, TableFault>
     ensures ok { IfOk result (λ phase. IsSecond phase rows.now) }
     ensures damaged { result ≡ Err TableFault.Damaged
@@ -38,8 +41,9 @@ fn second_from(rows: &[Row]) -> Result<Phase, TableFault>
     phase_at(row, 1).ok_or(TableFault::Damaged)
 }
 
-/// The phase of the second round, of its table: setup where there is no second round. The fault is `Damaged` where the table has not
-/// the one row that tells a phase, `Store` where the store answered an error.
+/// The phase of the second round, of its table: setup where there is no second round. The fault is
+/// `Damaged` where the table has not the one row that tells a phase, `Store` where the store
+/// answered an error.
 pub fn second_in<S: Alter>(alloc: Global, conn: &mut Connection<S>) -> Result<Phase, TableFault>
     ensures row { OverSound InSecond S.Store conn.old conn.new
         (IfOk result (λ phase. (state S.Store conn.old).now.trees second_tree
@@ -109,8 +113,8 @@ impl Target<(Key, Key)> for Places {
     }
 }
 
-/// The result of the second round becomes these pairs of a student and a project, in place of any other. The first error of the store
-/// ends it and is handed on, and it may be want of memory.
+/// The result of the second round becomes these pairs of a student and a project, in place of any
+/// other. The first error of the store ends it and is handed on, and it may be want of memory.
 pub fn put_placements<S: Alter>(
     alloc: Global,
     tx: &mut Transaction<'_, S>,

@@ -1,4 +1,5 @@
-//! What can be asked of the tables: each query is a text, with a value at most, and shows rows of one table.
+//! What can be asked of the tables: each query is a text, with a value at most, and shows rows of
+//! one table.
 
 ghost use Rattle.std.specs.Prelude.{◌≡◌};
 ghost use Rattle.portal_tables.specs.Base.{Err, IfOk, map, state, Cells, bound};
@@ -53,7 +54,8 @@ pub enum Query<'a> {
     StudentByCode(&'a [u8]),
     /// The key of the lecturer with this key, where there is one.
     LecturerByKey(&'a [u8]),
-    /// What a lecturer may be told of the student with a key, where there is one: key, name and assigned project.
+    /// What a lecturer may be told of the student with a key, where there is one: key, name and
+    /// assigned project.
     StudentTold(&'a [u8]),
     /// All lists, in whatever order their rows stand: owner, place and name.
     AllLists(Lists),
@@ -65,7 +67,8 @@ pub enum Query<'a> {
     Listed(Round),
     /// The keys of a lecturer's projects, by key.
     ProjectsOf(&'a [u8]),
-    /// The result of the first round by student: key and assigned project, which is NULL where there is none.
+    /// The result of the first round by student: key and assigned project, which is NULL where
+    /// there is none.
     FirstPlacements,
     /// The row of the second round: id and phase.
     Second,
@@ -221,7 +224,8 @@ pub fn read<S: Alter>(conn: &mut Connection<S>, query: Query<'_>) -> Result<Vec<
     conn.query_all(query.text(), values(&query.value()))
 }
 
-/// What a query shows, each row decoded as it is read, or the first fault: of the store, or of a row that is refused.
+/// What a query shows, each row decoded as it is read, or the first fault: of the store, or of a
+/// row that is refused.
 pub fn read_each<S: Alter, T: FromCells>(
     alloc: Global,
     conn: &mut Connection<S>,

@@ -1,7 +1,8 @@
 //! Commits: a step is taken in a transaction of its own.
 
 ghost use Rattle.std.specs.Prelude.{◌≡◌};
-ghost use Rattle.portal_tables.specs.Base.{false, Err, OnOk, OnErr, IsTrue, HasCleanDisk, Survives, state, Database};
+ghost use Rattle.portal_tables.specs.Base.{false, Err, OnOk, OnErr, IsTrue, HasCleanDisk, Survives};
+ghost use Rattle.portal_tables.specs.Base.{state, Database};
 ghost use Rattle.portal_tables.specs.Steps.{Commits, IsAfter, LeavesOnly, Stays};
 ghost use Rattle.portal_tables.specs.inner.Steps.{Does, GoesOn};
 
@@ -19,8 +20,9 @@ pub trait Step {
         ensures { Does S.Store (GoesOn (makes self)) result tx.old tx.new };
 }
 
-/// Takes the step in a transaction of its own and commits it. After an error nothing is changed, where the disk is clean and the
-/// connection is still open, and the fault is not `Damaged`; after Ok a crash leaves what the step made.
+/// Takes the step in a transaction of its own and commits it. After an error nothing is changed,
+/// where the disk is clean and the connection is still open, and the fault is not `Damaged`; after
+/// Ok a crash leaves what the step made.
 pub fn commit<S: Alter, T: Step>(
     alloc: Global,
     conn: &mut Connection<S>,

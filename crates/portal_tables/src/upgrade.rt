@@ -1,7 +1,8 @@
 //! Upgrades: makes all tables of the six of version 1.
 
 ghost use Rattle.std.specs.Prelude.{◌≡◌};
-ghost use Rattle.portal_tables.specs.Base.{false, Err, OnOk, OnErr, IsTrue, HasCleanDisk, Survives, state};
+ghost use Rattle.portal_tables.specs.Base.{false, Err, OnOk, OnErr, IsTrue, HasCleanDisk, Survives};
+ghost use Rattle.portal_tables.specs.Base.{state};
 ghost use Rattle.portal_tables.specs.Steps.{Commits, IsAfter, LeavesOnly, Stays};
 ghost use Rattle.portal_tables.specs.Making.{Upgrades};
 
@@ -14,7 +15,8 @@ use crate::update::set_version;
 use sqlite::{Alter, Connection, Error, Transaction};
 use std::alloc::Global;
 
-/// The tables of the second round beside those of the first, with the row of no second round and the version of all.
+/// The tables of the second round beside those of the first, with the row of no second round and
+/// the version of all.
 #[derive(Drop)]
 struct Upgrade;
 
@@ -28,8 +30,9 @@ impl Step for Upgrade {
     }
 }
 
-/// Makes all tables of the six, in a transaction of its own, and leaves what the six hold. After an error nothing is changed, and the fault
-/// is not `Damaged`; a crash leaves the six as they were, or all tables, and after Ok all.
+/// Makes all tables of the six, in a transaction of its own, and leaves what the six hold. After an
+/// error nothing is changed, and the fault is not `Damaged`; a crash leaves the six as they were,
+/// or all tables, and after Ok all.
 pub fn upgrade_tables<S: Alter>(alloc: Global, conn: &mut Connection<S>) -> Result<(), TableFault>
     requires idle { conn.old.in_transaction ≡ false }
     ensures idle { conn.new.in_transaction ≡ false }

@@ -1,4 +1,5 @@
-//! A department at every limit over the keeper in lists; and rolls, rows, instance files, texts, codes and names.
+//! A department at every limit over the keeper in lists; and rolls, rows, instance files, texts,
+//! codes and names.
 
 mod instances;
 mod limits;

@@ -2,7 +2,9 @@
 
 ghost use Rattle.std.specs.Prelude.{◌≡◌, ◌∷◌, ◌++◌};
 ghost use Rattle.portal_views.specs.inner.Base.{[], IfOk, OnOk, map, state, is_at, is_from_ranking};
-ghost use Rattle.portal_views.specs.inner.Callers.{with_persons, lines_shown, persons_at, placed_among, persons_before, placed_at_shown, applicants_told, placed_told};
+ghost use Rattle.portal_views.specs.inner.Callers.{with_persons, lines_shown, persons_at};
+ghost use Rattle.portal_views.specs.inner.Callers.{placed_among, persons_before, placed_at_shown};
+ghost use Rattle.portal_views.specs.inner.Callers.{applicants_told, placed_told};
 ghost use Rattle.portal_views.specs.inner.Lines.{HasTables};
 ghost use Rattle.portal_tables.specs.inner.Reading.{RunsQueriesIn, YieldsOf};
 
@@ -94,7 +96,8 @@ fn before_in<S: Alter>(
     }
 }
 
-/// The students whom the results that are shown place at the project, by the lines of its applicants.
+/// The students whom the results that are shown place at the project, by the lines of its
+/// applicants.
 fn placed_with<S: Alter>(
     alloc: Global,
     conn: &mut Connection<S>,

@@ -1,10 +1,13 @@
-//! The catalogue of the projects: each with its lecturer's name, and in the second round with the room that the first left.
+//! The catalogue of the projects: each with its lecturer's name, and in the second round with the
+//! room that the first left.
 
 ghost use Rattle.std.specs.Prelude.{◌≡◌};
 ghost use Rattle.portal_core.specs.inner.Room as left_by;
 ghost use Rattle.portal_core.specs.declared.phase.Round.TheVariants.{First, Second};
-ghost use Rattle.portal_views.specs.inner.Base.{Err, IfOk, AllByRecursion, IsLecturer, IsProject, filter_map, map, state};
-ghost use Rattle.portal_views.specs.inner.Catalogue.{offered_in, catalogue_shown, HasOffers, HasPairs};
+ghost use Rattle.portal_views.specs.inner.Base.{Err, IfOk, AllByRecursion, IsLecturer, IsProject};
+ghost use Rattle.portal_views.specs.inner.Base.{filter_map, map, state};
+ghost use Rattle.portal_views.specs.inner.Catalogue.{offered_in, catalogue_shown, HasOffers};
+ghost use Rattle.portal_views.specs.inner.Catalogue.{HasPairs};
 ghost use Rattle.portal_tables.specs.inner.Placements.{first_pairs};
 ghost use Rattle.portal_tables.specs.inner.Reading.{RunsQueries, Yields, OverSound};
 ghost use Rattle.portal_tables.specs.inner.Rolls.{lecturers_shown, projects_shown};
@@ -45,7 +48,8 @@ fn projects_left(
     projects: &[ProjectRow],
     pairs: &[(Key, Key)],
 ) -> Result<Vec<ProjectRow>, AllocError>
-    ensures { IfOk result (λ v. v.items ≡ filter_map (left_by.project_left pairs.now) projects.now) }
+    ensures { IfOk result (λ v. v.items ≡ filter_map
+        (left_by.project_left pairs.now) projects.now) }
 {
     let mut found = Vec::new(alloc);
     for project in projects {
@@ -56,7 +60,8 @@ fn projects_left(
     Ok(found)
 }
 
-/// The catalogue of what the first round's pairs left: projects with room whose lecturers have room.
+/// The catalogue of what the first round's pairs left: projects with room whose lecturers have
+/// room.
 fn listings_left(
     alloc: Global,
     lecturers: &[LecturerRow],
@@ -130,9 +135,10 @@ fn offers_in<S: Alter>(
     offers_of(alloc, &lecturers, &projects)
 }
 
-/// The catalogue of the tables in the round, by the projects' keys. Of students the second round's catalogue asks key and assigned project
-/// alone. The fault is `Damaged` where the keys of a roll do not rise or a cell that is read has not its form, `Store` where the store
-/// answered an error, `Memory` where there is not enough memory.
+/// The catalogue of the tables in the round, by the projects' keys. Of students the second round's
+/// catalogue asks key and assigned project alone. The fault is `Damaged` where the keys of a roll
+/// do not rise or a cell that is read has not its form, `Store` where the store answered an error,
+/// `Memory` where there is not enough memory.
 pub fn catalogue_in<S: Alter>(
     alloc: Global,
     conn: &mut Connection<S>,

@@ -1,12 +1,15 @@
 //! The rows of the rolls and of a round's lists and result, read and decoded.
 
 ghost use Rattle.std.specs.Prelude.{◌≡◌};
-ghost use Rattle.portal_views.specs.inner.Base.{false, Err, IfOk, OnOk, map, AllByRecursion, state, IsLecturer, IsProject, IsStudent};
-ghost use Rattle.portal_views.specs.inner.Contents.{rows_held, rows_with, rows_from, AreRead, AreFine};
+ghost use Rattle.portal_views.specs.inner.Base.{false, Err, IfOk, OnOk, map, AllByRecursion, state};
+ghost use Rattle.portal_views.specs.inner.Base.{IsLecturer, IsProject, IsStudent};
+ghost use Rattle.portal_views.specs.inner.Contents.{rows_held, rows_with, rows_from, AreRead};
+ghost use Rattle.portal_views.specs.inner.Contents.{AreFine};
 ghost use Rattle.portal_tables.specs.ListTables.{choice_table, ranking_table};
 ghost use Rattle.portal_tables.specs.inner.Owners.{AreOwned, with_list};
 ghost use Rattle.portal_tables.specs.inner.Reading.{RunsQueriesIn, YieldsSound, OverSound};
-ghost use Rattle.portal_tables.specs.inner.Rolls.{lecturers_shown, projects_shown, students_shown, RollsRise};
+ghost use Rattle.portal_tables.specs.inner.Rolls.{lecturers_shown, projects_shown, students_shown};
+ghost use Rattle.portal_tables.specs.inner.Rolls.{RollsRise};
 ghost use Rattle.portal_tables.specs.inner.Shown.{shown_lecturer, shown_project, shown_student};
 
 use portal_core::{LecturerRow, ProjectRow, Round, StudentRow};
@@ -39,7 +42,8 @@ fn contents_of(
     pairs: Vec<(Key, Key)>,
 ) -> Result<Contents, TableFault>
     ensures rows { IfOk result (λ rows. rows_held rows
-        ≡ rows_with rolls.now (map with_list choices.items) (map with_list rankings.items) pairs.items) }
+        ≡ rows_with rolls.now (map with_list choices.items)
+        (map with_list rankings.items) pairs.items) }
     ensures damaged { result ≡ Err TableFault.Damaged
         → AllByRecursion (λ c. IsLecturer (shown_lecturer c)) rolls.now.lecturers.items
         → AllByRecursion (λ c. IsProject (shown_project c)) rolls.now.projects.items
@@ -73,7 +77,8 @@ fn rows_in<S: Alter>(
         (result ≡ Err TableFault.Damaged
         → AreOwned (choice_table round) (state S.Store conn.old).now.trees rolls.students.items
         → AreOwned (ranking_table round) (state S.Store conn.old).now.trees rolls.lecturers.items
-        → AreFine round (state S.Store conn.old).now.trees rolls.lecturers.items rolls.projects.items rolls.students.items → ⊥) }
+        → AreFine round
+        (state S.Store conn.old).now.trees rolls.lecturers.items rolls.projects.items rolls.students.items → ⊥) }
     ensures reads { RunsQueriesIn round result (state S.Store conn.old) (state S.Store conn.new) }
 {
     let choices = entries_in(alloc, conn, Lists::choices_of(round), &rolls.students)?;
@@ -82,10 +87,11 @@ fn rows_in<S: Alter>(
     contents_of(alloc, &rolls, choices, rankings, pairs)
 }
 
-/// The rows of the rolls, and of the lists and the result of a round, by a query of each roll and table of lists and one for
-/// each owner of a list. The fault is `Damaged` where the keys of a roll do not rise, a row of a list is of nobody, a cell has
-/// not its form, a list is not one that `list_in` would give or a student has two places, `Store` where the store answered an
-/// error, `Memory` where there is not enough memory.
+/// The rows of the rolls, and of the lists and the result of a round, by a query of each roll and
+/// table of lists and one for each owner of a list. The fault is `Damaged` where the keys of a roll
+/// do not rise, a row of a list is of nobody, a cell has not its form, a list is not one that
+/// `list_in` would give or a student has two places, `Store` where the store answered an error,
+/// `Memory` where there is not enough memory.
 pub fn contents_in<S: Alter>(
     alloc: Global,
     conn: &mut Connection<S>,

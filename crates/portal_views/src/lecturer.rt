@@ -2,11 +2,13 @@
 
 ghost use Rattle.std.specs.Prelude.{◌≡◌};
 ghost use Rattle.portal_views.specs.inner.Base.{IfOk, option_map, map, column, bytes, state};
-ghost use Rattle.portal_views.specs.inner.Callers.{with_persons, own_keys_shown, lecturer_sees_with, lecturer_shown};
+ghost use Rattle.portal_views.specs.inner.Callers.{with_persons, own_keys_shown};
+ghost use Rattle.portal_views.specs.inner.Callers.{lecturer_sees_with, lecturer_shown};
 ghost use Rattle.portal_views.specs.inner.Lines.{HasTables};
 ghost use Rattle.portal_views.specs.inner.Catalogue.{IsCatalogue, own_listed};
 ghost use Rattle.portal_tables.specs.inner.Owners.{with_list, ranking_shown};
-ghost use Rattle.portal_tables.specs.inner.Reading.{RunsQueries, RunsQueriesIn, YieldsOf, YieldsSound};
+ghost use Rattle.portal_tables.specs.inner.Reading.{RunsQueries, RunsQueriesIn, YieldsOf};
+ghost use Rattle.portal_tables.specs.inner.Reading.{YieldsSound};
 ghost use Rattle.portal_tables.specs.inner.Shown.{first_cell};
 
 use crate::applicants::{ProjectStudents, project_students};
@@ -63,7 +65,8 @@ fn keys_asked<S: Alter>(
     keys_of(alloc, &rows)
 }
 
-/// The keys of the lecturer's projects: in the first round those of the catalogue, which has them all, in the second by a query.
+/// The keys of the lecturer's projects: in the first round those of the catalogue, which has them
+/// all, in the second by a query.
 fn own_projects<S: Alter>(
     alloc: Global,
     conn: &mut Connection<S>,
@@ -134,9 +137,10 @@ fn lecturer_view_of(
     })
 }
 
-/// What the lecturer sees whose row this is, in this round and phase, with the catalogue. In the first round it is to be that of
-/// the tables: the own projects are then taken of it. The fault is `Damaged` where rows are not as the portal writes them,
-/// `Store` where the store answered an error, `Memory` where there is not enough memory.
+/// What the lecturer sees whose row this is, in this round and phase, with the catalogue. In the
+/// first round it is to be that of the tables: the own projects are then taken of it. The fault is
+/// `Damaged` where rows are not as the portal writes them, `Store` where the store answered an
+/// error, `Memory` where there is not enough memory.
 pub fn lecturer_view<S: Alter>(
     alloc: Global,
     conn: &mut Connection<S>,

@@ -34,9 +34,9 @@ fn keys_but(
     Ok(keys)
 }
 
-/// The keys of the students whose rows these are, who take part in the round, in their order, but for those that the others begin with. The
-/// fault is `Damaged` where the keys of the others do not rise or one of the rows does not begin with a key, `Memory` where there is not
-/// enough memory.
+/// The keys of the students whose rows these are, who take part in the round, in their order, but
+/// for those that the others begin with. The fault is `Damaged` where the keys of the others do not
+/// rise or one of the rows does not begin with a key, `Memory` where there is not enough memory.
 pub(crate) fn keys_left(
     alloc: Global,
     round: Round,

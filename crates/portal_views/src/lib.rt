@@ -1,5 +1,6 @@
-//! What a student, a lecturer and the office are shown, by queries of the tables: the catalogue, what may be told of students, what each of
-//! the three sees, and all rows of the rolls with their lists. It knows rows and no world.
+//! What a student, a lecturer and the office are shown, by queries of the tables: the catalogue,
+//! what may be told of students, what each of the three sees, and all rows of the rolls with their
+//! lists. It knows rows and no world.
 #![tactic(auto)]
 
 mod applicants;

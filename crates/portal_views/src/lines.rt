@@ -1,11 +1,12 @@
-//! What may be told of a student: of one, of those whose keys rows begin with, and of those whose list holds a project. Each is
-//! asked for by key.
+//! What may be told of a student: of one, of those whose keys rows begin with, and of those whose
+//! list holds a project. Each is asked for by key.
 
 ghost use Rattle.std.specs.Prelude.{◌≡◌, ◌∷◌};
 ghost use Rattle.portal_views.specs.inner.Base.{[], Err, IfOk, Some, map, column, bytes, state};
 ghost use Rattle.portal_tables.specs.inner.Reading.{RunsQueriesIn, YieldsOf, YieldsSound};
 ghost use Rattle.portal_tables.specs.inner.Shown.{first_cell};
-ghost use Rattle.portal_views.specs.inner.Lines.{HasTables, IsNamed, told_line, in_round, applicant_at, applicant_lines};
+ghost use Rattle.portal_views.specs.inner.Lines.{HasTables, IsNamed, told_line, in_round};
+ghost use Rattle.portal_views.specs.inner.Lines.{applicant_at, applicant_lines};
 
 use portal_core::{Person, Round};
 use portal_tables::cells::{assigned_at, bytes_at, key_at, name_at};
@@ -16,8 +17,8 @@ use spa_rows::Key;
 use sqlite::{Alter, Connection, Row};
 use std::alloc::{AllocError, Global};
 
-/// The person whose row of a roll this is: key and name come first. The fault is `Damaged` where one of them has not its form,
-/// `Memory` where there is not enough memory.
+/// The person whose row of a roll this is: key and name come first. The fault is `Damaged` where
+/// one of them has not its form, `Memory` where there is not enough memory.
 pub(crate) fn person_at(alloc: Global, row: &Row) -> Result<Person, TableFault>
     ensures ok { IfOk result (λ p. p
         ≡ record { key = first_cell row.now; name = bytes (column row.now 1) }) }
@@ -109,7 +110,8 @@ fn lines_from<S: Alter>(
     rows: &[Row],
 ) -> Result<Vec<ApplicantLine>, TableFault>
     ensures told { YieldsOf HasTables S.Store conn.old conn.new result
-        (λ db v. map Some v.items ≡ map (λ c. applicant_at round db.trees (first_cell c)) rows.now) }
+        (λ db v. map Some v.items ≡ map (λ c. applicant_at round db.trees
+        (first_cell c)) rows.now) }
     ensures reads { RunsQueriesIn round result (state S.Store conn.old) (state S.Store conn.new) }
 {
     let mut lines = Vec::new(alloc);
@@ -119,8 +121,9 @@ fn lines_from<S: Alter>(
     Ok(lines)
 }
 
-/// The lines of the students whose list of the round holds the project, by their keys. The fault is `Damaged` where rows are not as the
-/// portal writes them, `Store` where the store answered an error, `Memory` where there is not enough memory.
+/// The lines of the students whose list of the round holds the project, by their keys. The fault is
+/// `Damaged` where rows are not as the portal writes them, `Store` where the store answered an
+/// error, `Memory` where there is not enough memory.
 pub(crate) fn lines_to<S: Alter>(
     alloc: Global,
     conn: &mut Connection<S>,

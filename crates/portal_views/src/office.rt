@@ -3,9 +3,12 @@
 ghost use Rattle.std.specs.Prelude.{◌≡◌, ◌&&◌, if◌then◌else◌};
 ghost use Rattle.portal_core.specs.World.{is_from_ranking};
 ghost use Rattle.portal_views.specs.inner.Base.{[], Some, None, IfOk, map, state, equals};
-ghost use Rattle.portal_views.specs.inner.Office.{HasWholeLists, is_chosen_shown, is_wanted_shown, waiting_key, waiting_keys, unlisted, office_sees_with, office_shown};
+ghost use Rattle.portal_views.specs.inner.Office.{HasWholeLists, is_chosen_shown, is_wanted_shown};
+ghost use Rattle.portal_views.specs.inner.Office.{waiting_key, waiting_keys, unlisted};
+ghost use Rattle.portal_views.specs.inner.Office.{office_sees_with, office_shown};
 ghost use Rattle.portal_tables.specs.inner.Reading.{RunsQueriesIn, YieldsOf};
-ghost use Rattle.portal_tables.specs.inner.Shown.{first_cell, shown_lecturer, shown_project, shown_student};
+ghost use Rattle.portal_tables.specs.inner.Shown.{first_cell, shown_lecturer, shown_project};
+ghost use Rattle.portal_tables.specs.inner.Shown.{shown_student};
 
 use crate::left::keys_left;
 use portal_core::{Listing, OfficeView, Phase, Round};
@@ -218,8 +221,9 @@ fn view_of_rolls<S: Alter>(
     )
 }
 
-/// What the office sees in this round, whose row and catalogue these are. The fault is `Damaged` where rows are not as the portal
-/// writes them, `Store` where the store answered an error, `Memory` where there is not enough memory.
+/// What the office sees in this round, whose row and catalogue these are. The fault is `Damaged`
+/// where rows are not as the portal writes them, `Store` where the store answered an error,
+/// `Memory` where there is not enough memory.
 pub fn office_view<S: Alter>(
     alloc: Global,
     conn: &mut Connection<S>,

@@ -40,9 +40,10 @@ fn student_view_of(
     })
 }
 
-/// What the student sees whose row this is, in this round and phase, with the catalogue. The fault is `Damaged` where key, name, a
-/// name of the list or a place has not its form, the list has a gap or the second round gives two places, `Store` where the store answered
-/// an error, `Memory` where there is not enough memory.
+/// What the student sees whose row this is, in this round and phase, with the catalogue. The fault
+/// is `Damaged` where key, name, a name of the list or a place has not its form, the list has a gap
+/// or the second round gives two places, `Store` where the store answered an error, `Memory` where
+/// there is not enough memory.
 pub fn student_view<S: Alter>(
     alloc: Global,
     conn: &mut Connection<S>,

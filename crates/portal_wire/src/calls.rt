@@ -9,7 +9,8 @@ ghost use Rattle.portal_frame.specs.Stream.{seen, refused};
 ghost use Rattle.portal_core.specs.AbstractCall.{AbstractCall};
 ghost use Rattle.portal_wire.specs.declared.calls.CallFault.TheVariants as why;
 ghost use Rattle.portal_wire.specs.Refusals.{no_memory};
-ghost use Rattle.portal_wire.specs.Wish.{turned_away, get_at, put_at, post_at, to_move, wish_at, wish_of, by_body, by_roll};
+ghost use Rattle.portal_wire.specs.Wish.{turned_away, get_at, put_at, post_at, to_move, wish_at};
+ghost use Rattle.portal_wire.specs.Wish.{wish_of, by_body, by_roll};
 ghost use Rattle.portal_wire.specs.Bodies.{move_in, nothing_in};
 ghost use Rattle.portal_wire.specs.Calls.{IsCallOf, told_by, of_body, of_roll};
 
@@ -125,7 +126,8 @@ fn move_call(alloc: Global, body: &[u8]) -> Result<Call, CallFault>
 
 /// The filling of missing rankings, by a body that says nothing.
 fn fill_call(alloc: Global, body: &[u8]) -> Result<Call, CallFault>
-    ensures wish { IsCallOf (by_body (λ u. AbstractCall.FillRankings) (nothing_in body.now)) result }
+    ensures wish { IsCallOf (by_body (λ u. AbstractCall.FillRankings)
+        (nothing_in body.now)) result }
     ensures form { IfOk result (λ call. HasForm (call_model call)) }
 {
     read_empty(alloc, body)?;

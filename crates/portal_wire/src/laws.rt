@@ -10,7 +10,8 @@ use portal_frame::laws::opens_some;
 pub fn stream_once()
     ensures { (bytes : List ℕ) (asked others : List Request) (end last : Last)
         (closing text : List ℕ)
-        → Requests bytes asked end closing → Requests bytes others last text → (asked ≡ others) × (end ≡ last) × (closing ≡ text) }
+        → Requests bytes asked end closing → Requests bytes others last text
+        → (asked ≡ others) × (end ≡ last) × (closing ≡ text) }
 {}
 
 /// Each stream has such a list, such an ending and such a text.

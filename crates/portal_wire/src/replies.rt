@@ -3,7 +3,8 @@
 ghost use Rattle.std.specs.Prelude.{◌≡◌, IfOk, OnOk, ◌++◌, string_bytes};
 ghost use Rattle.portal_core.specs.Answer.{HasWholeNumbers};
 ghost use Rattle.portal_core.specs.Meaning.{reply_model, body_model};
-ghost use Rattle.portal_wire.specs.Text.{reply_text, phrase_of, type_of, body_bytes, reply_lines, common_lines, allow_line, close_line};
+ghost use Rattle.portal_wire.specs.Text.{reply_text, phrase_of, type_of, body_bytes, reply_lines};
+ghost use Rattle.portal_wire.specs.Text.{common_lines, allow_line, close_line};
 
 use http::StatusCode;
 use portal_core::{Body, Reply};
@@ -107,7 +108,8 @@ fn push_close(text: &mut String, close: bool) -> Result<(), AllocError>
 
 /// The lines of a reply, with the empty line after them.
 fn head_text(alloc: Global, reply: &Reply, length: usize, close: bool) -> Result<String, AllocError>
-    ensures { IfOk result (λ text. string_bytes text ≡ reply_lines (reply_model reply.now) length close) }
+    ensures { IfOk result (λ text. string_bytes text
+        ≡ reply_lines (reply_model reply.now) length close) }
 {
     let mut text = first_lines(alloc, reply, length)?;
     push_allow(&mut text, reply.allow)?;
@@ -116,8 +118,8 @@ fn head_text(alloc: Global, reply: &Reply, length: usize, close: bool) -> Result
     Ok(text)
 }
 
-/// The bytes of a reply: its lines and its body, which is left out with `head_only`; `close` says that
-/// the connection ends.
+/// The bytes of a reply: its lines and its body, which is left out with `head_only`; `close` says
+/// that the connection ends.
 ///
 /// # Errors
 ///

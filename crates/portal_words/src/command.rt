@@ -1,6 +1,7 @@
 //! The commands, and the words that ask for each.
 
-ghost use Rattle.std.specs.Prelude.{◌≡◌, ◌∷◌, [], codes, drop, map, IfOk, IfErr, IsTrue, IsSomeAnd, Option, Some, None};
+ghost use Rattle.std.specs.Prelude.{◌≡◌, ◌∷◌, [], codes, drop, map, IfOk, IfErr, IsTrue, IsSomeAnd};
+ghost use Rattle.std.specs.Prelude.{Option, Some, None};
 ghost use Rattle.clap.specs.Words.{Text, first_of, found_of, kind_of, rows_of, subcommand_rows_of};
 ghost use Rattle.portal_words.specs.inner.Asks.{Asks, ChecksFile, SolvesFile};
 ghost use Rattle.portal_words.specs.Line.{is_file_word};
@@ -97,8 +98,8 @@ fn parsed<'a, S: AsStr>(alloc: Global, words: &'a [S]) -> Result<ArgMatches<'a>,
     portal(alloc)?.try_get_matches_from(words)
 }
 
-/// What the words ask for. The first word is the program's name; behind `check` and `solve` a word with no `-` in front names
-/// the file.
+/// What the words ask for. The first word is the program's name; behind `check` and `solve` a word
+/// with no `-` in front names the file.
 pub fn command_of<'a, S: AsStr>(alloc: Global, words: &'a [S]) -> Result<Asked<'a>, AllocError>
     ensures check { drop 1 (map S.text words.entry.now) ≡ codes "check" ∷ []
         → IfOk result (λ a. a ≡ Asked.Do (Command.Check None)) }

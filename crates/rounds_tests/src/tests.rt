@@ -1,4 +1,5 @@
-//! A desk over a database in memory, or on a disk that fails, by the bytes of its requests and replies.
+//! A desk over a database in memory, or on a disk that fails, by the bytes of its requests and
+//! replies.
 
 mod failed_reads;
 mod second;

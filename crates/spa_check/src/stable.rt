@@ -2,7 +2,8 @@
 
 ghost use Rattle.std.specs.Prelude.{◌≡◌, ◌<◌, ◌↔◌, ◌⊎◌, ℕ, IsTrue, MatchOption, length};
 ghost use Rattle.spa_model.specs.declared.letter.Letter.{Letter};
-ghost use Rattle.spa_model.specs.Spa.{IsMatching, Blocks, Wants, SomeWorseAt, SomeWorseWith, IsWith, IsStable, is_lecturer, project_of, lecturer_of};
+ghost use Rattle.spa_model.specs.Spa.{IsMatching, Blocks, Wants, SomeWorseAt, SomeWorseWith};
+ghost use Rattle.spa_model.specs.Spa.{IsWith, IsStable, is_lecturer, project_of, lecturer_of};
 
 use crate::wants::wanted;
 use spa_model::{Instance, Letter, Matching};

@@ -31,7 +31,8 @@ pub(crate) fn wanted<'a>(instance: &'a Instance, matching: &Matching, s: usize) 
 
 /// The least number of the list that is not below `from`.
 pub(crate) fn least_from(list: &[usize], from: usize) -> Option<usize>
-    ensures { MatchOption result (length (not_below from list.now) ≡ 0) (IsLeastIn (not_below from list.now)) }
+    ensures { MatchOption result (length (not_below from list.now)
+        ≡ 0) (IsLeastIn (not_below from list.now)) }
 {
     list.iter().copied().filter(|p| *p >= from).min()
 }

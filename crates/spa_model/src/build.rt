@@ -33,7 +33,8 @@ fn instance_of(
     requires faultless { HasNoneBefore (rows_of lecturers.now projects.now students.now) NotApplicant }
     ensures ok { IfOk result (λ i. StandsFor (rows_of lecturers.now projects.now students.now) i) }
     ensures sound { OnOk result (HasNoneBefore (rows_of lecturers.now projects.now students.now) Memory) }
-    ensures err { IfErr result (λ e. IsRefusal (rows_of lecturers.now projects.now students.now) e.fault e.row) }
+    ensures err { IfErr result
+        (λ e. IsRefusal (rows_of lecturers.now projects.now students.now) e.fault e.row) }
 {
     let student_rows = number_students(alloc, students, projects)?;
     let project_rows = number_projects(alloc, projects, lecturers)?;

@@ -1,7 +1,8 @@
 //! Whether projects of students are a matching.
 
 ghost use Rattle.std.specs.Prelude.{◌≡◌, ◌<◌, ◌≤◌, ◌↔◌, ℕ, IsTrue, Some, length};
-ghost use Rattle.spa_model.specs.Spa.{IsOn, at_project, at_lecturer, project_of, is_project, is_lecturer, capacity_of, limit_of};
+ghost use Rattle.spa_model.specs.Spa.{IsOn, at_project, at_lecturer, project_of, is_project};
+ghost use Rattle.spa_model.specs.Spa.{is_lecturer, capacity_of, limit_of};
 ghost use Rattle.spa_model.specs.inner.Fitting.{AreAcceptable};
 
 use crate::instance::Instance;
@@ -79,7 +80,8 @@ pub(crate) fn count_with(instance: &Instance, projects: &[Option<usize>], l: usi
 /// Whether no lecturer has more students than the capacity.
 pub(crate) fn lecturers_fit(instance: &Instance, projects: &[Option<usize>]) -> bool
     requires { AreAcceptable instance.now projects.now }
-    ensures { IsTrue result ↔ ((l : ℕ) → at_lecturer instance.now projects.now l ≤ limit_of instance.now l) }
+    ensures { IsTrue result
+        ↔ ((l : ℕ) → at_lecturer instance.now projects.now l ≤ limit_of instance.now l) }
 {
     let _lawful = instance.students();
     for l in 0..instance.lecturers() {

@@ -4,7 +4,9 @@ ghost use Rattle.std.specs.Prelude.{◌≡◌, ◌<◌, ◌↔◌, [], IsTrue, I
 ghost use Rattle.std.specs.Ordering.{nat_cmp};
 ghost use Rattle.std.specs.Cmp.Lexicographic.{slice_cmp};
 ghost use Rattle.spa_model.specs.Pairs.{number_in};
-ghost use Rattle.spa_model.specs.Spa.{choices_of, lecturer_of, capacity_of, ranking_of, limit_of, rank_in, IsBefore, IsLawful, IsMatching, IsAcceptable, project_of, at_project, at_lecturer};
+ghost use Rattle.spa_model.specs.Spa.{choices_of, lecturer_of, capacity_of, ranking_of, limit_of};
+ghost use Rattle.spa_model.specs.Spa.{rank_in, IsBefore, IsLawful, IsMatching, IsAcceptable};
+ghost use Rattle.spa_model.specs.Spa.{project_of, at_project, at_lecturer};
 
 use crate::fits::{are_acceptable, count_at, count_with, lecturers_fit, projects_fit};
 use crate::matching::Matching;
@@ -52,7 +54,8 @@ impl Model for Instance {
 
     ghost view = { λ a. spa_of a.students.items a.projects.items a.lecturers.items };
 
-    ghost invariant = { λ a. IsLawful (spa_of a.students.items a.projects.items a.lecturers.items) × HaveRanks (length a.students.items) a.lecturers.items };
+    ghost invariant = { λ a. IsLawful (spa_of a.students.items a.projects.items a.lecturers.items)
+        × HaveRanks (length a.students.items) a.lecturers.items };
 }
 
 impl Instance {

@@ -10,7 +10,8 @@ ghost use Rattle.spa_model.specs.declared.letter.Letter.{Letter};
 
 /// A pair that blocks a matching blocks it by one letter alone.
 pub fn one_letter()
-    ensures { (i : Spa) (m : List (Option ℕ)) (s p : ℕ) (x y : Letter) → Blocks i m s p x → Blocks i m s p y → x ≡ y }
+    ensures { (i : Spa) (m : List (Option ℕ)) (s p : ℕ) (x y : Letter) → Blocks i m s p x
+        → Blocks i m s p y → x ≡ y }
 {}
 
 /// Two matchings that are best for the students are one.
@@ -20,5 +21,6 @@ pub fn best_is_one()
 
 /// Rows without a fault are those of one instance alone.
 pub fn instance_is_one()
-    ensures { (rows : Rows) (i j : Spa) → HasNoneBefore rows Memory → IsLawful i → StandsFor rows i → IsLawful j → StandsFor rows j → i ≡ j }
+    ensures { (rows : Rows) (i j : Spa) → HasNoneBefore rows Memory → IsLawful i → StandsFor rows i
+        → IsLawful j → StandsFor rows j → i ≡ j }
 {}

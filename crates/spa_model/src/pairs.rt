@@ -1,6 +1,7 @@
 //! The pairs of a matching: one function for each fault, which answers the least row that has it.
 
-ghost use Rattle.std.specs.Prelude.{◌≡◌, ◌<◌, ◌≤◌, ◌↔◌, IfOk, IfErr, OnOk, All, IsTrue, length, map};
+ghost use Rattle.std.specs.Prelude.{◌≡◌, ◌<◌, ◌≤◌, ◌↔◌, IfOk, IfErr, OnOk, All, IsTrue, length};
+ghost use Rattle.std.specs.Prelude.{map};
 ghost use Rattle.spa_rows.specs.Least.{IsLeastOf, least_row};
 ghost use Rattle.spa_model.specs.Spa.{IsDistinct};
 ghost use Rattle.spa_model.specs.Pairs.{HasPairFault, IsPairRefusal, student_in, project_in};
@@ -220,7 +221,8 @@ pub(crate) fn assigned(
     requires size { length students.now ≡ length projects.now }
     requires known { All (λ s. s < length instance.now.choices) students.now }
     requires apart { IsDistinct students.now }
-    ensures { IfOk result (λ own. AreAssigned (length instance.now.choices) students.now projects.now own.items) }
+    ensures { IfOk result
+        (λ own. AreAssigned (length instance.now.choices) students.now projects.now own.items) }
 {
     let mut own = vec![in alloc; None; instance.students()]?;
     for (j, s) in students.iter().enumerate() {

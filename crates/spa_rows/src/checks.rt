@@ -92,7 +92,8 @@ fn lists_too_long(rows: &InstanceRows) -> Option<u32>
 
 /// Refuses the fault at the row that has it, if there is one.
 pub fn refuse(fault: InstanceFault, row: Option<u32>) -> Result<(), BadInstance>
-    ensures { MatchOption row (IsOk result) (λ r. result ≡ Err (record { fault = fault; row = r })) }
+    ensures { MatchOption row (IsOk result) (λ r. result
+        ≡ Err (record { fault = fault; row = r })) }
 {
     match row {
         Some(row) => Err(BadInstance { fault, row }),

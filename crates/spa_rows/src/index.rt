@@ -1,6 +1,7 @@
 //! The place of each key among lines.
 
-ghost use Rattle.std.specs.Prelude.{◌≡◌, ◌<◌, ◌↔◌, IsTrue, IfNone, IfOk, IfSome, length, slice_index_or};
+ghost use Rattle.std.specs.Prelude.{◌≡◌, ◌<◌, ◌↔◌, IsTrue, IfNone, IfOk, IfSome, length};
+ghost use Rattle.std.specs.Prelude.{slice_index_or};
 ghost use Rattle.spa_rows.specs.Faults.{IsKeyOf};
 ghost use Rattle.std.specs.HashMap.{get};
 ghost use Rattle.spa_rows.specs.inner.Index.{text_eq};
@@ -17,8 +18,8 @@ fn place_of(places: &HashMap<&[u8], usize>, key: &[u8]) -> Option<usize>
     places.get(&key).copied()
 }
 
-/// Lines, and the place of each key among them. Keys can be made that the map tells apart one by one; a search
-/// then looks at each line once at most.
+/// Lines, and the place of each key among them. Keys can be made that the map tells apart one by
+/// one; a search then looks at each line once at most.
 #[derive(Drop)]
 pub struct Places<'a, L: Line> {
     lines: &'a [L],
@@ -57,7 +58,8 @@ impl<'a, L: Line> Places<'a, L> {
 
     /// The place of a line with this key, if there is one.
     pub fn find(&self, key: &[u8]) -> Option<usize>
-        ensures found { IfSome result (λ k. (k < length self.now) × ((d : L) → L.key_of (slice_index_or self.now k d) ≡ key.now)) }
+        ensures found { IfSome result (λ k. (k < length self.now)
+            × ((d : L) → L.key_of (slice_index_or self.now k d) ≡ key.now)) }
         ensures none { IfNone result (IsKeyOf self.now L.key_of key.now → ⊥) }
     {
         place_of(&self.places, key)

@@ -1,10 +1,12 @@
 //! The key of a student, a lecturer or a project.
 
-ghost use Rattle.std.specs.Prelude.{◌≡◌, true, false, IfSome, IfNone, Some, Err, OnOk, IfOk, IsTrue, refl};
+ghost use Rattle.std.specs.Prelude.{◌≡◌, true, false, IfSome, IfNone, Some, Err, OnOk, IfOk};
+ghost use Rattle.std.specs.Prelude.{IsTrue, refl};
 ghost use Rattle.std.specs.List.{list_all};
 ghost use Rattle.std.proofs.Common.{rules};
 ghost use Rattle.std.specs.Ordering.{nat_cmp};
-ghost use Rattle.std.specs.Cmp.Lexicographic.{slice_cmp, nat_list_cmp_total, nat_list_eq_equiv, texts_po, texts_ties};
+ghost use Rattle.std.specs.Cmp.Lexicographic.{slice_cmp, nat_list_cmp_total, nat_list_eq_equiv};
+ghost use Rattle.std.specs.Cmp.Lexicographic.{texts_po, texts_ties};
 ghost use Rattle.std.specs.Cmp.Rules.{hashing};
 ghost use Rattle.std.specs.Hash as fed;
 ghost use Rattle.std.specs.Str.{bytes_eq, is_utf8};

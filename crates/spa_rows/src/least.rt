@@ -1,6 +1,7 @@
 //! One function for each fault of lines: the least row that has it.
 
-ghost use Rattle.std.specs.Prelude.{◌≡◌, ◌<◌, ◌↔◌, false, if◌then◌else◌, IfOk, IsSortedByKey, IsTrue, Some, length, map};
+ghost use Rattle.std.specs.Prelude.{◌≡◌, ◌<◌, ◌↔◌, false, if◌then◌else◌, IfOk, IsSortedByKey};
+ghost use Rattle.std.specs.Prelude.{IsTrue, Some, length, map};
 ghost use Rattle.std.specs.Ordering.{nat_cmp};
 ghost use Rattle.std.specs.Cmp.Lexicographic.{slice_cmp};
 ghost use Rattle.spa_rows.specs.Faults.{IsBadCapacity, IsEarlierKey, IsKeyOf, NamesNone, Repeats};
@@ -51,7 +52,8 @@ pub(crate) fn bad_key<L: Line>(lines: &[L]) -> Option<u32>
 
 /// The least row of a line with the key of an earlier one.
 pub(crate) fn key_twice<L: Line>(alloc: Global, lines: &[L]) -> Result<Option<u32>, AllocError>
-    ensures { IfOk result (IsLeastOf (BadAt lines.now L.row_of (λ j x. IsEarlierKey lines.now L.key_of j (L.key_of x)))) }
+    ensures { IfOk result (IsLeastOf (BadAt lines.now L.row_of
+        (λ j x. IsEarlierKey lines.now L.key_of j (L.key_of x)))) }
 {
     let mut seen = BTreeSet::new(alloc);
     let mut best = None;
@@ -64,7 +66,8 @@ pub(crate) fn key_twice<L: Line>(alloc: Global, lines: &[L]) -> Result<Option<u3
 
 /// The least row of a line whose capacity is not 1 to 200.
 pub(crate) fn bad_capacity<L: Limited>(lines: &[L]) -> Option<u32>
-    ensures { IsLeastOf (BadAt lines.now L.Line.row_of (λ _ x. IsBadCapacity (L.capacity_of x))) result }
+    ensures { IsLeastOf (BadAt lines.now L.Line.row_of
+        (λ _ x. IsBadCapacity (L.capacity_of x))) result }
 {
     let mut best = None;
     for line in lines {
@@ -78,7 +81,8 @@ pub(crate) fn no_such_lecturer(
     lecturers: &Places<LecturerLine>,
     projects: &[ProjectLine],
 ) -> Option<u32>
-    ensures { IsLeastOf (BadAt projects.now (λ x. x.row) (λ _ x. IsKeyOf lecturers.now (λ y. y.key) x.lecturer → ⊥)) result }
+    ensures { IsLeastOf (BadAt projects.now (λ x. x.row)
+        (λ _ x. IsKeyOf lecturers.now (λ y. y.key) x.lecturer → ⊥)) result }
 {
     let mut best = None;
     for project in projects {
@@ -90,7 +94,8 @@ pub(crate) fn no_such_lecturer(
 
 /// Whether some text is the key of no project.
 fn names_none(projects: &Places<ProjectLine>, list: &[Vec<u8>]) -> bool
-    ensures { IsTrue result ↔ NamesNone projects.now (λ x. x.key) (map (λ text. text.items) list.now) }
+    ensures { IsTrue result ↔ NamesNone projects.now (λ x. x.key)
+        (map (λ text. text.items) list.now) }
 {
     for text in list {
         if !projects.has(text) {
@@ -105,7 +110,8 @@ pub(crate) fn no_such_project(
     projects: &Places<ProjectLine>,
     students: &[StudentLine],
 ) -> Option<u32>
-    ensures { IsLeastOf (BadAt students.now (λ x. x.row) (λ _ x. NamesNone projects.now (λ y. y.key) x.list)) result }
+    ensures { IsLeastOf (BadAt students.now (λ x. x.row)
+        (λ _ x. NamesNone projects.now (λ y. y.key) x.list)) result }
 {
     let mut best = None;
     for student in students {
@@ -127,8 +133,8 @@ fn repeats_in_few(alloc: Global, list: &[Vec<u8>]) -> Result<bool, AllocError>
     Ok(false)
 }
 
-/// Whether two places of a long list have one text. Texts can be made that a hash set tells apart one by one, and a
-/// tree never takes long.
+/// Whether two places of a long list have one text. Texts can be made that a hash set tells apart
+/// one by one, and a tree never takes long.
 fn repeats_in_many(alloc: Global, list: &[Vec<u8>]) -> Result<bool, AllocError>
     ensures { IfOk result (λ yes. IsTrue yes ↔ Repeats (map (λ text. text.items) list.now)) }
 {
@@ -157,7 +163,8 @@ pub(crate) fn repeat_in_list<L: Listing>(
     alloc: Global,
     lines: &[L],
 ) -> Result<Option<u32>, AllocError>
-    ensures { IfOk result (IsLeastOf (BadAt lines.now L.Line.row_of (λ _ x. Repeats (L.list_of x)))) }
+    ensures { IfOk result (IsLeastOf (BadAt lines.now L.Line.row_of
+        (λ _ x. Repeats (L.list_of x)))) }
 {
     let mut best = None;
     for line in lines {

@@ -17,7 +17,8 @@ impl Model for LecturerLine {
 
     ghost Value = { Lecturer };
 
-    ghost view = { λ x. record { row = x.row; key = x.key.items; capacity = x.capacity; list = map (λ text. text.items) x.list.items } };
+    ghost view = { λ x. record { row = x.row; key = x.key.items; capacity = x.capacity; list = map
+        (λ text. text.items) x.list.items } };
 }
 
 /// A project, and the lecturer who offers it.
@@ -51,7 +52,8 @@ impl Model for StudentLine {
 
     ghost Value = { Student };
 
-    ghost view = { λ x. record { row = x.row; key = x.key.items; list = map (λ text. text.items) x.list.items } };
+    ghost view = { λ x. record { row = x.row; key = x.key.items; list = map
+        (λ text. text.items) x.list.items } };
 }
 
 /// A student at a project.

@@ -26,9 +26,12 @@ pub fn sort_rows(rows: &mut InstanceRows) -> Result<(), AllocError>
     ensures lecturers { IsPermutation rows.old.lecturers rows.new.lecturers }
     ensures projects { IsPermutation rows.old.projects rows.new.projects }
     ensures students { IsPermutation rows.old.students rows.new.students }
-    ensures sorted_lecturers { OnOk result (IsSortedByKey (λ x. x.key) (slice_cmp nat_cmp) rows.new.lecturers) }
-    ensures sorted_projects { OnOk result (IsSortedByKey (λ x. x.key) (slice_cmp nat_cmp) rows.new.projects) }
-    ensures sorted_students { OnOk result (IsSortedByKey (λ x. x.key) (slice_cmp nat_cmp) rows.new.students) }
+    ensures sorted_lecturers { OnOk result (IsSortedByKey (λ x. x.key)
+        (slice_cmp nat_cmp) rows.new.lecturers) }
+    ensures sorted_projects { OnOk result (IsSortedByKey (λ x. x.key)
+        (slice_cmp nat_cmp) rows.new.projects) }
+    ensures sorted_students { OnOk result (IsSortedByKey (λ x. x.key)
+        (slice_cmp nat_cmp) rows.new.students) }
 {
     sort_lines(&mut rows.lecturers)?;
     sort_lines(&mut rows.projects)?;

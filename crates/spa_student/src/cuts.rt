@@ -1,8 +1,13 @@
 //! Cursors into the lists, and cuts in the rankings: no list gets shorter.
 
-ghost use Rattle.std.specs.Prelude.{◌≡◌, ◌≢◌, ◌<◌, ◌≤◌, ◌+◌, ◌↔◌, ◌⊎◌, ℕ, IfOk, IfSome, MatchOption, IsTrue, Some, None, length, slice_set, slice_index, sum, map};
-ghost use Rattle.spa_model.specs.Spa.{IsBest, IsWith, IsAcceptable, choices_of, project_of, lecturer_of, ranking_of};
-ghost use Rattle.spa_student.specs.inner.Cuts.{IsPastCut, IsUncut, IsUnderWay, AreCounts, AreMarks, IsNextEntry, KeepsCuts, Puts, Leaves, Exchanges, IsSettled};
+ghost use Rattle.std.specs.Prelude.{◌≡◌, ◌≢◌, ◌<◌, ◌≤◌, ◌+◌, ◌↔◌, ◌⊎◌, ℕ, IfOk, IfSome};
+ghost use Rattle.std.specs.Prelude.{MatchOption, IsTrue, Some, None, length, slice_set};
+ghost use Rattle.std.specs.Prelude.{slice_index, sum, map};
+ghost use Rattle.spa_model.specs.Spa.{IsBest, IsWith, IsAcceptable, choices_of, project_of};
+ghost use Rattle.spa_model.specs.Spa.{lecturer_of, ranking_of};
+ghost use Rattle.spa_student.specs.inner.Cuts.{IsPastCut, IsUncut, IsUnderWay, AreCounts, AreMarks};
+ghost use Rattle.spa_student.specs.inner.Cuts.{IsNextEntry, KeepsCuts, Puts, Leaves, Exchanges};
+ghost use Rattle.spa_student.specs.inner.Cuts.{IsSettled};
 ghost use Rattle.spa_student.specs.inner.Machine.{rank_of};
 ghost use Rattle.spa_student.specs.inner.Worst.{IsWorstAt, IsWorstWith};
 
@@ -44,8 +49,8 @@ impl Progress {
         }
     }
 
-    /// The place of the first entry that is neither passed nor cut; the list's length where there is
-    /// none.
+    /// The place of the first entry that is neither passed nor cut; the list's length where there
+    /// is none.
     fn next(&self, instance: &Instance, s: usize) -> usize
         requires marks { AreMarks instance.now self.now }
         requires in_range { s < length instance.now.choices }
@@ -110,12 +115,14 @@ impl Progress {
         unreachable!()
     }
 
-    /// The place, on its lecturer's ranking, of the worst student at any of the lecturer's projects.
+    /// The place, on its lecturer's ranking, of the worst student at any of the lecturer's
+    /// projects.
     fn worst_with(&self, instance: &Instance, p: usize) -> usize
         requires marks { AreMarks instance.now self.now }
         requires uncut { IsUncut instance.now self.now }
         requires in_range { p < length instance.now.lecturers }
-        requires some { (s : ℕ) × IsWith instance.now self.now.projects.items (lecturer_of instance.now p) s }
+        requires some { (s : ℕ) × IsWith instance.now self.now.projects.items
+            (lecturer_of instance.now p) s }
         ensures in_range { result < length (ranking_of instance.now (lecturer_of instance.now p)) }
         ensures worst { IsWorstWith instance.now self.now.projects.items (lecturer_of instance.now p)
             (slice_index (ranking_of instance.now (lecturer_of instance.now p)) result) }
@@ -182,7 +189,8 @@ impl Progress {
         requires counts { AreCounts instance.now self.old }
         requires uncut { IsUncut instance.now self.old }
         requires in_range { p < length instance.now.lecturers }
-        requires some { (s : ℕ) × IsWith instance.now self.old.projects.items (lecturer_of instance.now p) s }
+        requires some { (s : ℕ) × IsWith instance.now self.old.projects.items
+            (lecturer_of instance.now p) s }
         ensures worst { IsWorstWith instance.now self.old.projects.items (lecturer_of instance.now p) result }
         ensures leaves { Leaves result self.old self.new }
         ensures project_cuts { self.new.project_cuts.items ≡ self.old.project_cuts.items }
@@ -226,7 +234,8 @@ impl Progress {
         requires state { IsUnderWay instance.now self.old }
         requires next { IsNextEntry instance.now self.old s p }
         ensures state { IsUnderWay instance.now self.new }
-        ensures moves { MatchOption result (Puts s p self.old self.new) (λ w. Exchanges s p w self.old self.new) }
+        ensures moves { MatchOption result (Puts s p self.old self.new)
+            (λ w. Exchanges s p w self.old self.new) }
     {
         let _lawful = instance.students();
         let l = instance.lecturer_of(p);
@@ -249,8 +258,10 @@ impl Progress {
         ensures state { IsUnderWay instance.now self.new }
         ensures settled { (x : ℕ) → result ≢ Some x → (x ≡ s) ⊎ IsSettled instance.now self.old x
             → IsSettled instance.now self.new x }
-        ensures free { IfSome result (λ w. (w < length instance.now.choices) × (project_of self.new.projects.items w ≡ None)) }
-        ensures moves { IfSome result (λ w. sum self.old.cursors.items < sum self.new.cursors.items) }
+        ensures free { IfSome result (λ w. (w < length instance.now.choices)
+            × (project_of self.new.projects.items w ≡ None)) }
+        ensures moves { IfSome result
+            (λ w. sum self.old.cursors.items < sum self.new.cursors.items) }
     {
         let list = instance.choices(s);
         let k = self.next(instance, s);
@@ -268,7 +279,8 @@ impl Progress {
         requires in_range { s < length instance.now.choices }
         requires free { project_of self.old.projects.items s ≡ None }
         ensures state { IsUnderWay instance.now self.new }
-        ensures settled { (x : ℕ) → (x ≡ s) ⊎ IsSettled instance.now self.old x → IsSettled instance.now self.new x }
+        ensures settled { (x : ℕ) → (x ≡ s) ⊎ IsSettled instance.now self.old x
+            → IsSettled instance.now self.new x }
     {
         let mut free = s;
         while let Some(w) = self.turn(instance, free) {
@@ -306,7 +318,8 @@ impl Progress {
 
 /// For each project the length of its lecturer's ranking.
 fn first_project_cuts(alloc: Global, instance: &Instance) -> Result<Vec<usize>, AllocError>
-    ensures { IfOk result (λ cuts. cuts.items ≡ map (λ l. length (ranking_of instance.now l)) instance.now.lecturers) }
+    ensures { IfOk result (λ cuts. cuts.items ≡ map
+        (λ l. length (ranking_of instance.now l)) instance.now.lecturers) }
 {
     let mut cuts = Vec::new(alloc);
     for p in 0..instance.projects() {

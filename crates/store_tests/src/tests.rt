@@ -1,4 +1,5 @@
-//! A desk over a database in memory, by the bytes of its requests and replies, and databases that are opened again.
+//! A desk over a database in memory, by the bytes of its requests and replies, and databases that
+//! are opened again.
 
 mod crowds;
 mod damages;

@@ -284,7 +284,8 @@ fn put_keys(rt: &impl Abort, text: &mut String, keys: &[Key]) {
     text.push('/').expect(rt, "memory");
 }
 
-/// The office sees the round in this phase: the students without a list, the lecturers still to rank, and the pairs.
+/// The office sees the round in this phase: the students without a list, the lecturers still to
+/// rank, and the pairs.
 fn is_seen_by_office(
     rt: &(impl Abort + AllocGlobal),
     conn: &mut Connection<MemStore>,

@@ -78,7 +78,8 @@ pub(crate) fn put_key(rt: &impl Abort, text: &mut String, key: &Key) {
     text.push(' ').expect(rt, "memory");
 }
 
-/// The lists of the owners are these, each told by its owner and whom or what it names, with a stroke behind it.
+/// The lists of the owners are these, each told by its owner and whom or what it names, with a
+/// stroke behind it.
 pub(crate) fn tells(
     rt: &(impl Abort + AllocGlobal),
     conn: &mut Connection<MemStore>,
@@ -381,7 +382,8 @@ fn rows_come_by_the_eight(rt: HostRuntime) -> Result<(), Fail> {
     Ok(())
 }
 
-/// Each of the nine students is assigned to the project of the same key, but for the fifth, who has none.
+/// Each of the nine students is assigned to the project of the same key, but for the fifth, who has
+/// none.
 fn assign_nine(
     rt: &(impl Abort + AllocGlobal),
     conn: &mut Connection<MemStore>,

@@ -43,7 +43,8 @@ fn is_taken(rt: HostRuntime) {
     gets(&rt, &mut desk, "/choices", ANN, "200 OK", EMPTY);
 }
 
-/// In the second round a student who has a project may send it, and it is refused as the shortest is.
+/// In the second round a student who has a project may send it, and it is refused as the shortest
+/// is.
 #[test]
 fn is_read_before_it_is_refused(rt: HostRuntime) {
     let mut desk = reopened(&rt);

@@ -1,4 +1,5 @@
-//! In which order a stream is served: a request acts and its reply is written before the next byte is asked for.
+//! In which order a stream is served: a request acts and its reply is written before the next byte
+//! is asked for.
 
 ghost use Rattle.std.specs.Prelude.{None};
 

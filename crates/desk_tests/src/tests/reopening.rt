@@ -1,4 +1,5 @@
-//! The second round as a stream of requests, from its opening to its result, on devices that end or fail.
+//! The second round as a stream of requests, from its opening to its result, on devices that end or
+//! fail.
 
 use crate::tests::conversation::{Asked, Stream};
 use crate::tests::portal::{CYR, gets, published, ranked_again};
@@ -95,8 +96,8 @@ const RESULT: Stream = Stream {
     waits: true,
 };
 
-/// The requests that had not acted are asked on another connection: they get their replies, and the round ends as
-/// it has to.
+/// The requests that had not acted are asked on another connection: they get their replies, and the
+/// round ends as it has to.
 fn goes_on(rt: &(impl Abort + AllocGlobal), desk: &mut Desk<ListKeeper>, acted: usize) {
     let bytes = ROUND.behind(rt, acted);
     let mut source = Counted::new(bytes.as_slice());
@@ -183,8 +184,8 @@ fn is_cut_in_two_places(rt: HostRuntime) {
     }
 }
 
-/// Cut at one place and at each second place behind it. What changes nothing where it is asked again is
-/// asked of one desk, which it has changed at the first of them.
+/// Cut at one place and at each second place behind it. What changes nothing where it is asked
+/// again is asked of one desk, which it has changed at the first of them.
 fn cut_at(
     rt: &(impl Abort + AllocGlobal),
     desk: &mut Desk<ListKeeper>,

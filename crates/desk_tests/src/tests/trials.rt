@@ -48,8 +48,8 @@ pub(crate) fn ended_at(
     assert_eq!(rt; sink.into_inner().as_slice(), wanted.as_slice());
 }
 
-/// A reader fails after so many bytes, given so many at a time: all requests that stand whole in them are
-/// answered, and no more is written.
+/// A reader fails after so many bytes, given so many at a time: all requests that stand whole in
+/// them are answered, and no more is written.
 pub(crate) fn reader_fails_at(
     rt: &(impl Abort + AllocGlobal),
     desk: &mut Desk<ListKeeper>,
@@ -82,8 +82,8 @@ pub(crate) fn reader_fails_at(
     }
 }
 
-/// A writer fails after so many bytes, taken so many at a time: the requests whose replies they reach
-/// have acted.
+/// A writer fails after so many bytes, taken so many at a time: the requests whose replies they
+/// reach have acted.
 pub(crate) fn writer_fails_at(
     rt: &(impl Abort + AllocGlobal),
     desk: &mut Desk<ListKeeper>,

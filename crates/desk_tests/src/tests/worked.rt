@@ -142,8 +142,8 @@ fn ended_at_each_place(
     }
 }
 
-/// Each call of a reader fails in turn: of one that gives a byte at a time, and of one that gives all
-/// that it has.
+/// Each call of a reader fails in turn: of one that gives a byte at a time, and of one that gives
+/// all that it has.
 fn readers_fail(rt: &(impl Abort + AllocGlobal), desk: &mut Desk<ListKeeper>, stream: &Stream) {
     let length = stream.bytes(rt).len();
     for many in 0..=length {
@@ -152,8 +152,8 @@ fn readers_fail(rt: &(impl Abort + AllocGlobal), desk: &mut Desk<ListKeeper>, st
     }
 }
 
-/// Each call of a writer fails in turn: of one that takes a byte at a time, and of one that takes all
-/// that it is given.
+/// Each call of a writer fails in turn: of one that takes a byte at a time, and of one that takes
+/// all that it is given.
 fn writers_fail(rt: &(impl Abort + AllocGlobal), desk: &mut Desk<ListKeeper>, stream: &Stream) {
     let length = stream.output(rt).len();
     for many in 0..length {

@@ -118,7 +118,8 @@ fn ranking_body(alloc: Global, students: Value) -> Result<Value, AllocError>
 
 /// A lecturer asks for the applicants.
 fn show_applicants(alloc: Global, view: &LecturerView) -> Result<Decision, AllocError>
-    ensures { IfOk result (λ decision. decision_model decision ≡ to_lecturer view.now AbstractCall.Applicants) }
+    ensures { IfOk result (λ decision. decision_model decision
+        ≡ to_lecturer view.now AbstractCall.Applicants) }
 {
     if view.phase.is_from_ranking() {
         Ok(shows(applicants_body(alloc, &view.applicants)?))
@@ -129,7 +130,8 @@ fn show_applicants(alloc: Global, view: &LecturerView) -> Result<Decision, Alloc
 
 /// A lecturer asks for the own ranking.
 fn show_ranking(alloc: Global, view: &LecturerView) -> Result<Decision, AllocError>
-    ensures { IfOk result (λ decision. decision_model decision ≡ to_lecturer view.now AbstractCall.ShowRanking) }
+    ensures { IfOk result (λ decision. decision_model decision
+        ≡ to_lecturer view.now AbstractCall.ShowRanking) }
 {
     if view.phase.is_from_ranking() {
         let students = ranking_value(alloc, &view.ranking)?;
@@ -185,7 +187,8 @@ fn set_ranking(alloc: Global, view: &LecturerView, list: &[Vec<u8>]) -> Result<D
 
 /// A lecturer asks for the result.
 fn show_result(alloc: Global, view: &LecturerView) -> Result<Decision, AllocError>
-    ensures { IfOk result (λ decision. decision_model decision ≡ to_lecturer view.now AbstractCall.Result) }
+    ensures { IfOk result (λ decision. decision_model decision
+        ≡ to_lecturer view.now AbstractCall.Result) }
 {
     if view.round.has_result(view.phase) {
         Ok(shows(placed_body(alloc, &view.placed)?))
@@ -200,7 +203,8 @@ pub(crate) fn decide_lecturer(
     view: &LecturerView,
     call: &Call,
 ) -> Result<Decision, AllocError>
-    ensures { IfOk result (λ decision. decision_model decision ≡ to_lecturer view.now (call_model call.now)) }
+    ensures { IfOk result (λ decision. decision_model decision
+        ≡ to_lecturer view.now (call_model call.now)) }
 {
     match call {
         Call::Me => Ok(shows(me_body(alloc, view)?)),

@@ -1,6 +1,7 @@
 //! The office's calls.
 
-ghost use Rattle.std.specs.Prelude.{◌≡◌, ◌∷◌, [], length, map, filter, not, codes, if◌then◌else◌, IfOk};
+ghost use Rattle.std.specs.Prelude.{◌≡◌, ◌∷◌, [], length, map, filter, not, codes, if◌then◌else◌};
+ghost use Rattle.std.specs.Prelude.{IfOk};
 ghost use Rattle.serde_json.specs.View as json;
 ghost use Rattle.serde_json.specs.Data.{string};
 ghost use Rattle.portal_core.specs.Words.{Key, is_empty};
@@ -12,7 +13,9 @@ ghost use Rattle.portal_core.specs.Bodies as shown;
 ghost use Rattle.portal_core.specs.Rolls as rolls;
 ghost use Rattle.portal_core.specs.Rolls.{Took};
 ghost use Rattle.portal_core.specs.Answer as answer;
-ghost use Rattle.portal_core.specs.Answer.{Nothing, Apply, open_where, row_fault, publishes, moves_on, opens, moves_in, moves, to_office, blank, emptied};
+ghost use Rattle.portal_core.specs.Answer.{Nothing, Apply, open_where, row_fault, publishes};
+ghost use Rattle.portal_core.specs.Answer.{moves_on, opens, moves_in, moves, to_office, blank};
+ghost use Rattle.portal_core.specs.Answer.{emptied};
 ghost use Rattle.portal_core.specs.Change.{Fill};
 ghost use Rattle.portal_core.specs.Meaning.{call_model, reply_model, act_model, decision_model};
 
@@ -310,7 +313,8 @@ fn publish(alloc: Global, view: &OfficeView) -> Result<Decision, AllocError>
 
 /// Moves to the round's next phase, or to the current one, which changes nothing.
 fn move_on(alloc: Global, view: &OfficeView, phase: Phase) -> Result<Decision, AllocError>
-    ensures { IfOk result (λ decision. decision_model decision ≡ moves_on view.now view.now.phase phase) }
+    ensures { IfOk result (λ decision. decision_model decision
+        ≡ moves_on view.now view.now.phase phase) }
 {
     match (view.phase, phase) {
         (Phase::Setup, Phase::Setup)
@@ -338,7 +342,8 @@ fn open_second(alloc: Global, view: &OfficeView, phase: Phase) -> Result<Decisio
     }
 }
 
-/// Moves to a phase of the round that is named: the current one, or the second, which opens by its name alone.
+/// Moves to a phase of the round that is named: the current one, or the second, which opens by its
+/// name alone.
 fn move_in(
     alloc: Global,
     view: &OfficeView,

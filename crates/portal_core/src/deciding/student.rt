@@ -113,7 +113,8 @@ fn set_choices(alloc: Global, view: &StudentView, list: &[Vec<u8>]) -> Result<De
 
 /// A student asks for the result.
 fn show_result(alloc: Global, view: &StudentView) -> Result<Decision, AllocError>
-    ensures { IfOk result (λ decision. decision_model decision ≡ to_student view.now AbstractCall.Result) }
+    ensures { IfOk result (λ decision. decision_model decision
+        ≡ to_student view.now AbstractCall.Result) }
 {
     if view.round.has_result(view.phase) {
         Ok(shows(result_body(alloc, &view.result)?))
@@ -128,7 +129,8 @@ pub(crate) fn decide_student(
     view: &StudentView,
     call: &Call,
 ) -> Result<Decision, AllocError>
-    ensures { IfOk result (λ decision. decision_model decision ≡ to_student view.now (call_model call.now)) }
+    ensures { IfOk result (λ decision. decision_model decision
+        ≡ to_student view.now (call_model call.now)) }
 {
     match call {
         Call::Me => Ok(shows(me_body(alloc, view)?)),

@@ -1,4 +1,5 @@
-//! Fills the missing rankings: each lecturer without one gets the applicants in the order of their keys.
+//! Fills the missing rankings: each lecturer without one gets the applicants in the order of their
+//! keys.
 
 ghost use Rattle.std.specs.Prelude.{◌≡◌, IfOk, OnOk, OnErr, map};
 ghost use Rattle.portal_list.specs.inner.Parts.{applicant_keys};

@@ -16,7 +16,8 @@ fn places_of(
     students: &[StudentEntry],
     pairs: &[(Key, Key)],
 ) -> Result<Vec<Option<Key>>, AllocError>
-    ensures { IfOk result (λ v. v.items ≡ map (λ s. placement_in pairs.now s.row.key) students.now) }
+    ensures { IfOk result (λ v. v.items
+        ≡ map (λ s. placement_in pairs.now s.row.key) students.now) }
 {
     let pairs = Pairs::of(alloc, pairs)?;
     let mut places = Vec::with_capacity(alloc, students.len())?;

@@ -1,4 +1,5 @@
-//! A read that fails while a request is answered: it is told as a fault of the store, and never as want of memory.
+//! A read that fails while a request is answered: it is told as a fault of the store, and never as
+//! want of memory.
 
 use crate::tests::second_stops::{FIRST, OPENED, RANKED};
 use crate::tests::steps::{ANN, LEE, OFFICE, office_code, request};
@@ -15,8 +16,8 @@ use std::process::Abort;
 /// A request: method, path, code and body.
 type Request = (&'static str, &'static str, &'static str, &'static str);
 
-/// Whether a read failed, after so many, while the request was answered. If so the reply is 503, the serving stops for the store, and the
-/// desk has failed. If not, the reply is 200.
+/// Whether a read failed, after so many, while the request was answered. If so the reply is 503,
+/// the serving stops for the store, and the desk has failed. If not, the reply is 200.
 fn fails_at(rt: &(impl Abort + AllocGlobal), image: &Image, ask: Request, reads: u64) -> bool {
     let plan = Plan::new(Fault::Read);
     let mut desk = desk_over(rt, connected(rt, image, &plan, TIGHT));
@@ -36,7 +37,8 @@ fn fails_at(rt: &(impl Abort + AllocGlobal), image: &Image, ask: Request, reads:
     came
 }
 
-/// Reads of the request fail: each of the first sixteen, and later ones at growing distances. There are so many at least.
+/// Reads of the request fail: each of the first sixteen, and later ones at growing distances. There
+/// are so many at least.
 fn fails(rt: &(impl Abort + AllocGlobal), image: &Image, ask: Request, least: u64) {
     let mut reads = 0u64;
     for _ in 0..1_000 {
@@ -97,7 +99,8 @@ fn but_last(asks: &'static [Ask]) -> &'static [Ask] {
     }
 }
 
-/// Whether a read failed, after so many, while the instance of a new portal was asked for. If so that is told as a fault of the store.
+/// Whether a read failed, after so many, while the instance of a new portal was asked for. If so
+/// that is told as a fault of the store.
 fn instance_fails_at(rt: &(impl Abort + AllocGlobal), reads: u64) -> bool {
     let plan = Plan::new(Fault::Read);
     let conn = connected(rt, &blank(rt), &plan, TIGHT);

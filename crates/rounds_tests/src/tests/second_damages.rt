@@ -120,8 +120,8 @@ const OF_THE_FIRST: &[&str] = &[
     "UPDATE lecturer SET capacity = 1 WHERE key = 'L1'",
 ];
 
-/// What lists may not be in any phase of the second: of who has a project, of what is not offered in this round, or with a gap; and
-/// there may not be less room than they need.
+/// What lists may not be in any phase of the second: of who has a project, of what is not offered
+/// in this round, or with a gap; and there may not be less room than they need.
 const OF_THE_LISTS: &[&str] = &[
     "INSERT INTO choice2 (student, place, project) VALUES ('S1', 1, 'P3')",
     "INSERT INTO choice2 (student, place, project) VALUES ('S6', 2, 'P1')",
@@ -155,7 +155,8 @@ const DAMAGED_CHOOSING: &[&str] = &[
     "INSERT INTO assigned2 (student, project) VALUES ('S1', 'P1')",
 ];
 
-/// What there may not be in ranking: a ranking of others than the applicants, or of nobody's; a result.
+/// What there may not be in ranking: a ranking of others than the applicants, or of nobody's; a
+/// result.
 const DAMAGED_RANKING: &[&str] = &[
     "DELETE FROM ranking2 WHERE lecturer = 'L2'",
     "DELETE FROM ranking2 WHERE lecturer = 'L2' AND place = 3",
@@ -170,8 +171,9 @@ const DAMAGED_RANKING: &[&str] = &[
     "INSERT INTO assigned2 (student, project) VALUES ('S4', 'P3')",
 ];
 
-/// What the result may not be: there too early, of others than those who are left, not to be had by their lists, above a capacity
-/// of a project or a lecturer with the first one's, or blocked by a pair; and nobody may be still to rank.
+/// What the result may not be: there too early, of others than those who are left, not to be had by
+/// their lists, above a capacity of a project or a lecturer with the first one's, or blocked by a
+/// pair; and nobody may be still to rank.
 const DAMAGED_PUBLISHED: &[&str] = &[
     "UPDATE second SET phase = 2",
     "DELETE FROM assigned2",
@@ -205,8 +207,8 @@ const LONGEST: &[&str] = &[
     "INSERT INTO project (key, lecturer, title, capacity) VALUES ('Q1', 'L3', 'Q', 1), ('Q2', 'L3', 'Q', 1), ('Q3', 'L3', 'Q', 1), ('Q4', 'L3', 'Q', 1), ('Q5', 'L3', 'Q', 1), ('Q6', 'L3', 'Q', 1), ('Q7', 'L3', 'Q', 1), ('Q8', 'L3', 'Q', 1), ('Q9', 'L3', 'Q', 1), ('R1', 'L3', 'Q', 1), ('R2', 'L3', 'Q', 1), ('R3', 'L3', 'Q', 1), ('R4', 'L3', 'Q', 1), ('R5', 'L3', 'Q', 1), ('R6', 'L3', 'Q', 1), ('R7', 'L3', 'Q', 1), ('R8', 'L3', 'Q', 1), ('R9', 'L3', 'Q', 1); INSERT INTO choice2 (student, place, project) VALUES ('S6', 2, 'P3'), ('S6', 3, 'Q1'), ('S6', 4, 'Q2'), ('S6', 5, 'Q3'), ('S6', 6, 'Q4'), ('S6', 7, 'Q5'), ('S6', 8, 'Q6'), ('S6', 9, 'Q7'), ('S6', 10, 'Q8'), ('S6', 11, 'Q9'), ('S6', 12, 'R1'), ('S6', 13, 'R2'), ('S6', 14, 'R3'), ('S6', 15, 'R4'), ('S6', 16, 'R5'), ('S6', 17, 'R6'), ('S6', 18, 'R7'), ('S6', 19, 'R8'), ('S6', 20, 'R9')",
 ];
 
-/// What may be: the next phase, where nothing is missing; lists that are taken back, lists in another order, more room, and one
-/// student more.
+/// What may be: the next phase, where nothing is missing; lists that are taken back, lists in
+/// another order, more room, and one student more.
 const GOOD_CHOOSING: &[&str] = &[
     "UPDATE portal SET id = 1",
     "UPDATE second SET phase = 2",
@@ -318,7 +320,8 @@ fn offers(rt: &(impl Abort + AllocGlobal), listing: &Listing, key: &[u8], room: 
     assert_eq!(rt; listing.capacity, room);
 }
 
-/// The view is that of S6: a list of P4, and the projects that the first round left, with what is left of their room.
+/// The view is that of S6: a list of P4, and the projects that the first round left, with what is
+/// left of their room.
 fn is_of_fay(rt: &(impl Abort + AllocGlobal), student: &StudentView) {
     assert_eq!(rt; student.me.key.as_bytes(), b"S6".as_slice());
     assert!(rt; student.choices.len() == 1 && student.result.is_none());

@@ -1,4 +1,5 @@
-//! What each role is answered in each phase of the second round, by a database in memory and by lists alike.
+//! What each role is answered in each phase of the second round, by a database in memory and by
+//! lists alike.
 
 use crate::tests::steps::{
     ANN, CYR, LEE, MOE, MemDesk, OFFICE, OPENING, WORKED, asked, does, fresh, fresh_lists,
@@ -7,8 +8,8 @@ use portal_desk::Desk;
 use portal_list::ListKeeper;
 use std::process::Abort;
 
-/// Who asks: nobody whom the rolls have, a student with a project and one without, a lecturer without room and one with, and the
-/// office.
+/// Who asks: nobody whom the rolls have, a student with a project and one without, a lecturer
+/// without room and one with, and the office.
 const CALLERS: [&str; 6] = ["nobody-here", ANN, CYR, LEE, MOE, OFFICE];
 
 /// A request, and a mark for what each caller in turn is answered: method, path, body and marks.
@@ -24,7 +25,8 @@ fn status_of(mark: u8) -> &'static str {
     }
 }
 
-/// Each caller asks this of both desks, and is answered as the marks say, by both to the byte alike.
+/// Each caller asks this of both desks, and is answered as the marks say, by both to the byte
+/// alike.
 fn is_answered(
     rt: &(impl Abort + AllocGlobal),
     desk: &mut MemDesk,

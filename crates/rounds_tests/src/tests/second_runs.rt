@@ -186,7 +186,8 @@ fn hears_among<K: Keeper>(
     }
 }
 
-/// A run in which the students hand in these lists, and these others ask. The lecturer hears the same whatever they are.
+/// A run in which the students hand in these lists, and these others ask. The lecturer hears the
+/// same whatever they are.
 fn runs<K: Keeper>(
     rt: &(impl Abort + AllocGlobal),
     desk: &mut Desk<K>,

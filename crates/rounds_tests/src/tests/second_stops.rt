@@ -1,4 +1,5 @@
-//! Changes of the second round on a disk that stops at a write, or fails once at a write or a read, opened again behind each.
+//! Changes of the second round on a disk that stops at a write, or fails once at a write or a read,
+//! opened again behind each.
 
 use crate::tests::steps::{LEE, MOE, OFFICE, OPENING};
 use crate::tests::stops::{Ask, comes, dies};
@@ -56,7 +57,8 @@ pub(crate) const OPENED: &[Ask] = &[
     ),
 ];
 
-/// The lists are closed, a ranking is put and replaced, what is missing filled, and the result published.
+/// The lists are closed, a ranking is put and replaced, what is missing filled, and the result
+/// published.
 pub(crate) const RANKED: &[Ask] = &[
     Ask::Request("POST", "/phase", OFFICE, r#"{"phase":"ranking"}"#),
     Ask::Request("PUT", "/ranking", MOE, r#"{"students":["S4","S5"]}"#),

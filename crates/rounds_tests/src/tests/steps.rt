@@ -86,7 +86,8 @@ pub(crate) fn asked<K: Keeper>(
     written(rt, desk, bytes.as_bytes())
 }
 
-/// What is asked to see a world: it tells the rolls, the phase, each list, each ranking and the result.
+/// What is asked to see a world: it tells the rolls, the phase, each list, each ranking and the
+/// result.
 pub(crate) const SEEN: &[(&str, &str)] = &[
     ("/status", OFFICE),
     ("/catalogue", OFFICE),

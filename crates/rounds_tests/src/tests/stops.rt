@@ -1,4 +1,5 @@
-//! Databases whose disk stops at a write, or fails once at a write or a read, and that are opened again.
+//! Databases whose disk stops at a write, or fails once at a write or a read, and that are opened
+//! again.
 
 use crate::tests::steps::{ANN, BEA, LEE, OFFICE, SEEN, asked, office_code, request, seen};
 use crate::tests::trial::{Fault, Plan, Trial};
@@ -28,8 +29,8 @@ fn memory(rt: &(impl Abort + AllocGlobal), bytes: &[u8]) -> Memory {
     file
 }
 
-/// Little memory for pages, so that a change writes before its end and reads again, and a short log, so that it is copied into
-/// the database in between.
+/// Little memory for pages, so that a change writes before its end and reads again, and a short
+/// log, so that it is copied into the database in between.
 pub(crate) const TIGHT: Options = Options {
     cache_pages: 4,
     spill_pages: 4,
@@ -97,8 +98,8 @@ fn left_byte(way: usize, at: usize, written: u8, safe: u8) -> u8 {
     if is_new { written } else { safe }
 }
 
-/// What a crash may leave of a file, in one of six ways: what is safe (1), sectors by turns (2 and 3), bytes by turns (4), a part
-/// of the growth (5), or rubbish where bytes were written (6).
+/// What a crash may leave of a file, in one of six ways: what is safe (1), sectors by turns (2 and
+/// 3), bytes by turns (4), a part of the growth (5), or rubbish where bytes were written (6).
 fn left_file(rt: &(impl Abort + AllocGlobal), way: usize, written: &[u8], safe: &[u8]) -> Vec<u8> {
     let length = match way {
         1 | 3 => safe.len(),
@@ -121,7 +122,8 @@ fn left_image(rt: &(impl Abort + AllocGlobal), way: usize, written: &Image, safe
     }
 }
 
-/// What files show: whether the tables are those of version 2, and what the portal in them shows, nothing where there is none.
+/// What files show: whether the tables are those of version 2, and what the portal in them shows,
+/// nothing where there is none.
 #[derive(PartialEq, Drop)]
 struct Sight {
     is_current: bool,
@@ -247,7 +249,8 @@ struct Case {
     shown_after: Sight,
 }
 
-/// The change is tried, and the fault comes after so many calls: whether the change was answered as done, and what is left.
+/// The change is tried, and the fault comes after so many calls: whether the change was answered as
+/// done, and what is left.
 fn tried<'a>(
     rt: &(impl Abort + AllocGlobal),
     before: &Image,
@@ -285,7 +288,8 @@ fn done(rt: &(impl Abort + AllocGlobal), before: &Image, ask: Ask) -> Image {
     left_of(rt, conn).0
 }
 
-/// The portal in the files is the one before or the one after, and after a change that is done the one after.
+/// The portal in the files is the one before or the one after, and after a change that is done the
+/// one after.
 fn is_one_of_two(rt: &(impl Abort + AllocGlobal), case: &Case, image: &Image, is_done: bool) {
     let found = shown(rt, image);
     let is_after = found == case.shown_after;
@@ -306,7 +310,8 @@ fn survives_crashes(
     }
 }
 
-/// Whether the fault came, after so many calls; the files are opened again as they are, and as a crash may leave them.
+/// Whether the fault came, after so many calls; the files are opened again as they are, and as a
+/// crash may leave them.
 fn survives(rt: &(impl Abort + AllocGlobal), case: &Case, fault: Fault, calls: u64) -> bool {
     let plan = Plan::new(fault);
     let (is_done, conn) = tried(rt, &case.before, case.ask, &plan, calls);
@@ -582,7 +587,8 @@ fn is_dead<K: Keeper>(rt: &(impl Abort + AllocGlobal), desk: &mut Desk<K>, ask: 
     assert!(rt; desk.failed());
 }
 
-/// A disk that fails at a change, behind these parts of a year: from then on the desk serves nobody.
+/// A disk that fails at a change, behind these parts of a year: from then on the desk serves
+/// nobody.
 pub(crate) fn dies(
     rt: &(impl Abort + AllocGlobal),
     fault: Fault,

@@ -25,7 +25,8 @@ pub(crate) enum Fault {
 #[derive(Drop)]
 pub(crate) struct Plan {
     fault: Fault,
-    /// How many calls of the kind pass before the one that fails. At the greatest number none fails.
+    /// How many calls of the kind pass before the one that fails. At the greatest number none
+    /// fails.
     left: Cell<u64>,
     came: Cell<bool>,
 }

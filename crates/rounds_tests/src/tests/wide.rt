@@ -1,6 +1,6 @@
-//! A wider department, whose first round leaves places at P3, P4 and P5 to S4 and those after. P2 has a place left too, and its
-//! lecturer has none. Of the second round's students S6 and S9 get nothing: Moe takes two more students alone, and P5 has one
-//! place left.
+//! A wider department, whose first round leaves places at P3, P4 and P5 to S4 and those after. P2
+//! has a place left too, and its lecturer has none. Of the second round's students S6 and S9 get
+//! nothing: Moe takes two more students alone, and P5 has one place left.
 
 use crate::tests::steps::{Deed, LEE, MOE, OFFICE, OPENING};
 

@@ -10,7 +10,8 @@ use std::process::Abort;
 /// The same request, the last of its connection. Its reply has 118 bytes.
 const LAST: &str = "GET /me HTTP/1.1\r\nHost: h\r\nConnection: close\r\n\r\n";
 
-/// A caller who takes replies at this pace is served, ends so, and takes so many bytes; the clock then shows so many seconds.
+/// A caller who takes replies at this pace is served, ends so, and takes so many bytes; the clock
+/// then shows so many seconds.
 fn comes(
     rt: &(impl Abort + AllocGlobal),
     acts: &[(u64, Act)],

@@ -3,7 +3,9 @@
 ghost use Rattle.std.specs.Prelude.{◌≡◌, ◌<◌, ◌↔◌, All, Any, IfOk, IsTrue, None, length, map};
 ghost use Rattle.spa_rows.specs.Least.{IsLeastOf, BadAt};
 ghost use Rattle.spa_model.specs.Spa.{Rise};
-ghost use Rattle.spa_model.specs.inner.Numbers.{student_keys, lecturer_at, rank_at, row_at, HaveChoicesBelow, Finds, IsApplicantOf, Misses, MissesBelow};
+ghost use Rattle.spa_model.specs.inner.Numbers.{student_keys, lecturer_at, rank_at, row_at};
+ghost use Rattle.spa_model.specs.inner.Numbers.{HaveChoicesBelow, Finds, IsApplicantOf, Misses};
+ghost use Rattle.spa_model.specs.inner.Numbers.{MissesBelow};
 
 use crate::instance::{Lecturer, Project, Student};
 use spa_rows::{LecturerLine, Places, StudentLine, least_with};

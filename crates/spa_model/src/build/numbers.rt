@@ -5,7 +5,8 @@ ghost use Rattle.spa_rows.specs.Form.{is_key};
 ghost use Rattle.spa_rows.specs.Faults.{IsKeyOf, NamesNone, Repeats};
 ghost use Rattle.spa_model.specs.Spa.{IsDistinct};
 ghost use Rattle.spa_model.specs.inner.Inside.{AreRanks};
-ghost use Rattle.spa_model.specs.inner.Numbers.{student_keys, project_keys, lecturer_keys, AreNumbers, IsStudentOf, IsProjectOf, IsLecturerOf};
+ghost use Rattle.spa_model.specs.inner.Numbers.{student_keys, project_keys, lecturer_keys};
+ghost use Rattle.spa_model.specs.inner.Numbers.{AreNumbers, IsStudentOf, IsProjectOf, IsLecturerOf};
 ghost use Rattle.std.specs.List.{AllZip};
 
 use crate::instance::{Lecturer, Project, Student};
@@ -31,7 +32,8 @@ fn project_numbers(
     list: &[Vec<u8>],
 ) -> Result<Vec<usize>, AllocError>
     requires { NamesNone lines.now (λ x. x.key) (map (λ text. text.items) list.now) → ⊥ }
-    ensures { IfOk result (λ choices. AreNumbers (project_keys lines.now) (map (λ text. text.items) list.now) choices.items) }
+    ensures { IfOk result (λ choices. AreNumbers (project_keys lines.now)
+        (map (λ text. text.items) list.now) choices.items) }
 {
     let mut choices = Vec::with_capacity(alloc, list.len())?;
     for text in list {
@@ -50,7 +52,8 @@ fn student_numbers(
     list: &[Vec<u8>],
 ) -> Result<Vec<usize>, AllocError>
     requires { NamesNone lines.now (λ x. x.key) (map (λ text. text.items) list.now) → ⊥ }
-    ensures { IfOk result (λ ranking. AreNumbers (student_keys lines.now) (map (λ text. text.items) list.now) ranking.items) }
+    ensures { IfOk result (λ ranking. AreNumbers (student_keys lines.now)
+        (map (λ text. text.items) list.now) ranking.items) }
 {
     let mut ranking = Vec::with_capacity(alloc, list.len())?;
     for text in list {
@@ -142,7 +145,8 @@ pub(crate) fn number_students(
 ) -> Result<Vec<Student>, AllocError>
     requires form { All (λ x. is_key x.key ≡ true) lines.now }
     requires known { All (λ x. NamesNone projects.now (λ y. y.key) x.list → ⊥) lines.now }
-    ensures { IfOk result (λ students. AllZip (IsStudentOf (project_keys projects.now)) lines.now students.items) }
+    ensures { IfOk result (λ students. AllZip (IsStudentOf
+        (project_keys projects.now)) lines.now students.items) }
 {
     let places = Places::of(alloc, projects)?;
     let mut students = Vec::with_capacity(alloc, lines.len())?;
@@ -160,7 +164,8 @@ pub(crate) fn number_projects(
 ) -> Result<Vec<Project>, AllocError>
     requires form { All (λ x. is_key x.key ≡ true) lines.now }
     requires known { All (λ x. (IsKeyOf lecturers.now (λ y. y.key) x.lecturer → ⊥) → ⊥) lines.now }
-    ensures { IfOk result (λ projects. AllZip (IsProjectOf (lecturer_keys lecturers.now)) lines.now projects.items) }
+    ensures { IfOk result (λ projects. AllZip (IsProjectOf
+        (lecturer_keys lecturers.now)) lines.now projects.items) }
 {
     let places = Places::of(alloc, lecturers)?;
     let mut projects = Vec::with_capacity(alloc, lines.len())?;
@@ -180,7 +185,8 @@ pub(crate) fn number_lecturers(
     requires count { length students.now ≤ 2000 }
     requires known { All (λ x. NamesNone students.now (λ y. y.key) x.list → ⊥) lines.now }
     requires apart { All (λ x. Repeats x.list → ⊥) lines.now }
-    ensures { IfOk result (λ lecturers. AllZip (IsLecturerOf (student_keys students.now)) lines.now lecturers.items) }
+    ensures { IfOk result (λ lecturers. AllZip (IsLecturerOf
+        (student_keys students.now)) lines.now lecturers.items) }
 {
     let places = Places::of(alloc, students)?;
     let mut lecturers = Vec::with_capacity(alloc, lines.len())?;

@@ -1,5 +1,5 @@
-//! An instance as plain lists, and two judges over it: the blocking pairs found pair by pair, and the
-//! method over lists that get shorter.
+//! An instance as plain lists, and two judges over it: the blocking pairs found pair by pair, and
+//! the method over lists that get shorter.
 
 use spa_check::Block;
 use spa_model::{Instance, Letter};
@@ -170,8 +170,8 @@ impl Board {
         }
     }
 
-    /// One student is put at the first project of the list, somebody is let go where there is no room,
-    /// and who stands behind the worst of a full project or lecturer is struck.
+    /// One student is put at the first project of the list, somebody is let go where there is no
+    /// room, and who stands behind the worst of a full project or lecturer is struck.
     fn round(
         &mut self,
         alloc: Global,

@@ -51,7 +51,8 @@ fn two_stable_matchings_and_a_full_lecturer(rt: HostRuntime) -> Result<(), Fail>
     Ok(())
 }
 
-/// The solved matching leaves nobody better off in the other stable one; of that one the first student is better off.
+/// The solved matching leaves nobody better off in the other stable one; of that one the first
+/// student is better off.
 #[test]
 fn better_off_in_the_solved_matching(rt: HostRuntime) -> Result<(), Fail> {
     let alloc = rt.alloc();

@@ -12,7 +12,8 @@ use std::process::Abort;
 /// How many choose the one project.
 const CROWD: usize = 600;
 
-/// The key of one of them, which is the code too. All have four digits, so that they rise as the numbers do.
+/// The key of one of them, which is the code too. All have four digits, so that they rise as the
+/// numbers do.
 fn key_of(rt: &(impl Abort + AllocGlobal), at: usize) -> String {
     let number = at.saturating_add(1000);
     format!(in rt.alloc(); "key-{number}").expect(rt, "memory")

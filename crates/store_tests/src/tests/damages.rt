@@ -109,7 +109,8 @@ impl Year {
     }
 }
 
-/// A part of the year, the statements that change the tables, and the fault that the opener then tells, if any.
+/// A part of the year, the statements that change the tables, and the fault that the opener then
+/// tells, if any.
 type Damage = (Year, &'static str, Option<OpenFault>);
 
 /// Those that are told of tables of either version.
@@ -288,7 +289,8 @@ const LATER_DAMAGES: &[Damage] = &[
     ),
 ];
 
-/// The tables of version 2, as they are played and then changed, are answered so when they are opened.
+/// The tables of version 2, as they are played and then changed, are answered so when they are
+/// opened.
 fn is_answered(rt: &(impl Abort + AllocGlobal), damage: &Damage) {
     let (year, statements, fault) = *damage;
     let mut desk = fresh(rt);
@@ -360,7 +362,8 @@ const OF_OTHERS: &[&str] = &[
     "INSERT INTO ranking (lecturer, place, student) VALUES ('L1', 2, 'S1')",
 ];
 
-/// A student's view is made of that student's rows, and is the same where another person's rows are of no good world.
+/// A student's view is made of that student's rows, and is the same where another person's rows are
+/// of no good world.
 #[test]
 fn a_view_reads_no_other_row(rt: HostRuntime) {
     for statements in OF_OTHERS {

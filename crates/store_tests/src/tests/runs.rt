@@ -208,8 +208,8 @@ const PLAIN: &[&[Step]] = &[
     RESULTS,
 ];
 
-/// The second run: another order of a list, and others who ask three times between all calls. The lecturer's calls and
-/// replies are the same to the byte.
+/// The second run: another order of a list, and others who ask three times between all calls. The
+/// lecturer's calls and replies are the same to the byte.
 const TURNED: &[&[Step]] = &[
     ROLLS,
     TO_CHOOSING,

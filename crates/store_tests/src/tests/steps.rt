@@ -80,7 +80,8 @@ pub(crate) fn reply(rt: &(impl Abort + AllocGlobal), status: &str, answer: &str)
     text.expect(rt, "memory")
 }
 
-/// What is asked to see a world: it tells the rolls, the phase, each list, each ranking and the result.
+/// What is asked to see a world: it tells the rolls, the phase, each list, each ranking and the
+/// result.
 pub(crate) const SEEN: &[(&str, &str)] = &[
     ("/status", OFFICE),
     ("/catalogue", OFFICE),

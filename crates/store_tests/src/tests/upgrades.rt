@@ -92,7 +92,8 @@ fn shows(rt: &(impl Abort + AllocGlobal), desk: &mut MemDesk, played: &[&[Step]]
     assert_eq!(rt; found.as_slice(), wanted.as_slice());
 }
 
-/// Tables of version 1 with these texts, upgraded, have the world that was played, and go on by these parts; so do they opened again.
+/// Tables of version 1 with these texts, upgraded, have the world that was played, and go on by
+/// these parts; so do they opened again.
 fn goes_on(rt: &(impl Abort + AllocGlobal), texts: &[&str], played: &[&[Step]], parts: &[&[Step]]) {
     let mut desk = upgraded(rt, version1::database(rt, texts));
     shows(rt, &mut desk, played);

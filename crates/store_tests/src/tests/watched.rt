@@ -155,7 +155,8 @@ const WATCHED_RANKINGS: &[Step] = &[
     ),
 ];
 
-/// The office asks again and again in the second round, while a student takes the list back and puts it again.
+/// The office asks again and again in the second round, while a student takes the list back and
+/// puts it again.
 const WATCHED_SECOND: &[Step] = &[
     (
         "GET",
