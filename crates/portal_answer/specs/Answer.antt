@@ -18,12 +18,13 @@ use Rattle.portal_answer.specs.Solution.{TellsBest}
 use Rattle.portal_answer.specs.declared.answer.Task.{Task}
 use Rattle.portal_answer.specs.declared.answer.Task.TheVariants.{Check, Solve}
 
--- what is told of an instance and a matching: its blocking pairs, or the best matching whatever the one in the file
+-- what is told of an instance and a matching: its blocking pairs, or the best matching whatever the
+-- one in the file
 abbrev pub Tells : Task → Spa → List (Option ℕ) → Told → Type 0
 Tells Check i m told = TellsBlocks i m told
 Tells Solve i m told = TellsBest i told
 
--- what is told of an instance and pairs: their first fault, or, where they have none, of their matching
+-- what is told of an instance and pairs: their first fault, or, if there is none, of their matching
 abbrev pub OfPairs : Task → Spa → List Pair → Told → Type 0
 OfPairs task i pairs told =
     ((fault : MatchingFault) × (r : ℕ) × IsFirstPairFault i pairs fault r × (told ≡ refused_matching fault r))
@@ -32,7 +33,8 @@ OfPairs task i pairs told =
 abbrev pub file_rows : File → Rows
 file_rows f = record { lecturers = f.lecturers; projects = f.projects; students = f.students }
 
--- what is told of a file's rows: their first fault, or, where they have none, of their instance and the pairs
+-- what is told of a file's rows: their first fault, or, where they have none, of their instance and
+-- the pairs
 abbrev pub OfFile : Task → File → Told → Type 0
 OfFile task f told =
     ((fault : InstanceFault) × (r : ℕ) × IsFirstFault (file_rows f) fault r × (told ≡ refused_instance fault r))

@@ -57,7 +57,7 @@ pub(crate) fn checked(
     requires { IsMatching instance.now matching.now }
     ensures { IfOk result (λ t. TellsBlocks instance.now matching.now t) }
 {
-    let _lawful = instance.students();
+    instance.lawful();
     let blocks = blocking_pairs(alloc, instance, matching)?;
     lines(alloc, instance, &blocks)
 }

@@ -1,20 +1,8 @@
 -- What a list or a ranking that is put leaves of a caller, and what is seen after a call of one's own.
-use Rattle.std.proofs.Common.{◌≡◌, Bool, true, false, cond, List, refl, ◌∙◌, ap}
-use Rattle.std.specs.Prelude.{map, Option, Some, None, option_map}
-use Rattle.std.specs.List.{find, filter_map}
-use Rattle.portal_core.specs.Words.{Key, equals}
+use Rattle.portal_core.proofs.Base.{◌≡◌, Bool, true, false, cond, List, refl, ◌∙◌, ap, map, Option, Some, None, option_map, find, filter_map, Key, equals, World, in_play, Choices, Ranks, Students, Placements, changed, in_first, with_students, with_choice, with_ranking, First, Second, StudentRow, Nobody, Office, Lecturer, Student, Caller, NoCaller, OfficeCaller, LecturerCaller, StudentCaller, caller_among, lecturer_with, student_with, caller, sight_of, view, listing_with, listings, catalogue, student_sees, lecturer_sees, office_sees, AbstractCall, Decision, decision, StepLeaves, Calls, is_move_or_add}
 use Rattle.portal_core.specs.World as rows
-use Rattle.portal_core.specs.World.{World, in_play}
-use Rattle.portal_core.specs.Change.{Choices, Ranks, Students, Placements, changed, in_first, with_students, with_choice, with_ranking}
-use Rattle.portal_core.specs.declared.phase.Round.TheVariants.{First, Second}
-use Rattle.portal_core.specs.declared.rows.StudentRow.{StudentRow}
 use Rattle.portal_core.specs.declared.view.View.{View as Sight}
-use Rattle.portal_core.specs.declared.view.View.TheVariants.{Nobody, Office, Lecturer, Student}
-use Rattle.portal_core.specs.View.{Caller, NoCaller, OfficeCaller, LecturerCaller, StudentCaller, caller_among, lecturer_with, student_with, caller, sight_of, view, listing_with, listings, catalogue, student_sees, lecturer_sees, office_sees}
-use Rattle.portal_core.specs.AbstractCall.{AbstractCall}
-use Rattle.portal_core.specs.Answer.{Decision, decision, with_own}
-use Rattle.portal_core.specs.Run.{StepLeaves, Calls}
-use Rattle.portal_core.specs.Heard.{is_move_or_add}
+use Rattle.portal_core.specs.Answer.{with_own}
 use Rattle.portal_core.proofs.Cases.{by_student, by_lecturer, by_office}
 use Rattle.portal_core.proofs.Keys.{is_own, find_map}
 use Rattle.portal_core.proofs.Reranked.{re_called, caller_kept, names_kept}

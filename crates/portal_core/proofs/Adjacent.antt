@@ -1,15 +1,11 @@
 -- Rows that rise by their keys, each beside the next.
-use Rattle.std.proofs.Common.{◌≡◌, zero, suc, ◌+◌, ◌<◌, Bool, true, false, IsTrue, ◌↔◌, List, [], ◌∷◌, map, length, get_or, Ordering, Less, Equal, Greater, refl, sym, ◌∙◌, ap, ℕ, arith}
+use Rattle.portal_core.proofs.Base.{◌≡◌, zero, suc, ◌+◌, ◌<◌, Bool, true, false, List, [], ◌∷◌, map, length, get_or, refl, sym, ◌∙◌, ap, ℕ, arith, nat_cmp, is_lt, ordering_reverse, slice_cmp, nat_list_cmp_total, length-map, get_or-map, Key, is_before, Rise}
+use Rattle.std.proofs.Common.{IsTrue, ◌↔◌, Ordering, Less, Equal, Greater}
 use Rattle.std.specs.List.{IsAllAdjacentAnswer}
 use Rattle.std.specs.List.Sorted.{IsSortedBy, IsStrictlySortedBy}
-use Rattle.std.specs.Ordering.{nat_cmp, is_lt, ordering_reverse}
-use Rattle.std.specs.Cmp.Lexicographic.{slice_cmp}
 use Rattle.std.proofs.lemmas.Bool.{false≢true}
-use Rattle.std.proofs.lemmas.Cmp.{nat_list_cmp_total}
-use Rattle.std.proofs.lemmas.List.{length-map, get_or-map}
 use Rattle.std.proofs.lemmas.Map.Keys.{sorted_from_all_adjacent}
 use Rattle.spa_rows.proofs.Lists.{at_place}
-use Rattle.portal_core.specs.Words.{Key, is_before, Rise}
 use Rattle.portal_core.proofs.AllLaws.{all_at, all_weaker}
 
 strictly : (ks : List Key) → IsStrictlySortedBy (slice_cmp nat_cmp) ks → Rise ks

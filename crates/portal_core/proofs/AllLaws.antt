@@ -1,11 +1,6 @@
 -- Laws of what holds of each element, and of tests.
-use Rattle.std.proofs.Common.{◌≡◌, ℕ, zero, suc, ◌<◌, Bool, true, false, cond, List, [], ◌∷◌, ◌++◌, length, get_or, refl, sym, ◌∙◌, ap, subst, arith}
-use Rattle.std.specs.Prelude.{map, filter, Option, Some, None, ◌&&◌, ◌||◌}
-use Rattle.std.specs.List.{list_any, filter_map, cons_option, AllByRecursion}
-use Rattle.std.proofs.Math.Bool.{or-true}
-use Rattle.std.proofs.lemmas.Bool.{or_parts}
+use Rattle.portal_core.proofs.Base.{◌≡◌, ℕ, zero, suc, ◌<◌, Bool, true, false, cond, List, [], ◌∷◌, ◌++◌, length, get_or, refl, sym, ◌∙◌, ap, subst, arith, map, filter, Option, Some, None, ◌&&◌, ◌||◌, list_any, filter_map, cons_option, AllByRecursion, or-true, or_parts, Key, equals, has, is_empty, AreDistinct}
 pub use Rattle.std.proofs.lemmas.List.Folds.{list_any-append as any_append}
-use Rattle.portal_core.specs.Words.{Key, equals, has, is_empty, AreDistinct}
 use Rattle.portal_core.proofs.Keys.{is_same, is_own}
 
 pub all_map : {X Y : Type 0} (P : Y → Type 0) (f : X → Y) (xs : List X) → AllByRecursion (λ x. P (f x)) xs → AllByRecursion P (map f xs)

@@ -1,20 +1,6 @@
 -- What a round is played in is a good world of one round.
-use Rattle.std.proofs.Common.{◌≡◌, ℕ, suc, ◌≤◌, Bool, true, false, cond, List, [], ◌∷◌, ◌++◌, length, refl, sym, ◌∙◌, ap, subst, arith}
-use Rattle.std.specs.Prelude.{map, filter, nat_lt, unwrap_or, option_map, not, ◌&&◌, ◌||◌, Option, None, IfSome, is_none}
-use Rattle.std.specs.List.{list_any, AllByRecursion}
-use Rattle.std.proofs.lemmas.Bool.Decides.{nat_tests}
-use Rattle.std.proofs.lemmas.Bool.{or_parts}
-use Rattle.std.proofs.lemmas.List.{length-map}
-use Rattle.portal_core.specs.Words.{Key, equals, is_before, has, is_empty, Rise, AreDistinct}
+use Rattle.portal_core.proofs.Base.{◌≡◌, ℕ, suc, ◌≤◌, Bool, true, false, cond, List, [], ◌∷◌, ◌++◌, length, refl, sym, ◌∙◌, ap, subst, arith, map, filter, nat_lt, unwrap_or, option_map, not, ◌&&◌, ◌||◌, Option, None, IfSome, is_none, list_any, AllByRecursion, nat_tests, or_parts, length-map, Key, equals, is_before, has, is_empty, Rise, AreDistinct, World, in_play, alone, alone_lecturer, alone_student, lecturer_key, project_key, student_key, applicants_of, projects_of, is_still_to_rank, is_left, is_published, lowered_lecturer, lowered_project, lecturers_left, projects_left, students_left, instance, instance_of, places_of, lecturer_keys, project_keys, student_keys, ProjectRow, Round, First, Second, IsStable, number_in, Good, Sound, IsChoice, IsRanking, IsLecturer, IsProject, IsStudent}
 use Rattle.portal_core.specs.World as rows
-use Rattle.portal_core.specs.World.{World, in_play, alone, alone_lecturer, alone_student, lecturer_key, project_key, student_key, applicants_of, projects_of, is_still_to_rank, is_left, is_published, lowered_lecturer, lowered_project, lecturers_left, projects_left, students_left}
-use Rattle.portal_core.specs.Instance.{instance, instance_of, places_of, lecturer_keys, project_keys, student_keys}
-use Rattle.portal_core.specs.declared.rows.ProjectRow.{ProjectRow}
-use Rattle.portal_core.specs.declared.phase.Round.{Round}
-use Rattle.portal_core.specs.declared.phase.Round.TheVariants.{First, Second}
-use Rattle.spa_model.specs.Spa.{IsStable}
-use Rattle.spa_model.specs.Pairs.{number_in}
-use Rattle.portal_core.specs.Good.{Good, Sound, IsChoice, IsRanking, IsLecturer, IsProject, IsStudent}
 use Rattle.portal_core.proofs.Keys.{is_same, all_unmap}
 use Rattle.portal_core.proofs.AllLaws.{all_map, all_weaker, all_both, map_same, any_map, is_sym, kept_filtered}
 use Rattle.portal_core.proofs.Kept.{empty_map}

@@ -1,21 +1,6 @@
 -- What is published is the best for the students.
-use Rattle.std.proofs.Common.{◌≡◌, ◌⊎◌, inl, inr, Bool, true, false, List, [], ◌∷◌, refl, sym, ◌∙◌, ap, subst}
-use Rattle.std.specs.List.{AllByRecursion}
-use Rattle.spa_model.specs.Spa.{IsBest}
-use Rattle.portal_core.specs.Words.{Key}
-use Rattle.portal_core.specs.World.{World, is_published, is_second, first}
-use Rattle.portal_core.specs.Change.{Choices, Ranks, Fill, changed, opened, in_first, with_lecturers, with_projects, with_students}
-use Rattle.portal_core.specs.declared.phase.Phase.TheVariants.{Published}
-use Rattle.portal_core.specs.declared.phase.Round.{Round}
-use Rattle.portal_core.specs.declared.phase.Round.TheVariants.{First, Second}
-use Rattle.portal_core.specs.Instance.{instance, matching_of}
-use Rattle.portal_core.specs.View.{Caller, NoCaller, OfficeCaller, LecturerCaller, StudentCaller, caller, sight_of, office_sees, lecturer_sees, student_sees}
-use Rattle.portal_core.specs.AbstractCall.{AbstractCall}
-use Rattle.portal_core.specs.Answer.{Answer, Decision, decision, is_open_to_rolls}
-use Rattle.portal_core.specs.Good.{Good}
-use Rattle.portal_core.specs.Run.{StepLeaves, Step, Request, Wish, Calls, Refused, Answers, Serves, Run}
-use Rattle.portal_core.specs.Opening.{OpensSecond}
-use Rattle.portal_core.specs.Honest.{HasBest, ShowsBest}
+use Rattle.portal_core.proofs.Base.{◌≡◌, ◌⊎◌, inl, inr, Bool, true, false, List, [], ◌∷◌, refl, sym, ◌∙◌, ap, subst, AllByRecursion, IsBest, Key, World, is_published, is_second, first, Choices, Ranks, Fill, changed, opened, in_first, with_lecturers, with_projects, with_students, Published, Round, First, Second, instance, matching_of, Caller, NoCaller, OfficeCaller, LecturerCaller, StudentCaller, caller, sight_of, office_sees, lecturer_sees, student_sees, AbstractCall, Answer, Decision, decision, is_open_to_rolls, Good, StepLeaves, Step, Request, Wish, Calls, Refused, Answers, Serves, Run, OpensSecond, HasBest}
+use Rattle.portal_core.specs.Honest.{ShowsBest}
 use Rattle.portal_core.proofs.Cases.{by_student, by_lecturer, by_office}
 use Rattle.portal_core.proofs.Unseen.{choosing_open}
 use Rattle.portal_core.proofs.Enrol.{open_phase}

@@ -1,21 +1,9 @@
 -- The honest list in the first round is best over both rounds.
-use Rattle.std.proofs.Common.{◌≡◌, ℕ, ◌<◌, ◌≤◌, Bool, true, false, [], map, length, get_or, refl, sym, ◌∙◌, ap, subst}
-use Rattle.std.specs.Prelude.{Option, Some, None, option_map, is_none}
-use Rattle.std.specs.List.{find}
-use Rattle.std.proofs.lemmas.List.{get_or-map}
-use Rattle.spa_model.specs.Spa.{IsBest}
-use Rattle.spa_model.specs.Pairs.{number_in}
+use Rattle.portal_core.proofs.Base.{◌≡◌, ℕ, ◌<◌, ◌≤◌, Bool, true, false, [], map, length, get_or, refl, sym, ◌∙◌, ap, subst, Option, Some, None, option_map, is_none, find, get_or-map, IsBest, number_in, Key, equals, has, World, student_key, project_key, is_left, is_published, is_second, students_in, in_play, first, first_placed, First, Second, instance_of, places_of, project_keys, student_keys, StudentSees, view, student_with, student_sees, Good, HasBest, DifferInOneList, IsNoWorse}
 use Rattle.spa_honest.specs.Honest as instances
 use Rattle.spa_honest.proofs.Waits.{waiting_never_pays as waiting_by_number}
-use Rattle.portal_core.specs.Words.{Key, equals, has}
-use Rattle.portal_core.specs.World.{World, Student, student_key, project_key, is_left, is_published, is_second, students_in, in_play, first, first_placed}
-use Rattle.portal_core.specs.declared.phase.Round.TheVariants.{First, Second}
+use Rattle.portal_core.specs.World.{Student}
 use Rattle.portal_core.specs.declared.view.View.TheVariants as sees
-use Rattle.portal_core.specs.Instance.{instance_of, places_of, project_keys, student_keys}
-use Rattle.portal_core.specs.Sight.{StudentSees}
-use Rattle.portal_core.specs.View.{view, student_with, student_sees}
-use Rattle.portal_core.specs.Good.{Good}
-use Rattle.portal_core.specs.Honest.{HasBest, DifferInOneList, IsNoWorse}
 use Rattle.portal_core.proofs.Keys.{find_map, found_all}
 use Rattle.portal_core.proofs.AllLaws.{all_at}
 use Rattle.portal_core.proofs.Capacities.{first_plays, known_in}

@@ -1,20 +1,8 @@
 -- The results of both rounds together keep the capacities of the rolls.
-use Rattle.std.proofs.Common.{◌≡◌, ℕ, suc, ◌+◌, ◌-◌, ◌<◌, ◌≤◌, Bool, true, false, cond, List, [], ◌∷◌, map, length, get_or, refl, sym, ◌∙◌, ap, subst, arith}
-use Rattle.std.specs.Prelude.{filter, count_by, nat_lt, not, ◌==◌, ◌&&◌, ◌||◌, Option, Some, None, option_map, slice_index_or}
-use Rattle.std.specs.List.{list_any, AllByRecursion}
-use Rattle.std.proofs.lemmas.Bool.Decides.{nat_tests}
-use Rattle.std.proofs.lemmas.List.Sums.{length-filter}
-use Rattle.spa_model.specs.Spa.{IsMatching, is_project, is_lecturer, at_project, at_lecturer}
-use Rattle.spa_model.specs.Pairs.{number_in}
-use Rattle.spa_model.proofs.PairFaults.{count_by-map}
-use Rattle.portal_core.specs.Words.{Key, equals, is_before, has, Rise}
+use Rattle.portal_core.proofs.Base.{◌≡◌, ℕ, suc, ◌+◌, ◌-◌, ◌<◌, ◌≤◌, Bool, true, false, cond, List, [], ◌∷◌, map, length, get_or, refl, sym, ◌∙◌, ap, subst, arith, filter, count_by, nat_lt, not, ◌==◌, ◌&&◌, ◌||◌, Option, Some, None, option_map, list_any, AllByRecursion, nat_tests, length-filter, IsMatching, is_project, is_lecturer, at_project, at_lecturer, number_in, count_by-map, Key, equals, is_before, has, Rise, World, in_play, first, first_placed, first_published, lecturer_key, project_key, student_key, is_at, is_left, is_second, is_published, given_to, given_with, lowered_lecturer, lowered_project, lecturers_left, projects_left, students_left, instance, instance_of, matching_of, places_of, lecturer_keys, project_keys, ProjectRow, Round, First, Second, Good, IsRound, Sound, placed_to, placed_with}
+use Rattle.std.specs.Prelude.{slice_index_or}
 use Rattle.portal_core.specs.World as rows
-use Rattle.portal_core.specs.World.{World, in_play, first, first_placed, first_published, lecturer_key, project_key, student_key, is_at, is_left, is_second, is_published, given_to, given_with, lowered_lecturer, lowered_project, lecturers_left, projects_left, students_left}
-use Rattle.portal_core.specs.Instance.{instance, instance_of, matching_of, places_of, lecturer_keys, project_keys}
-use Rattle.portal_core.specs.declared.rows.ProjectRow.{ProjectRow}
-use Rattle.portal_core.specs.declared.phase.Round.{Round}
-use Rattle.portal_core.specs.declared.phase.Round.TheVariants.{First, Second}
-use Rattle.portal_core.specs.Good.{Good, IsRound, Sound, KeepsCapacities, placed_to, placed_with}
+use Rattle.portal_core.specs.Good.{KeepsCapacities}
 use Rattle.portal_core.proofs.Keys.{is_same, is_own, all_unmap}
 use Rattle.portal_core.proofs.AllLaws.{all_map, all_weaker, all_both, any_map, is_sym, none_is, map_same}
 use Rattle.portal_core.proofs.Only.{on_roll}

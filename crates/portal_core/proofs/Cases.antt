@@ -1,25 +1,8 @@
 -- What is decided, case by case: a fact of each decision follows from one of those that do something.
-use Rattle.std.proofs.Common.{◌≡◌, ℕ, Bool, true, false, cond, List, [], length, refl}
-use Rattle.std.specs.Prelude.{Option, Some, None, is_none, if◌then◌else◌}
-use Rattle.portal_core.specs.Words.{Key, is_empty}
-use Rattle.portal_core.specs.World.{is_choosing, is_ranking, is_from_ranking, has_result}
-use Rattle.portal_core.specs.declared.phase.Phase.{Phase}
-use Rattle.portal_core.specs.declared.phase.Phase.TheVariants.{Setup, Choosing, Ranking, Published}
-use Rattle.portal_core.specs.declared.phase.Round.{Round}
-use Rattle.portal_core.specs.declared.phase.Round.TheVariants.{First, Second}
-use Rattle.portal_core.specs.declared.rows.LecturerRow.{LecturerRow}
-use Rattle.portal_core.specs.declared.rows.ProjectRow.{ProjectRow}
-use Rattle.portal_core.specs.declared.rows.StudentRow.{StudentRow}
+use Rattle.portal_core.proofs.Base.{◌≡◌, ℕ, Bool, true, false, cond, List, [], length, refl, Option, Some, None, is_none, if◌then◌else◌, Key, is_empty, is_choosing, is_ranking, is_from_ranking, has_result, Phase, Setup, Choosing, Ranking, Published, Round, First, Second, LecturerRow, ProjectRow, StudentRow, Change, Choices, Ranks, Lecturers, Projects, Students, To, Fill, SecondRound, StudentSees, LecturerSees, OfficeSees, AbstractCall, projects_body, phase_body, ListFault, choice_fault, ranking_fault, Taken, Faulty, Took, take_rows, lecturer_roll, project_roll, student_roll, Answer, Said, Decision, Nothing, Apply, Publish, refuses, applies, open_where, unless_faulty, already_placed, added, is_open_to_rolls, moves_on, opens, moves_in, to_student, to_lecturer, to_office, Calls, is_move_or_add}
 use Rattle.portal_core.specs.declared.decision.Sheet.{Sheet}
-use Rattle.portal_core.specs.Change.{Change, Choices, Ranks, Lecturers, Projects, Students, To, Fill, SecondRound}
-use Rattle.portal_core.specs.Sight.{StudentSees, LecturerSees, OfficeSees}
-use Rattle.portal_core.specs.AbstractCall.{AbstractCall}
-use Rattle.portal_core.specs.Bodies.{projects_body, students_body, phase_body, roll_body, filled_body}
-use Rattle.portal_core.specs.Faults.{ListFault, choice_fault, ranking_fault}
-use Rattle.portal_core.specs.Rolls.{Taken, Faulty, Took, take_rows, lecturer_roll, project_roll, student_roll}
-use Rattle.portal_core.specs.Answer.{Answer, Said, Decision, Nothing, Apply, Publish, answered, refuses, applies, renders, open_where, unless_faulty, already_placed, added, is_open_to_rolls, moves_on, opens, moves_in, to_student, to_lecturer, to_office}
-use Rattle.portal_core.specs.Run.{Calls}
-use Rattle.portal_core.specs.Heard.{is_move_or_add}
+use Rattle.portal_core.specs.Bodies.{students_body, roll_body, filled_body}
+use Rattle.portal_core.specs.Answer.{answered, renders}
 
 -- a list that is taken
 abbrev pub Chooses : (AbstractCall → Decision → Type 0) → StudentSees → Type 0

@@ -1,22 +1,7 @@
 -- Replies do not tell the order within students' lists before the result is open.
-use Rattle.std.proofs.Common.{◌≡◌, Bool, true, false, cond, List, [], ◌∷◌, refl, sym, ◌∙◌, subst, inl, inr}
-use Rattle.std.specs.Prelude.{◌⊎◌, Option, Some, None, is_none}
-use Rattle.std.specs.List.{AllZip}
-use Rattle.serde_json.specs.Data.{Data}
-use Rattle.portal_core.specs.Words.{Key}
-use Rattle.portal_core.specs.World.{World, is_choosing}
-use Rattle.portal_core.specs.Change.{Choices, changed}
-use Rattle.portal_core.specs.declared.rows.Listing.{Listing}
-use Rattle.portal_core.specs.Sight.{StudentSees}
+use Rattle.portal_core.proofs.Base.{◌≡◌, Bool, true, false, cond, List, [], ◌∷◌, refl, sym, ◌∙◌, subst, inl, inr, ◌⊎◌, Option, Some, None, is_none, AllZip, Data, Key, World, is_choosing, Choices, changed, Listing, StudentSees, Nobody, Office, Lecturer, Student, view, AbstractCall, projects_body, ListFault, choice_fault, Answer, Act, Decision, Nothing, Apply, Publish, Render, open_where, unless_faulty, applies, already_placed, decision, answer, to_student, StepLeaves, Step, Wish, Calls, Refused, Request, Answers, Run, AllAnswered, Reordered, SameButPlaces}
 use Rattle.portal_core.specs.declared.view.View.{View as Sight}
-use Rattle.portal_core.specs.declared.view.View.TheVariants.{Nobody, Office, Lecturer, Student}
-use Rattle.portal_core.specs.View.{view}
-use Rattle.portal_core.specs.AbstractCall.{AbstractCall}
-use Rattle.portal_core.specs.Bodies.{projects_body}
-use Rattle.portal_core.specs.Faults.{ListFault, choice_fault}
-use Rattle.portal_core.specs.Answer.{Answer, Act, Decision, Nothing, Apply, Publish, Render, open_where, unless_faulty, applies, already_placed, decision, answer, to_student}
-use Rattle.portal_core.specs.Run.{StepLeaves, Step, Wish, Calls, Refused, Request, Answers, Run, AllAnswered}
-use Rattle.portal_core.specs.Places.{Reordered, SameButPlaces, SameWish, equal, sets, SameRequest, has_places, moves_to_published, Unless, AlikeUntilPublished}
+use Rattle.portal_core.specs.Places.{SameWish, equal, sets, SameRequest, has_places, moves_to_published, Unless, AlikeUntilPublished}
 use Rattle.portal_core.proofs.Cases.{by_student, by_lecturer, by_office}
 use Rattle.portal_core.proofs.Hearing.{really}
 use Rattle.portal_core.proofs.Reorder.{accepted_reordered, reordered_back}

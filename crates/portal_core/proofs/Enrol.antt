@@ -1,25 +1,9 @@
 -- One new row keeps the rows sound, and so does a whole roll.
-use Rattle.std.proofs.Common.{◌≡◌, ℕ, suc, ◌+◌, ◌≤◌, true, false, List, [], ◌∷◌, ◌++◌, length, refl, sym, ◌∙◌, ap, subst, arith, append-nil}
-use Rattle.std.specs.Prelude.{map, ◌||◌, None}
-use Rattle.std.specs.List.{AllByRecursion}
-use Rattle.std.proofs.Math.Bool.{or-true, or_comm}
-use Rattle.std.proofs.lemmas.Bool.{or_parts, not-false}
-use Rattle.std.proofs.lemmas.List.{map-id}
+use Rattle.portal_core.proofs.Base.{◌≡◌, ℕ, suc, ◌+◌, ◌≤◌, true, false, List, [], ◌∷◌, ◌++◌, length, refl, sym, ◌∙◌, ap, subst, arith, append-nil, map, ◌||◌, None, AllByRecursion, or-true, or_parts, map-id, Key, equals, has, AreDistinct, put, World, lecturer_key, project_key, student_key, applicants_of, is_from_ranking, is_published, is_left, in_play, projects_in, First, with_lecturers, with_projects, with_students, new_lecturer, new_student, lecturer_keys, project_keys, Phase, Setup, Choosing, Ranking, Published, LecturerRow, ProjectRow, StudentRow, office_sees, Took, take_rows, lecturer_roll, project_roll, student_roll, Sound, IsLecturer, IsProject, IsStudent, IsChoice, IsRanking, codes_of}
+use Rattle.std.proofs.Math.Bool.{or_comm}
+use Rattle.std.proofs.lemmas.Bool.{not-false}
 use Rattle.std.proofs.lemmas.Simd.{map-map}
-use Rattle.portal_core.specs.Words.{Key, equals, has, AreDistinct, put}
 use Rattle.portal_core.specs.World as rows
-use Rattle.portal_core.specs.World.{World, lecturer_key, project_key, student_key, applicants_of, is_from_ranking, is_published, is_left, in_play, projects_in}
-use Rattle.portal_core.specs.declared.phase.Round.TheVariants.{First}
-use Rattle.portal_core.specs.Change.{with_lecturers, with_projects, with_students, new_lecturer, new_student}
-use Rattle.portal_core.specs.Instance.{lecturer_keys, project_keys}
-use Rattle.portal_core.specs.declared.phase.Phase.{Phase}
-use Rattle.portal_core.specs.declared.phase.Phase.TheVariants.{Setup, Choosing, Ranking, Published}
-use Rattle.portal_core.specs.declared.rows.LecturerRow.{LecturerRow}
-use Rattle.portal_core.specs.declared.rows.ProjectRow.{ProjectRow}
-use Rattle.portal_core.specs.declared.rows.StudentRow.{StudentRow}
-use Rattle.portal_core.specs.View.{office_sees}
-use Rattle.portal_core.specs.Rolls.{Took, take_rows, lecturer_roll, project_roll, student_roll}
-use Rattle.portal_core.specs.Good.{Sound, IsLecturer, IsProject, IsStudent, IsChoice, IsRanking, codes_of}
 use Rattle.portal_core.proofs.Kept.{none_ranked}
 use Rattle.portal_core.proofs.AllLaws.{any_append, all_weaker, is_sym}
 use Rattle.portal_core.proofs.Puts.{all_put, length_put, rise_put, distinct_put, has_put}

@@ -1,16 +1,6 @@
 -- What the office's fill leaves of each caller, and that it keeps the rows sound.
-use Rattle.std.proofs.Common.{◌≡◌, Bool, true, false, cond, List, [], ◌∷◌, refl, sym, ◌∙◌, ap, subst}
-use Rattle.std.specs.Prelude.{map, filter, Some, option_map, IfSome, not, ◌||◌}
-use Rattle.std.specs.List.{filter_map, AllByRecursion}
-use Rattle.std.proofs.Math.Bool.{or-true, and-false}
-use Rattle.portal_core.specs.Words.{Key, equals, has, is_before, is_empty, Rise, AreDistinct}
+use Rattle.portal_core.proofs.Base.{◌≡◌, Bool, true, false, cond, List, [], ◌∷◌, refl, sym, ◌∙◌, ap, subst, map, filter, Some, option_map, IfSome, not, ◌||◌, filter_map, AllByRecursion, or-true, and-false, Key, equals, has, is_before, is_empty, Rise, AreDistinct, World, in_play, lecturer_key, student_key, applicants_of, is_still_to_rank, is_ranking, is_published, is_from_ranking, Fill, changed, with_fill, Office, OfficeCaller, caller, sight_of, view, listing_with, listings, catalogue, office_sees, Sound, IsRanking, project_keys}
 use Rattle.portal_core.specs.World as rows
-use Rattle.portal_core.specs.World.{World, in_play, lecturer_key, student_key, applicants_of, is_still_to_rank, is_ranking, is_published, is_from_ranking}
-use Rattle.portal_core.specs.Change.{Fill, changed, with_fill}
-use Rattle.portal_core.specs.declared.view.View.TheVariants.{Office}
-use Rattle.portal_core.specs.View.{OfficeCaller, caller, sight_of, view, listing_with, listings, catalogue, office_sees}
-use Rattle.portal_core.specs.Good.{Sound, IsRanking}
-use Rattle.portal_core.specs.Instance.{project_keys}
 use Rattle.portal_core.proofs.Keys.{is_same, is_own, not_before_itself}
 use Rattle.portal_core.proofs.InPlay.{fill_row, play_filled}
 use Rattle.portal_core.proofs.AllLaws.{map_same}

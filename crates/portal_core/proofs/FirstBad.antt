@@ -1,14 +1,7 @@
 -- A fault is told where it is first.
-use Rattle.std.proofs.Common.{◌≡◌, ◌⊎◌, inl, inr, ℕ, ◌+◌, Bool, true, false, List, [], ◌∷◌, ◌++◌, length, refl, sym, ◌∙◌, ap, subst, arith, append_assoc, append-nil}
-use Rattle.std.specs.Prelude.{Option, Some, None, ◌==◌, nat_le, codes}
-use Rattle.std.specs.List.{find}
-use Rattle.std.proofs.lemmas.Bool.Decides.{nat_tests}
+use Rattle.portal_core.proofs.Base.{◌≡◌, ◌⊎◌, inl, inr, ℕ, ◌+◌, Bool, true, false, List, [], ◌∷◌, ◌++◌, length, refl, sym, ◌∙◌, ap, subst, arith, append_assoc, append-nil, Option, Some, None, ◌==◌, nat_le, codes, find, nat_tests, Listing, Person, Key, equals, has, ListFault, fault_at, choice_fault, ranking_fault, in_catalogue, is_applicant, lacks_one, Roll, RollRefusal, Taken, Faulty, Took, take_rows, one_new, one_same}
 use Rattle.std.proofs.lemmas.List.{length-append}
-use Rattle.portal_core.specs.declared.rows.Listing.{Listing}
-use Rattle.portal_core.specs.declared.rows.Person.{Person}
-use Rattle.portal_core.specs.Words.{Key, equals, has}
-use Rattle.portal_core.specs.Faults.{ListFault, fault_at, choice_fault, ranking_fault, in_catalogue, is_applicant, lacks_one}
-use Rattle.portal_core.specs.Rolls.{Roll, RollFault, Taken, Faulty, Took, take_rows, one_new, one_same, conflict_at, roll_full}
+use Rattle.portal_core.specs.Rolls.{conflict_at, roll_full}
 use Rattle.portal_core.specs.Legal.{wrong_choice, wrong_rank, NoneWrong, IsFirstWrong, IsRefused, with_new, IsFirstRefused}
 
 -- lists of keys
@@ -141,7 +134,7 @@ module _ (applicants : List (Key × List Person)) where
 
 -- rows
 
-module _ {X : Type 0} (roll : Roll X) (fault : RollFault) where
+module _ {X : Type 0} (roll : Roll X) (fault : RollRefusal) where
   abbrev FoundRow : ℕ → List X → List X → Type 0
   FoundRow at there rows =
       (front : List X) × (r : X) × (rest : List X) × (new : List X) × (same : ℕ) × (rows ≡ front ++ r ∷ rest) × (take_rows roll at there front ≡ Took new same)
@@ -155,7 +148,7 @@ module _ {X : Type 0} (roll : Roll X) (fault : RollFault) where
   new_fault x (Faulty f) e = e
   new_fault x (Took new same) e = cc
 
-  one_fault : (f : RollFault) (t : Taken X) → t ≡ Faulty f → t ≡ Faulty fault → fault ≡ f
+  one_fault : (f : RollRefusal) (t : Taken X) → t ≡ Faulty f → t ≡ Faulty fault → fault ≡ f
   one_fault f t so told = let both : ◌≡◌ {A = Taken X} (Faulty f) (Faulty fault) = sym so ∙ told in let one : f ≡ fault = cc in sym one
 
   same_step : (at : ℕ) (there : List X) (r : X) (rs : List X) (old : X) → find (λ x. equals (roll.key x) (roll.key r)) there ≡ Some old → roll.same old r ≡ true → take_rows roll at there (r ∷ rs) ≡ one_same (take_rows roll (at + 1) there rs)

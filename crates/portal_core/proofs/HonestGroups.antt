@@ -1,26 +1,11 @@
 -- No group of students gains anything by other lists: of worlds.
-use Rattle.std.proofs.Common.{◌≡◌, ℕ, ◌<◌, Bool, true, false, cond, List, [], ◌∷◌, map, length, get_or, refl, sym, ◌∙◌, ap, subst, arith}
-use Rattle.std.specs.Prelude.{Option, Some, None, is_none, ◌||◌, filter}
-use Rattle.std.specs.List.{AllByRecursion}
-use Rattle.std.proofs.Math.Bool.{or-true}
-use Rattle.std.proofs.lemmas.List.{get_or-map, get_or_default, length-map}
-use Rattle.std.proofs.lemmas.List.Elements.{AllZip-get_or}
-use Rattle.std.proofs.lemmas.Slice.Zip.{AllZip-long}
-use Rattle.spa_model.specs.Spa.{project_of, IsOn}
-use Rattle.spa_model.specs.Pairs.{number_in}
-use Rattle.spa_model.proofs.Numbers.{number_is}
+use Rattle.portal_core.proofs.Base.{◌≡◌, ℕ, ◌<◌, Bool, true, false, cond, List, [], ◌∷◌, map, length, get_or, refl, sym, ◌∙◌, ap, subst, arith, Option, Some, None, is_none, ◌||◌, filter, AllByRecursion, or-true, get_or-map, length-map, AllZip-get_or, AllZip-long, project_of, IsOn, number_in, number_is, Round, First, Second, StudentRow, Key, equals, has, World, project_key, student_key, is_left, is_second, is_published, students_in, in_play, alone, alone_student, instance_of, places_of, student_keys, view, student_sees, Good, HasBest, ListAlike, DifferInLists, IsNoWorse}
+use Rattle.std.proofs.lemmas.List.{get_or_default}
 use Rattle.spa_honest.specs.Honest as instances
 use Rattle.spa_honest.proofs.Gains.{no_group_gains as no_group_by_number}
-use Rattle.portal_core.specs.declared.phase.Round.{Round}
-use Rattle.portal_core.specs.declared.phase.Round.TheVariants.{First, Second}
-use Rattle.portal_core.specs.declared.rows.StudentRow.{StudentRow}
 use Rattle.portal_core.specs.declared.view.View.TheVariants as sees
-use Rattle.portal_core.specs.Words.{Key, equals, has}
-use Rattle.portal_core.specs.World.{World, Student, project_key, student_key, is_left, is_second, is_published, students_in, in_play, alone, alone_student}
-use Rattle.portal_core.specs.Instance.{instance_of, places_of, student_keys}
-use Rattle.portal_core.specs.View.{view, student_sees}
-use Rattle.portal_core.specs.Good.{Good}
-use Rattle.portal_core.specs.Honest.{HasBest, ListAlike, DifferInLists, IsNoWorse, OneGainsNothing}
+use Rattle.portal_core.specs.World.{Student}
+use Rattle.portal_core.specs.Honest.{OneGainsNothing}
 use Rattle.portal_core.proofs.Keys.{is_same}
 use Rattle.portal_core.proofs.AllLaws.{all_at, all_map, all_weaker, all_both, any_map}
 use Rattle.portal_core.proofs.Alone.{passes}

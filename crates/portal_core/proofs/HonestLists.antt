@@ -1,32 +1,16 @@
 -- No other list gains anything: of worlds.
-use Rattle.std.proofs.Common.{◌≡◌, ℕ, zero, suc, ◌+◌, ◌-◌, ◌<◌, ◌≤◌, Bool, true, false, not, cond, eqb, inl, inr, List, [], ◌∷◌, map, length, get_or, refl, sym, ◌∙◌, ap, subst, arith}
-use Rattle.std.specs.Prelude.{Option, Some, None, IfSome, option_map, unwrap_or, is_none, nat_lt, count_by, ◌&&◌, ◌||◌, filter}
-use Rattle.std.specs.List.{AllByRecursion, AllZip, list_any, find}
-use Rattle.std.proofs.Math.Bool.{or-true}
-use Rattle.std.proofs.lemmas.Bool.{eqb-true, eq-eqb, cases_lt}
-use Rattle.std.proofs.lemmas.List.{get_or-map, length-map, get_or_past}
-use Rattle.std.proofs.lemmas.List.Elements.{AllZip-get_or}
-use Rattle.std.proofs.lemmas.Slice.Zip.{AllZip-long}
-use Rattle.std.proofs.lemmas.List.Folds.{list_any_at}
-use Rattle.spa_model.specs.Spa.{IsBest, IsStable, place, project_of, choices_of, lecturer_of, ranking_of, IsOn, IsAcceptable, IsAsGood, IsDistinct}
-use Rattle.spa_model.specs.Pairs.{number_in}
-use Rattle.spa_model.proofs.Numbers.{number_is, number_known}
-use Rattle.spa_model.proofs.PairFaults.{count_by-map}
+use Rattle.portal_core.proofs.Base.{◌≡◌, ℕ, zero, suc, ◌+◌, ◌-◌, ◌<◌, ◌≤◌, Bool, true, false, not, cond, inl, inr, List, [], ◌∷◌, map, length, get_or, refl, sym, ◌∙◌, ap, subst, arith, Option, Some, None, IfSome, option_map, unwrap_or, is_none, nat_lt, count_by, ◌&&◌, ◌||◌, filter, AllByRecursion, AllZip, list_any, find, or-true, eqb-true, eq-eqb, get_or-map, length-map, AllZip-get_or, AllZip-long, list_any_at, IsBest, IsStable, place, project_of, lecturer_of, IsOn, IsAcceptable, number_in, number_is, number_known, count_by-map, ProjectRow, Key, equals, has, is_empty, AreDistinct, World, lecturer_key, project_key, student_key, projects_of, applicants_of, is_published, is_at, is_left, given_with, lowered_lecturer, lowered_project, lecturers_left, students_left, lecturers_in, projects_in, students_in, in_play, alone, alone_lecturer, alone_student, Round, First, Second, instance, instance_of, places_of, lecturer_keys, project_keys, student_keys, OfficeCaller, caller_among, lecturer_with, student_with, sight_of, view, student_sees, Good, Sound, IsChoice, IsRanking, StudentSees, HasBest, ListAlike, DifferInLists, DifferInOneList, IsNoWorse}
+use Rattle.std.proofs.Common.{eqb}
+use Rattle.std.proofs.lemmas.Bool.{cases_lt}
+use Rattle.std.proofs.lemmas.List.{get_or_past}
+use Rattle.spa_model.specs.Spa.{choices_of, ranking_of, IsAsGood, IsDistinct}
 use Rattle.spa_student.specs.inner.Machine.{IsRanked}
 use Rattle.spa_student.proofs.CutSteps.{acceptable_in_range}
 use Rattle.spa_honest.specs.Honest as instances
 use Rattle.spa_honest.proofs.Gains.{honest_is_best as honest_by_number}
-use Rattle.portal_core.specs.declared.rows.ProjectRow.{ProjectRow}
-use Rattle.portal_core.specs.Words.{Key, equals, has, is_empty, AreDistinct}
-use Rattle.portal_core.specs.World.{World, Lecturer, Student, lecturer_key, project_key, student_key, projects_of, applicants_of, is_published, is_at, is_left, given_with, lowered_lecturer, lowered_project, lecturers_left, students_left, lecturers_in, projects_in, students_in, in_play, alone, alone_lecturer, alone_student}
-use Rattle.portal_core.specs.declared.phase.Round.{Round}
-use Rattle.portal_core.specs.declared.phase.Round.TheVariants.{First, Second}
-use Rattle.portal_core.specs.Instance.{instance, instance_of, places_of, lecturer_keys, project_keys, student_keys}
-use Rattle.portal_core.specs.View.{OfficeCaller, caller_among, lecturer_with, student_with, sight_of, view, student_sees}
-use Rattle.portal_core.specs.Good.{Good, Sound, IsChoice, IsRanking}
-use Rattle.portal_core.specs.Sight.{StudentSees}
+use Rattle.portal_core.specs.World.{Lecturer, Student}
 use Rattle.portal_core.specs.declared.view.View.TheVariants as sees
-use Rattle.portal_core.specs.Honest.{HasBest, OrderAlike, RankAlike, ListAlike, DifferInLists, DifferInOneList, IsNoWorse}
+use Rattle.portal_core.specs.Honest.{OrderAlike, RankAlike}
 use Rattle.portal_core.proofs.Keys.{is_same, is_own}
 use Rattle.portal_core.proofs.AllLaws.{all_at, any_map, filtered_any}
 use Rattle.portal_core.proofs.Only.{has_contains, on_roll}

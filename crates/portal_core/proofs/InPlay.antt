@@ -1,18 +1,6 @@
 -- What a change leaves of those who take part in a round.
-use Rattle.std.proofs.Common.{◌≡◌, ◌-◌, Bool, true, false, cond, List, [], ◌∷◌, length, refl, sym, ◌∙◌, ap}
-use Rattle.std.specs.Prelude.{map, filter, count_by, nat_lt, ◌&&◌, ◌||◌, Some, None, is_none}
-use Rattle.std.proofs.Math.Bool.{and-false}
-use Rattle.std.proofs.lemmas.List.Sums.{length-filter}
-use Rattle.std.specs.List.{list_any}
-use Rattle.spa_model.proofs.PairFaults.{count_by-map}
-use Rattle.portal_core.specs.Words.{Key, equals, has, is_before, put, put_all}
+use Rattle.portal_core.proofs.Base.{◌≡◌, ◌-◌, Bool, true, false, cond, List, [], ◌∷◌, length, refl, sym, ◌∙◌, ap, map, filter, count_by, nat_lt, ◌&&◌, ◌||◌, Some, None, is_none, and-false, length-filter, list_any, count_by-map, Key, equals, has, is_before, put, put_all, World, in_play, applicants_of, is_still_to_rank, lecturer_key, project_key, student_key, is_at, is_left, given_to, given_with, lowered_lecturer, lowered_project, lecturers_left, projects_left, students_left, lecturers_in, projects_in, students_in, Choices, Ranks, Placements, Fill, changed, with_choice, with_ranking, with_place, with_fill, placement_in, new_student, with_students, Round, First, Second, ProjectRow, StudentRow}
 use Rattle.portal_core.specs.World as rows
-use Rattle.portal_core.specs.World.{World, in_play, applicants_of, is_still_to_rank, lecturer_key, project_key, student_key, is_at, is_left, given_to, given_with, lowered_lecturer, lowered_project, lecturers_left, projects_left, students_left, lecturers_in, projects_in, students_in}
-use Rattle.portal_core.specs.Change.{Choices, Ranks, Placements, Fill, changed, with_choice, with_ranking, with_place, with_fill, placement_in, new_student, with_students}
-use Rattle.portal_core.specs.declared.phase.Round.{Round}
-use Rattle.portal_core.specs.declared.phase.Round.TheVariants.{First, Second}
-use Rattle.portal_core.specs.declared.rows.ProjectRow.{ProjectRow}
-use Rattle.portal_core.specs.declared.rows.StudentRow.{StudentRow}
 
 -- a filter after a change that keeps the test
 pub filter_kept : {X : Type 0} (f : X → X) (q : X → Bool) → ((x : X) → q (f x) ≡ q x) → (xs : List X) → filter q (map f xs) ≡ map f (filter q xs)

@@ -1,15 +1,6 @@
 -- What holds of those who take part in a round of a sound world.
-use Rattle.std.proofs.Common.{◌≡◌, Bool, true, false, cond, List, [], ◌∷◌, refl, sym, ap, subst}
-use Rattle.std.specs.Prelude.{map, filter, nat_lt, ◌&&◌, is_none}
-use Rattle.std.specs.List.{AllByRecursion}
-use Rattle.portal_core.specs.Words.{has, Rise}
+use Rattle.portal_core.proofs.Base.{◌≡◌, Bool, true, false, cond, List, [], ◌∷◌, refl, sym, ap, subst, map, filter, nat_lt, ◌&&◌, is_none, AllByRecursion, has, Rise, World, in_play, lecturer_key, project_key, student_key, is_left, is_second, lowered_project, lecturers_left, students_left, projects_in, students_in, project_keys, student_keys, Round, First, Second, ProjectRow, Sound, IsChoice}
 use Rattle.portal_core.specs.World as rows
-use Rattle.portal_core.specs.World.{World, in_play, lecturer_key, project_key, student_key, is_left, is_second, lowered_project, lecturers_left, students_left, projects_in, students_in}
-use Rattle.portal_core.specs.Instance.{project_keys, student_keys}
-use Rattle.portal_core.specs.declared.phase.Round.{Round}
-use Rattle.portal_core.specs.declared.phase.Round.TheVariants.{First, Second}
-use Rattle.portal_core.specs.declared.rows.ProjectRow.{ProjectRow}
-use Rattle.portal_core.specs.Good.{Sound, IsChoice}
 use Rattle.portal_core.proofs.Fills.{rise_kept}
 use Rattle.portal_core.proofs.AllLaws.{all_weaker, map_same}
 

@@ -1,24 +1,6 @@
 -- A change that is decided keeps the rows sound.
-use Rattle.std.proofs.Common.{◌≡◌, ℕ, ◌+◌, ◌≤◌, Bool, true, false, cond, List, [], ◌∷◌, ◌++◌, length, refl, sym, ◌∙◌, ap, subst, arith, append_assoc, append-nil}
-use Rattle.std.specs.Prelude.{map, filter, Option, Some, None, option_map, IfSome, not, ◌||◌, ◌&&◌, ◌==◌, if◌then◌else◌, is_none, unwrap_or}
-use Rattle.std.specs.List.{list_any, AllByRecursion}
-use Rattle.std.proofs.lemmas.Bool.Decides.{nat_tests}
-use Rattle.std.proofs.lemmas.List.{length-map}
-use Rattle.spa_model.specs.Spa.{IsBest, IsStable}
-use Rattle.spa_model.specs.Pairs.{number_in}
-use Rattle.portal_core.specs.Words.{Key, equals, has, is_empty, Rise, AreDistinct}
+use Rattle.portal_core.proofs.Base.{◌≡◌, ℕ, ◌+◌, ◌≤◌, Bool, true, false, cond, List, [], ◌∷◌, ◌++◌, length, refl, sym, ◌∙◌, ap, subst, arith, append_assoc, append-nil, map, filter, Option, Some, None, option_map, IfSome, not, ◌||◌, ◌&&◌, ◌==◌, if◌then◌else◌, is_none, unwrap_or, list_any, AllByRecursion, nat_tests, length-map, IsBest, IsStable, number_in, Key, equals, has, is_empty, Rise, AreDistinct, World, lecturer_key, project_key, student_key, applicants_to, projects_of, applicants_of, is_still_to_rank, is_setup, is_choosing, is_ranking, is_published, is_from_ranking, is_second, is_left, in_play, first, first_placed, first_published, Choices, Ranks, To, Placements, changed, with_choice, with_ranking, with_place, placement_in, instance, instance_of, matching_of, project_keys, student_keys, Phase, Setup, Choosing, Ranking, Published, Listing, Person, ProjectRow, catalogue, listings, office_sees, persons, name_in, listing_with, ListFault, choice_fault, ranking_fault, in_catalogue, is_applicant, lacks_one, Good, IsRound, Sound, IsChoice, IsRanking, IsStudent}
 use Rattle.portal_core.specs.World as rows
-use Rattle.portal_core.specs.World.{World, lecturer_key, project_key, student_key, applicants_to, projects_of, applicants_of, is_still_to_rank, is_setup, is_choosing, is_ranking, is_published, is_from_ranking, is_second, is_left, in_play, first, first_placed, first_published}
-use Rattle.portal_core.specs.Change.{Choices, Ranks, To, Placements, changed, with_choice, with_ranking, with_place, placement_in}
-use Rattle.portal_core.specs.Instance.{instance, instance_of, matching_of, project_keys, student_keys}
-use Rattle.portal_core.specs.declared.phase.Phase.{Phase}
-use Rattle.portal_core.specs.declared.phase.Phase.TheVariants.{Setup, Choosing, Ranking, Published}
-use Rattle.portal_core.specs.declared.rows.Listing.{Listing}
-use Rattle.portal_core.specs.declared.rows.Person.{Person}
-use Rattle.portal_core.specs.declared.rows.ProjectRow.{ProjectRow}
-use Rattle.portal_core.specs.View.{catalogue, listings, office_sees, persons, name_in, listing_with}
-use Rattle.portal_core.specs.Faults.{ListFault, choice_fault, ranking_fault, in_catalogue, is_applicant, lacks_one}
-use Rattle.portal_core.specs.Good.{Good, IsRound, Sound, IsChoice, IsRanking, IsStudent}
 use Rattle.portal_core.proofs.Keys.{is_same}
 use Rattle.portal_core.proofs.Reranked.{sound_kept}
 use Rattle.portal_core.proofs.Acts.{choice_row, ranking_row}

@@ -1,27 +1,8 @@
 -- What is shown of a result is shown in each world that comes after.
-use Rattle.std.proofs.Common.{◌≡◌, suc, Bool, true, false, cond, List, [], ◌∷◌, Contains, refl, sym, ◌∙◌, ap, subst, inl, inr, arith}
-use Rattle.std.specs.Prelude.{map, filter, Option, Some, None, option_map, is_none}
-use Rattle.std.specs.List.{filter_map, cons_option, AllByRecursion}
+use Rattle.portal_core.proofs.Base.{◌≡◌, suc, Bool, true, false, cond, List, [], ◌∷◌, Contains, refl, sym, ◌∙◌, ap, subst, inl, inr, arith, map, filter, Option, Some, None, option_map, is_none, filter_map, cons_option, AllByRecursion, Key, equals, is_before, put, put_all, World, first, first_placed, first_published, is_at, is_choosing, is_published, is_second, shown_placement, pairs_of, placed_at, projects_of, lecturer_key, project_key, student_key, Phase, Setup, Choosing, Ranking, Published, Round, First, Second, Person, LecturerRow, ProjectRow, StudentRow, Nobody, Office, Lecturer, Student, Choices, To, Placements, SecondRound, changed, ranked_before, placed_before, with_choice, with_ranking, with_place, with_fill, new_lecturer, new_student, with_lecturers, with_students, in_first, Caller, NoCaller, OfficeCaller, LecturerCaller, StudentCaller, caller, sight_of, view, office_sees, lecturer_sees, student_sees, persons, lecturer_with, student_with, AbstractCall, Answer, Decision, decision, Good, StepLeaves, Step, Request, Wish, Calls, Refused, Answers, Serves, Run}
 use Rattle.std.proofs.lemmas.List.Elements.{All-contains, All-from_recursion}
-use Rattle.portal_core.specs.Words.{Key, equals, is_before, put, put_all}
 use Rattle.portal_core.specs.World as rows
-use Rattle.portal_core.specs.World.{World, first, first_placed, first_published, is_at, is_choosing, is_published, is_second, shown_placement, pairs_of, placed_at, projects_of, lecturer_key, project_key, student_key}
-use Rattle.portal_core.specs.declared.phase.Phase.{Phase}
-use Rattle.portal_core.specs.declared.phase.Phase.TheVariants.{Setup, Choosing, Ranking, Published}
-use Rattle.portal_core.specs.declared.phase.Round.{Round}
-use Rattle.portal_core.specs.declared.phase.Round.TheVariants.{First, Second}
-use Rattle.portal_core.specs.declared.rows.Person.{Person}
-use Rattle.portal_core.specs.declared.rows.LecturerRow.{LecturerRow}
-use Rattle.portal_core.specs.declared.rows.ProjectRow.{ProjectRow}
-use Rattle.portal_core.specs.declared.rows.StudentRow.{StudentRow}
 use Rattle.portal_core.specs.declared.view.View.{View as Sight}
-use Rattle.portal_core.specs.declared.view.View.TheVariants.{Nobody, Office, Lecturer, Student}
-use Rattle.portal_core.specs.Change.{Choices, To, Placements, SecondRound, changed, ranked_before, placed_before, with_choice, with_ranking, with_place, with_fill, new_lecturer, new_student, with_lecturers, with_students, in_first}
-use Rattle.portal_core.specs.View.{Caller, NoCaller, OfficeCaller, LecturerCaller, StudentCaller, caller, sight_of, view, office_sees, lecturer_sees, student_sees, persons, lecturer_with, student_with}
-use Rattle.portal_core.specs.AbstractCall.{AbstractCall}
-use Rattle.portal_core.specs.Answer.{Answer, Decision, decision}
-use Rattle.portal_core.specs.Good.{Good}
-use Rattle.portal_core.specs.Run.{StepLeaves, Step, Request, Wish, Calls, Refused, Answers, Serves, Run}
 use Rattle.portal_core.specs.Results.{IsShownAt, ShowsStill}
 use Rattle.portal_core.proofs.Keys.{is_same, found_passes, found_all, all_unmap}
 use Rattle.portal_core.proofs.AllLaws.{all_map, all_weaker, all_both}

@@ -1,26 +1,9 @@
 -- What has room after the first round, and that nobody whom it left had listed it.
-use Rattle.std.proofs.Common.{◌≡◌, ℕ, suc, ◌-◌, ◌<◌, ◌≤◌, Bool, true, false, List, [], ◌∷◌, map, length, get_or, refl, sym, ◌∙◌, ap, subst, arith}
-use Rattle.std.specs.Prelude.{Option, Some, None, option_map, is_none, nat_lt, count_by, ◌==◌, ◌&&◌, ◌||◌}
-use Rattle.std.specs.List.{AllByRecursion, list_any}
-use Rattle.std.proofs.lemmas.Bool.{eqb-true}
-use Rattle.std.proofs.lemmas.Bool.Decides.{nat_tests}
-use Rattle.std.proofs.lemmas.List.{get_or-map, length-map}
-use Rattle.std.proofs.lemmas.List.Folds.{list_any_at}
-use Rattle.spa_model.specs.Spa.{IsStable, IsAcceptable, is_project, is_lecturer, at_project, at_lecturer, lecturer_of, capacity_of, limit_of, project_of}
-use Rattle.spa_model.specs.Pairs.{number_in}
-use Rattle.spa_model.proofs.Numbers.{number_is}
-use Rattle.spa_model.proofs.PairFaults.{count_by-map}
+use Rattle.portal_core.proofs.Base.{◌≡◌, ℕ, suc, ◌-◌, ◌<◌, ◌≤◌, Bool, true, false, List, [], ◌∷◌, map, length, get_or, refl, sym, ◌∙◌, ap, subst, arith, Option, Some, None, option_map, is_none, nat_lt, count_by, ◌==◌, ◌&&◌, ◌||◌, AllByRecursion, list_any, eqb-true, nat_tests, get_or-map, length-map, list_any_at, IsStable, IsAcceptable, is_project, is_lecturer, at_project, at_lecturer, lecturer_of, project_of, number_in, number_is, count_by-map, Key, equals, has, World, lecturer_key, project_key, is_at, is_left, is_published, is_second, given_to, given_with, lowered_lecturer, lowered_project, lecturers_left, in_play, first, first_placed, first_published, First, Second, Listing, ProjectRow, instance, instance_of, matching_of, places_of, lecturer_keys, project_keys, in_catalogue, catalogue, Good, IsRound, Sound, IsChoice, placed_to, placed_with}
+use Rattle.spa_model.specs.Spa.{capacity_of, limit_of}
 use Rattle.spa_honest.specs.Honest.{HasRoom}
 use Rattle.spa_honest.proofs.Waits.{left_finds_none as left_by_number}
-use Rattle.portal_core.specs.Words.{Key, equals, has}
-use Rattle.portal_core.specs.World.{World, Lecturer, Student, lecturer_key, project_key, is_at, is_left, is_published, is_second, given_to, given_with, lowered_lecturer, lowered_project, lecturers_left, in_play, first, first_placed, first_published}
-use Rattle.portal_core.specs.declared.phase.Round.TheVariants.{First, Second}
-use Rattle.portal_core.specs.declared.rows.Listing.{Listing}
-use Rattle.portal_core.specs.declared.rows.ProjectRow.{ProjectRow}
-use Rattle.portal_core.specs.Instance.{instance, instance_of, matching_of, places_of, lecturer_keys, project_keys}
-use Rattle.portal_core.specs.Faults.{in_catalogue}
-use Rattle.portal_core.specs.View.{catalogue}
-use Rattle.portal_core.specs.Good.{Good, IsRound, Sound, IsChoice, placed_to, placed_with}
+use Rattle.portal_core.specs.World.{Lecturer, Student}
 use Rattle.portal_core.proofs.Keys.{is_same, is_own}
 use Rattle.portal_core.proofs.AllLaws.{all_at, any_map, any_alike, filtered_any, is_sym}
 use Rattle.portal_core.proofs.Published.{number_back}

@@ -1,3 +1,4 @@
+pub mod Base
 pub mod Texts
 pub mod Keys
 pub mod AllLaws
@@ -30,7 +31,6 @@ mod Taken
 mod FirstBad
 pub mod Similar
 pub mod Disclosed
-pub mod Example
 pub mod Named
 pub mod Play
 pub mod Only

@@ -1,25 +1,11 @@
 -- Each body is JSON with whole numbers, or a sheet.
-use Rattle.std.proofs.Common.{◌≡◌, ℕ, Bool, true, false, List, [], ◌∷◌, refl, sym, subst}
-use Rattle.std.specs.Prelude.{Option, Some, None, is_none, map, codes, if◌then◌else◌}
-use Rattle.serde_json.specs.Data.{Data, string}
+use Rattle.portal_core.proofs.Base.{◌≡◌, ℕ, Bool, true, false, List, [], ◌∷◌, refl, sym, subst, Option, Some, None, is_none, map, codes, if◌then◌else◌, Data, string, Phase, Setup, Choosing, Ranking, Published, Round, First, Second, Person, Key, is_empty, is_choosing, is_ranking, is_from_ranking, has_result, Change, Lecturers, Projects, Students, StudentSees, LecturerSees, OfficeSees, AbstractCall, dictionary, several, person, phase_body, ListFault, choice_fault, ranking_fault, Taken, Faulty, Took, take_rows, lecturer_roll, project_roll, student_roll, Said, Act, Nothing, Apply, Publish, Render, Decision, open_where, unless_faulty, added, already_placed, moves_on, opens, moves_in, to_student, to_lecturer, to_office}
 use Rattle.serde_json.specs.View.{items_of}
 use Rattle.serde_json.specs.Written.{has_float, items_have_float, members_have_float}
-use Rattle.portal_core.specs.declared.phase.Phase.{Phase}
-use Rattle.portal_core.specs.declared.phase.Phase.TheVariants.{Setup, Choosing, Ranking, Published}
-use Rattle.portal_core.specs.declared.phase.Round.{Round}
-use Rattle.portal_core.specs.declared.phase.Round.TheVariants.{First, Second}
-use Rattle.portal_core.specs.declared.rows.Person.{Person}
 use Rattle.portal_core.specs.declared.decision.Sheet.TheVariants as sheet
-use Rattle.portal_core.specs.Words.{Key, is_empty}
-use Rattle.portal_core.specs.World.{is_choosing, is_ranking, is_from_ranking, has_result}
-use Rattle.portal_core.specs.Change.{Change, Lecturers, Projects, Students}
-use Rattle.portal_core.specs.Sight.{StudentSees, LecturerSees, OfficeSees}
-use Rattle.portal_core.specs.AbstractCall.{AbstractCall}
-use Rattle.portal_core.specs.Json.{texts_or_null, text_or_null, dictionary, several, members}
-use Rattle.portal_core.specs.Bodies.{listing, person, round_member, phase_body, status_body, unassigned, applicants_body, placed_body, allocation_body}
-use Rattle.portal_core.specs.Faults.{ListFault, choice_fault, ranking_fault}
-use Rattle.portal_core.specs.Rolls.{Taken, Faulty, Took, take_rows, lecturer_roll, project_roll, student_roll}
-use Rattle.portal_core.specs.Answer.{Said, Act, Nothing, Apply, Publish, Render, Decision, open_where, unless_faulty, added, row_fault, already_placed, moves_on, opens, moves_in, moves, publishes, to_student, to_lecturer, to_office, unwritten, emptied, HasWholeNumbers}
+use Rattle.portal_core.specs.Json.{texts_or_null, text_or_null, members}
+use Rattle.portal_core.specs.Bodies.{listing, round_member, status_body, unassigned, applicants_body, placed_body, allocation_body}
+use Rattle.portal_core.specs.Answer.{row_fault, moves, publishes, unwritten, emptied, HasWholeNumbers}
 
 -- no body has a number that is not whole
 

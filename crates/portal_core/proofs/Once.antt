@@ -1,25 +1,8 @@
 -- Each run has exactly one list of what a caller hears.
-use Rattle.std.proofs.Common.{◌≡◌, ◌≢◌, ℕ, Bool, true, false, List, [], ◌∷◌, ◌++◌, refl, sym, ◌∙◌, ap, subst, inl, inr}
-use Rattle.std.specs.Prelude.{◌⊎◌, Option, Some, None}
+use Rattle.portal_core.proofs.Base.{◌≡◌, ◌≢◌, ℕ, Bool, true, false, List, [], ◌∷◌, ◌++◌, refl, sym, ◌∙◌, ap, subst, inl, inr, ◌⊎◌, Option, Some, None, bytes_decides, Key, World, Phase, Round, First, Second, Setup, Choosing, Ranking, Published, Person, Listing, LecturerRow, ProjectRow, StudentRow, StudentSees, LecturerSees, OfficeSees, Nobody, Office, Lecturer, Student, view, Request, HeardItem, Sees, ChangeSeen, SeenIf, Heard}
 use Rattle.std.specs.Str.{bytes_eq}
-use lib.Pointwise.{bytes_decides}
-use Rattle.portal_core.specs.Words.{Key}
-use Rattle.portal_core.specs.World.{World}
-use Rattle.portal_core.specs.declared.phase.Phase.{Phase}
-use Rattle.portal_core.specs.declared.phase.Round.{Round}
-use Rattle.portal_core.specs.declared.phase.Round.TheVariants.{First, Second}
-use Rattle.portal_core.specs.declared.phase.Phase.TheVariants.{Setup, Choosing, Ranking, Published}
-use Rattle.portal_core.specs.declared.rows.Person.{Person}
-use Rattle.portal_core.specs.declared.rows.Listing.{Listing}
-use Rattle.portal_core.specs.declared.rows.LecturerRow.{LecturerRow}
-use Rattle.portal_core.specs.declared.rows.ProjectRow.{ProjectRow}
-use Rattle.portal_core.specs.declared.rows.StudentRow.{StudentRow}
-use Rattle.portal_core.specs.Sight.{StudentSees, LecturerSees, OfficeSees}
 use Rattle.portal_core.specs.declared.view.View.{View as Sight}
-use Rattle.portal_core.specs.declared.view.View.TheVariants.{Nobody, Office, Lecturer, Student}
-use Rattle.portal_core.specs.View.{view}
-use Rattle.portal_core.specs.Run.{Request}
-use Rattle.portal_core.specs.Heard.{HeardItem, Sees, own_item, ChangeSeen, may_show, SeenIf, Heard}
+use Rattle.portal_core.specs.Heard.{own_item, may_show}
 
 -- whether two are the same can be told
 

@@ -1,28 +1,8 @@
 -- A step has one reply and one end, since there is one best matching; and so has a run.
-use Rattle.std.proofs.Common.{◌≡◌, ℕ, zero, suc, ◌+◌, ◌<◌, ◌≤◌, true, false, cond, List, [], ◌∷◌, map, length, get_or, refl, sym, ◌∙◌, ap, subst, arith, Contains}
-use Rattle.std.specs.Prelude.{◌==◌, ◌||◌, Option, Some, None, option_map}
-use Rattle.std.specs.List.{AllByRecursion}
-use Rattle.std.proofs.lemmas.Bool.{eq-eqb}
-use Rattle.std.proofs.lemmas.Bool.Decides.{nat_tests}
-use Rattle.std.proofs.lemmas.List.{length-map}
-use Rattle.spa_model.specs.Spa.{IsBest, IsMatching, IsOn, place, project_of, is_project, at_project}
+use Rattle.portal_core.proofs.Base.{◌≡◌, ℕ, zero, suc, ◌+◌, ◌<◌, ◌≤◌, true, false, cond, List, [], ◌∷◌, map, length, get_or, refl, sym, ◌∙◌, ap, subst, arith, Contains, ◌==◌, ◌||◌, Option, Some, None, option_map, AllByRecursion, eq-eqb, nat_tests, length-map, IsBest, IsMatching, IsOn, place, project_of, is_project, at_project, number_in, number_is, number_known, Key, equals, has, World, in_play, project_key, is_left, students_left, students_in, Round, First, Second, Placements, placement_in, with_place, changed, instance, matching_of, places_of, project_keys, view, AbstractCall, Answer, Act, Nothing, Apply, Publish, Render, decision, ProjectRow, IsChoice, StepLeaves, Step, Wish, Calls, Refused, Request, Answers, Run, AllAnswered}
 use Rattle.spa_model.proofs.Counts.{one_if, count_by-cons}
-use Rattle.spa_model.specs.Pairs.{number_in}
-use Rattle.spa_model.proofs.Numbers.{number_is, number_known}
 use Rattle.spa_model.proofs.OneOnly.{best_is_one}
-use Rattle.portal_core.specs.Words.{Key, equals, has}
 use Rattle.portal_core.specs.World as rows
-use Rattle.portal_core.specs.World.{World, in_play, project_key, is_left, students_left, students_in}
-use Rattle.portal_core.specs.declared.phase.Round.{Round}
-use Rattle.portal_core.specs.declared.phase.Round.TheVariants.{First, Second}
-use Rattle.portal_core.specs.Change.{Placements, placement_in, with_place, changed}
-use Rattle.portal_core.specs.Instance.{instance, matching_of, places_of, project_keys}
-use Rattle.portal_core.specs.View.{view}
-use Rattle.portal_core.specs.AbstractCall.{AbstractCall}
-use Rattle.portal_core.specs.Answer.{Answer, Act, Nothing, Apply, Publish, Render, decision}
-use Rattle.portal_core.specs.declared.rows.ProjectRow.{ProjectRow}
-use Rattle.portal_core.specs.Good.{IsChoice}
-use Rattle.portal_core.specs.Run.{StepLeaves, Step, Wish, Calls, Refused, Request, Answers, Run, AllAnswered}
 use Rattle.portal_core.proofs.Keys.{is_same}
 use Rattle.portal_core.proofs.InPlay.{play_placed}
 use Rattle.portal_core.proofs.Hearing.{really}

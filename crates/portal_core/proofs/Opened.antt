@@ -1,17 +1,6 @@
 -- The second round: what it opens with, and that the first stays as it was published.
-use Rattle.std.proofs.Common.{◌≡◌, Bool, true, false, cond, List, [], ◌∷◌, ◌++◌, length, refl, sym, ◌∙◌, ap, subst, arith}
-use Rattle.std.specs.Prelude.{map, Option, Some, None, IfSome, is_none}
-use Rattle.std.specs.List.{find, AllByRecursion}
-use Rattle.std.proofs.lemmas.List.{length-map}
-use Rattle.portal_core.specs.Words.{Key, equals, has, is_before, Rise, AreDistinct}
+use Rattle.portal_core.proofs.Base.{◌≡◌, Bool, true, false, cond, List, [], ◌∷◌, ◌++◌, length, refl, sym, ◌∙◌, ap, subst, arith, map, Option, Some, None, IfSome, is_none, find, AllByRecursion, length-map, Key, equals, has, is_before, Rise, AreDistinct, World, lecturer_key, project_key, student_key, applicants_of, is_published, is_second, is_left, in_play, first, first_placed, first_published, shown_placement, Choices, Ranks, Fill, SecondRound, changed, opened, ranked_before, placed_before, with_choice, with_ranking, with_fill, Phase, Published, First, project_keys, Good, IsRound, Sound, IsChoice, IsRanking, IsLecturer, IsStudent}
 use Rattle.portal_core.specs.World as rows
-use Rattle.portal_core.specs.World.{World, lecturer_key, project_key, student_key, applicants_of, is_published, is_second, is_left, in_play, first, first_placed, first_published, shown_placement}
-use Rattle.portal_core.specs.Change.{Choices, Ranks, Fill, SecondRound, changed, opened, ranked_before, placed_before, with_choice, with_ranking, with_fill}
-use Rattle.portal_core.specs.declared.phase.Phase.{Phase}
-use Rattle.portal_core.specs.declared.phase.Phase.TheVariants.{Published}
-use Rattle.portal_core.specs.declared.phase.Round.TheVariants.{First}
-use Rattle.portal_core.specs.Instance.{project_keys}
-use Rattle.portal_core.specs.Good.{Good, IsRound, Sound, IsChoice, IsRanking, IsLecturer, IsStudent}
 use Rattle.portal_core.proofs.Keys.{is_same, not_before_itself, found_all, all_unmap}
 use Rattle.portal_core.proofs.AllLaws.{all_map, all_weaker, map_same}
 use Rattle.portal_core.proofs.InPlay.{fill_row}

@@ -1,20 +1,6 @@
 -- The round changes where the second opens, and nowhere else.
-use Rattle.std.proofs.Common.{◌≡◌, Bool, true, false, cond, List, [], ◌∷◌, refl, sym, ◌∙◌, ap, subst, inl, inr}
-use Rattle.std.specs.Prelude.{◌⊎◌, Some}
-use Rattle.std.specs.List.{AllByRecursion}
-use Rattle.portal_core.specs.Words.{Key, equals}
-use Rattle.portal_core.specs.World.{World, first}
-use Rattle.portal_core.specs.Change.{SecondRound, changed, in_first, with_lecturers, with_projects, with_students}
-use Rattle.portal_core.specs.declared.phase.Phase.TheVariants.{Choosing, Published}
-use Rattle.portal_core.specs.declared.phase.Round.{Round}
-use Rattle.portal_core.specs.declared.phase.Round.TheVariants.{First, Second}
-use Rattle.portal_core.specs.View.{Caller, NoCaller, OfficeCaller, LecturerCaller, StudentCaller, caller, caller_among, lecturer_with, student_with, sight_of, view, office_sees, lecturer_sees, student_sees}
-use Rattle.portal_core.specs.AbstractCall.{AbstractCall}
-use Rattle.portal_core.specs.Bodies.{phase_body}
-use Rattle.portal_core.specs.Answer.{Answer, Decision, decision, applies, opens, moves_in}
-use Rattle.portal_core.specs.Good.{Good}
-use Rattle.portal_core.specs.Run.{StepLeaves, Step, Request, Wish, Calls, Refused, Answers, Serves, Run}
-use Rattle.portal_core.specs.Opening.{OpensSecond, OpensOnce}
+use Rattle.portal_core.proofs.Base.{◌≡◌, Bool, true, false, cond, List, [], ◌∷◌, refl, sym, ◌∙◌, ap, subst, inl, inr, ◌⊎◌, Some, AllByRecursion, Key, equals, World, first, SecondRound, changed, in_first, with_lecturers, with_projects, with_students, Choosing, Published, Round, First, Second, Caller, NoCaller, OfficeCaller, LecturerCaller, StudentCaller, caller, caller_among, lecturer_with, student_with, sight_of, view, office_sees, lecturer_sees, student_sees, AbstractCall, phase_body, Answer, Decision, decision, applies, opens, moves_in, Good, StepLeaves, Step, Request, Wish, Calls, Refused, Answers, Serves, Run, OpensSecond}
+use Rattle.portal_core.specs.Opening.{OpensOnce}
 use Rattle.portal_core.proofs.Keys.{is_same, is_own}
 use Rattle.portal_core.proofs.Unseen.{office_not}
 use Rattle.portal_core.proofs.Opened.{first_back, opens_to}

@@ -1,19 +1,6 @@
 -- From a published first round a run reaches that world, or a second round that opened from it.
-use Rattle.std.proofs.Common.{◌≡◌, ◌⊎◌, inl, inr, true, false, List, [], ◌∷◌, refl, sym, ◌∙◌, ap, subst}
-use Rattle.std.specs.List.{AllByRecursion}
-use Rattle.portal_core.specs.Words.{Key}
-use Rattle.portal_core.specs.World.{World, is_published, is_second, first}
-use Rattle.portal_core.specs.Change.{SecondRound, changed}
-use Rattle.portal_core.specs.declared.phase.Phase.TheVariants.{Published}
-use Rattle.portal_core.specs.declared.phase.Round.TheVariants.{First}
+use Rattle.portal_core.proofs.Base.{◌≡◌, ◌⊎◌, inl, inr, true, false, List, [], ◌∷◌, refl, sym, ◌∙◌, ap, subst, AllByRecursion, Key, World, is_published, is_second, first, SecondRound, changed, Published, First, StudentSees, Caller, NoCaller, OfficeCaller, LecturerCaller, StudentCaller, caller, sight_of, view, office_sees, lecturer_sees, student_sees, AbstractCall, Answer, Decision, decision, Good, StepLeaves, Step, Request, Wish, Calls, Refused, Answers, Serves, Run, HasBest, DifferInOneList, IsNoWorse}
 use Rattle.portal_core.specs.declared.view.View.TheVariants as sees
-use Rattle.portal_core.specs.Sight.{StudentSees}
-use Rattle.portal_core.specs.View.{Caller, NoCaller, OfficeCaller, LecturerCaller, StudentCaller, caller, sight_of, view, office_sees, lecturer_sees, student_sees}
-use Rattle.portal_core.specs.AbstractCall.{AbstractCall}
-use Rattle.portal_core.specs.Answer.{Answer, Decision, decision}
-use Rattle.portal_core.specs.Good.{Good}
-use Rattle.portal_core.specs.Run.{StepLeaves, Step, Request, Wish, Calls, Refused, Answers, Serves, Run}
-use Rattle.portal_core.specs.Honest.{HasBest, DifferInOneList, IsNoWorse}
 use Rattle.portal_core.proofs.Cases.{by_student, by_lecturer, by_office}
 use Rattle.portal_core.proofs.Unseen.{choosing_open}
 use Rattle.portal_core.proofs.Enrol.{open_phase}

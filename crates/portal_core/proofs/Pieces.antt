@@ -1,7 +1,7 @@
 -- A text that grows by a piece for each element, and a text that a `format!` made.
-use Rattle.std.proofs.Common.{◌≡◌, ◌∙◌, ◌+◌, ◌<◌, ◌++◌, ℕ, List, [], ◌∷◌, length, take, get_or, sym, ap, IfOk, Ok, Err, Some, string_bytes}
-use Rattle.std.specs.Prelude.{Result, IfSome, String}
-use Rattle.std.specs.Global.{Global}
+use Rattle.portal_core.proofs.Base.{◌≡◌, ◌∙◌, ◌+◌, ◌<◌, ◌++◌, ℕ, List, [], ◌∷◌, length, take, get_or, sym, ap, Some, IfSome, Global}
+use Rattle.std.proofs.Common.{IfOk, Ok, Err, string_bytes}
+use Rattle.std.specs.Prelude.{Result, String}
 use Rattle.std.specs.List.{flat_map}
 use Rattle.std.proofs.lemmas.List.{flat_map_more, take_more}
 

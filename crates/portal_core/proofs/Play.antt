@@ -1,13 +1,6 @@
 -- What is decided in a good world may be done.
-use Rattle.std.proofs.Common.{◌≡◌, refl, sym, ap, subst}
-use Rattle.portal_core.specs.Words.{Key}
-use Rattle.portal_core.specs.World.{World, is_from_ranking}
-use Rattle.portal_core.specs.Change.{Change, changed}
-use Rattle.portal_core.specs.View.{Caller, NoCaller, OfficeCaller, LecturerCaller, StudentCaller, caller, sight_of, view, office_sees, lecturer_sees, student_sees}
-use Rattle.portal_core.specs.AbstractCall.{AbstractCall}
-use Rattle.portal_core.specs.Answer.{Decision, Apply, Publish, decision, answer}
-use Rattle.portal_core.specs.Good.{Good, CanPublish}
-use Rattle.portal_core.specs.Run.{StepLeaves, HasForm}
+use Rattle.portal_core.proofs.Base.{◌≡◌, refl, sym, ap, subst, Key, World, is_from_ranking, Change, changed, Caller, NoCaller, OfficeCaller, LecturerCaller, StudentCaller, caller, sight_of, view, office_sees, lecturer_sees, student_sees, AbstractCall, Decision, Apply, Publish, decision, answer, Good, StepLeaves, HasForm}
+use Rattle.portal_core.specs.Good.{CanPublish}
 use Rattle.portal_core.proofs.Cases.{by_student, by_lecturer, by_office}
 use Rattle.portal_core.proofs.Kept.{all_ranked}
 use Rattle.portal_core.proofs.Steps.{step_good}

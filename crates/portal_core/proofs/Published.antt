@@ -1,16 +1,7 @@
 -- The pairs of a matching by numbers place the students as the matching does.
-use Rattle.std.proofs.Common.{◌≡◌, ℕ, zero, suc, ◌+◌, ◌<◌, Bool, true, false, cond, List, [], ◌∷◌, map, length, get_or, refl, sym, ◌∙◌, ap, subst, arith}
-use Rattle.std.specs.Prelude.{Option, Some, None, option_map}
-use Rattle.std.specs.List.{AllByRecursion}
-use Rattle.std.proofs.lemmas.List.{length-map}
-use Rattle.spa_model.specs.Spa.{IsMatching}
-use Rattle.spa_model.specs.Pairs.{number_in}
-use Rattle.portal_core.specs.Words.{Key, equals, is_before, Rise}
+use Rattle.portal_core.proofs.Base.{◌≡◌, ℕ, zero, suc, ◌+◌, ◌<◌, Bool, true, false, cond, List, [], ◌∷◌, map, length, get_or, refl, sym, ◌∙◌, ap, subst, arith, Option, Some, None, option_map, AllByRecursion, length-map, IsMatching, number_in, Key, equals, is_before, Rise, World, in_play, is_left, student_key, Placements, placement_in, with_place, changed, instance, matching_of, places_of, project_keys, student_keys, Sound}
 use Rattle.portal_core.specs.World as rows
-use Rattle.portal_core.specs.World.{World, in_play, is_left, student_key}
-use Rattle.portal_core.specs.Change.{Placements, placement_in, with_place, changed}
-use Rattle.portal_core.specs.Instance.{instance, matching_of, places_of, pairs_by, project_keys, student_keys}
-use Rattle.portal_core.specs.Good.{Sound}
+use Rattle.portal_core.specs.Instance.{pairs_by}
 use Rattle.portal_core.proofs.Keys.{is_same, is_own, all_unmap}
 use Rattle.portal_core.proofs.AllLaws.{all_at}
 use Rattle.portal_core.proofs.Fills.{before_other}

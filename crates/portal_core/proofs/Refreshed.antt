@@ -1,16 +1,7 @@
 -- What the office sees after a list or a ranking was put.
-use Rattle.std.proofs.Common.{◌≡◌, Bool, true, false, cond, List, [], ◌∷◌, refl, sym, ◌∙◌, ap}
-use Rattle.std.specs.Prelude.{map, filter, Option, Some, option_map, not, ◌&&◌, is_none}
-use Rattle.std.specs.List.{filter_map, cons_option}
-use Rattle.portal_core.specs.Words.{Key, equals, is_empty}
+use Rattle.portal_core.proofs.Base.{◌≡◌, Bool, true, false, cond, List, [], ◌∷◌, refl, sym, ◌∙◌, ap, map, filter, Option, Some, option_map, not, ◌&&◌, is_none, filter_map, cons_option, Key, equals, is_empty, World, in_play, shown_placement, is_still_to_rank, applicants_of, is_from_ranking, pairs_of, Choices, Ranks, changed, with_choice, with_ranking, Choosing, Ranking, LecturerRow, OfficeSees, office_sees}
 use Rattle.portal_core.specs.World as rows
-use Rattle.portal_core.specs.World.{World, in_play, shown_placement, is_still_to_rank, applicants_of, is_from_ranking, pairs_of}
-use Rattle.portal_core.specs.Change.{Choices, Ranks, changed, with_choice, with_ranking}
-use Rattle.portal_core.specs.declared.phase.Phase.TheVariants.{Choosing, Ranking}
-use Rattle.portal_core.specs.declared.rows.LecturerRow.{LecturerRow}
 use Rattle.portal_core.specs.declared.view.OfficeView.TheInside.{Inside}
-use Rattle.portal_core.specs.Sight.{OfficeSees}
-use Rattle.portal_core.specs.View.{office_sees}
 use Rattle.portal_core.proofs.Acts.{choice_row, ranking_row, catalogue_chosen, catalogue_ranked}
 use Rattle.portal_core.proofs.InPlay.{play_chosen}
 use Rattle.portal_core.proofs.AllLaws.{map_same}

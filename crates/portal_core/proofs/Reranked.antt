@@ -1,16 +1,6 @@
 -- A change of lecturers that keeps their rows: whom a code names, the names in the catalogue, and that the rows stay sound.
-use Rattle.std.proofs.Common.{◌≡◌, Bool, true, false, cond, List, ◌∷◌, ◌++◌, length, refl, sym, ◌∙◌, ap, subst, arith}
-use Rattle.std.specs.Prelude.{map, Option, Some, None, option_map, IfSome}
-use Rattle.std.specs.List.{find, AllByRecursion}
-use Rattle.std.proofs.lemmas.List.{length-map}
-use Rattle.portal_core.specs.Words.{Key, equals, has, Rise, AreDistinct}
+use Rattle.portal_core.proofs.Base.{◌≡◌, Bool, true, false, cond, List, ◌∷◌, ◌++◌, length, refl, sym, ◌∙◌, ap, subst, arith, map, Option, Some, None, option_map, IfSome, find, AllByRecursion, length-map, Key, equals, has, Rise, AreDistinct, World, in_play, lecturer_key, student_key, applicants_of, is_ranking, is_published, is_from_ranking, Phase, Setup, Choosing, Ranking, Published, Caller, OfficeCaller, LecturerCaller, caller_among, lecturer_with, student_with, caller, name_in, project_keys, Sound, IsChoice, IsRanking, IsLecturer}
 use Rattle.portal_core.specs.World as rows
-use Rattle.portal_core.specs.World.{World, in_play, lecturer_key, student_key, applicants_of, is_ranking, is_published, is_from_ranking}
-use Rattle.portal_core.specs.declared.phase.Phase.{Phase}
-use Rattle.portal_core.specs.declared.phase.Phase.TheVariants.{Setup, Choosing, Ranking, Published}
-use Rattle.portal_core.specs.View.{Caller, OfficeCaller, LecturerCaller, caller_among, lecturer_with, student_with, caller, name_in}
-use Rattle.portal_core.specs.Instance.{project_keys}
-use Rattle.portal_core.specs.Good.{Sound, IsChoice, IsRanking, IsLecturer}
 use Rattle.portal_core.proofs.Keys.{find_map}
 use Rattle.portal_core.proofs.AllLaws.{all_map, all_weaker, map_same}
 

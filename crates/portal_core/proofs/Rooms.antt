@@ -1,14 +1,7 @@
 -- What the pairs of the first round's result leave is what the world's students leave.
-use Rattle.std.proofs.Common.{◌≡◌, ℕ, suc, ◌-◌, Bool, true, false, cond, List, [], ◌∷◌, map, length, refl, sym, ◌∙◌, ap}
-use Rattle.std.specs.Prelude.{filter, count_by, nat_lt, ◌&&◌, ◌||◌, Option, Some, None, option_map}
-use Rattle.std.specs.List.{list_any, filter_map, cons_option}
-use Rattle.std.proofs.lemmas.List.Sums.{length-filter}
-use Rattle.portal_core.specs.Words.{Key, equals, has}
-use Rattle.portal_core.specs.World.{Student, is_at, project_key, pairs_with, given_to, given_with, lowered_project}
-use Rattle.portal_core.specs.Sheets.{students_at}
-use Rattle.portal_core.specs.inner.Room.{pairs_among, own_keys, project_left, lecturer_left}
-use Rattle.portal_core.specs.declared.rows.LecturerRow.{LecturerRow}
-use Rattle.portal_core.specs.declared.rows.ProjectRow.{ProjectRow}
+use Rattle.portal_core.proofs.Base.{◌≡◌, ℕ, suc, ◌-◌, Bool, true, false, cond, List, [], ◌∷◌, map, length, refl, sym, ◌∙◌, ap, filter, count_by, nat_lt, ◌&&◌, ◌||◌, Option, Some, None, option_map, list_any, filter_map, cons_option, length-filter, Key, equals, has, is_at, project_key, given_to, given_with, lowered_project, students_at, pairs_among, own_keys, LecturerRow, ProjectRow}
+use Rattle.portal_core.specs.World.{Student, pairs_with}
+use Rattle.portal_core.specs.inner.Room.{project_left, lecturer_left}
 use Rattle.portal_core.proofs.AllLaws.{any_map, filtered_any}
 
 -- the project passes, if there is one

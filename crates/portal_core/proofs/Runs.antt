@@ -1,10 +1,5 @@
 -- Each world that a run reaches from a good world is good.
-use Rattle.std.proofs.Common.{List, [], ◌∷◌, sym, subst, inl, inr}
-use Rattle.std.specs.List.{AllByRecursion}
-use Rattle.portal_core.specs.World.{World}
-use Rattle.portal_core.specs.Answer.{Answer}
-use Rattle.portal_core.specs.Good.{Good}
-use Rattle.portal_core.specs.Run.{Request, Wish, Calls, Refused, Answers, Serves, Run}
+use Rattle.portal_core.proofs.Base.{List, [], ◌∷◌, sym, subst, inl, inr, AllByRecursion, World, Answer, Good, Request, Wish, Calls, Refused, Answers, Serves, Run}
 use Rattle.portal_core.proofs.Steps.{step_good}
 
 answered_good : (w v : World) (r : Request) (a : Answer) (wish : Wish) → Good w → Answers w r wish a v → Good v

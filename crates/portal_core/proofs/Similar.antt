@@ -1,22 +1,8 @@
 -- Worlds that differ in the order within students' lists show the same, but for these lists, and stay so.
-use Rattle.std.proofs.Common.{◌≡◌, Bool, true, false, cond, List, [], ◌∷◌, refl, sym, ◌∙◌, ap, subst}
-use Rattle.std.specs.Prelude.{count_by, map, filter, Option, Some, None, option_map, not, ◌&&◌, is_none}
-use Rattle.std.specs.List.{list_any, find, filter_map, cons_option, AllZip}
-use Rattle.portal_core.specs.Words.{Key, equals, has, is_empty, is_before, put, put_all}
+use Rattle.portal_core.proofs.Base.{◌≡◌, Bool, true, false, cond, List, [], ◌∷◌, refl, sym, ◌∙◌, ap, subst, count_by, map, filter, Option, Some, None, option_map, not, ◌&&◌, is_none, list_any, find, filter_map, cons_option, AllZip, Key, equals, has, is_empty, is_before, put, put_all, World, lecturer_key, project_key, student_key, applicants_to, projects_of, applicants_of, placed_at, is_at, is_left, shown_placement, in_play, given_to, given_with, lowered_lecturer, lowered_project, lecturers_left, projects_left, students_left, lecturers_in, projects_in, students_in, pairs_of, is_still_to_rank, is_from_ranking, Round, First, Second, Phase, Published, ProjectRow, count_by-map, Change, Choices, Ranks, Lecturers, Projects, Students, To, Placements, Fill, SecondRound, changed, opened, ranked_before, placed_before, in_first, with_lecturers, with_projects, with_students, with_choice, with_ranking, with_place, with_fill, placement_in, new_lecturer, new_student, Person, Office, Lecturer, Student, OfficeCaller, caller_among, lecturer_with, student_with, sight_of, view, student_sees, lecturer_sees, office_sees, persons, listings, catalogue, Reordered, SameButPlaces}
 use Rattle.portal_core.specs.World as rows
-use Rattle.portal_core.specs.World.{World, lecturer_key, project_key, student_key, applicants_to, projects_of, applicants_of, placed_at, is_at, is_left, shown_placement, in_play, given_to, given_with, lowered_lecturer, lowered_project, lecturers_left, projects_left, students_left, lecturers_in, projects_in, students_in, pairs_of, is_still_to_rank, is_from_ranking}
-use Rattle.portal_core.specs.declared.phase.Round.{Round}
-use Rattle.portal_core.specs.declared.phase.Round.TheVariants.{First, Second}
-use Rattle.portal_core.specs.declared.phase.Phase.{Phase}
-use Rattle.portal_core.specs.declared.phase.Phase.TheVariants.{Published}
-use Rattle.portal_core.specs.declared.rows.ProjectRow.{ProjectRow}
-use Rattle.spa_model.proofs.PairFaults.{count_by-map}
-use Rattle.portal_core.specs.Change.{Change, Choices, Ranks, Lecturers, Projects, Students, To, Placements, Fill, SecondRound, changed, opened, ranked_before, placed_before, in_first, with_lecturers, with_projects, with_students, with_choice, with_ranking, with_place, with_fill, placement_in, new_lecturer, new_student}
-use Rattle.portal_core.specs.declared.rows.Person.{Person}
 use Rattle.portal_core.specs.declared.view.View.{View as Sight}
-use Rattle.portal_core.specs.declared.view.View.TheVariants.{Office, Lecturer, Student}
-use Rattle.portal_core.specs.View.{OfficeCaller, caller_among, lecturer_with, student_with, sight_of, view, student_sees, lecturer_sees, office_sees, persons, listings, catalogue}
-use Rattle.portal_core.specs.Places.{Reordered, SameStudent, SameButPlaces}
+use Rattle.portal_core.specs.Places.{SameStudent}
 use Rattle.portal_core.proofs.InPlay.{lecturers_given, projects_given}
 use Rattle.portal_core.proofs.Kept.{empty_map}
 use Rattle.portal_core.proofs.Reorder.{any_reordered, empty_reordered, reordered_itself}

@@ -1,14 +1,5 @@
 -- The second round changes nothing of the first.
-use Rattle.std.proofs.Common.{◌≡◌, true, false, refl, sym, ◌∙◌, ap, subst}
-use Rattle.portal_core.specs.Words.{Key}
-use Rattle.portal_core.specs.World.{World, first, is_second}
-use Rattle.portal_core.specs.Change.{Fill, changed}
-use Rattle.portal_core.specs.declared.phase.Round.{Round}
-use Rattle.portal_core.specs.declared.phase.Round.TheVariants.{First, Second}
-use Rattle.portal_core.specs.View.{Caller, NoCaller, OfficeCaller, LecturerCaller, StudentCaller, caller, sight_of, office_sees, lecturer_sees, student_sees}
-use Rattle.portal_core.specs.AbstractCall.{AbstractCall}
-use Rattle.portal_core.specs.Answer.{Answer, Decision, decision, is_open_to_rolls}
-use Rattle.portal_core.specs.Run.{StepLeaves, Step}
+use Rattle.portal_core.proofs.Base.{◌≡◌, true, false, refl, sym, ◌∙◌, ap, subst, Key, World, first, is_second, Fill, changed, Round, First, Second, Caller, NoCaller, OfficeCaller, LecturerCaller, StudentCaller, caller, sight_of, office_sees, lecturer_sees, student_sees, AbstractCall, Answer, Decision, decision, is_open_to_rolls, StepLeaves, Step}
 use Rattle.portal_core.proofs.Cases.{by_student, by_lecturer, by_office}
 use Rattle.portal_core.proofs.Kept.{first_kept}
 use Rattle.portal_core.proofs.Opened.{first_chosen, first_ranked, first_filled}

@@ -1,19 +1,5 @@
 -- A step from a good world leads to a good world.
-use Rattle.std.proofs.Common.{◌≡◌, true, false, refl, sym, ◌∙◌, ap, subst}
-use Rattle.portal_core.specs.Words.{Key}
-use Rattle.portal_core.specs.World.{World, is_setup, is_ranking, is_published, is_from_ranking, is_second}
-use Rattle.portal_core.specs.declared.phase.Round.{Round}
-use Rattle.portal_core.specs.declared.phase.Round.TheVariants.{First, Second}
-use Rattle.portal_core.specs.Change.{Choices, Ranks, To, Placements, Fill, changed, opened, in_first, with_lecturers, with_projects, with_students}
-use Rattle.portal_core.specs.declared.phase.Phase.{Phase}
-use Rattle.portal_core.specs.declared.phase.Phase.TheVariants.{Setup, Choosing, Ranking, Published}
-use Rattle.portal_core.specs.View.{Caller, NoCaller, OfficeCaller, LecturerCaller, StudentCaller, caller, sight_of, office_sees, lecturer_sees, student_sees}
-use Rattle.portal_core.specs.AbstractCall.{AbstractCall}
-use Rattle.portal_core.specs.Answer.{Answer, Decision, is_open_to_rolls, refuses, decision}
-use Rattle.portal_core.specs.Good.{Good, IsRound, Sound}
-use Rattle.spa_model.specs.Spa.{IsBest}
-use Rattle.portal_core.specs.Instance.{instance, matching_of}
-use Rattle.portal_core.specs.Run.{StepLeaves, Step, HasForm}
+use Rattle.portal_core.proofs.Base.{◌≡◌, true, false, refl, sym, ◌∙◌, ap, subst, Key, World, is_setup, is_ranking, is_published, is_from_ranking, is_second, Round, First, Second, Choices, Ranks, To, Placements, Fill, changed, opened, in_first, with_lecturers, with_projects, with_students, Phase, Setup, Choosing, Ranking, Published, Caller, NoCaller, OfficeCaller, LecturerCaller, StudentCaller, caller, sight_of, office_sees, lecturer_sees, student_sees, AbstractCall, Answer, Decision, is_open_to_rolls, refuses, decision, Good, IsRound, Sound, IsBest, instance, matching_of, StepLeaves, Step, HasForm}
 use Rattle.portal_core.proofs.Cases.{by_student, by_lecturer, by_office}
 use Rattle.portal_core.proofs.Unseen.{choosing_open, student_found}
 use Rattle.portal_core.proofs.Kept.{not_published, to_choosing, to_ranking, to_published, all_ranked, choosing, ranking}

@@ -1,21 +1,14 @@
 -- A table after one more text or row was put in.
-use Rattle.std.proofs.Common.{◌≡◌, ℕ, ◌+◌, ◌<◌, Bool, true, false, cond, List, [], ◌∷◌, ◌++◌, map, reverse, length, take, get_or, Bor, Option, Some, None, refl, sym, ◌∙◌, ap, subst, append_assoc, append-nil, add-one}
-use Rattle.std.proofs.Math.Bool.{or-true, or-false, or_assoc}
+use Rattle.portal_core.proofs.Base.{◌≡◌, ℕ, ◌+◌, ◌<◌, Bool, true, false, cond, List, [], ◌∷◌, ◌++◌, map, reverse, length, take, get_or, Option, Some, None, refl, sym, ◌∙◌, ap, subst, append_assoc, append-nil, add-one, or-true, reverse-append, list_any_more, ◌||◌, not, option_map, IfSome, list_any, find, text_eq, Key, equals, has, Person, is_assigned, placement_in, HasTexts, HasRows, HasKeys}
+use Rattle.std.proofs.Common.{Bor}
+use Rattle.std.proofs.Math.Bool.{or-false, or_assoc}
 use Rattle.std.proofs.Math.Seq.{take-suc, take-length}
-use Rattle.std.proofs.lemmas.List.{map-append, reverse-append}
-use Rattle.std.proofs.lemmas.List.Folds.{list_any_more}
-use Rattle.std.specs.Prelude.{◌||◌, not, is_some, option_map, IfSome}
-use Rattle.std.specs.List.{list_any, find}
+use Rattle.std.proofs.lemmas.List.{map-append}
+use Rattle.std.specs.Prelude.{is_some}
 use Rattle.std.specs.HashMap as hash
 use Rattle.std.specs.HashMap.{HashMap}
 use Rattle.std.specs.HashSet as set
 use Rattle.std.specs.HashSet.{HashSet}
-use Rattle.spa_rows.specs.inner.Index.{text_eq}
-use Rattle.portal_core.specs.Words.{Key, equals, has}
-use Rattle.portal_core.specs.declared.rows.Person.{Person}
-use Rattle.portal_core.specs.Bodies.{is_assigned}
-use Rattle.portal_core.specs.Change.{placement_in}
-use Rattle.portal_core.specs.inner.Tables.{HasTexts, HasRows, HasKeys}
 use Rattle.portal_core.proofs.Keys.{is_same}
 use Rattle.portal_core.proofs.AllLaws.{any_alike, is_sym, or_swap}
 

@@ -1,17 +1,6 @@
 -- What is legal is taken.
-use Rattle.std.proofs.Common.{◌≡◌, ℕ, ◌+◌, ◌<◌, Bool, true, false, cond, List, [], ◌∷◌, ◌++◌, length, refl, sym, ◌∙◌, ap, subst, arith, append_assoc, append-nil}
-use Rattle.std.specs.Prelude.{map, Some, None, not, ◌||◌, nat_le, codes, if◌then◌else◌}
-use Rattle.std.specs.List.{list_any, find, AllByRecursion}
-use Rattle.std.proofs.lemmas.Bool.Decides.{nat_tests}
-use Rattle.portal_core.specs.Words.{Key, equals, has}
-use Rattle.portal_core.specs.World.{World, student_key, applicants_of, projects_of, is_from_ranking}
+use Rattle.portal_core.proofs.Base.{◌≡◌, ℕ, ◌+◌, ◌<◌, Bool, true, false, cond, List, [], ◌∷◌, ◌++◌, length, refl, sym, ◌∙◌, ap, subst, arith, append_assoc, append-nil, map, Some, None, not, ◌||◌, nat_le, codes, if◌then◌else◌, list_any, find, AllByRecursion, nat_tests, Key, equals, has, World, student_key, applicants_of, projects_of, is_from_ranking, Listing, Person, lecturer_sees, ListFault, fault_at, choice_fault, ranking_fault, is_applicant, lacks_one, Roll, Took, take_rows, IsChoice, IsRanking}
 use Rattle.portal_core.specs.World as rows
-use Rattle.portal_core.specs.declared.rows.Listing.{Listing}
-use Rattle.portal_core.specs.declared.rows.Person.{Person}
-use Rattle.portal_core.specs.View.{lecturer_sees}
-use Rattle.portal_core.specs.Faults.{ListFault, fault_at, choice_fault, ranking_fault, is_applicant, lacks_one}
-use Rattle.portal_core.specs.Rolls.{Roll, Took, take_rows}
-use Rattle.portal_core.specs.Good.{IsChoice, IsRanking}
 use Rattle.portal_core.specs.Legal.{AreFresh}
 use Rattle.portal_core.proofs.AllLaws.{all_weaker, all_both, any_map, any_alike, is_sym, none_after, none_yet, not_first}
 use Rattle.portal_core.proofs.Kept.{Ranked, shown_sets, union_any}

@@ -1,22 +1,7 @@
 -- What others do is not seen.
-use Rattle.std.proofs.Common.{◌≡◌, Bool, true, false, cond, List, [], ◌∷◌, ◌++◌, refl, sym, ◌∙◌, ap, subst, inl, inr}
-use Rattle.std.specs.Prelude.{map, Option, Some, None}
-use Rattle.std.specs.List.{find}
-use Rattle.portal_core.specs.Words.{Key, equals, Rise}
+use Rattle.portal_core.proofs.Base.{◌≡◌, Bool, true, false, cond, List, [], ◌∷◌, ◌++◌, refl, sym, ◌∙◌, ap, subst, inl, inr, map, Option, Some, None, find, Key, equals, Rise, Choices, Ranks, changed, with_choice, with_ranking, World, is_choosing, is_ranking, is_published, is_from_ranking, has_result, shown_placement, is_at, lecturer_key, student_key, applicants_to, placed_at, projects_of, Phase, Setup, Choosing, Ranking, Published, Person, LecturerSees, Lecturer, Student, Caller, NoCaller, OfficeCaller, LecturerCaller, StudentCaller, caller_among, lecturer_with, student_with, caller, sight_of, view, student_sees, lecturer_sees, persons, AbstractCall, Answer, Act, Decision, Nothing, Apply, Publish, Render, refuses, decision, Good, StepLeaves, Step, Serves, Answers, Run, Request, Wish, Calls, Refused, end_of, replies_to}
 use Rattle.portal_core.specs.World as rows
-use Rattle.portal_core.specs.Change.{Choices, Ranks, changed, with_choice, with_ranking}
-use Rattle.portal_core.specs.World.{World, is_choosing, is_ranking, is_published, is_from_ranking, has_result, shown_placement, is_at, lecturer_key, student_key, applicants_to, placed_at, projects_of}
-use Rattle.portal_core.specs.declared.phase.Phase.{Phase}
-use Rattle.portal_core.specs.declared.phase.Phase.TheVariants.{Setup, Choosing, Ranking, Published}
-use Rattle.portal_core.specs.declared.rows.Person.{Person}
-use Rattle.portal_core.specs.Sight.{LecturerSees}
-use Rattle.portal_core.specs.declared.view.View.TheVariants.{Lecturer, Student}
-use Rattle.portal_core.specs.View.{Caller, NoCaller, OfficeCaller, LecturerCaller, StudentCaller, caller_among, lecturer_with, student_with, caller, sight_of, view, student_sees, lecturer_sees, persons}
-use Rattle.portal_core.specs.AbstractCall.{AbstractCall}
-use Rattle.portal_core.specs.Answer.{Answer, Act, Decision, Nothing, Apply, Publish, Render, refuses, decision}
-use Rattle.portal_core.specs.Good.{Good}
-use Rattle.portal_core.specs.Run.{StepLeaves, Step, Serves, Answers, Run, Request, Wish, Calls, Refused, end_of}
-use Rattle.portal_core.specs.Heard.{IsMember, IsIdle, IsIdleAct, IsIdleWish, replies_to}
+use Rattle.portal_core.specs.Heard.{IsMember, IsIdle, IsIdleAct, IsIdleWish}
 use Rattle.portal_core.proofs.Keys.{is_same, is_own, found_passes, one_row}
 use Rattle.portal_core.proofs.Cases.{by_student, by_lecturer}
 use Rattle.portal_core.proofs.Reranked.{re_called}

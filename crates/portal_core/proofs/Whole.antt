@@ -1,16 +1,6 @@
 -- In a sound world the catalogue shows each project.
-use Rattle.std.proofs.Common.{◌≡◌, Bool, true, false, cond, List, [], ◌∷◌, refl, sym, ◌∙◌, ap}
-use Rattle.std.specs.Prelude.{map, filter, nat_lt, ◌&&◌, ◌||◌, Some}
-use Rattle.std.specs.List.{list_any, find, AllByRecursion}
-use Rattle.portal_core.specs.Words.{Key, equals, has}
+use Rattle.portal_core.proofs.Base.{◌≡◌, Bool, true, false, cond, List, [], ◌∷◌, refl, sym, ◌∙◌, ap, map, filter, nat_lt, ◌&&◌, ◌||◌, Some, list_any, find, AllByRecursion, Key, equals, has, World, in_play, lecturers_in, projects_in, lecturers_left, lowered_project, lecturer_key, project_key, Round, First, Second, Listing, ProjectRow, listings, catalogue, Sound}
 use Rattle.portal_core.specs.World as rows
-use Rattle.portal_core.specs.World.{World, in_play, lecturers_in, projects_in, lecturers_left, lowered_project, lecturer_key, project_key}
-use Rattle.portal_core.specs.declared.phase.Round.{Round}
-use Rattle.portal_core.specs.declared.phase.Round.TheVariants.{First, Second}
-use Rattle.portal_core.specs.declared.rows.Listing.{Listing}
-use Rattle.portal_core.specs.declared.rows.ProjectRow.{ProjectRow}
-use Rattle.portal_core.specs.View.{listings, catalogue}
-use Rattle.portal_core.specs.Good.{Sound}
 use Rattle.portal_core.proofs.AllLaws.{any_map, any_alike, is_sym}
 
 pub finds_one : {X : Type 0} (p : X → Bool) (xs : List X) → list_any p xs ≡ true → (x : X) × (find p xs ≡ Some x)

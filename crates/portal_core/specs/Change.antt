@@ -11,8 +11,8 @@ use Rattle.portal_core.specs.declared.rows.StudentRow.{StudentRow}
 use Rattle.portal_core.specs.Words.{Key, equals, put_all}
 use Rattle.portal_core.specs.World.{World, Lecturer, Student, is_left, lecturer_key, project_key, student_key, applicants_of, is_still_to_rank}
 
--- a student's list; a lecturer's ranking; new rows of a roll; the phase; the result, as pairs of a student and a project;
--- the missing rankings; the second round
+-- a student's list; a lecturer's ranking; new rows of a roll; the phase; the result, as pairs of a
+-- student and a project; the missing rankings; the second round
 pub data Change : Type 0 where
   Choices : Key → List Key → Change
   Ranks : Key → List Key → Change

@@ -9,6 +9,7 @@ CountsFaults (Ok answer) old new = new ≡ old
 CountsFaults (Err Memory) old new = new ≡ old
 CountsFaults (Err Store) old new = new ≡ old + 1
 
--- where the disk has returned what was written after a call, it had before the call, and a clean keeper stayed clean
+-- where the disk has returned what was written after a call, it had before the call, and a clean
+-- keeper stayed clean
 abbrev pub StaysClean : Type 0 → Type 0 → Type 0 → Type 0 → Type 0
 StaysClean disk_old disk_new clean_old clean_new = disk_new → disk_old × (clean_old → clean_new)

@@ -66,6 +66,7 @@ abbrev pub IsIdleWish : World → Key → Wish → Type 0
 IsIdleWish w code (Calls ask) = IsIdleAct (decision (view w code) ask).act
 IsIdleWish w code (Refused refusal) = Unit {0}
 
--- a showing call, a refusal, a move to the current phase, a roll that is all there or a fill that fills nobody
+-- a showing call, a refusal, a move to the current phase, a roll that is all there or a fill that
+-- fills nobody
 abbrev pub IsIdle : World → Request → Type 0
 IsIdle w r = IsIdleWish w r.code r.wish

@@ -5,7 +5,7 @@ use Rattle.portal_core.specs.declared.rows.Listing.{Listing}
 use Rattle.portal_core.specs.declared.rows.Person.{Person}
 use Rattle.portal_core.specs.Words.{Key, equals, has}
 use Rattle.portal_core.specs.Faults.{ListFault, in_catalogue, is_applicant}
-use Rattle.portal_core.specs.Rolls.{Roll, RollFault, conflict_at, roll_full, Took, take_rows}
+use Rattle.portal_core.specs.Rolls.{Roll, RollRefusal, conflict_at, roll_full, Took, take_rows}
 
 -- new rows: no row before has the key, none is bad beside those before it, and there is room
 abbrev pub AreFresh : {X : Type 0} → Roll X → List X → List X → Type 0
@@ -30,7 +30,8 @@ wrong_rank applicants earlier k =
 abbrev pub NoneWrong : (List Key → Key → Option (List ℕ)) → List Key → Type 0
 NoneWrong wrong list = (before : List Key) (k : Key) (after : List Key) → list ≡ before ++ k ∷ after → wrong before k ≡ None
 
--- the fault is that of the first wrong key of the list: its position, counted from 1, and what is wrong with it
+-- the fault is that of the first wrong key of the list: its position, counted from 1, and what is
+-- wrong with it
 pub record IsFirstWrong (wrong : List Key → Key → Option (List ℕ)) (list : List Key) (fault : ListFault) : Type 0 where
   pub front : List Key
   pub key : Key
@@ -40,9 +41,9 @@ pub record IsFirstWrong (wrong : List Key → Key → Option (List ℕ)) (list :
   pub word : wrong front key ≡ Some fault.word
   pub none_before : NoneWrong wrong front
 
--- a row that may not come to those that are there, and how it is told: one of them has its key and is another; or none
--- has its key, and it is bad beside them or there is no room
-abbrev pub IsRefused : {X : Type 0} → Roll X → List X → ℕ → X → RollFault → Type 0
+-- a row that may not come to those that are there, and how it is told: one of them has its key and
+-- is another; or none has its key, and it is bad beside them or there is no room
+abbrev pub IsRefused : {X : Type 0} → Roll X → List X → ℕ → X → RollRefusal → Type 0
 IsRefused {X} roll there at r fault =
     ((old : X) × (find (λ x. equals (roll.key x) (roll.key r)) there ≡ Some old) × (roll.same old r ≡ false) × (fault ≡ conflict_at at))
     ⊎ ((find (λ x. equals (roll.key x) (roll.key r)) there ≡ None)
@@ -54,7 +55,7 @@ with_new [] there = there
 with_new (r ∷ rs) there = with_new rs (r ∷ there)
 
 -- the rows before this one are taken, and this one is refused
-pub record IsFirstRefused {X : Type 0} (roll : Roll X) (there rows : List X) (fault : RollFault) : Type 0 where
+pub record IsFirstRefused {X : Type 0} (roll : Roll X) (there rows : List X) (fault : RollRefusal) : Type 0 where
   pub front : List X
   pub row : X
   pub rest : List X

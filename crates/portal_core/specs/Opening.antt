@@ -23,7 +23,8 @@ pub record OpensSecond (w : World) (code : Key) (wish : Wish) (reply : Answer) (
   pub told : reply ≡ answered 200 (phase_body Second Choosing)
   pub after : v ≡ changed w SecondRound
 
--- the rounds of a run: each request leaves the round, up to one that opens the second, which lasts to the end
+-- the rounds of a run: each request leaves the round, up to one that opens the second, which lasts
+-- to the end
 abbrev pub OpensOnce : World → List Request → List Answer → List World → Type 0
 OpensOnce w (r ∷ rs) (a ∷ told) (v ∷ after) =
     (v.round ≡ w.round) × OpensOnce v rs told after

@@ -9,8 +9,9 @@ use Rattle.portal_core.specs.Words.{Key}
 abbrev pub IsShownAt : List (Key × List Person) → Key → Person → Type 0
 IsShownAt placed p s = (there : List Person) × Contains placed (p, there) × Contains there s
 
--- The same person is still shown what was shown of a result: a student the project, a lecturer each student at each own
--- project, the office each pair. More may be shown than before. A code that named nobody was shown nothing.
+-- The same person is still shown what was shown of a result: a student the project, a lecturer each
+-- student at each own project, the office each pair. More may be shown than before. A code that
+-- named nobody was shown nothing.
 abbrev pub ShowsStill : Sight → Sight → Type 0
 ShowsStill Nobody after = Unit {0}
 ShowsStill (Student v) (Student u) = (u.me ≡ v.me) × ((p : Key) → v.result ≡ Some p → u.result ≡ Some p)

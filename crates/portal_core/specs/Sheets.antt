@@ -18,8 +18,8 @@ project_given v s = project_with v.projects (placement_in v.pairs s.key)
 abbrev pub line_feed : List ℕ
 line_feed = 10 ∷ []
 
--- The result as CSV. Quotes stand round a field that has a comma, a double quote or an end of line, and in them a double
--- quote stands twice.
+-- The result as CSV. Quotes stand round a field that has a comma, a double quote or an end of line,
+-- and in them a double quote stands twice.
 
 abbrev pub needs_quotes : ℕ → Bool
 needs_quotes b = b == 44 || b == 34 || b == 13 || b == 10

@@ -10,15 +10,15 @@ use Rattle.portal_core.specs.declared.rows.ProjectRow.{ProjectRow}
 use Rattle.portal_core.specs.declared.rows.StudentRow.{StudentRow}
 use Rattle.portal_core.specs.Words.{Key, equals, has, is_empty}
 
--- A lecturer's row, and the ranking of the current round if one is there; in the second round also the ranking of the
--- first.
+-- A lecturer's row, and the ranking of the current round if one is there; in the second round also
+-- the ranking of the first.
 pub record Lecturer : Type 0 where
   pub row : LecturerRow
   pub ranking : Option (List Key)
   pub earlier_ranking : Option (List Key)
 
--- A student's row, the list of projects, best first, and the project that the result gives, of the current round; in the
--- second round also those of the first.
+-- A student's row, the list of projects, best first, and the project that the result gives, of the
+-- current round; in the second round also those of the first.
 pub record Student : Type 0 where
   pub row : StudentRow
   pub choice : List Key
@@ -100,7 +100,8 @@ abbrev pub has_result : Round → Phase → Bool
 has_result First phase = is_published phase
 has_result Second phase = true
 
--- the project that a student is shown: of the first round, or of the current one once it is published
+-- the project that a student is shown: of the first round, or of the current one once it is
+-- published
 abbrev pub shown_placement : Phase → Student → Option Key
 shown_placement phase s = if is_none s.earlier_placement then (if is_published phase then s.placed else None) else s.earlier_placement
 
@@ -167,7 +168,8 @@ abbrev pub students_in : Round → List Student → List Student
 students_in First ss = ss
 students_in Second ss = students_left ss
 
--- The world that the current round is played in: in the first round the world itself, in the second what the first left.
+-- The world that the current round is played in: in the first round the world itself, in the second
+-- what the first left.
 abbrev pub in_play : World → World
 in_play w =
     record w {
@@ -192,6 +194,7 @@ alone_lecturer l = record l { earlier_ranking = None }
 abbrev pub alone_student : Student → Student
 alone_student s = record s { earlier_choice = []; earlier_placement = None }
 
--- These rows as a world of a single round, with nothing before it. What a round is played in is a good world so.
+-- These rows as a world of a single round, with nothing before it. What a round is played in is a
+-- good world so.
 abbrev pub alone : World → World
 alone w = record w { round = First; lecturers = map alone_lecturer w.lecturers; students = map alone_student w.students }

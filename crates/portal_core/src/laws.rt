@@ -11,7 +11,7 @@ ghost use Rattle.portal_core.specs.Honest.{HasBest, HonestIsBest, HonestOverBoth
 ghost use Rattle.portal_core.specs.Honest.{LeftFindsNone, NoGroupGains, ShowsBest};
 ghost use Rattle.portal_core.specs.Faults.{ListFault, fault_at, choice_fault, ranking_fault};
 ghost use Rattle.portal_core.specs.Faults.{lacks_one};
-ghost use Rattle.portal_core.specs.Rolls.{RollFault, Faulty, Took, take_rows, lecturer_roll};
+ghost use Rattle.portal_core.specs.Rolls.{RollRefusal, Faulty, Took, take_rows, lecturer_roll};
 ghost use Rattle.portal_core.specs.Rolls.{project_roll, student_roll};
 ghost use Rattle.portal_core.specs.Legal.{AreFresh, wrong_choice, wrong_rank, NoneWrong};
 ghost use Rattle.portal_core.specs.Legal.{IsFirstWrong, IsFirstRefused};
@@ -35,11 +35,8 @@ ghost use Rattle.portal_core.specs.declared.phase.Phase.TheVariants.{Choosing, P
 ghost use Rattle.portal_core.specs.declared.phase.Round.TheVariants.{First, Second};
 ghost use Rattle.portal_core.specs.Places.{SameButPlaces, SameRequest, AlikeUntilPublished};
 ghost use Rattle.std.specs.List.{AllZip, AllByRecursion};
-ghost use Rattle.portal_core.specs.examples.Worked.{worked, again, again_ranking, again_published};
-ghost use Rattle.portal_core.specs.examples.Worked.{TellsWho, TellsApplicants, TellsLists};
-ghost use Rattle.portal_core.specs.examples.Worked.{TellsMoves, TellsResult, TellsSheets};
-ghost use Rattle.portal_core.specs.examples.Worked.{TellsFill, TellsOpening, TellsSecond};
-ghost use Rattle.portal_core.specs.declared.phase.Phase as phases;
+ghost use Rattle.portal_core.specs.examples.Worked.{TellsApplicants, TellsMoves, TellsResult};
+ghost use Rattle.portal_core.specs.examples.Worked.{TellsOpening};
 
 /// Two runs without a 503 in which a caller starts with the same view and hears the same give the
 /// caller the same replies, and leave the caller the same view.
@@ -181,13 +178,13 @@ pub fn least_is_told()
         → IsFirstWrong (wrong_rank applicants) list fault
         ⊎ ((fault ≡ fault_at 0 (codes "missing")) × NoneWrong (wrong_rank applicants) list
         × (lacks_one applicants list ≡ true)) }
-    ensures lecturers { (v : OfficeSees) (rows : List LecturerRow) (fault : RollFault)
+    ensures lecturers { (v : OfficeSees) (rows : List LecturerRow) (fault : RollRefusal)
         → take_rows (lecturer_roll v) 1 v.lecturers rows ≡ Faulty fault
         → IsFirstRefused (lecturer_roll v) v.lecturers rows fault }
-    ensures projects { (v : OfficeSees) (rows : List ProjectRow) (fault : RollFault)
+    ensures projects { (v : OfficeSees) (rows : List ProjectRow) (fault : RollRefusal)
         → take_rows (project_roll v) 1 v.projects rows ≡ Faulty fault
         → IsFirstRefused (project_roll v) v.projects rows fault }
-    ensures students { (v : OfficeSees) (rows : List StudentRow) (fault : RollFault)
+    ensures students { (v : OfficeSees) (rows : List StudentRow) (fault : RollRefusal)
         → take_rows (student_roll v) 1 v.students rows ≡ Faulty fault
         → IsFirstRefused (student_roll v) v.students rows fault }
 {}
@@ -270,23 +267,10 @@ pub fn no_group_gains()
     ensures { NoGroupGains }
 {}
 
-/// There is a good world in each phase of either round.
-pub fn worked_good()
-    ensures phases { (phase : phases.Phase) → Good (worked phase) }
-    ensures second { Good again }
-    ensures second_ranking { Good again_ranking }
-    ensures second_published { Good again_published }
-{}
-
-/// What is answered in the small world.
+/// What is answered in a small world.
 pub fn worked_replies()
-    ensures who { TellsWho }
     ensures applicants { TellsApplicants }
-    ensures lists { TellsLists }
     ensures moves { TellsMoves }
     ensures result { TellsResult }
-    ensures sheets { TellsSheets }
-    ensures fill { TellsFill }
     ensures opening { TellsOpening }
-    ensures second { TellsSecond }
 {}

@@ -1,4 +1,5 @@
--- The main promise: what each caller may learn of streams that desks serve, one after another, over keepers of any kind.
+-- The main promise: what each caller may learn of streams that desks serve, one after another, over
+-- keepers of any kind.
 use Rattle.std.specs.Prelude.{◌≡◌, ℕ, true, false, List, [], ◌∷◌, ◌++◌}
 use Rattle.std.specs.List.{AllByRecursion}
 use Rattle.portal_core.specs.Words.{Key, equals}
@@ -12,12 +13,14 @@ use Rattle.portal_wire.specs.Conversation.{Exchange, asked_in, told_in}
 use Rattle.portal_desk.specs.Keeping.{KeeperState}
 use Rattle.portal_desk.specs.Visits.{Finish, Ended, Stopped, Visit, AreVisits, exchanges_of, worlds_of, Hears, replies_in, Session, IsSession, AllTellOf}
 
--- A keeper goes on from what an earlier one left: it is the same one, or what was kept was closed and opened again. Where
--- its disk has returned what was written, so had the earlier one's; and what was clean is clean, with the same world.
+-- A keeper goes on from what an earlier one left: it is the same one, or what was kept was closed
+-- and opened again. Where its disk has returned what was written, so had the earlier one's; and
+-- what was clean is clean, with the same world.
 abbrev pub Resumes : KeeperState → KeeperState → Type 0
 Resumes old new = new.disk → old.disk × (old.clean → new.clean × (new.world ≡ old.world))
 
--- the streams were served one after another, each over a keeper that goes on from what the one before left
+-- the streams were served one after another, each over a keeper that goes on from what the one
+-- before left
 abbrev pub AreServedOn : {K : Type 0} → (K → KeeperState) → K → List (Session K) → Type 0
 AreServedOn state k [] = Unit {0}
 AreServedOn state k (s ∷ ss) = Resumes (state k) (state s.old) × IsSession state s × AreServedOn state s.new ss
@@ -31,8 +34,8 @@ abbrev pub exchanges_in : {K : Type 0} → List (Session K) → List Exchange
 exchanges_in [] = []
 exchanges_in (s ∷ ss) = s.exchanges ++ exchanges_in ss
 
--- the premises: the first keeper is clean and keeps a good world, no reply is 503, and the last keeper's disk has returned
--- what was written
+-- the premises: the first keeper is clean and keeps a good world, no reply is 503, and the last
+-- keeper's disk has returned what was written
 pub record IsServed {K : Type 0} (state : K → KeeperState) (k : K) (sessions : List (Session K)) : Type 0 where
   pub served : AreServedOn state k sessions
   pub clean : (state k).clean
@@ -61,8 +64,8 @@ pub record IsUpheld (w : World) (visits : List Visit) : Type 0 where
   pub published : PublishesBest w (worlds_of visits)
   pub best : ShowsBest w → AllByRecursion ShowsBest (worlds_of visits)
 
--- where a caller starts with the same view and hears the same in both, the replies to the caller are the same bytes, and the
--- last view is the same
+-- where a caller starts with the same view and hears the same in both, the replies to the caller
+-- are the same bytes, and the last view is the same
 abbrev pub AreEqual : World → World → List Visit → List Visit → Type 0
 AreEqual w v first second =
     (c : Key) (items : List HeardItem) → view w c ≡ view v c → Hears c w first items → Hears c v second items

@@ -19,8 +19,8 @@ is_store (Err Store) = true
 abbrev pub TurnsAway : Refusal → Answer → Type 0
 TurnsAway refusal reply = (reply ≡ answer_to (refused refusal)) ⊎ (reply ≡ unavailable)
 
--- whether the desk had failed and has, and the faults of its keeper then and now: it fails exactly where they rise, by one,
--- and once it has failed it stays so and leaves the keeper alone
+-- whether the desk had failed and has, and the faults of its keeper then and now: it fails exactly
+-- where they rise, by one, and once it has failed it stays so and leaves the keeper alone
 abbrev pub FailsByCount : Bool → Bool → ℕ → ℕ → Type 0
 FailsByCount true after old new = (after ≡ true) × (new ≡ old)
 FailsByCount false false old new = new ≡ old

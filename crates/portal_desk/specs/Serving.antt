@@ -11,8 +11,8 @@ use Rattle.portal_desk.specs.declared.served.Cause.TheVariants as cause
 use Rattle.portal_wire.specs.Text.{reply_text}
 use Rattle.portal_wire.specs.Conversation.{Rest, more, Leads, Last, Ends, Exchange, asked_in, told_in, text, Reaches}
 
--- the first requests of the stream, their replies, and the world that they lead to, where the keeper is clean; and what keeps it
--- clean, where no reply is 503
+-- the first requests of the stream, their replies, and the world that they lead to, where the
+-- keeper is clean; and what keeps it clean, where no reply is 503
 pub record Deals (old new : KeeperState) (bytes : List ℕ) (count : ℕ) (es : List Exchange) (rest : Rest) : Type 0 where
   pub leads : Leads 256 bytes (asked_in es) rest
   pub reaches : new.clean → Reaches old.world es new.world
@@ -27,7 +27,8 @@ ServesBy es old new before after bytes count end =
 abbrev pub ServesWhole : KeeperState → KeeperState → Option (List ℕ) → Option (List ℕ) → List ℕ → ℕ → Last → Type 0
 ServesWhole old new before after bytes count end = (es : List Exchange) × ServesBy es old new before after bytes count end
 
--- the replies of all but the last, and of the last a first part; after a fault of the store the last closes
+-- the replies of all but the last, and of the last a first part; after a fault of the store the
+-- last closes
 abbrev pub CutsLast : Bool → List Exchange → Option (List ℕ) → Option (List ℕ) → Type 0
 CutsLast failed es before after =
     (front : List Exchange) × (e : Exchange) × (k : ℕ) × (es ≡ front ++ e ∷ [])

@@ -10,13 +10,14 @@ use Rattle.portal_desk.specs.Keeping.{KeeperState}
 use Rattle.portal_desk.specs.declared.served.Cause.{Cause}
 use Rattle.portal_desk.specs.Serving.{Wrote, ServesBy, StopsBy}
 
--- how a call of `serve` ended: as the stream did; or before, for this cause, with this left to the reader, and whether the
--- store had failed
+-- how a call of `serve` ended: as the stream did; or before, for this cause, with this left to the
+-- reader, and whether the store had failed
 pub data Finish : Type 0 where
   Ended : Last → Finish
   Stopped : Cause → Bool → Option (List ℕ) → Finish
 
--- a stream, what was written for it, how that ended, what was asked and answered, and the worlds after each
+-- a stream, what was written for it, how that ended, what was asked and answered, and the worlds
+-- after each
 pub record Visit : Type 0 where
   pub bytes : List ℕ
   pub written : List ℕ
@@ -24,8 +25,8 @@ pub record Visit : Type 0 where
   pub exchanges : List Exchange
   pub worlds : List World
 
--- the requests are those of the stream, and the text is that of the replies: of all, or, where the call stopped, as far as
--- its cause says
+-- the requests are those of the stream, and the text is that of the replies: of all, or, where the
+-- call stopped, as far as its cause says
 abbrev pub Tells : Finish → List ℕ → List Exchange → List ℕ → Type 0
 Tells (Ended ending) bytes es written =
     (closing : List ℕ) × Requests bytes (asked_in es) ending closing × (written ≡ text es ++ closing)
@@ -66,13 +67,15 @@ texts_to c (e ∷ es) = if equals e.request.code c then exchange_text e ∷ text
 abbrev pub replies_in : Key → List Visit → List (List ℕ)
 replies_in c vs = texts_to c (exchanges_of vs)
 
--- equal texts, up to and with the first accepted move to published, but for those that have a student's list
+-- equal texts, up to and with the first accepted move to published, but for those that have a
+-- student's list
 abbrev pub AlikeTexts : List Exchange → List Exchange → Type 0
 AlikeTexts (e ∷ es) (f ∷ fs) =
     Unless (has_places e.request.wish) (exchange_text e ≡ exchange_text f) × Unless (moves_to_published e.request.wish e.reply) (AlikeTexts es fs)
 AlikeTexts _ _ = Unit {0}
 
--- a call of `serve`: the keeper and what the writer held, before and after, how it ended, and what was asked and answered
+-- a call of `serve`: the keeper and what the writer held, before and after, how it ended, and what
+-- was asked and answered
 pub record Session (K : Type 0) : Type 0 where
   pub old : K
   pub new : K
@@ -91,7 +94,7 @@ ServesUntil (Stopped why failed left) es old new before after bytes count = Stop
 abbrev pub IsSession : {K : Type 0} → (K → KeeperState) → Session K → Type 0
 IsSession state s = ServesUntil s.finish s.exchanges (state s.old) (state s.new) (Some s.before) (Some s.after) s.bytes s.count
 
--- the streams were served one after another, from what this keeper keeps, and each left its keeper clean
+-- the streams were served one after another, from what this keeper keeps, and each left it clean
 abbrev pub AreServed : {K : Type 0} → (K → KeeperState) → K → List (Session K) → Type 0
 AreServed state k [] = Unit {0}
 AreServed state k (s ∷ ss) =

@@ -23,7 +23,7 @@ ghost use Rattle.portal_desk.specs.declared.served.Cause.TheVariants.{Store as S
 use crate::devices::{Sink, Source};
 use crate::playing::play;
 use crate::reading::{FrameFault, cut_front, next_frame};
-use crate::sending::{either, send_refusal, send_reply};
+use crate::sending::{send_refusal, send_reply};
 use crate::served::{Cause, ServeFault, Served};
 use portal_core::{KeepFault, Keeper, Reply};
 use portal_frame::{Frame, Refusal, Request};
@@ -160,7 +160,7 @@ impl<K: Keeper> Desk<K> {
     {
         let reply = self.respond(alloc, request);
         let lost = self.failed();
-        let shut = either(closes, lost);
+        let shut = closes || lost;
         match send_reply(alloc, &reply, asks_head(request), shut, sink) {
             Ok(()) => {}
             Err(cause) => return Err(cause),

@@ -1,6 +1,6 @@
 //! Writes replies.
 
-ghost use Rattle.std.specs.Prelude.{◌≡◌, ◌||◌, true, OnOk, IfErr, OnErr};
+ghost use Rattle.std.specs.Prelude.{◌≡◌, true, OnOk, IfErr, OnErr};
 ghost use Rattle.std.specs.Io.KnownBytes.{Appends};
 ghost use Rattle.portal_core.specs.Meaning.{reply_model, body_model};
 ghost use Rattle.portal_frame.specs.Stream.{refused};
@@ -17,13 +17,6 @@ use portal_core::Reply;
 use portal_frame::Refusal;
 use portal_wire::{reply_bytes, reply_of};
 use std::alloc::Global;
-
-/// Whether one of the two is true.
-pub(crate) fn either(a: bool, b: bool) -> bool
-    ensures { result ≡ (a || b) }
-{
-    a || b
-}
 
 /// Writes bytes whole.
 fn send<W: Sink>(bytes: &[u8], sink: &mut W) -> Result<(), Cause>

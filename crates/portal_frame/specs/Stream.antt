@@ -89,8 +89,8 @@ pub record Takes (bytes : List ℕ) (h : RequestHead) (rest : List ℕ) : Type 0
 abbrev pub HasNoHead : List ℕ → Type 0
 HasNoHead bytes = (h : RequestHead) (rest : List ℕ) → ¬ (Takes bytes h rest)
 
--- what stands at the front of the rest of a stream: a request and the bytes after it, a fault (and whether
--- the method is HEAD), or the end
+-- what stands at the front of the rest of a stream: a request and the bytes after it, a fault (and
+-- whether the method is HEAD), or the end
 pub data Item : Type 0 where
   whole : Asked → List ℕ → Item
   fault : Refuses → Bool → Item
@@ -163,7 +163,8 @@ Framed bytes ended (frame.Request request used) =
 Framed bytes ended (frame.Bad refusal head_only) =
     (more : List ℕ) → (IsTrue ended → more ≡ []) → Opens (bytes ++ more) (fault (refused refusal) head_only)
 
--- a refusal comes no sooner than its cause: the lines of a head, the end, a limit, or that no head can come
+-- a refusal comes no sooner than its cause: the lines of a head, the end, a limit, or that no head
+-- can come
 abbrev pub IsDue : List ℕ → Bool → Frame → Type 0
 IsDue bytes ended (frame.Bad refusal head_only) =
     ((h : RequestHead) × (rest : List ℕ) × Takes bytes h rest)
@@ -172,7 +173,7 @@ IsDue bytes ended frame.Need = Unit {0}
 IsDue bytes ended frame.End = Unit {0}
 IsDue bytes ended (frame.Request request used) = Unit {0}
 
--- what is held while more is asked for, and what a request takes, are within the longest head and body
+-- what is held while more is asked for, and what a request takes, fit the longest head and body
 abbrev pub IsWithinLimits : List ℕ → Frame → Type 0
 IsWithinLimits bytes frame.Need = length bytes < 1064960
 IsWithinLimits bytes (frame.Request request used) = (0 < used) × (used ≤ length bytes) × (used ≤ 1064960)

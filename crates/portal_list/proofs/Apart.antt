@@ -1,10 +1,5 @@
 -- Texts of which none repeats.
-use Rattle.std.proofs.Common.{◌≡◌, ℕ, zero, suc, ◌<◌, Bool, true, false, List, [], ◌∷◌, map, length, get_or, refl, sym, ◌∙◌, arith}
-use Rattle.std.proofs.lemmas.List.{length-map, length-take, get_or-take}
-use Rattle.spa_rows.specs.Faults.{IsEarlierKey}
-use Rattle.spa_rows.proofs.Lists.{map_at}
-use Rattle.spa_model.proofs.Zips.{any_unmap}
-use Rattle.portal_core.specs.Words.{Key, has, AreDistinct}
+use Rattle.portal_list.proofs.Base.{◌≡◌, ℕ, zero, suc, ◌<◌, Bool, true, false, List, [], ◌∷◌, map, length, get_or, refl, sym, ◌∙◌, arith, length-map, length-take, get_or-take, IsEarlierKey, map_at, any_unmap, Key, has, AreDistinct}
 use Rattle.portal_list.proofs.Members.{there, distinct_apart}
 
 module _ {X : Type 0} (key : X → Key) where

@@ -1,22 +1,6 @@
 -- What stands for the lines of a sound world is its instance.
-use Rattle.std.specs.List.{AllByRecursion}
-use Rattle.std.proofs.Common.{◌≡◌, false, List, [], map, sym, ◌∙◌, subst, ap}
-use Rattle.std.specs.Prelude.{unwrap_or}
-use Rattle.spa_rows.specs.Faults.{HasNoneBefore}
-use Rattle.spa_rows.specs.declared.faults.InstanceFault.TheVariants.{Memory}
+use Rattle.portal_list.proofs.Base.{AllByRecursion, ◌≡◌, false, List, [], map, sym, ◌∙◌, subst, ap, unwrap_or, HasNoneBefore, Memory, Spa, IsLawful, StandsFor, number_in, Key, Rise, World, Lecturer, Student, is_still_to_rank, ProjectRow, instance, instance_of, lecturer_keys, project_keys, student_keys, Sound, First, first_plays, AllEntries, HasEntries, entries_in, instance_lecturer, instance_project, instance_student, instance_rows}
 use Rattle.spa_model.specs.Spa as spa
-use Rattle.spa_model.specs.Spa.{Spa, IsLawful}
-use Rattle.spa_model.specs.Built.{StandsFor}
-use Rattle.spa_model.specs.Pairs.{number_in}
-use Rattle.portal_core.specs.Words.{Key, Rise}
-use Rattle.portal_core.specs.World.{World, Lecturer, Student, is_still_to_rank}
-use Rattle.portal_core.specs.declared.rows.ProjectRow.{ProjectRow}
-use Rattle.portal_core.specs.Instance.{instance, instance_of, lecturer_keys, project_keys, student_keys}
-use Rattle.portal_core.specs.Good.{Sound}
-use Rattle.portal_core.specs.declared.phase.Round.TheVariants.{First}
-use Rattle.portal_core.proofs.Capacities.{first_plays}
-use Rattle.portal_list.specs.Entries.{AllEntries, HasEntries, entries_in}
-use Rattle.portal_list.specs.inner.Lines.{instance_lecturer, instance_project, instance_student, instance_rows}
 use Rattle.portal_list.proofs.Rising.{map_map, pairs_rise}
 use Rattle.portal_list.proofs.Standing.{spa_of_rows, only_instance}
 use Rattle.portal_list.proofs.Faultless.{faultless}

@@ -1,28 +1,11 @@
 -- The lines of a sound world in which nobody is still to rank have no fault.
-use Rattle.std.proofs.Common.{◌≡◌, inl, inr, ℕ, ◌<◌, ◌≤◌, Bool, true, false, List, [], ◌∷◌, map, length, get_or, Any, refl, sym, ◌∙◌, subst, arith}
-use Rattle.std.specs.Prelude.{Option, Some, None, is_none, unwrap_or, IfSome, not, ◌&&◌}
-use Rattle.std.specs.List.{list_any, AllByRecursion}
+use Rattle.portal_list.proofs.Base.{◌≡◌, inl, inr, ℕ, ◌<◌, ◌≤◌, Bool, true, false, List, [], ◌∷◌, map, length, get_or, Any, refl, sym, ◌∙◌, subst, arith, Option, Some, None, is_none, unwrap_or, IfSome, not, ◌&&◌, list_any, AllByRecursion, length-map, Any-from_list_any, list_any-from_Any, BadAt, Rows, HasNoneBefore, IsEarlierKey, IsKeyOf, Repeats, Memory, any_map, any_unmap, Key, equals, has, is_empty, Rise, World, Student, student_key, projects_of, applicants_of, is_still_to_rank, lecturer_keys, project_keys, First, Sound, IsChoice, IsRanking, IsLecturer, IsProject, IsStudent, ProjectRow, is_same, is_own, first_plays, entries_in, instance_lecturer, instance_project, instance_student, instance_rows}
 use Rattle.std.proofs.lemmas.Bool.{and_parts, and_from}
-use Rattle.std.proofs.lemmas.List.{length-map}
-use Rattle.std.proofs.lemmas.List.Folds.{Any-from_list_any, list_any-from_Any}
 use Rattle.spa_rows.specs.Form.{is_key}
-use Rattle.spa_rows.specs.Least.{BadAt}
-use Rattle.spa_rows.specs.Lines.{Rows}
-use Rattle.spa_rows.specs.Faults.{HasNoneBefore, IsRefusal, IsBadCapacity, IsEarlierKey, IsKeyOf, NamesNone, Repeats, FindsOne, IsApplicant, MissesOne}
+use Rattle.spa_rows.specs.Faults.{IsRefusal, IsBadCapacity, NamesNone, FindsOne, IsApplicant, MissesOne}
 use Rattle.spa_rows.specs.declared.faults.InstanceFault.{InstanceFault}
-use Rattle.spa_rows.specs.declared.faults.InstanceFault.TheVariants.{TooMany, BadKey, KeyTwice, BadCapacity, NoSuchLecturer, NoSuchProject, RepeatInList, ListTooLong, NotApplicant, ApplicantMissing, Memory}
-use Rattle.spa_model.proofs.Zips.{any_map, any_unmap}
-use Rattle.portal_core.specs.Words.{Key, equals, has, is_empty, Rise}
-use Rattle.portal_core.specs.World.{World, Student, student_key, projects_of, applicants_of, is_still_to_rank}
-use Rattle.portal_core.specs.Instance.{lecturer_keys, project_keys}
-use Rattle.portal_core.specs.declared.phase.Round.TheVariants.{First}
-use Rattle.portal_core.specs.Good.{Sound, IsChoice, IsRanking, IsLecturer, IsProject, IsStudent}
-use Rattle.portal_core.specs.declared.rows.ProjectRow.{ProjectRow}
-use Rattle.portal_core.proofs.Keys.{is_same, is_own}
+use Rattle.spa_rows.specs.declared.faults.InstanceFault.TheVariants.{TooMany, BadKey, KeyTwice, BadCapacity, NoSuchLecturer, NoSuchProject, RepeatInList, ListTooLong, NotApplicant, ApplicantMissing}
 use Rattle.portal_core.proofs.AllLaws as laws
-use Rattle.portal_core.proofs.Capacities.{first_plays}
-use Rattle.portal_list.specs.Entries.{entries_in}
-use Rattle.portal_list.specs.inner.Lines.{instance_lecturer, instance_project, instance_student, instance_rows}
 use Rattle.portal_list.proofs.Rising.{map_map}
 use Rattle.portal_list.proofs.Members.{there, has_it, has_all, key_there, repeats_not, earlier_not, none_of}
 

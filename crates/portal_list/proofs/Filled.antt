@@ -1,11 +1,8 @@
 -- A fill of the lists is the world's.
-use Rattle.std.proofs.Common.{◌≡◌, Bool, true, false, cond, map, refl, ap, ◌∙◌}
-use Rattle.std.specs.Prelude.{Some, None, is_none, not, ◌&&◌}
-use Rattle.portal_core.specs.Words.{is_empty}
-use Rattle.portal_core.specs.World.{World, Lecturer, student_key, applicants_of}
+use Rattle.portal_list.proofs.Base.{◌≡◌, Bool, true, false, cond, map, refl, ap, ◌∙◌, Some, None, is_none, not, ◌&&◌, is_empty, World, Lecturer, student_key, applicants_of, with_missing, filled}
 use Rattle.portal_core.specs.Change.{with_fill}
 use Rattle.portal_core.proofs.Kept.{empty_map}
-use Rattle.portal_list.specs.inner.Fill.{unless_empty, with_missing, filled}
+use Rattle.portal_list.specs.inner.Fill.{unless_empty}
 use Rattle.portal_list.proofs.Parted.{applicants_are}
 
 module _ (w : World) where

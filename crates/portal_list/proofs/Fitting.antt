@@ -1,17 +1,9 @@
 -- Rows and entries that fit each other.
-use Rattle.std.proofs.Common.{◌≡◌, Bool, true, false, cond, List, [], ◌∷◌, ◌++◌, map, refl, sym, ◌∙◌, ap, subst}
-use Rattle.std.specs.Prelude.{Option, Some, None, option_map, ◌&&◌}
-use Rattle.std.specs.List.{filter_map, cons_option, AllByRecursion}
-use Rattle.portal_core.specs.declared.rows.LecturerRow.{LecturerRow}
+use Rattle.portal_list.proofs.Base.{◌≡◌, Bool, true, false, cond, List, [], ◌∷◌, ◌++◌, map, refl, sym, ◌∙◌, ap, subst, Option, Some, None, option_map, ◌&&◌, filter_map, cons_option, AllByRecursion, LecturerRow, Key, equals, is_before, is_empty, Rise, Round, First, Second, Lecturer, Student, pairs_with, is_same, is_own, not_before_itself, HasNothingEarlier, lecturers_fitting, students_fitting}
 use Rattle.portal_core.specs.declared.rows.StudentRow.{StudentRow}
-use Rattle.portal_core.specs.Words.{Key, equals, is_before, is_empty, Rise}
-use Rattle.portal_core.specs.declared.phase.Round.{Round}
-use Rattle.portal_core.specs.declared.phase.Round.TheVariants.{First, Second}
-use Rattle.portal_core.specs.World.{Lecturer, Student, is_second, pairs_with}
-use Rattle.portal_core.proofs.Keys.{is_same, is_own, not_before_itself}
+use Rattle.portal_core.specs.World.{is_second}
 use Rattle.portal_list.specs.Rows.{choices_in, earlier_choices_in, rankings_with}
-use Rattle.portal_list.specs.inner.Parts.{HasNothingEarlier}
-use Rattle.portal_list.specs.inner.Fit.{next_for, rest_for, earlier_for, earlier_rest, lecturers_fitting, students_fitting, with_lists}
+use Rattle.portal_list.specs.inner.Fit.{next_for, rest_for, earlier_for, earlier_rest, with_lists}
 
 pub next_map : {V W : Type 0} (f : V → W) (k : Key) (ps : List (Key × V)) → option_map f (next_for k ps) ≡ next_for k (map {B = Key × W} (λ (p : Key × V). (p.0, f p.1)) ps)
 next_map f k [] = refl

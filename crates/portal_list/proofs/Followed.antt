@@ -1,14 +1,9 @@
 -- The entries of a world after a change of it.
-use Rattle.std.proofs.Common.{◌≡◌, true, List, map, refl, sym, ap, ◌∙◌}
-use Rattle.portal_core.specs.World.{World, Lecturer, Student}
-use Rattle.portal_core.specs.View.{catalogue}
-use Rattle.portal_core.specs.Change.{Change, with_choice, with_ranking, changed, Choices, Ranks, Lecturers, Projects, Students, To, Placements, Fill, SecondRound}
-use Rattle.portal_core.specs.Words.{Key}
+use Rattle.portal_list.proofs.Base.{◌≡◌, true, List, map, refl, sym, ap, ◌∙◌, World, Lecturer, Student, catalogue, with_choice, with_ranking, changed, Choices, Ranks, Key, AllEntries, HasEntries, entries_in, filled, catalogue_in}
+use Rattle.portal_core.specs.Change.{Change, Lecturers, Projects, Students, To, Placements, Fill, SecondRound}
 use Rattle.portal_core.proofs.Acts.{catalogue_chosen, catalogue_ranked}
 use Rattle.portal_core.proofs.Fills.{catalogue_filled}
-use Rattle.portal_list.specs.Entries.{AllEntries, HasEntries, entries_in, is_followed}
-use Rattle.portal_list.specs.inner.Fill.{filled}
-use Rattle.portal_list.specs.inner.Shown.{catalogue_in}
+use Rattle.portal_list.specs.Entries.{is_followed}
 use Rattle.portal_list.proofs.Filled.{all_filled}
 
 module _ (before : AllEntries) (w : World) (there : entries_in w ≡ before) (change : Change) where

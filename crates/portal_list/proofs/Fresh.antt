@@ -1,10 +1,7 @@
 -- The empty world is good.
-use Rattle.std.proofs.Common.{◌≡◌, true, [], refl, arith}
+use Rattle.portal_list.proofs.Base.{◌≡◌, true, [], refl, arith, Key, Setup, First}
 use Rattle.portal_core.specs.Form.{is_code}
-use Rattle.portal_core.specs.Words.{Key}
 use Rattle.portal_core.specs.Good.{Good}
-use Rattle.portal_core.specs.declared.phase.Phase.TheVariants.{Setup}
-use Rattle.portal_core.specs.declared.phase.Round.TheVariants.{First}
 
 pub fresh_good : (office : Key) → is_code office ≡ true → Good (record { round = First; phase = Setup; office = office; lecturers = []; projects = []; students = [] })
 fresh_good office form = record {

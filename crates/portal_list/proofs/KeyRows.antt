@@ -1,13 +1,8 @@
 -- Rows whose keys rise, and the search among them.
-use Rattle.std.proofs.Common.{◌≡◌, inl, inr, ℕ, ◌<◌, ◌≤◌, Bool, true, false, List, map, length, get_or, Less, Equal, Greater, refl, sym}
-use Rattle.std.specs.Ordering.{nat_cmp}
-use Rattle.std.specs.Cmp.Lexicographic.{slice_cmp}
-use Rattle.std.proofs.lemmas.Bool.{cases_lt}
-use Rattle.std.proofs.lemmas.Cmp.{nat_list_cmp_total, tied_itself}
+use Rattle.portal_list.proofs.Base.{◌≡◌, inl, inr, ℕ, ◌<◌, ◌≤◌, Bool, true, false, List, map, length, get_or, Less, refl, sym, nat_cmp, slice_cmp, cases_lt, nat_list_cmp_total, at_place, any_map, any_unmap, Key, has}
+use Rattle.std.proofs.Common.{Equal, Greater}
+use Rattle.std.proofs.lemmas.Cmp.{tied_itself}
 use Rattle.std.proofs.lemmas.Map.Lookups.{exact_bytes}
-use Rattle.spa_rows.proofs.Lists.{at_place}
-use Rattle.spa_model.proofs.Zips.{any_map, any_unmap}
-use Rattle.portal_core.specs.Words.{Key, has}
 use Rattle.portal_list.proofs.Members.{there, has_it}
 
 pub known_at : {X : Type 0} (key : X → Key) (rows : List X) (k : Key) (n : ℕ) → n < length rows → ((d : X) → slice_cmp nat_cmp (key (get_or rows n d)) k ≡ Equal) → true ≡ has (map key rows) k

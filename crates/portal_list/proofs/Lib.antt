@@ -1,3 +1,4 @@
+pub mod Base
 pub mod Exact
 pub mod Faultless
 pub mod KeyRows

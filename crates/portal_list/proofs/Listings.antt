@@ -1,13 +1,7 @@
 -- The catalogue of lecturers is that of their rows.
-use Rattle.std.proofs.Common.{◌≡◌, Option, Some, None, option_map, List, map, refl, ap, ◌∙◌}
-use Rattle.std.specs.List.{find, filter_map}
-use Rattle.portal_core.specs.declared.rows.LecturerRow.{LecturerRow}
-use Rattle.portal_core.specs.declared.rows.ProjectRow.{ProjectRow}
-use Rattle.portal_core.specs.Words.{Key, equals}
-use Rattle.portal_core.specs.World.{Lecturer}
+use Rattle.portal_list.proofs.Base.{◌≡◌, Option, Some, None, option_map, List, map, refl, ap, ◌∙◌, find, filter_map, LecturerRow, ProjectRow, Key, equals, Lecturer, name_of, offered}
 use Rattle.portal_core.specs.View.{name_in, listing_with, listings}
 use Rattle.portal_core.proofs.Keys.{find_map}
-use Rattle.portal_list.specs.inner.Shown.{name_of, offered}
 
 abbrev pub row_of : Lecturer → LecturerRow
 row_of l = l.row

@@ -1,17 +1,6 @@
 -- What stands in a list, in a list made of it, and in a part of it.
-use Rattle.std.proofs.Common.{◌≡◌, ℕ, zero, suc, ◌<◌, true, List, [], ◌∷◌, map, length, get_or, Any, Less, sym, ◌∙◌, subst, arith}
-use Rattle.std.specs.List.{AllByRecursion}
-use Rattle.std.specs.Ordering.{nat_cmp}
-use Rattle.std.specs.Cmp.Lexicographic.{slice_cmp}
-use Rattle.std.proofs.lemmas.List.{get_or_default, get_or-take, length-take, length-map}
-use Rattle.std.proofs.lemmas.List.Folds.{Any-from_list_any, list_any-from_Any, list_any_at}
-use Rattle.spa_rows.specs.Least.{BadAt}
-use Rattle.spa_rows.specs.Faults.{IsEarlierKey, IsKeyOf, Repeats}
-use Rattle.spa_rows.proofs.Lists.{at_place, map_at}
-use Rattle.spa_model.proofs.Zips.{any_map, any_unmap}
-use Rattle.portal_core.specs.Words.{Key, equals, has, Rise, AreDistinct}
-use Rattle.portal_core.proofs.Keys.{is_same, is_own}
-use Rattle.portal_core.proofs.AllLaws.{all_at}
+use Rattle.portal_list.proofs.Base.{◌≡◌, ℕ, zero, suc, ◌<◌, true, List, [], ◌∷◌, map, length, get_or, Any, Less, sym, ◌∙◌, subst, arith, AllByRecursion, nat_cmp, slice_cmp, get_or_default, get_or-take, length-take, length-map, Any-from_list_any, list_any-from_Any, BadAt, IsEarlierKey, IsKeyOf, Repeats, at_place, map_at, any_map, any_unmap, Key, equals, has, Rise, AreDistinct, is_same, is_own, all_at}
+use Rattle.std.proofs.lemmas.List.Folds.{list_any_at}
 use Rattle.spa_model.proofs.Rising.{never_itself}
 use Rattle.portal_list.proofs.Rising.{pairs_rise}
 

@@ -1,10 +1,5 @@
 -- The rankings that a fill would put, from the keys of the lecturers that wait.
-use Rattle.std.proofs.Common.{◌≡◌, List, map, ap, ◌∙◌}
-use Rattle.std.specs.Prelude.{filter}
-use Rattle.portal_core.specs.Words.{Key}
-use Rattle.portal_core.specs.World.{World, Lecturer, is_still_to_rank, applicants_of, student_key}
-use Rattle.portal_list.specs.inner.Shown.{is_waiting}
-use Rattle.portal_list.specs.inner.Parts.{applicant_keys}
+use Rattle.portal_list.proofs.Base.{◌≡◌, List, map, ap, ◌∙◌, filter, Key, World, Lecturer, is_still_to_rank, applicants_of, student_key, is_waiting, applicant_keys}
 use Rattle.portal_list.specs.inner.Fill.{fill_missing}
 use Rattle.portal_list.proofs.Rising.{map_map}
 use Rattle.portal_list.proofs.Parted.{applicants_are}

@@ -1,20 +1,14 @@
 -- Places noted at projects, and marked.
-use Rattle.std.proofs.Common.{◌≡◌, ℕ, zero, suc, ◌+◌, ◌<◌, ◌≤◌, Bool, true, false, cond, List, [], ◌∷◌, ◌++◌, map, take, length, get_or, Bor, Vec, Global, Option, Some, None, replicate, refl, sym, ◌∙◌, ap, arith, inl, inr}
-use Rattle.std.specs.Prelude.{◌==◌, ◌||◌, ◌&&◌, slice_set, unwrap_or}
-use Rattle.std.specs.List.{list_any}
+use Rattle.portal_list.proofs.Base.{◌≡◌, ℕ, zero, suc, ◌+◌, ◌<◌, ◌≤◌, Bool, true, false, cond, List, [], ◌∷◌, ◌++◌, map, take, length, get_or, Bor, Vec, Global, Option, Some, None, refl, sym, ◌∙◌, ap, arith, inl, inr, ◌==◌, ◌||◌, ◌&&◌, slice_set, unwrap_or, list_any, or-true, or-false, length-take, map_push, text_eq, Key, equals, has, Student, is_same, passes_at, is_among, is_noted_in, is_noted, IsIndexOf}
+use Rattle.std.proofs.Common.{replicate}
 use Rattle.std.specs.HashMap as hash
 use Rattle.std.specs.HashMap.{HashMap}
 use lib.Dec.{eqb-zero-suc, eqb-suc-zero, eqb-suc-suc}
 use Rattle.std.proofs.lemmas.Bool.{cases_eq, eq-eqb, ne_eqb}
-use Rattle.std.proofs.Math.Bool.{or-true, or-false, or_assoc, and-true, and-false}
-use Rattle.std.proofs.lemmas.List.{length-take, get_or-set_same, get_or-set_other, map_push}
+use Rattle.std.proofs.Math.Bool.{or_assoc, and-true, and-false}
+use Rattle.std.proofs.lemmas.List.{get_or-set_same, get_or-set_other}
 use Rattle.std.proofs.lemmas.List.Folds.{list_any_more, list_any-append}
-use Rattle.spa_rows.specs.inner.Index.{text_eq}
-use Rattle.portal_core.specs.Words.{Key, equals, has}
-use Rattle.portal_core.specs.World.{Student}
 use Rattle.portal_core.proofs.AllLaws.{is_sym}
-use Rattle.portal_core.proofs.Keys.{is_same}
-use Rattle.portal_list.specs.inner.ApplicantIndex.{passes_at, is_among, is_noted_in, is_noted, IsIndexOf}
 use Rattle.portal_list.proofs.Steps.{grown}
 
 among_push : (ns : List ℕ) (n i : ℕ) → is_among (ns ++ n ∷ []) i ≡ (is_among ns i || (n == i))

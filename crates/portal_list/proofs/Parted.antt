@@ -1,17 +1,10 @@
 -- A world is sound exactly where its parts fit, and its rows say which world it is.
-use Rattle.std.proofs.Common.{◌≡◌, true, false, List, [], ◌∷◌, ◌++◌, map, refl, sym, ◌∙◌, ap, subst, arith}
-use Rattle.std.specs.Prelude.{Option, Some, None, is_none, option_map, not, ◌&&◌, filter}
-use Rattle.std.specs.List.{AllByRecursion}
-use Rattle.std.proofs.lemmas.List.{length-map}
-use Rattle.portal_core.specs.Words.{Key, has, is_empty, Rise, AreDistinct}
-use Rattle.portal_core.specs.World.{World, Lecturer, Student, project_key, student_key, projects_of, applicants_of, is_still_to_rank, is_published, first, first_published, first_placed}
-use Rattle.portal_core.specs.Good.{Sound, codes_of, IsLecturer, IsStudent}
-use Rattle.portal_core.specs.Instance.{lecturer_keys, student_keys}
-use Rattle.portal_core.proofs.Keys.{all_unmap}
+use Rattle.portal_list.proofs.Base.{◌≡◌, true, false, List, [], ◌∷◌, ◌++◌, map, refl, sym, ◌∙◌, ap, subst, arith, Option, Some, None, is_none, option_map, not, ◌&&◌, filter, AllByRecursion, length-map, Key, has, is_empty, Rise, AreDistinct, World, Lecturer, Student, project_key, student_key, projects_of, applicants_of, is_still_to_rank, is_published, first_published, first_placed, Sound, IsLecturer, IsStudent, lecturer_keys, student_keys, all_unmap, IsFitted, lecturers_fitting, students_fitting, applicant_keys, HasRanking, RollsOf, ListsOf}
+use Rattle.portal_core.specs.World.{first}
+use Rattle.portal_core.specs.Good.{codes_of}
 use Rattle.portal_core.proofs.AllLaws as laws
-use Rattle.portal_list.specs.Rows.{RowsOfWorld, world_rows, IsFitted}
-use Rattle.portal_list.specs.inner.Fit.{lecturers_fitting, students_fitting}
-use Rattle.portal_list.specs.inner.Parts.{codes_in, lecturer_row_keys, student_row_keys, applicant_keys, HasRanking, RollsFit, RollsOf, ListsOf}
+use Rattle.portal_list.specs.Rows.{RowsOfWorld, world_rows}
+use Rattle.portal_list.specs.inner.Parts.{codes_in, lecturer_row_keys, student_row_keys, RollsFit}
 use Rattle.portal_list.proofs.Rising.{map_map}
 use Rattle.portal_list.proofs.Fitting.{lecturers_back, lecturers_rows, students_back, students_rows}
 

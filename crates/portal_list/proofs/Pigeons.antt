@@ -1,12 +1,6 @@
 -- Lists without repeats that hold the same keys are as long as each other.
-use Rattle.std.proofs.Common.{◌≡◌, suc, ◌+◌, ◌≤◌, Bool, true, false, cond, List, [], ◌∷◌, length, refl, sym, ◌∙◌, subst, arith}
-use Rattle.std.specs.Prelude.{◌||◌}
-use Rattle.std.specs.List.{AllByRecursion}
-use Rattle.std.proofs.Math.Bool.{or-true}
-use Rattle.portal_core.specs.Words.{Key, equals, has, Rise, AreDistinct}
-use Rattle.portal_core.specs.Good.{IsRanking}
-use Rattle.portal_core.proofs.Keys.{is_same, is_own}
-use Rattle.portal_core.proofs.AllLaws.{all_both, all_weaker, none_of}
+use Rattle.portal_list.proofs.Base.{◌≡◌, suc, ◌+◌, ◌≤◌, Bool, true, false, cond, List, [], ◌∷◌, length, refl, sym, ◌∙◌, subst, arith, ◌||◌, AllByRecursion, or-true, Key, equals, has, Rise, AreDistinct, IsRanking, is_same, is_own, all_weaker}
+use Rattle.portal_core.proofs.AllLaws.{all_both, none_of}
 use Rattle.portal_core.proofs.Fills.{rise_distinct}
 
 -- the keys without the first that is k

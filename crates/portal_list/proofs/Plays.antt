@@ -1,18 +1,9 @@
 -- Who takes part in the second round, from the rows and the pairs of the first round's result.
-use Rattle.std.proofs.Common.{◌≡◌, Bool, true, false, cond, List, [], ◌∷◌, map, refl, sym, ◌∙◌, ap, subst}
-use Rattle.std.specs.Prelude.{filter, nat_lt, ◌&&◌, Option, Some, None, option_map}
-use Rattle.std.specs.List.{filter_map}
-use Rattle.portal_core.specs.declared.phase.Round.{Round}
-use Rattle.portal_core.specs.declared.phase.Round.TheVariants.{First, Second}
-use Rattle.portal_core.specs.declared.rows.LecturerRow.{LecturerRow}
-use Rattle.portal_core.specs.declared.rows.ProjectRow.{ProjectRow}
-use Rattle.portal_core.specs.Words.{Key, equals, has, Rise}
-use Rattle.portal_core.specs.World.{Lecturer, Student, lecturer_key, project_key, pairs_with, lowered_lecturer, lowered_project, lecturers_left, projects_left, students_in, alone_lecturer}
-use Rattle.portal_core.proofs.AllLaws.{map_same, any_map}
-use Rattle.portal_core.proofs.Fills.{rise_kept}
+use Rattle.portal_list.proofs.Base.{◌≡◌, Bool, true, false, cond, List, [], ◌∷◌, map, refl, sym, ◌∙◌, ap, subst, filter, nat_lt, ◌&&◌, Option, Some, None, option_map, filter_map, Round, First, Second, LecturerRow, ProjectRow, Key, equals, has, Rise, Lecturer, Student, lecturer_key, project_key, pairs_with, lowered_lecturer, lecturers_left, projects_left, alone_lecturer, map_same, rise_kept, lecturer_played, project_played, takes_part}
+use Rattle.portal_core.specs.World.{lowered_project, students_in}
+use Rattle.portal_core.proofs.AllLaws.{any_map}
 use Rattle.portal_core.proofs.InPlay.{filter_kept}
 use Rattle.portal_core.proofs.Rooms.{project_left_is, lecturer_left_is, each_left}
-use Rattle.portal_list.specs.inner.Played.{lecturer_played, project_played, takes_part}
 use Rattle.portal_list.proofs.Rising.{map_map}
 
 mapped_case : {X Y : Type 0} (f : X → Y) (x : X) (b : Bool) → option_map f (cond b (Some x) None) ≡ cond b (Some (f x)) None

@@ -1,13 +1,6 @@
 -- One row is replaced where the keys rise.
-use Rattle.std.proofs.Common.{◌≡◌, ℕ, suc, zero, ◌<◌, true, false, cond, List, [], ◌∷◌, length, get_or, refl, sym, ◌∙◌, ap, subst, arith}
-use Rattle.std.specs.Prelude.{map, slice_set, ◌||◌, Some}
-use Rattle.std.specs.List.{list_any, AllByRecursion}
+use Rattle.portal_list.proofs.Base.{◌≡◌, ℕ, suc, zero, ◌<◌, true, false, cond, List, [], ◌∷◌, length, get_or, refl, sym, ◌∙◌, ap, subst, arith, map, slice_set, ◌||◌, Some, list_any, AllByRecursion, Key, equals, is_before, Rise, Student, Lecturer, with_choice, with_ranking, is_same, not_before_itself, all_unmap, all_at}
 use Rattle.std.proofs.lemmas.Bool.{or_parts, false_from_ne_true}
-use Rattle.portal_core.specs.Words.{Key, equals, is_before, Rise}
-use Rattle.portal_core.specs.World.{Student, Lecturer}
-use Rattle.portal_core.specs.Change.{with_choice, with_ranking}
-use Rattle.portal_core.proofs.Keys.{is_same, not_before_itself, all_unmap}
-use Rattle.portal_core.proofs.AllLaws.{all_at}
 -- a row without the key stays
 pub use Rattle.portal_core.proofs.Unseen.{choice_other as choice_elsewhere, ranking_other as ranking_elsewhere}
 

@@ -1,11 +1,7 @@
 -- Keys that rise: as a recursion and as pairs say it.
-use Rattle.std.proofs.Common.{◌≡◌, zero, suc, true, List, [], ◌∷◌, get_or, arith}
-use Rattle.std.specs.Ordering.{nat_cmp}
-use Rattle.std.specs.Cmp.Lexicographic.{slice_cmp}
+use Rattle.portal_list.proofs.Base.{◌≡◌, zero, suc, true, List, [], ◌∷◌, get_or, arith, nat_cmp, slice_cmp, Key, is_before, Rise, all_at}
 pub use Rattle.std.proofs.lemmas.Simd.{map-map as map_map}
 use Rattle.spa_model.specs.Spa as spa
-use Rattle.portal_core.specs.Words.{Key, is_before, Rise}
-use Rattle.portal_core.proofs.AllLaws.{all_at}
 use Rattle.portal_core.proofs.Puts.{less_of}
 
 pub pairs_rise : (keys : List Key) → Rise keys → spa.Rise keys

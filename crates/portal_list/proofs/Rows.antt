@@ -1,6 +1,5 @@
 -- New rows put where their keys belong.
-use Rattle.std.proofs.Common.{◌≡◌, List, [], ◌∷◌, ◌++◌, refl}
-use Rattle.portal_core.specs.Words.{Key, put, put_all}
+use Rattle.portal_list.proofs.Base.{◌≡◌, List, [], ◌∷◌, ◌++◌, refl, Key, put, put_all}
 
 -- one row more
 pub put_all-append : {X : Type 0} (key : X → Key) (xs : List X) (x : X) (ys : List X) → put_all key (xs ++ x ∷ []) ys ≡ put key x (put_all key xs ys)

@@ -1,17 +1,10 @@
 -- The second round as a world of one round.
-use Rattle.std.proofs.Common.{◌≡◌, false, map, sym, ◌∙◌, ap}
-use Rattle.std.specs.Prelude.{nat_lt}
-use Rattle.std.specs.List.{AllByRecursion}
-use Rattle.portal_core.specs.declared.phase.Round.TheVariants.{Second}
-use Rattle.portal_core.specs.World.{World, alone, alone_lecturer, lowered_lecturer, lecturers_left, is_still_to_rank}
-use Rattle.portal_core.specs.Instance.{instance, instance_of}
-use Rattle.portal_core.specs.Good.{Sound}
-use Rattle.portal_core.proofs.AllLaws.{all_map, all_weaker}
+use Rattle.portal_list.proofs.Base.{◌≡◌, false, map, sym, ◌∙◌, ap, nat_lt, AllByRecursion, Second, World, alone_lecturer, lowered_lecturer, lecturers_left, is_still_to_rank, instance, instance_of, Sound, all_weaker, AllEntries, HasEntries, all_played}
+use Rattle.portal_core.specs.World.{alone}
+use Rattle.portal_core.proofs.AllLaws.{all_map}
 use Rattle.portal_core.proofs.InRound.{all_filter}
 use Rattle.portal_core.proofs.Capacities.{left_of, second_plays}
 use Rattle.portal_core.proofs.Alone.{alone_sound, still_alone, rows_alone}
-use Rattle.portal_list.specs.Entries.{AllEntries, HasEntries}
-use Rattle.portal_list.specs.inner.Played.{all_played}
 
 module _ (a : AllEntries) (second : a.round ≡ Second) (e : AllEntries) (are : e ≡ all_played a) (w : World) (has : HasEntries a w) (sound : Sound w) where
   is_second : w.round ≡ Second

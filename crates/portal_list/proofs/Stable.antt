@@ -1,12 +1,8 @@
 -- The result of a published round is a stable matching, and a world is good, where the numbers of it are.
-use Rattle.std.proofs.Common.{◌≡◌, ◌↔◌, ℕ, true, Bool, IsTrue, Option, List, map, sym, subst₂, ◌∙◌}
-use Rattle.std.specs.Prelude.{filter, option_map}
-use Rattle.spa_model.specs.Spa.{Spa, IsStable}
-use Rattle.spa_model.specs.Pairs.{number_in}
-use Rattle.portal_core.specs.World.{World, Student, is_published}
-use Rattle.portal_core.specs.Instance.{instance, matching_of}
+use Rattle.portal_list.proofs.Base.{◌≡◌, ◌↔◌, ℕ, true, Bool, IsTrue, Option, List, map, sym, subst₂, ◌∙◌, filter, option_map, Spa, number_in, World, Student, is_published, instance, takes_part}
+use Rattle.spa_model.specs.Spa.{IsStable}
+use Rattle.portal_core.specs.Instance.{matching_of}
 use Rattle.portal_list.specs.inner.Parts.{IsStableIfPublished}
-use Rattle.portal_list.specs.inner.Played.{takes_part}
 use Rattle.portal_list.proofs.Plays.{part_is}
 
 pub settled_if : (w : World) (i : Spa) (places : List (Option ℕ)) (r : Bool) → is_published w.phase ≡ true → i ≡ instance w

@@ -1,12 +1,10 @@
 -- The only lawful instance that stands for rows whose keys rise.
-use Rattle.std.proofs.Common.{◌≡◌, ℕ, ◌<◌, [], map, length, get_or, sym, ◌∙◌, ap, arith}
-use Rattle.std.proofs.lemmas.List.{ext_get_or, length-map}
-use Rattle.spa_rows.specs.Lines.{Lecturer, Project, Student, Rows}
-use Rattle.spa_rows.proofs.Lists.{at_place, map_at}
-use Rattle.spa_model.specs.Spa.{Spa, Rise, IsLawful, choices_of, lecturer_of, capacity_of, ranking_of, limit_of}
-use Rattle.spa_model.specs.Built.{HasKey, keys_at, StandsFor, StandsStudent, StandsProject, StandsLecturer}
+use Rattle.portal_list.proofs.Base.{◌≡◌, ℕ, ◌<◌, [], map, length, get_or, sym, ◌∙◌, ap, arith, length-map, Rows, at_place, map_at, Spa, IsLawful, StandsFor, number_in}
+use Rattle.std.proofs.lemmas.List.{ext_get_or}
+use Rattle.spa_rows.specs.Lines.{Lecturer, Project, Student}
+use Rattle.spa_model.specs.Spa.{Rise, choices_of, lecturer_of, capacity_of, ranking_of, limit_of}
+use Rattle.spa_model.specs.Built.{HasKey, keys_at, StandsStudent, StandsProject, StandsLecturer}
 use Rattle.spa_model.specs.inner.Numbers.{student_keys, project_keys, lecturer_keys}
-use Rattle.spa_model.specs.Pairs.{number_in}
 use Rattle.spa_model.proofs.Keys.{one_number}
 use Rattle.spa_model.proofs.Rising
 use Rattle.spa_model.proofs.OneInstance.{own_number, numbers_back, choices_below, ranking_below}

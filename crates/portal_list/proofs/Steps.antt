@@ -1,9 +1,6 @@
 -- Steps of loops over lists.
-use Rattle.std.proofs.Common.{◌≡◌, ℕ, ◌+◌, ◌<◌, Bool, true, false, cond, List, [], ◌∷◌, ◌++◌, map, take, length, get_or, append-nil, refl, sym, ◌∙◌, ap, subst}
-use Rattle.std.specs.Prelude.{filter, Option, Some, None}
-use Rattle.std.specs.List.{AllByRecursion, filter_map, cons_option}
+use Rattle.portal_list.proofs.Base.{◌≡◌, ℕ, ◌+◌, ◌<◌, Bool, true, false, cond, List, [], ◌∷◌, ◌++◌, map, take, length, get_or, append-nil, refl, sym, ◌∙◌, ap, subst, filter, Option, Some, None, AllByRecursion, filter_map, cons_option, filter_map-append}
 use Rattle.std.proofs.lemmas.List.{take_more}
-use Rattle.std.proofs.lemmas.List.Elements.{filter_map-append}
 use Rattle.portal_core.proofs.AllLaws.{all_append}
 
 -- one more element

@@ -1,13 +1,8 @@
 -- A lecturer is still to rank.
-use Rattle.std.proofs.Common.{◌≡◌, Bool, true, false, cond, List, [], ◌∷◌, refl, sym, ◌∙◌, ap}
-use Rattle.std.specs.Prelude.{map, filter, is_none, not, ◌&&◌, ◌||◌}
-use Rattle.std.specs.List.{list_any}
+use Rattle.portal_list.proofs.Base.{◌≡◌, Bool, true, false, cond, List, [], ◌∷◌, refl, sym, ◌∙◌, ap, map, filter, is_none, not, ◌&&◌, ◌||◌, list_any, Key, equals, has, is_empty, World, Student, Lecturer, is_still_to_rank, ProjectRow, is_waiting}
 use Rattle.std.proofs.Math.Bool.{and_comm}
-use Rattle.portal_core.specs.Words.{Key, equals, has, is_empty}
-use Rattle.portal_core.specs.World.{World, Student, Lecturer, is_still_to_rank}
-use Rattle.portal_core.specs.declared.rows.ProjectRow.{ProjectRow}
 use Rattle.portal_core.proofs.AllLaws.{any_or, any_nowhere}
-use Rattle.portal_list.specs.inner.Shown.{is_wanted, is_waiting}
+use Rattle.portal_list.specs.inner.Shown.{is_wanted}
 
 -- some element passes
 any_left : {X : Type 0} (p : X → Bool) (xs : List X) → not (is_empty (filter p xs)) ≡ list_any p xs

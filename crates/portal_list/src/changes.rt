@@ -6,17 +6,17 @@ ghost use Rattle.portal_core.specs.World.{student_key, lecturer_key};
 ghost use Rattle.portal_core.specs.Change.{with_choice, with_ranking};
 
 mod fill;
+mod new_rows;
 mod opening;
 mod placements;
-mod rolls;
 
 use crate::by_key::index_of;
 use crate::entries::{LecturerEntry, StudentEntry};
 pub(crate) use fill::{applicants_by_key, fill_rankings};
+pub(crate) use new_rows::{add_rows, new_lecturers, new_students};
 pub(crate) use opening::{lay_by_lists, lay_by_rankings};
 pub(crate) use placements::place_all;
 use portal_core::copy_keys;
-pub(crate) use rolls::{add_rows, new_lecturers, new_students};
 use spa_rows::Key;
 use std::alloc::{AllocError, Global};
 

@@ -12,7 +12,7 @@ use crate::entries::Entries;
 use crate::fit::{lecturer_entries, student_entries};
 use crate::keeper::ListKeeper;
 use crate::lists::lists_fit;
-use crate::rolls::rolls_fit;
+use crate::sound_rolls::rolls_fit;
 use portal_core::{Code, LecturerRow, Phase, ProjectRow, Round, StudentRow};
 use spa_rows::Key;
 use std::alloc::{AllocError, Global};

@@ -125,7 +125,7 @@ fn instance_among(alloc: Global, entries: &Entries) -> Result<Instance, RowsFaul
     let rows = rows_of(alloc, entries)?;
     match Instance::build(alloc, rows) {
         Ok(instance) => {
-            let _lawful = instance.students();
+            instance.lawful();
             Ok(instance)
         }
         Err(bad) => match bad.fault {

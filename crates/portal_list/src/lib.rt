@@ -16,7 +16,7 @@ mod keeper;
 mod keyed;
 mod lists;
 mod played;
-mod rolls;
+mod sound_rolls;
 mod views;
 
 pub use entries::Entries;

@@ -1,11 +1,6 @@
 -- A key is short.
-use Rattle.std.proofs.Common.{◌≡◌, ℕ, Bool, true, false, List, [], ◌∷◌, length, refl, ap, ◌∙◌, arith, rules, IsTrue}
-use Rattle.std.specs.Prelude.{◌&&◌, nat_lt, nat_le}
-use Rattle.std.specs.List.{list_all}
-use Rattle.std.proofs.lemmas.Bool.{and_parts}
-use Rattle.std.proofs.lemmas.Grind.{common_steps}
+use Rattle.portal_reports.proofs.Base.{◌≡◌, ℕ, Bool, true, false, List, [], ◌∷◌, length, refl, ap, ◌∙◌, arith, rules, IsTrue, ◌&&◌, nat_lt, nat_le, list_all, and_parts, common_steps, is_short}
 use Rattle.spa_rows.specs.Form.{is_key, is_key_byte}
-use Rattle.portal_reports.specs.Status.{is_short}
 
 low : (b : ℕ) → is_key_byte b ≡ true → nat_lt b 128 ≡ true
 low b e = grind (arith, common_steps, e)

@@ -1,2 +1,3 @@
+pub mod Base
 pub mod Keys
 pub mod Padding

@@ -1,13 +1,11 @@
 -- What std writes for a place of a width is the padding of the definition.
-use Rattle.std.proofs.Common.{◌≡◌, ℕ, zero, suc, ◌+◌, ◌-◌, ◌<◌, ◌≤◌, Bool, true, false, List, [], ◌∷◌, ◌++◌, length, replicate, refl, ap, ◌∙◌, arith, rules, append-nil, IsTrue, decimal}
-use Rattle.std.specs.Prelude.{if◌then◌else◌, ◌||◌, ◌&&◌, ◌==◌, nat_lt, nat_le}
-use Rattle.std.specs.List.{repeat, list_all}
+use Rattle.portal_reports.proofs.Base.{◌≡◌, ℕ, ◌<◌, Bool, true, false, List, [], ◌∷◌, ◌++◌, length, refl, ap, ◌∙◌, arith, rules, IsTrue, decimal, ◌&&◌, nat_lt, nat_le, list_all, styled_text, styled_decimal, and_parts, common_steps, padded_left, padded_right, is_short}
+use Rattle.std.proofs.Common.{zero, suc, ◌+◌, ◌-◌, ◌≤◌, replicate, append-nil}
+use Rattle.std.specs.Prelude.{if◌then◌else◌, ◌||◌, ◌==◌}
+use Rattle.std.specs.List.{repeat}
 use Rattle.std.specs.Char.{encode_utf8}
-use Rattle.std.specs.Fmt.{padded, padded_integral, format_spec, take_chars, char_count, is_char_start, styled_text, styled_decimal}
-use Rattle.std.proofs.lemmas.Bool.{and_parts, leb-true}
-use Rattle.std.proofs.lemmas.Grind.{common_steps}
-use Rattle.portal_core.specs.Sheets.{padded_left, padded_right}
-use Rattle.portal_reports.specs.Status.{is_short}
+use Rattle.std.specs.Fmt.{padded, padded_integral, format_spec, take_chars, char_count, is_char_start}
+use Rattle.std.proofs.lemmas.Bool.{leb-true}
 
 blank : encode_utf8 32 ≡ 32 ∷ []
 unfolding encode_utf8

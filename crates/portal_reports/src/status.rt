@@ -35,7 +35,8 @@ fn put_round(text: &mut Vec<u8>, alloc: Global, round: Round) -> Result<(), Allo
 fn put_rolls(text: &mut Vec<u8>, alloc: Global, view: &OfficeView) -> Result<(), AllocError>
     ensures { OnOk result (text.new.items ≡ text.old.items
         ++ spec.number_line (codes "lecturers") (length view.now.lecturers)
-        ++ spec.number_line (codes "projects") (length view.now.projects) ++ spec.number_line (codes "students") (length view.now.students)) }
+        ++ spec.number_line (codes "projects") (length view.now.projects)
+        ++ spec.number_line (codes "students") (length view.now.students)) }
 {
     put_number(text, alloc, "lecturers", view.lecturers.len())?;
     put_number(text, alloc, "projects", view.projects.len())?;

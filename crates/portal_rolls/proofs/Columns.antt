@@ -1,11 +1,6 @@
 -- A row of four columns whose fourth is bad.
-use Rattle.std.proofs.Common.{◌≡◌, ℕ, Bool, true, false, not, [], ◌∷◌, Result, Ok, Err}
-use Rattle.std.specs.List.{position_from}
-use Rattle.spa_rows.specs.Lines.{Text}
-use Rattle.portal_rolls.specs.Fields.{by_columns, digits_value, formed, is_capacity, limited, unless_bad}
-use Rattle.portal_rolls.specs.Gives.{Fails}
-use Rattle.portal_rolls.specs.Reading.{unless}
-use Rattle.portal_rolls.specs.declared.fault.RollFault.{RollFault}
+use Rattle.portal_rolls.proofs.Base.{◌≡◌, ℕ, Bool, true, false, not, [], ◌∷◌, Result, Ok, Err, position_from, Text, digits_value, is_capacity, unless_bad, Fails, unless, RollFault}
+use Rattle.portal_rolls.specs.Fields.{by_columns, formed, limited}
 use Rattle.portal_rolls.specs.declared.fault.RollFault.TheVariants as fault
 
 -- what is an error fails so

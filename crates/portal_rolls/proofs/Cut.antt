@@ -1,24 +1,18 @@
 -- Cutting a list field byte by byte, and adding a line at the end of its kind.
-use Rattle.std.proofs.Common.{Bor, add-one, ◌≡◌, ◌≢◌, ◌∙◌, ◌+◌, ◌*◌, ◌^◌, ◌<◌, ◌≤◌, ℕ, zero, suc, Bool, true, false, cond, eqb, List, [], ◌∷◌, ◌++◌, length, drop, get_or, Some, None, Result, Ok, Err, refl, sym, ap, arith, append_assoc, inl, inr}
+use Rattle.portal_rolls.proofs.Base.{Bor, add-one, ◌≡◌, ◌≢◌, ◌∙◌, ◌+◌, ◌*◌, ◌^◌, ◌<◌, ◌≤◌, ℕ, zero, suc, Bool, true, false, cond, List, [], ◌∷◌, ◌++◌, length, drop, get_or, Some, None, Result, Ok, Err, refl, sym, ap, arith, append_assoc, inl, inr, is_utf8, list_all, nat_tests, eqb-true, le-leb, append-nil, drop_all, field_at, Text, digits_value, Record}
+use Rattle.std.proofs.Common.{eqb}
 use Rattle.std.specs.Prelude.{MatchResult, IsUtf8}
 use Rattle.std.specs.Result.{is_ok}
-use Rattle.std.specs.Str.{is_utf8}
 use Rattle.std.proofs.Math.Seq.{drop-cons}
 use Rattle.std.specs.Char.{is_ascii_digit}
-use Rattle.std.specs.List.{list_all}
-use Rattle.std.proofs.lemmas.Bool.Decides.{nat_tests}
 use Rattle.std.proofs.Math.Nat.{pow-suc}
-use Rattle.std.proofs.lemmas.Bool.{cases_Bool, eqb-true, le-leb}
+use Rattle.std.proofs.lemmas.Bool.{cases_Bool}
 use Rattle.std.proofs.lemmas.Str.{IsUtf8-from_is_utf8, is_utf8-from_IsUtf8}
-use Rattle.std.proofs.lemmas.List.{append-nil, drop_all}
 use Rattle.std.proofs.lemmas.List.Elements.{filter_map-append}
-use Rattle.csv.specs.Records.{field_at}
-use Rattle.spa_rows.specs.Lines.{Text}
 use Rattle.portal_rolls.specs.declared.line.Line.{Line}
 use Rattle.portal_rolls.specs.declared.line.Line.TheVariants as variant
 use Rattle.portal_rolls.specs.Lines.{File, file_of}
-use Rattle.portal_rolls.specs.Fields.{cut_at_blanks, with_front, list_of, capacity_in, digits_value}
-use Rattle.portal_rolls.specs.Records.{Record}
+use Rattle.portal_rolls.specs.Fields.{cut_at_blanks, with_front, list_of, capacity_in}
 
 -- these bytes before the first piece
 abbrev pub before : Text → List Text → List Text

@@ -1,22 +1,13 @@
 -- What is read of a roll has its form.
-use Rattle.std.proofs.Common.{◌≡◌, ◌==◌, ◌+◌, ◌≤◌, ◌&&◌, ℕ, Bool, true, false, not, List, [], ◌∷◌, length, map, Result, Ok, Err, IfOk, refl, arith, nat_le}
-use Rattle.std.specs.List.{AllByRecursion, cons_option, enumerate_from, filter_map, list_all, position_from}
-use Rattle.std.specs.Result.{result_err, result_ok}
-use Rattle.std.specs.Str.{is_utf8}
-use Rattle.std.proofs.lemmas.Bool.Decides.{nat_tests}
-use Rattle.portal_core.specs.Form.{is_code, is_name}
+use Rattle.portal_rolls.proofs.Base.{◌≡◌, ◌==◌, ◌+◌, ◌≤◌, ◌&&◌, ℕ, Bool, true, false, not, List, [], ◌∷◌, length, map, Result, Ok, Err, IfOk, refl, arith, cons_option, enumerate_from, filter_map, list_all, position_from, result_err, result_ok, is_utf8, nat_tests, is_code, is_name, ProjectRow, StudentRow, is_key, Text, digits_value, is_capacity, unless_bad, Format, first_or, line_of, lines_of, reading, same_record, unless, Record, RollFault}
+use Rattle.std.proofs.Common.{nat_le}
+use Rattle.std.specs.List.{AllByRecursion}
 use Rattle.portal_core.specs.Good.{IsLecturer, IsProject, IsStudent}
 use Rattle.portal_core.specs.declared.rows.LecturerRow.{LecturerRow}
-use Rattle.portal_core.specs.declared.rows.ProjectRow.{ProjectRow}
-use Rattle.portal_core.specs.declared.rows.StudentRow.{StudentRow}
-use Rattle.spa_rows.specs.Form.{is_key}
-use Rattle.spa_rows.specs.Lines.{Text}
-use Rattle.portal_rolls.specs.Fields.{digits_value, is_capacity, is_number, unless_bad}
+use Rattle.portal_rolls.specs.Fields.{is_number}
 use Rattle.portal_rolls.specs.Gives.{Gives}
-use Rattle.portal_rolls.specs.Reading.{Format, all_or_first, first_or, line_of, lines_of, reading, readings, same_record, unless}
-use Rattle.portal_rolls.specs.Records.{Record}
+use Rattle.portal_rolls.specs.Reading.{all_or_first, readings}
 use Rattle.portal_rolls.specs.Rolls.{lecturer, project, student}
-use Rattle.portal_rolls.specs.declared.fault.RollFault.{RollFault}
 use Rattle.portal_rolls.specs.declared.fault.RollFault.TheVariants as fault
 
 passed : {A : Type 0} (b : Bool) (e : RollFault) (r : Result A RollFault) (x : A) → unless b e r ≡ Ok x → r ≡ Ok x

@@ -1,11 +1,6 @@
 -- A record beside the names of the columns, and the test that all fields are text.
-use Rattle.std.proofs.Common.{Bor, ◌≡◌, ◌+◌, ◌<◌, ◌≤◌, ℕ, zero, suc, Bool, true, false, not, ◌&&◌, List, [], ◌∷◌, length, map, drop, get_or, Some, refl, ap, add-one, arith}
-use Rattle.std.proofs.lemmas.List.{drop_all}
-use Rattle.std.specs.List.{list_all}
-use Rattle.std.specs.Str.{bytes_eq, is_utf8}
-use Rattle.csv.specs.Records.{field_at}
-use Rattle.portal_rolls.specs.Records.{Record}
-use Rattle.portal_rolls.specs.Reading.{same_record}
+use Rattle.portal_rolls.proofs.Base.{Bor, ◌≡◌, ◌+◌, ◌<◌, ◌≤◌, ℕ, zero, suc, Bool, true, false, not, ◌&&◌, List, [], ◌∷◌, length, map, drop, get_or, Some, refl, ap, add-one, arith, drop_all, list_all, is_utf8, field_at, Record, same_record}
+use Rattle.std.specs.Str.{bytes_eq}
 
 -- another count of fields
 pub other_count : (a b : Record) → (length a ≡ length b → ⊥) → false ≡ same_record a b

@@ -1,13 +1,12 @@
 -- The text of a record by the default writer is the text of the definition.
-use Rattle.std.proofs.Common.{arith, ◌≤◌, length, ◌≡◌, ℕ, Bool, true, false, List, [], ◌∷◌, ◌++◌, refl, sym, ap, ◌∙◌, subst, Some, None}
-use Rattle.std.specs.Prelude.{◌≢◌, ◌==◌, ◌||◌, if◌then◌else◌, Option, codes}
-use Rattle.std.specs.List.{list_any, flat_map}
+use Rattle.portal_rolls.proofs.Base.{arith, ◌≤◌, length, ◌≡◌, ℕ, Bool, true, false, List, [], ◌∷◌, ◌++◌, refl, sym, ap, ◌∙◌, subst, Some, None, ◌≢◌, ◌==◌, Option, flat_map, eqb-true, default_writer, row_text, csv_record}
+use Rattle.std.specs.Prelude.{◌||◌, if◌then◌else◌, codes}
+use Rattle.std.specs.List.{list_any}
 use Rattle.std.specs.Io.KnownBytes.{Appends}
-use Rattle.std.proofs.lemmas.Bool.{eqb-true}
-use Rattle.csv.specs.Writing.{default_writer, needs_byte, escaped, field_text, fields_text, row_text, is_blank}
+use Rattle.csv.specs.Writing.{needs_byte, escaped, field_text, fields_text, is_blank}
 use Rattle.csv.specs.declared.writer.WriterBuilder.{WriterBuilder}
 use Rattle.csv.specs.declared.writer.QuoteStyle.TheVariants as style
-use Rattle.portal_core.specs.Sheets.{needs_quotes, doubled, csv_field, csv_record}
+use Rattle.portal_core.specs.Sheets.{needs_quotes, doubled, csv_field}
 
 regrouped : (p q r s : Bool) → ((((p || q) || (r || s)) || false) || false) ≡ (((p || q) || r) || s)
 regrouped true q r s = refl

@@ -1,12 +1,12 @@
 -- The records that are left, and what one read does to them.
-use Rattle.std.proofs.Common.{Bor, ◌≡◌, ◌∙◌, ◌+◌, ◌<◌, ◌⊎◌, ℕ, zero, suc, Bool, true, false, cond, List, [], ◌∷◌, ◌++◌, length, Option, Some, None, refl, sym, ap, ap₂, inl, inr, arith, add-one}
+use Rattle.portal_rolls.proofs.Base.{Bor, ◌≡◌, ◌∙◌, ◌+◌, ◌<◌, ℕ, zero, suc, Bool, true, false, cond, List, [], ◌∷◌, ◌++◌, length, Option, Some, None, refl, sym, ap, inl, inr, arith, add-one, Reader, Record, Has, TakesRecord}
+use Rattle.std.proofs.Common.{◌⊎◌, ap₂}
 use Rattle.csv.specs.Machine.{Read, ends_at_end, fields_after, field_after, is_end, next_record, step}
 use Rattle.csv.specs.Reading.{NextIs, ReadRecord, ReadsNext, default_config, pending_of, reader_state, records_from, records_next, source_of}
 use Rattle.csv.specs.declared.parser.State.{State}
 use Rattle.csv.specs.declared.parser.State.TheVariants as st
 use Rattle.csv.specs.declared.parser.Config.{Config}
-use Rattle.csv.specs.declared.reader.Reader.{Reader}
-use Rattle.portal_rolls.specs.Records.{Record, Has, TakesRecord, rest_of}
+use Rattle.portal_rolls.specs.Records.{rest_of}
 
 -- a record takes a byte at least, or ends the text
 abbrev Shrinks : List ℕ → Read → Type 0

@@ -1,14 +1,6 @@
 -- How far the lines of a file were read.
-use Rattle.std.proofs.Common.{Bor, ◌≡◌, ◌∙◌, ◌+◌, ◌<◌, ◌≤◌, ℕ, true, false, List, [], ◌∷◌, ◌++◌, map, Result, Ok, Err, refl, sym, ap, subst, append_assoc}
-use Rattle.std.specs.List.{cons_option, enumerate_from, filter_map}
-use Rattle.std.specs.Result.{result_err, result_ok}
-use Rattle.std.proofs.lemmas.Bool.{le-leb, lt-leb}
-use Rattle.std.proofs.lemmas.List.{append-nil}
-use Rattle.csv.specs.declared.reader.Reader.{Reader}
-use Rattle.portal_rolls.specs.Gives.{Fails}
-use Rattle.portal_rolls.specs.Reading.{Format, first_or, line_of, lines_of, reading, same_record}
-use Rattle.portal_rolls.specs.Records.{Record, Has, TakesRecord}
-use Rattle.portal_rolls.specs.declared.fault.RollFault.{RollFault}
+use Rattle.portal_rolls.proofs.Base.{Bor, ◌≡◌, ◌∙◌, ◌+◌, ◌<◌, ◌≤◌, ℕ, true, false, List, [], ◌∷◌, ◌++◌, map, Result, Ok, Err, refl, sym, ap, subst, append_assoc, cons_option, enumerate_from, filter_map, result_err, result_ok, le-leb, append-nil, Reader, Fails, Format, first_or, line_of, lines_of, reading, same_record, Record, Has, TakesRecord, RollFault}
+use Rattle.std.proofs.lemmas.Bool.{lt-leb}
 use Rattle.portal_rolls.specs.declared.fault.RollFault.TheVariants as fault
 
 module _ {X : Type 0} (format : Format X) where

@@ -23,7 +23,8 @@ abbrev pub unless_bad : {X : Type 0} → ℕ → Option ℕ → X → Result X R
 unless_bad row None line = Ok line
 unless_bad row (Some column) line = Err (fault.BadField row column)
 
--- the line of a row where each column has its form, or the fault of the leftmost that has not; the first column is 1
+-- the line of a row where each column has its form, or the fault of the leftmost that has not; the
+-- first column is 1
 abbrev pub by_columns : {X : Type 0} → ℕ → List Bool → X → Result X RollFault
 by_columns row forms line = unless_bad row (position_from not 1 forms) line
 

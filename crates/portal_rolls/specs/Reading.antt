@@ -11,8 +11,8 @@ use Rattle.portal_rolls.specs.declared.fault.RollFault.TheVariants as fault
 abbrev pub unless : {A : Type 0} → Bool → RollFault → Result A RollFault → Result A RollFault
 unless good e read = if good then read else Err e
 
--- a kind of file: the names of its columns, the most records under them, and what a record of as many fields says, each
--- of them text
+-- a kind of file: the names of its columns, the most records under them, and what a record of as
+-- many fields says, each of them text
 pub record Format (X : Type 0) : Type 0 where
   pub header : Record
   pub limit : ℕ

@@ -1,4 +1,4 @@
 pub mod Taken
 pub mod Run
-pub mod Lines
+pub mod Upgrading
 pub mod inner

@@ -7,7 +7,8 @@ use Rattle.portal_answer.specs.Told.{Text}
 abbrev pub ConsumesAtMost : ℕ → Option Text → Option Text → Type 0
 ConsumesAtMost most old new = (taken : Text) × (length taken ≤ most) × Consumes old new taken
 
--- n bytes were taken, and stand behind those that were there; none only at the end, or where none was asked for
+-- n bytes were taken, and stand behind those that were there; none only at the end, or where none
+-- was asked for
 pub record TakesMore (most n : ℕ) (old new : Option Text) (before after : Text) : Type 0 where
   pub taken : Text
   pub count : length taken ≡ n

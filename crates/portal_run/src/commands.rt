@@ -5,9 +5,9 @@ ghost use Rattle.std.specs.Prelude.{IfSome, IfOk, IsErr, IsTrue};
 ghost use Rattle.clap.specs.Words.{Text};
 ghost use Rattle.portal_words.specs.Line.{is_file_word};
 ghost use Rattle.portal_run.specs.Run.{WritesAnswer, AnswersSome, IsOfFile, IsUpgrade, task_of};
-ghost use Rattle.portal_run.specs.Lines.{SaysUpgrade};
 ghost use Rattle.portal_desk.specs.Devices.{TakesAtMost as TakesFew};
 ghost use Rattle.portal_run.specs.Taken.{ConsumesAtMost};
+ghost use Rattle.portal_run.specs.Upgrading.{SaysUpgrade};
 
 use crate::init::{init, upgrade_database};
 use crate::input::{InputFault, bytes_of};
@@ -15,6 +15,8 @@ use crate::output::{say, say_memory, say_read};
 use crate::serve::{pipe_database, report_database, serve_database};
 use portal_answer::{Task, answer_to};
 use portal_words::{Asked, Command, command_of};
+use sqlite::{File, FileStore};
+use sqlite_trees::store::Store as Tables;
 use std::alloc::Global;
 use std::convert::AsStr;
 use std::io::{Read, Write};
@@ -88,8 +90,8 @@ fn answer_file<R: Read, W: Write>(
 
 /// Does a command, and gives the exit status. What `check` and `solve` write of a file that is
 /// named is the answer, by that command's own task, to what the opened file gave; 3 where it could
-/// not be read or written. `upgrade` says in one line, with its own status, that it is done or why
-/// it is not.
+/// not be read or written. `upgrade` writes the line of the answer that the store gave for the
+/// file's connection, and gives that answer's status; or those of a file that is not there.
 #[tactic(auto, using(crate::proofs::Taken::few_taken, crate::proofs::Taken::same_left))]
 pub fn perform<R: Read, W: Write>(
     rt: &HostRuntime,
@@ -111,7 +113,8 @@ pub fn perform<R: Read, W: Write>(
         → WritesAnswer Task.Solve (R.remaining reader.old) result (W.contents writer.old)
         (W.contents writer.new) }
     ensures upgrade { IsUpgrade command.entry → result < 3
-        → SaysUpgrade result (W.contents writer.old) (W.contents writer.new) }
+        → SaysUpgrade ⟦<FileStore<File> as Tables>⟧ result (W.contents writer.old)
+        (W.contents writer.new) }
 {
     match command {
         Command::Check(file) => answer_file(rt, Task::Check, file, reader, writer),

@@ -1,6 +1,7 @@
 //! The database that a command works on.
 
-ghost use Rattle.std.specs.Prelude.{◌≡◌, false, IfOk};
+ghost use Rattle.std.specs.Prelude.{◌≡◌, ◌⊎◌, false, IfErr, IfOk};
+ghost use Rattle.portal_run.specs.inner.Lines.{status_of};
 
 use crate::refusal::{Refusal, not_opened};
 use portal_desk::Desk;
@@ -18,7 +19,8 @@ pub(crate) type FileDesk = Desk<InFile>;
 
 /// A connection to a file, which is made where it is not there.
 pub(crate) fn connect(rt: &HostRuntime, path: &str) -> Result<Connection<FileStore<File>>, Refusal>
-    ensures { IfOk result (λ conn. conn.in_transaction ≡ false) }
+    ensures idle { IfOk result (λ conn. conn.in_transaction ≡ false) }
+    ensures fault { IfErr result (λ why. status_of why ≡ 3) }
 {
     match Connection::open(rt, path) {
         Ok(conn) => Ok(conn),
@@ -40,7 +42,8 @@ pub(crate) fn connect_there(
     rt: &HostRuntime,
     path: &str,
 ) -> Result<Connection<FileStore<File>>, Refusal>
-    ensures { IfOk result (λ conn. conn.in_transaction ≡ false) }
+    ensures idle { IfOk result (λ conn. conn.in_transaction ≡ false) }
+    ensures refused { IfErr result (λ why. (why ≡ Refusal.NotPortal) ⊎ (status_of why ≡ 3)) }
 {
     if is_missing(rt, path) {
         return Err(Refusal::NotPortal);

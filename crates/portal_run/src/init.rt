@@ -1,15 +1,18 @@
 //! Makes a database, or brings one of version 1 to version 2.
 
-ghost use Rattle.std.specs.Prelude.{◌<◌, ◌≡◌, ◌≤◌};
-ghost use Rattle.portal_run.specs.Lines.{SaysUpgrade};
+ghost use Rattle.std.specs.Prelude.{◌<◌, ◌≡◌, ◌≤◌, false};
+ghost use Rattle.sqlite.specs.Files.{over_files};
 ghost use Rattle.portal_run.specs.Taken.{ConsumesAtMost};
+ghost use Rattle.portal_run.specs.Upgrading.{SaysAnswer, SaysUpgrade};
 
 use crate::database::{close, connect, connect_there};
 use crate::input::{InputFault, first_bytes};
 use crate::output::{say, say_memory, say_read};
-use crate::refusal::{Refusal, not_made, not_upgraded, say_done};
+use crate::refusal::{Refusal, not_made, refuse, say_done, say_upgrade};
 use portal_core::{Code, CodeFault};
 use portal_store::{NotOpened, Store};
+use sqlite::{Connection, File, FileStore};
+use sqlite_trees::store::Store as Tables;
 use std::alloc::Global;
 use std::io::{Read, Write};
 
@@ -95,28 +98,35 @@ pub(crate) fn init<R: Read, W: Write>(
     }
 }
 
-/// Brings the tables of a file that is there from version 1 to version 2.
-fn upgrade(rt: &HostRuntime, path: &str) -> Result<(), Refusal> {
-    let conn = connect_there(rt, path)?;
-    match Store::upgrade(rt.alloc(), conn) {
+/// Upgrades the tables behind a connection, and says what the store answered.
+fn upgrade_opened<W: Write>(alloc: Global, conn: Connection<FileStore<File>>, writer: &mut W) -> u8
+    requires { conn.in_transaction ≡ false }
+    ensures bound { result ≤ 3 }
+    ensures says { result < 3 → SaysAnswer over_files conn result (W.contents writer.old)
+        (W.contents writer.new) }
+{
+    match Store::upgrade(alloc, conn) {
         Ok(store) => {
             close(store);
-            Ok(())
+            say_upgrade(writer, None)
         }
         Err(
             NotOpened {
                 fault,
                 connection: _,
             },
-        ) => Err(not_upgraded(fault)),
+        ) => say_upgrade(writer, Some(fault)),
     }
 }
 
-/// Brings the database of a file from version 1 to version 2.
+/// Brings the database of a file that is there from version 1 to version 2.
 pub(crate) fn upgrade_database<W: Write>(rt: &HostRuntime, path: &str, writer: &mut W) -> u8
     ensures bound { result ≤ 3 }
-    ensures says { result < 3
-        → SaysUpgrade result (W.contents writer.old) (W.contents writer.new) }
+    ensures says { result < 3 → SaysUpgrade ⟦<FileStore<File> as Tables>⟧ result
+        (W.contents writer.old) (W.contents writer.new) }
 {
-    say_done(writer, upgrade(rt, path), b"upgraded\n")
+    match connect_there(rt, path) {
+        Ok(conn) => upgrade_opened(rt.alloc(), conn, writer),
+        Err(why) => refuse(writer, why),
+    }
 }

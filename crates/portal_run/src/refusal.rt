@@ -1,6 +1,7 @@
 //! Why a command did nothing with a database, and what is said then.
 
-ghost use Rattle.std.specs.Prelude.{◌≡◌, ◌↔◌, IfErr, IfOk};
+ghost use Rattle.std.specs.Prelude.{◌≡◌, ◌↔◌, IfErr, IfOk, Some};
+ghost use Rattle.portal_run.specs.Upgrading.{upgrade_line, upgrade_status};
 ghost use Rattle.portal_run.specs.inner.Lines.{Says, refusal_line, status_of};
 
 use crate::output::{say, say_memory, say_store};
@@ -49,13 +50,15 @@ pub(crate) fn not_made(fault: CreateFault) -> Refusal
 }
 
 /// Why a database was not brought to version 2.
-pub(crate) fn not_upgraded(fault: UpgradeFault) -> Refusal
+fn not_upgraded(fault: UpgradeFault) -> Refusal
     ensures not_portal { (result ≡ Refusal.NotPortal) ↔ (fault ≡ UpgradeFault.NotPortal) }
     ensures version { (result ≡ Refusal.OtherVersion) ↔ (fault ≡ UpgradeFault.OtherVersion) }
     ensures damaged { (result ≡ Refusal.Damaged) ↔ (fault ≡ UpgradeFault.Damaged) }
     ensures store { (result ≡ Refusal.Store) ↔ (fault ≡ UpgradeFault.Store) }
     ensures memory { (result ≡ Refusal.Memory) ↔ (fault ≡ UpgradeFault.Memory) }
     ensures exists { (result ≡ Refusal.Exists) ↔ (fault ≡ UpgradeFault.Exists) }
+    ensures line { refusal_line result ≡ upgrade_line (Some fault) }
+    ensures status { status_of result ≡ upgrade_status (Some fault) }
 {
     match fault {
         UpgradeFault::NotPortal => Refusal::NotPortal,
@@ -79,6 +82,17 @@ pub(crate) fn refuse<W: Write>(writer: &mut W, why: Refusal) -> u8
         Refusal::Exists => say(writer, b"refused exists\n", 2),
         Refusal::Store => say_store(writer),
         Refusal::Memory => say_memory(writer),
+    }
+}
+
+/// Says what the store answered to an upgrade: that it is done, or why the tables were refused.
+pub(crate) fn say_upgrade<W: Write>(writer: &mut W, refused: Option<UpgradeFault>) -> u8
+    ensures { Says (upgrade_line refused) (upgrade_status refused) result (W.contents writer.old)
+        (W.contents writer.new) }
+{
+    match refused {
+        None => say(writer, b"upgraded\n", 0),
+        Some(fault) => refuse(writer, not_upgraded(fault)),
     }
 }
 

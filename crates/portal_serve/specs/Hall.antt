@@ -14,7 +14,8 @@ use Rattle.portal_serve.specs.declared.hall.Ended.TheVariants.{StoreFault}
 abbrev pub Adds : Option (List Outcome) → Option (List Outcome) → List Outcome → Type 0
 Adds old new more = IfSome old (λ outcomes. new ≡ Some (outcomes ++ more))
 
--- whether the desk had failed before and has, by the cause of a fault: a failed read leaves it, a fault of the store has failed it
+-- whether the desk had failed before and has, by the cause of a fault: a failed read leaves it, a
+-- fault of the store has failed it
 abbrev pub SettlesBy : Cause → Bool → Bool → Type 0
 SettlesBy Read old new = new ≡ old
 SettlesBy Store old new = new ≡ true
@@ -34,7 +35,8 @@ pub record Stands (outcome : Outcome) : Type 0 where
   pub working : outcome.failed ≡ false
   pub sound : is_store_fault outcome.ended ≡ false
 
--- after a fault of the store the desk had failed at the last outcome, and at no earlier one; otherwise it had failed at none
+-- after a fault of the store the desk had failed at the last outcome, and at no earlier one;
+-- otherwise it had failed at none
 abbrev pub EndsBy : Ended → List Outcome → Type 0
 EndsBy StoreFault outcomes =
     (before : List Outcome) × (last : Outcome) × (outcomes ≡ before ++ last ∷ []) × All Stands before × (last.failed ≡ true)

@@ -1,4 +1,4 @@
--- What is promised of streams that were served from a world, with no premise but that no reply is 503.
+-- What is promised of streams that were served from a world, on one premise: no reply is 503.
 use Rattle.std.specs.Prelude.{◌≡◌, ℕ, List, [], ◌∷◌, ◌++◌}
 use Rattle.std.specs.List.{AllByRecursion}
 use Rattle.portal_core.specs.World.{World}
@@ -7,7 +7,7 @@ use Rattle.portal_wire.specs.Conversation.{Last, Requests, Exchange, asked_in, t
 use Rattle.portal_desk.specs.Visits.{Visit, AreVisits, AreAnswered}
 use Rattle.portal_desk.specs.Headline.{IsUpheld, AreEqual}
 
--- the requests are those of the stream, and the text is that of the replies and of the stream's ending
+-- the requests are those of the stream, and the text is that of the replies and the stream's ending
 abbrev pub IsTold : List ℕ → List Exchange → List ℕ → Type 0
 IsTold stream es written =
     (ending : Last) × (closing : List ℕ) × Requests stream (asked_in es) ending closing × (written ≡ text es ++ closing)
@@ -30,7 +30,8 @@ abbrev pub HasPromise : World → List Visit → Type 0
 HasPromise w visits =
     IsUpheld w visits × ((v : World) (others : List Visit) → AreVisits v others → AreAnswered others → AreEqual w v visits others)
 
--- these texts are those of replies to the streams, and where none of them is 503 visits tell of them, with the main promise
+-- these texts are those of replies to the streams, and where none of them is 503 visits tell of
+-- them, with the main promise
 abbrev pub KeepsPromise : World → List (List ℕ) → List (List ℕ) → Type 0
 KeepsPromise w streams texts =
     (told : List (List Exchange)) × AreTold streams told texts

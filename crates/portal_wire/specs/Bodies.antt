@@ -65,7 +65,8 @@ abbrev pub phase_and_round : Data → Option (Phase × Option Round)
 phase_and_round d =
     option_and_then (λ phase. option_map (λ round. (phase, Some round)) (option_and_then round_named (member_among 2 (codes "round") d))) (phase_among 2 d)
 
--- the phase to move to and the round, if it is named: of an object with the one member `phase`, or with `phase` and `round` and no other
+-- the phase to move to and the round, if it is named: of an object with the one member `phase`, or
+-- with `phase` and `round` and no other
 abbrev pub move_named : Data → Option (Phase × Option Round)
 move_named d = option_or (option_map (λ phase. (phase, None)) (phase_among 1 d)) (phase_and_round d)
 

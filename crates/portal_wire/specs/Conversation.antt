@@ -1,4 +1,4 @@
--- The requests of a whole stream with its one ending, the replies to them, and the text of the replies.
+-- The requests of a whole stream with its one ending, the replies to them, and the replies' text.
 use Rattle.std.specs.Prelude.{◌≡◌, ℕ, ◌-◌, Bool, true, false, ◌||◌, nat_le, if◌then◌else◌, List, [], ◌∷◌, ◌++◌}
 use Rattle.std.specs.Bool.{MatchBool}
 use Rattle.portal_core.specs.World.{World}
@@ -19,8 +19,8 @@ request_of closes a = record { code = a.code; head = is_head a.method; closes = 
 abbrev pub closes_at : ℕ → Asked → Bool
 closes_at left a = a.close || nat_le left 1
 
--- what is left of a stream after its first requests: bytes, or nothing that is read, since the last reply closed,
--- as asked or not
+-- what is left of a stream after its first requests: bytes, or nothing that is read, since the last
+-- reply closed, as asked or not
 pub data Rest : Type 0 where
   more : List ℕ → Rest
   shut : Bool → Rest

@@ -56,7 +56,8 @@ abbrev pub reply_lines : Answer → ℕ → Bool → List ℕ
 reply_lines reply length close =
     common_lines reply.status reply.body length ++ allow_line reply.allow ++ close_line close ++ crlf
 
--- the reply's lines, then its body, which is left out where the method is HEAD; the length stays that of the body
+-- the reply's lines, then its body, which is left out where the method is HEAD; the length stays
+-- that of the body
 abbrev pub reply_text : Answer → Bool → Bool → List ℕ
 reply_text reply head_only close =
     reply_lines reply (length (body_bytes reply.body)) close ++ (if head_only then [] else body_bytes reply.body)

@@ -6,19 +6,8 @@ ghost use Rattle.portal_core.specs.Meaning.{reply_model, body_model};
 ghost use Rattle.portal_wire.specs.Text.{reply_text, phrase_of, type_of, body_bytes, reply_lines};
 ghost use Rattle.portal_wire.specs.Text.{common_lines, allow_line, close_line};
 
-use http::StatusCode;
 use portal_core::{Body, Reply};
 use std::alloc::{AllocError, Global};
-
-/// The number of a status, by `http`'s own type where it is one.
-fn status_number(status: u16) -> u16
-    ensures { result ≡ status }
-{
-    match StatusCode::from_u16(status) {
-        Ok(code) => code.as_u16(),
-        Err(_) => status,
-    }
-}
 
 /// The phrase of a status.
 fn phrase(status: u16) -> &'static str
@@ -75,12 +64,11 @@ fn first_lines(alloc: Global, reply: &Reply, length: usize) -> Result<String, Al
     ensures { IfOk result (λ text. string_bytes text
         ≡ common_lines reply.now.status (body_model reply.now.body) length) }
 {
-    let status = status_number(reply.status);
     let phrase = phrase(reply.status);
     let kind = content_type(&reply.body);
     format!(in alloc;
         "HTTP/1.1 {} {}\r\ncontent-type: {}\r\ncontent-length: {}\r\n",
-        status, phrase, kind, length
+        reply.status, phrase, kind, length
     )
 }
 

@@ -1,13 +1,12 @@
 -- Groups of students, one student after the other.
-use Rattle.std.proofs.Common.{◌≡◌, ◌↔◌, ◌⊎◌, inl, inr, ℕ, ◌+◌, ◌<◌, max, false, List, length, take, set, get_or, Option, Some, None, refl, sym, ◌∙◌, ap, arith}
-use Rattle.std.proofs.lemmas.Bool.{cases_lt, cases_eq, eq-eqb, ne_eqb}
+use Rattle.spa_check.proofs.Base.{◌≡◌, ◌↔◌, ◌⊎◌, inl, inr, ℕ, ◌+◌, ◌<◌, false, List, length, take, get_or, Option, Some, None, refl, sym, ◌∙◌, ap, arith, cases_lt, Spa, IsWith, IsBefore, SomeWorseWith, place, ranking_of, lecturer_of, project_of, at_lecturer, Group, IsGroup}
+use Rattle.std.proofs.Common.{max, set}
+use Rattle.std.proofs.lemmas.Bool.{cases_eq, eq-eqb, ne_eqb}
 use Rattle.std.proofs.lemmas.List.{length-set, get_or-set_same, get_or-set_other}
 use Rattle.std.proofs.lemmas.List.Sums.{count_by_more_yes, count_by_more_no}
 use Rattle.std.proofs.lemmas.Option.{same_Some}
-use Rattle.spa_model.specs.Spa.{Spa, IsWith, IsOn, IsBefore, IsLawful, IsMatching, SomeWorseWith, place, ranking_of, lecturer_of, project_of, is_project, is_lecturer, at_project, at_lecturer}
+use Rattle.spa_model.specs.Spa.{IsOn, IsLawful, IsMatching, is_project, is_lecturer, at_project}
 use Rattle.spa_model.proofs.Counts.{off_project}
-use Rattle.spa_check.specs.declared.groups.Group.{Group}
-use Rattle.spa_check.specs.inner.Groups.{IsGroup}
 
 -- the same students
 pub group_same : (list : List ℕ) (IsIn IsNow : ℕ → Type 0) (n k : ℕ) (g : Group) → ((t : ℕ) → IsIn t → IsNow t) → ((t : ℕ) → IsNow t → IsIn t) → k ≡ n → IsGroup list IsIn n g → IsGroup list IsNow k g

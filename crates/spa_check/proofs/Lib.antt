@@ -1,3 +1,4 @@
+pub mod Base
 pub mod Listing
 pub mod Wanting
 pub mod Grouping

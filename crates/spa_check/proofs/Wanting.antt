@@ -1,10 +1,11 @@
 -- What a student wants, as a front of the student's list.
-use Rattle.std.proofs.Common.{◌≡◌, ◌↔◌, ◌⊎◌, inl, inr, ℕ, zero, suc, ◌+◌, ◌<◌, ◌≤◌, Bool, true, false, not, cond, eqb, ltb, nat_le, List, [], ◌∷◌, length, take, get_or, Option, Some, None, refl, sym, ◌∙◌, ap, arith, Contains}
-use Rattle.std.specs.List.{position_or_len, position, filter}
-use Rattle.std.proofs.lemmas.Bool.{cases_lt, ltb-false, le-leb, leb-true}
-use Rattle.std.proofs.lemmas.List.{length-take-le, get_or-take, get_or_default, take_all}
+use Rattle.spa_check.proofs.Base.{◌≡◌, ◌↔◌, ◌⊎◌, inl, inr, ℕ, ◌+◌, ◌<◌, ◌≤◌, false, eqb, List, [], ◌∷◌, length, take, get_or, Option, Some, None, refl, sym, ◌∙◌, ap, arith, Contains, position, cases_lt, get_or_default, Spa, Wants, choices_of, project_of, place}
+use Rattle.std.proofs.Common.{zero, suc, Bool, true, not, cond, ltb, nat_le}
+use Rattle.std.specs.List.{position_or_len, filter}
+use Rattle.std.proofs.lemmas.Bool.{ltb-false, le-leb, leb-true}
+use Rattle.std.proofs.lemmas.List.{length-take-le, get_or-take, take_all}
 use Rattle.std.proofs.lemmas.List.Elements.{All-contains, All-contains_itself, All-filter, filter_passes}
-use Rattle.spa_model.specs.Spa.{Spa, Wants, Improves, IsAcceptable, choices_of, project_of, place}
+use Rattle.spa_model.specs.Spa.{Improves, IsAcceptable}
 use Rattle.spa_model.proofs.Places.{place-get_or-le, get_or-place, place-le-length}
 use Rattle.spa_check.specs.Listed.{not_below, IsLeastIn}
 

@@ -1,6 +1,6 @@
--- The list of all blocking pairs.
-use Rattle.std.specs.Prelude.{◌≡◌, ℕ, ◌<◌, ◌≤◌, nat_le, ◌⊎◌, List, Option, filter, Contains, All, AllPairs}
-use Rattle.spa_model.specs.Spa.{Spa, Blocks}
+-- The list of all blocking pairs, and who is better off in another matching.
+use Rattle.std.specs.Prelude.{◌≡◌, ℕ, ◌<◌, ◌≤◌, nat_le, ◌⊎◌, List, Option, filter, Contains, All, AllPairs, Some}
+use Rattle.spa_model.specs.Spa.{Spa, Blocks, Improves, project_of}
 use Rattle.spa_model.specs.declared.letter.Letter.{Letter}
 use Rattle.spa_check.specs.declared.block.Block.{Block}
 
@@ -32,3 +32,12 @@ not_below from list = filter (λ p. nat_le from p) list
 -- p is on the list, and nothing less
 abbrev pub IsLeastIn : List ℕ → ℕ → Type 0
 IsLeastIn list p = Contains list p × All (λ q. p ≤ q) list
+
+-- the student has a project in the other matching, and in this one a less preferred one or none
+abbrev pub IsBetterOff : Spa → List (Option ℕ) → List (Option ℕ) → ℕ → Type 0
+IsBetterOff i m other s = (p : ℕ) × (project_of other s ≡ Some p) × Improves i s p (project_of m s)
+
+-- the student is better off, and none before is
+pub record IsFirstBetterOff (i : Spa) (m other : List (Option ℕ)) (s : ℕ) : Type 0 where
+  pub better : IsBetterOff i m other s
+  pub first : (t : ℕ) → t < s → IsBetterOff i m other t → ⊥

@@ -2,7 +2,7 @@
 
 ghost use Rattle.std.specs.Prelude.{◌<◌, ◌↔◌, ℕ, IsTrue, MatchOption, length};
 ghost use Rattle.spa_model.specs.Spa.{IsMatching};
-ghost use Rattle.spa_check.specs.Better.{IsBetterOff, IsFirstBetterOff};
+ghost use Rattle.spa_check.specs.Listed.{IsBetterOff, IsFirstBetterOff};
 
 use crate::wants::wanted;
 use spa_model::{Instance, Matching};

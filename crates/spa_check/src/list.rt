@@ -31,7 +31,7 @@ fn letter_of(
     ensures { MatchOption result ((x : Letter) → Blocks instance.now matching.now s p x → ⊥)
         (λ x. Blocks instance.now matching.now s p x) }
 {
-    let _lawful = instance.students();
+    instance.lawful();
     let l = instance.lecturer_of(p);
     let depth = depth_of(instance, l, s);
     if projects[p].count < instance.project_capacity(p) as usize {
@@ -65,7 +65,7 @@ fn add_blocks(
     requires before { AreBlocksBefore instance.now matching.now s 0 blocks.old.items }
     ensures { OnOk result (AreBlocksBefore instance.now matching.now (s + 1) 0 blocks.new.items) }
 {
-    let _lawful = instance.students();
+    instance.lawful();
     let list = wanted(instance, matching, s);
     let mut next = 0;
     while let Some(p) = least_from(list, next) {

@@ -59,7 +59,8 @@ fn may_replace(instance: &Instance, matching: &Matching, l: usize, s: usize) -> 
     requires fits { IsMatching instance.now matching.now }
     requires lecturer { l < length instance.now.rankings }
     requires student { s < length instance.now.choices }
-    ensures { IsTrue result ↔ (IsWith instance.now matching.now l s ⊎ SomeWorseWith instance.now matching.now l s) }
+    ensures { IsTrue result ↔ (IsWith instance.now matching.now l s
+        ⊎ SomeWorseWith instance.now matching.now l s) }
 {
     if is_with(instance, matching, l, s) {
         return true;
@@ -103,7 +104,7 @@ fn is_content(instance: &Instance, matching: &Matching, s: usize) -> bool
     requires in_range { s < length instance.now.choices }
     ensures { IsTrue result ↔ ((p : ℕ) (x : Letter) → Blocks instance.now matching.now s p x → ⊥) }
 {
-    let _lawful = instance.students();
+    instance.lawful();
     for p in wanted(instance, matching, s) {
         if letter_of(instance, matching, s, *p).is_some() {
             return false;

@@ -1,12 +1,7 @@
 -- In any two stable matchings the same students have a project, and each lecturer has as many.
-use Rattle.std.proofs.Common.{◌≡◌, ◌⊎◌, inl, inr, ℕ, zero, suc, ◌+◌, ◌<◌, ◌≤◌, Bool, true, false, cond, eqb, List, [], ◌∷◌, length, get_or, Option, Some, None, refl, sym, ◌∙◌, ap, subst, arith}
-use Rattle.std.specs.List.{count_by}
-use Rattle.std.proofs.lemmas.Bool.{eqb-true, eq-eqb, ne_eqb, cases_lt}
-use Rattle.spa_model.specs.declared.letter.Letter.TheVariants.{A}
-use Rattle.spa_model.specs.Spa.{Spa, is_lecturer, at_project, at_lecturer, project_of, lecturer_of, IsAcceptable, IsAsGood, Wants, IsStable, IsBest}
-use Rattle.spa_model.proofs.Counts.{one_if, count_by-cons, count_by-le, sum_below, sum_below-le, sum_below-lt, sum_below-add, sum_below-same, sum_below-zero, sum_below-one, share, at_lecturer-sum}
-use Rattle.spa_student.specs.inner.Machine.{IsRanked}
-use Rattle.spa_student.proofs.Machine.{student_in_range, no_more}
+use Rattle.spa_honest.proofs.Base.{◌≡◌, ◌⊎◌, inl, inr, ℕ, zero, suc, ◌+◌, ◌<◌, ◌≤◌, Bool, true, false, cond, eqb, List, [], ◌∷◌, length, get_or, Option, Some, None, refl, sym, ◌∙◌, ap, subst, arith, count_by, eqb-true, eq-eqb, ne_eqb, cases_lt, A, Spa, is_lecturer, at_project, at_lecturer, project_of, lecturer_of, IsAcceptable, IsAsGood, Wants, IsStable, IsBest, one_if, count_by-cons, sum_below, sum_below-lt, IsRanked, student_in_range}
+use Rattle.spa_model.proofs.Counts.{count_by-le, sum_below-le, sum_below-add, sum_below-same, sum_below-zero, sum_below-one, share, at_lecturer-sum}
+use Rattle.spa_student.proofs.Machine.{no_more}
 use Rattle.spa_honest.specs.Honest.{AssignTheSame}
 use Rattle.spa_honest.proofs.Exists.{has_project, greatest, best_of}
 

@@ -1,12 +1,5 @@
 -- A stable matching of one instance in another that differs in some lists.
-use Rattle.std.proofs.Common.{◌≡◌, ◌⊎◌, inl, inr, ℕ, List, get_or, Option, Some, None, refl, sym, ◌∙◌, ap, subst, arith}
-use Rattle.std.specs.List.{count_by}
-use Rattle.std.proofs.lemmas.Bool.{cases_eq}
-use Rattle.spa_model.specs.declared.letter.Letter.{Letter}
-use Rattle.spa_model.specs.declared.letter.Letter.TheVariants.{A, B, C}
-use Rattle.spa_model.specs.Spa.{Spa, is_lecturer, at_lecturer, project_of, choices_of, lecturer_of, ranking_of, capacity_of, limit_of, IsBefore, IsAcceptable, IsMatching, Improves, Wants, Blocks, IsStable}
-use Rattle.spa_student.specs.inner.Machine.{IsRanked}
-use Rattle.spa_honest.specs.Honest.{HasRoom, DifferInLists, DifferInOneList}
+use Rattle.spa_honest.proofs.Base.{◌≡◌, ◌⊎◌, inl, inr, ℕ, List, get_or, Option, Some, None, refl, sym, ◌∙◌, ap, subst, arith, count_by, cases_eq, Letter, A, B, C, Spa, is_lecturer, at_lecturer, project_of, choices_of, lecturer_of, ranking_of, capacity_of, limit_of, IsBefore, IsAcceptable, IsMatching, Improves, Wants, Blocks, IsStable, IsRanked, HasRoom, DifferInLists, DifferInOneList}
 
 module _ (i j : Spa) (May : ℕ → Type 0) (m : List (Option ℕ)) (differ : DifferInLists i j May) where
   same_lecturer : (p : ℕ) → lecturer_of j p ≡ lecturer_of i p

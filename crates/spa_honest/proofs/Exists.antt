@@ -1,14 +1,10 @@
 -- Each ranked instance has a best matching: students propose along their lists, and each pair before a cursor is deleted.
-use Rattle.std.proofs.Common.{◌≡◌, ◌≢◌, ◌⊎◌, inl, inr, ℕ, zero, suc, ◌+◌, ◌-◌, ◌<◌, ◌≤◌, cond, eqb, List, length, get_or, set, replicate, Option, Some, None, refl, sym, ◌∙◌, ap, subst, arith, length-set}
-use Rattle.std.proofs.lemmas.List.{get_or-set_same, get_or-set_other}
-use Rattle.std.proofs.lemmas.Bool.{eq-eqb, ne_eqb, cases_lt, cases_eq}
-use Rattle.spa_model.specs.Spa.{Spa, place, at_project, at_lecturer, project_of, choices_of, lecturer_of, capacity_of, limit_of, IsBefore, IsAcceptable, IsWith, IsBest}
-use Rattle.spa_model.proofs.Places.{place-injective, place-get_or}
-use Rattle.spa_model.proofs.Counts.{sum_below, sum_below-lt}
-use Rattle.spa_student.specs.inner.Machine.{IsRanked, rank_of, IsSpent, Holds}
-use Rattle.spa_student.proofs.Machine.{student_in_range, put_same, put_cases, place_holds, swap_at_project_holds, swap_at_lecturer_holds, delete_holds, best_at_end}
-use Rattle.spa_student.proofs.Start.{nobody_matches, none_there}
-use Rattle.spa_student.proofs.CutSteps.{acceptable_in_range}
+use Rattle.spa_honest.proofs.Base.{◌≡◌, ◌≢◌, ◌⊎◌, inl, inr, ℕ, zero, suc, ◌+◌, ◌<◌, ◌≤◌, cond, eqb, List, length, get_or, set, replicate, Option, Some, None, refl, sym, ◌∙◌, ap, subst, arith, length-set, get_or-set_same, get_or-set_other, eq-eqb, ne_eqb, cases_lt, cases_eq, Spa, place, at_project, at_lecturer, project_of, choices_of, lecturer_of, capacity_of, limit_of, IsBefore, IsAcceptable, IsBest, place-injective, sum_below, sum_below-lt, IsRanked, rank_of, IsSpent, Holds, student_in_range, put_same, put_cases, place_holds, delete_holds, best_at_end, nobody_matches, acceptable_in_range}
+use Rattle.std.proofs.Common.{◌-◌}
+use Rattle.spa_model.specs.Spa.{IsWith}
+use Rattle.spa_model.proofs.Places.{place-get_or}
+use Rattle.spa_student.proofs.Machine.{swap_at_project_holds, swap_at_lecturer_holds}
+use Rattle.spa_student.proofs.Start.{none_there}
 
 -- of the numbers below n with a property, one of the greatest rank; or there is none
 pub greatest : (P : ℕ → Type 0) → ((x : ℕ) → P x ⊎ (P x → ⊥)) → (rank : ℕ → ℕ) (n : ℕ) → ((w : ℕ) × (w < n) × P w × ((x : ℕ) → x < n → P x → rank x ≤ rank w)) ⊎ ((x : ℕ) → x < n → P x → ⊥)

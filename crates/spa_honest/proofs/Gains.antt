@@ -1,11 +1,7 @@
 -- No group of students gains by other lists, and so no student.
-use Rattle.std.proofs.Common.{◌≡◌, ◌⊎◌, inl, inr, ℕ, zero, suc, ◌<◌, ◌≤◌, true, false, List, [], ◌∷◌, length, get_or, Option, Some, None, sym, ◌∙◌, ap, subst, arith}
-use Rattle.std.proofs.lemmas.Bool.{cases_Bool, cases_lt, cases_eq}
-use Rattle.spa_model.specs.declared.letter.Letter.{Letter}
-use Rattle.spa_model.specs.Spa.{Spa, place, choices_of, project_of, IsOn, IsAcceptable, IsMatching, Blocks, IsStable, IsBest}
+use Rattle.spa_honest.proofs.Base.{◌≡◌, ◌⊎◌, inl, inr, ℕ, zero, suc, ◌<◌, ◌≤◌, true, false, List, [], ◌∷◌, length, get_or, Option, Some, None, sym, ◌∙◌, ap, subst, arith, cases_Bool, cases_lt, cases_eq, Letter, Spa, place, choices_of, project_of, IsOn, IsAcceptable, IsMatching, Blocks, IsStable, IsBest, IsRanked, DifferInLists, DifferInOneList}
 use Rattle.spa_model.proofs.Places.{get_or-place, place-get_or-le}
-use Rattle.spa_student.specs.inner.Machine.{IsRanked}
-use Rattle.spa_honest.specs.Honest.{DifferInLists, DifferInOneList, IsNoWorse}
+use Rattle.spa_honest.specs.Honest.{IsNoWorse}
 use Rattle.spa_honest.proofs.Lists.{one_on, on_one}
 use Rattle.spa_honest.proofs.Outside.{outside}
 use Rattle.spa_honest.proofs.Last.{better, not_better, gains, turned_away}

@@ -1,11 +1,8 @@
 -- The method, stopped when the last of those who like a matching x better than the best one is turned away from what x gives.
-use Rattle.std.proofs.Common.{◌≡◌, ◌⊎◌, inl, inr, ℕ, zero, suc, ◌<◌, ◌≤◌, Bool, true, false, ltb, List, length, replicate, Option, Some, None, refl, sym, ◌∙◌, ap, subst, arith}
-use Rattle.std.proofs.lemmas.Bool.{ltb-true, ltb-false, cases_Bool, cases_lt, cases_eq}
-use Rattle.spa_model.specs.Spa.{Spa, place, project_of, choices_of, IsAcceptable, IsMatching, IsAsGood, IsBest}
-use Rattle.spa_model.proofs.Places.{place-injective}
-use Rattle.spa_model.proofs.Counts.{sum_below}
-use Rattle.spa_student.specs.inner.Machine.{IsRanked}
-use Rattle.spa_student.proofs.Machine.{best_at_end, as_good_as_stable, student_in_range}
+use Rattle.spa_honest.proofs.Base.{◌≡◌, ◌⊎◌, inl, inr, ℕ, zero, suc, ◌<◌, ◌≤◌, Bool, true, false, List, length, replicate, Option, Some, None, refl, sym, ◌∙◌, ap, subst, arith, cases_Bool, cases_lt, cases_eq, Spa, place, project_of, choices_of, IsAcceptable, IsMatching, IsAsGood, IsBest, place-injective, sum_below, IsRanked, best_at_end, student_in_range}
+use Rattle.std.proofs.Common.{ltb}
+use Rattle.std.proofs.lemmas.Bool.{ltb-true, ltb-false}
+use Rattle.spa_student.proofs.Machine.{as_good_as_stable}
 use Rattle.spa_honest.proofs.Exists.{greatest, Passed, UnderWay, turns, Turned, turn_of, next_or_done, Never, never, start}
 use Rattle.spa_honest.proofs.Outside.{TurnsAway}
 

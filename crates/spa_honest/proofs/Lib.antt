@@ -1,3 +1,4 @@
+pub mod Base
 pub mod Exists
 pub mod Assigned
 pub mod Lists

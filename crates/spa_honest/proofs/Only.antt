@@ -1,8 +1,5 @@
 -- A matching with the projects of some students alone.
-use Rattle.std.proofs.Common.{◌≡◌, ℕ, zero, suc, ◌+◌, Bool, true, false, cond, List, [], ◌∷◌, length, Option, Some, None, refl, ap, arith}
-use Rattle.std.specs.List.{count_by}
-use Rattle.spa_model.specs.Spa.{project_of}
-use Rattle.spa_model.proofs.Counts.{one_if, count_by-cons}
+use Rattle.spa_honest.proofs.Base.{◌≡◌, ℕ, zero, suc, ◌+◌, Bool, true, false, cond, List, [], ◌∷◌, length, Option, Some, None, refl, ap, arith, count_by, project_of, one_if, count_by-cons}
 
 -- the students of r keep their projects
 abbrev pub only : (ℕ → Bool) → List (Option ℕ) → List (Option ℕ)
@@ -44,9 +41,6 @@ others_not r s is = by_test (r s) is
     by_test : (b : Bool) → cond b false true ≡ true → b ≡ false
     by_test true is = absurd (cc)
     by_test false is = refl
-
-pub not_others : (r : ℕ → Bool) (s : ℕ) → r s ≡ false → others r s ≡ true
-not_others r s is = rw is refl
 
 -- a count over all is that over those of r and that over the others
 pub both_counted : (f : Option ℕ → Bool) → f None ≡ false → (r : ℕ → Bool) (m : List (Option ℕ)) → count_by f m ≡ count_by f (only r m) + count_by f (only (others r) m)

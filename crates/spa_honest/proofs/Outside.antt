@@ -1,14 +1,7 @@
 -- A matching x that some students, those of r, like better than what they can have: somebody else blocks it.
 -- For that, y is a matching in which all of r were turned away from what x gives, one of them has nothing, and everybody else has no worse than in x.
-use Rattle.std.proofs.Common.{◌≡◌, inl, inr, ℕ, ◌+◌, ◌<◌, ◌≤◌, Bool, true, false, List, length, Option, Some, None, refl, sym, ◌∙◌, ap, subst, arith}
-use Rattle.std.specs.List.{count_by}
-use Rattle.std.proofs.lemmas.Bool.{cases_lt}
-use Rattle.spa_model.specs.declared.letter.Letter.{Letter}
-use Rattle.spa_model.specs.declared.letter.Letter.TheVariants.{A, B, C}
-use Rattle.spa_model.specs.Spa.{Spa, is_project, is_lecturer, at_project, at_lecturer, project_of, lecturer_of, ranking_of, capacity_of, limit_of, IsOn, IsMatching, IsAsGood, Wants, Blocks}
-use Rattle.spa_model.proofs.Counts.{sum_below}
-use Rattle.spa_student.specs.inner.Machine.{IsRanked, rank_of, IsSpent}
-use Rattle.spa_student.proofs.Machine.{student_in_range}
+use Rattle.spa_honest.proofs.Base.{◌≡◌, inl, inr, ℕ, ◌+◌, ◌<◌, ◌≤◌, Bool, true, false, List, length, Option, Some, None, refl, sym, ◌∙◌, ap, subst, arith, count_by, cases_lt, Letter, A, B, C, Spa, is_lecturer, at_project, at_lecturer, project_of, lecturer_of, ranking_of, capacity_of, limit_of, IsOn, IsMatching, IsAsGood, Wants, Blocks, sum_below, IsRanked, rank_of, IsSpent, student_in_range}
+use Rattle.spa_model.specs.Spa.{is_project}
 use Rattle.spa_honest.proofs.Assigned.{has_one, count_by-lt, all_lecturers, greater_term, more_at, one_there, wants_best}
 use Rattle.spa_honest.proofs.Only.{only, others, only_length, only_has, only_keeps, others_not, both_counted}
 

@@ -1,11 +1,6 @@
 -- What is best in the example, by the steps of the method.
-use Rattle.std.proofs.Common.{◌≡◌, ◌⊎◌, inl, inr, ℕ, zero, suc, ◌<◌, List, [], ◌∷◌, Some, None, refl, sym, arith}
-use Rattle.spa_model.specs.Spa.{project_of, choices_of, IsOn, IsBefore, IsAcceptable, IsAsGood, IsBest}
-use Rattle.spa_student.specs.inner.Machine.{ProjectSpent, rank_of, Holds}
-use Rattle.spa_student.proofs.Machine.{ranked_of, place_holds, delete_holds, best_at_end}
-use Rattle.spa_student.proofs.Start.{nobody_matches}
-use Rattle.spa_honest.specs.examples.Example.{ann, ben, cem, bells, kites, tides, example, honest_list, safe_list, short_list}
-use Rattle.spa_honest.specs.Honest.{DifferInLists, NobodyGains}
+use Rattle.spa_honest.proofs.Base.{◌≡◌, ◌⊎◌, inl, inr, ℕ, zero, suc, ◌<◌, List, [], ◌∷◌, Some, None, refl, sym, arith, project_of, choices_of, IsOn, IsBefore, IsAcceptable, IsAsGood, IsBest, ProjectSpent, rank_of, Holds, ranked_of, place_holds, delete_holds, best_at_end, nobody_matches, ann, ben, cem, bells, kites, tides, example, honest_list, safe_list, short_list, DifferInLists}
+use Rattle.spa_honest.specs.Honest.{NobodyGains}
 use Rattle.spa_honest.proofs.Worked.{none_before, before_cons, honest_lawful, safe_lawful, short_lawful}
 
 -- nothing is deleted; Tides from Ann's list; that and Kites from Cem's list; Kites from Cem's list

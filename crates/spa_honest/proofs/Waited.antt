@@ -1,15 +1,5 @@
 -- The example of one who waits: it is lawful with either list, what is best, and what has room after it.
-use Rattle.std.proofs.Common.{◌≡◌, ◌≢◌, ◌⊎◌, inl, inr, ℕ, zero, suc, ◌<◌, ◌≤◌, List, [], ◌∷◌, length, Some, None, refl, sym, arith}
-use Rattle.std.specs.Prelude.{AllPairs}
-use Rattle.std.specs.declared.cmp.Ordering.TheVariants.{Less}
-use Rattle.std.specs.Ordering.{nat_cmp}
-use Rattle.std.specs.Cmp.Lexicographic.{slice_cmp}
-use Rattle.spa_model.specs.Spa.{project_of, choices_of, lecturer_of, ranking_of, capacity_of, limit_of, IsOn, IsBefore, IsAcceptable, IsDistinct, IsLawful, IsBest}
-use Rattle.spa_student.specs.inner.Machine.{ProjectSpent, rank_of, Holds}
-use Rattle.spa_student.proofs.Machine.{ranked_of, place_holds, delete_holds, best_at_end}
-use Rattle.spa_student.proofs.Start.{nobody_matches}
-use Rattle.spa_honest.specs.Honest.{HasRoom}
-use Rattle.spa_honest.specs.examples.Example.{ann, ben, cem, bells, kites, tides, honest_list}
+use Rattle.spa_honest.proofs.Base.{◌≡◌, ◌≢◌, ◌⊎◌, inl, inr, ℕ, zero, suc, ◌<◌, ◌≤◌, List, [], ◌∷◌, length, Some, None, refl, sym, arith, AllPairs, Less, nat_cmp, slice_cmp, project_of, choices_of, lecturer_of, ranking_of, capacity_of, limit_of, IsOn, IsBefore, IsAcceptable, IsDistinct, IsLawful, IsBest, ProjectSpent, rank_of, Holds, ranked_of, place_holds, delete_holds, best_at_end, nobody_matches, HasRoom, ann, ben, cem, bells, kites, tides, honest_list}
 use Rattle.spa_honest.specs.examples.Waiting.{dan, department, at_once, waiting}
 use Rattle.spa_honest.proofs.Lists.{one_distinct, one_on}
 use Rattle.spa_honest.proofs.Worked.{on_cons, none_before, before_cons, two, three}

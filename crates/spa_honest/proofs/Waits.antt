@@ -1,14 +1,6 @@
 -- Who is left finds no room on the own list, and what has room after a stable matching gains nobody anything.
-use Rattle.std.proofs.Common.{◌≡◌, ◌≢◌, inl, inr, ℕ, ◌<◌, ◌≤◌, List, [], ◌∷◌, length, set, Option, Some, None, refl, sym, ◌∙◌, ap, subst, arith, length-set}
-use Rattle.std.proofs.lemmas.List.{get_or-set_other}
-use Rattle.std.proofs.lemmas.Bool.{cases_eq}
-use Rattle.spa_model.specs.declared.letter.Letter.{Letter}
-use Rattle.spa_model.specs.declared.letter.Letter.TheVariants.{A, B, C}
-use Rattle.spa_model.specs.Spa.{Spa, at_project, at_lecturer, project_of, choices_of, lecturer_of, capacity_of, limit_of, IsOn, IsBefore, IsAcceptable, IsAsGood, Improves, Wants, Blocks, IsStable, IsBest}
-use Rattle.spa_student.specs.inner.Machine.{IsRanked}
-use Rattle.spa_student.proofs.Machine.{put_same, put_cases, put_at_project, put_at_lecturer, one_here, none_there}
-use Rattle.spa_student.proofs.CutSteps.{acceptable_in_range}
-use Rattle.spa_honest.specs.Honest.{HasRoom, DifferInOneList}
+use Rattle.spa_honest.proofs.Base.{◌≡◌, ◌≢◌, inl, inr, ℕ, ◌<◌, ◌≤◌, List, [], ◌∷◌, length, set, Option, Some, None, refl, sym, ◌∙◌, ap, subst, arith, length-set, get_or-set_other, cases_eq, Letter, A, B, C, Spa, at_project, at_lecturer, project_of, choices_of, lecturer_of, capacity_of, limit_of, IsOn, IsBefore, IsAcceptable, IsAsGood, Improves, Wants, Blocks, IsStable, IsBest, IsRanked, put_same, put_cases, acceptable_in_range, HasRoom, DifferInOneList}
+use Rattle.spa_student.proofs.Machine.{put_at_project, put_at_lecturer, one_here, none_there}
 use Rattle.spa_honest.proofs.Lists.{one_distinct, one_on, on_one, with_list, list_same, list_other, list_ranked}
 use Rattle.spa_honest.proofs.Carry.{same_room, carried}
 use Rattle.spa_honest.proofs.Gains.{honest_is_best}

@@ -1,12 +1,5 @@
 -- The example: it is lawful with each list, and what is best.
-use Rattle.std.proofs.Common.{◌≡◌, ◌≢◌, ◌⊎◌, inl, inr, ℕ, zero, suc, ◌+◌, ◌<◌, ◌≤◌, Bool, true, false, cond, eqb, List, [], ◌∷◌, length, refl, arith}
-use Rattle.std.specs.Prelude.{AllPairs}
-use Rattle.std.specs.declared.cmp.Ordering.TheVariants.{Less}
-use Rattle.std.specs.Ordering.{nat_cmp}
-use Rattle.std.specs.Cmp.Lexicographic.{slice_cmp}
-use Rattle.std.proofs.lemmas.Bool.{eqb-true, eq-eqb}
-use Rattle.spa_model.specs.Spa.{place, choices_of, lecturer_of, ranking_of, capacity_of, limit_of, IsOn, IsBefore, IsAcceptable, IsDistinct, IsLawful}
-use Rattle.spa_honest.specs.examples.Example.{ann, ben, cem, bells, kites, tides, example, honest_list, safe_list, short_list}
+use Rattle.spa_honest.proofs.Base.{◌≡◌, ◌≢◌, ◌⊎◌, inl, inr, ℕ, zero, suc, ◌+◌, ◌<◌, ◌≤◌, Bool, true, false, cond, eqb, List, [], ◌∷◌, length, refl, arith, AllPairs, Less, nat_cmp, slice_cmp, eqb-true, eq-eqb, place, choices_of, lecturer_of, ranking_of, capacity_of, limit_of, IsOn, IsBefore, IsAcceptable, IsDistinct, IsLawful, ann, ben, cem, bells, kites, tides, example, honest_list, safe_list, short_list}
 
 -- what stands on a list is its first entry or stands on the rest
 pub on_cons : (x : ℕ) (xs : List ℕ) (q : ℕ) → IsOn (x ∷ xs) q → (x ≡ q) ⊎ IsOn xs q

@@ -19,8 +19,9 @@ BestThereIs = (i : Spa) → IsLawful i → (m : List (Option ℕ)) × IsBest i m
 abbrev pub OrderAlike : List ℕ → List ℕ → Type 0
 OrderAlike xs ys = (a b : ℕ) → IsOn ys a → IsOn ys b → IsBefore xs a b → IsBefore ys a b
 
--- the lists of some students may differ, and else the instances agree: the same offers and capacities, the same lists of
--- the others, and each lecturer orders those who stand on both of the lecturer's lists alike
+-- the lists of some students may differ, and else the instances agree: the same offers and
+-- capacities, the same lists of the others, and each lecturer orders those who stand on both of the
+-- lecturer's lists alike
 pub record DifferInLists (i j : Spa) (May : ℕ → Type 0) : Type 0 where
   pub students : length j.choices ≡ length i.choices
   pub lecturers : j.lecturers ≡ i.lecturers
@@ -38,7 +39,8 @@ DifferInOneList i j s = DifferInLists i j (λ t. t ≡ s)
 abbrev pub IsNoWorse : Spa → ℕ → Option ℕ → Option ℕ → Type 0
 IsNoWorse i s mine other = (p : ℕ) → other ≡ Some p → IsAcceptable i s p → IsAsGood i s mine (Some p)
 
--- by the list of the first, the best matching of the first gives s a project no worse than any stable one of the second
+-- by the list of the first, the best matching of the first gives s a project no worse than any
+-- stable one of the second
 abbrev pub HonestIsBest : Type 0
 HonestIsBest =
     (i j : Spa) (s : ℕ) (m n : List (Option ℕ)) → IsLawful i → IsLawful j → DifferInOneList i j s → IsBest i m → IsStable j n
@@ -53,15 +55,15 @@ abbrev pub LeftFindsNone : Type 0
 LeftFindsNone =
     (i : Spa) (m : List (Option ℕ)) (s p : ℕ) → IsStable i m → project_of m s ≡ None → IsAcceptable i s p → HasRoom i m p → ⊥
 
--- where s is left by a stable matching of the second, in which p has room, and p stands on the list of s in the first,
--- the best matching of the first gives s p or better
+-- where s is left by a stable matching of the second, in which p has room, and p stands on the list
+-- of s in the first, the best matching of the first gives s p or better
 abbrev pub WaitingNeverPays : Type 0
 WaitingNeverPays =
     (i j : Spa) (s p : ℕ) (m n : List (Option ℕ)) → IsLawful i → IsLawful j → DifferInOneList i j s → IsBest i m → IsStable j n
     → project_of n s ≡ None → IsAcceptable i s p → HasRoom j n p → IsAsGood i s (project_of m s) (Some p)
 
--- whatever the students of a group list together, in each stable matching of the second one of them has no better, by the
--- list in the first, than the best matching of the first gives
+-- whatever the students of a group list together, in each stable matching of the second one of them
+-- has no better, by the list in the first, than the best matching of the first gives
 abbrev pub NoGroupGains : Type 0
 NoGroupGains =
     (i j : Spa) (group : List ℕ) (m n : List (Option ℕ)) → IsLawful i → IsLawful j → 1 ≤ length group → DifferInLists i j (IsOn group) → IsBest i m → IsStable j n

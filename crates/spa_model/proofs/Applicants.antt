@@ -1,21 +1,10 @@
 -- Lemmas on the faults that speak of applicants, by number.
-use Rattle.std.proofs.Common.{◌≡◌, ◌⊎◌, inl, inr, ◌↔◌, IsTrue, ℕ, ◌+◌, ◌<◌, Bool, true, false, List, [], length, get_or, Option, Some, None, refl, sym, ◌∙◌, ap, subst, arith}
+use Rattle.spa_model.proofs.Base.{◌≡◌, ◌⊎◌, inl, inr, ◌↔◌, IsTrue, ℕ, ◌+◌, ◌<◌, Bool, true, false, List, [], length, get_or, Option, Some, None, refl, sym, ◌∙◌, ap, subst, arith, cases_lt, false≢true, get_or_default, Text, IsLeastOf, IsKeyOf, map_at, Student, Project, Lecturer, Rise, HasKey, student_keys, choices_at, lecturer_at, row_at, rank_at, Finds, IsApplicantOf, Misses, MissesBelow}
 use Rattle.std.specs.Prelude.{not}
 use Rattle.std.specs.Option.{is_some}
-use Rattle.std.proofs.lemmas.Bool.{cases_lt, false≢true}
-use Rattle.std.proofs.lemmas.List.{get_or_default}
 use Rattle.spa_rows.specs.Lines
-use Rattle.spa_rows.specs.Lines.{Text}
-use Rattle.spa_rows.specs.Least.{IsLeastOf, lesser_row}
-use Rattle.spa_rows.specs.Faults.{IsKeyOf}
+use Rattle.spa_rows.specs.Least.{lesser_row}
 use Rattle.spa_rows.proofs.LeastRow.{least_either}
-use Rattle.spa_rows.proofs.Lists.{map_at}
-use Rattle.spa_model.specs.declared.instance.Student.{Student}
-use Rattle.spa_model.specs.declared.instance.Project.{Project}
-use Rattle.spa_model.specs.declared.instance.Lecturer.{Lecturer}
-use Rattle.spa_model.specs.Spa.{Rise}
-use Rattle.spa_model.specs.Built.{HasKey}
-use Rattle.spa_model.specs.inner.Numbers.{student_keys, choices_at, lecturer_at, row_at, rank_at, Finds, IsApplicantOf, Misses, MissesBelow}
 use Rattle.spa_model.proofs.Keys.{one_number, is_key_of}
 
 -- rows at a place

@@ -1,9 +1,6 @@
 -- Lemmas on how many students a project or a lecturer has.
-use Rattle.std.proofs.Common.{◌≡◌, ◌≢◌, inl, inr, ℕ, zero, suc, ◌+◌, ◌<◌, ◌≤◌, Bool, true, false, eqb, cond, List, [], ◌∷◌, length, refl, sym, ◌∙◌, ap, arith, get_or, set, Option, Some, None}
-use Rattle.std.specs.List.{count_by}
-use Rattle.std.proofs.lemmas.List.Sums.{sum_by-set, sum_by-cons}
-use Rattle.std.proofs.lemmas.Bool.{eq-eqb, ne_eqb, cases_lt}
-use Rattle.spa_model.specs.Spa.{Spa, is_project, is_lecturer, at_project, at_lecturer, project_of, lecturer_of}
+use Rattle.spa_model.proofs.Base.{◌≡◌, ◌≢◌, inl, inr, ℕ, zero, suc, ◌+◌, ◌<◌, ◌≤◌, Bool, true, false, eqb, cond, List, [], ◌∷◌, length, refl, sym, ◌∙◌, ap, arith, get_or, set, Option, Some, None, count_by, sum_by-cons, eq-eqb, ne_eqb, cases_lt, Spa, is_project, is_lecturer, at_project, at_lecturer, project_of, lecturer_of}
+use Rattle.std.proofs.lemmas.List.Sums.{sum_by-set}
 
 -- 1 where the test holds
 abbrev pub one_if : Bool → ℕ

@@ -1,13 +1,7 @@
 -- The fault of the least number.
-use Rattle.std.proofs.Common.{◌≡◌, inl, inr, ℕ, ◌+◌, ◌<◌, cond, eqb, List, Option, Some, None, refl, sym, ◌∙◌, ap, arith}
-use Rattle.std.proofs.lemmas.Bool.{cases_lt}
-use Rattle.spa_rows.specs.Lines.{Pair}
-use Rattle.spa_rows.specs.Least.{IsLeastOf}
-use Rattle.spa_model.specs.declared.matching.MatchingFault.{MatchingFault}
-use Rattle.spa_model.specs.declared.matching.MatchingFault.TheVariants.{NoSuchStudent, NoSuchProject, NotAcceptable, StudentTwice, ProjectOver, LecturerOver, Memory}
-use Rattle.spa_model.specs.Spa.{Spa}
+use Rattle.spa_model.proofs.Base.{◌≡◌, inl, inr, ℕ, ◌+◌, ◌<◌, cond, eqb, List, Option, Some, None, refl, sym, ◌∙◌, ap, arith, cases_lt, Pair, IsLeastOf, MatchingFault, NoSuchStudent, NoSuchProject, NotAcceptable, StudentTwice, ProjectOver, LecturerOver, Spa, HasNone, AreSound}
+use Rattle.spa_model.specs.declared.matching.MatchingFault.TheVariants.{Memory}
 use Rattle.spa_model.specs.Pairs.{HasPairFault, number_of_pair_fault, IsPairRefusal}
-use Rattle.spa_model.specs.Assigned.{HasNone, AreSound}
 
 -- the fault with a number
 abbrev pub fault_of : ℕ → MatchingFault
@@ -35,13 +29,14 @@ none_below_one i lines ProjectOver h = absurd (omega arith)
 none_below_one i lines LecturerOver h = absurd (omega arith)
 none_below_one i lines Memory h = absurd (omega arith)
 
--- nor the next one
-pub none_below_more : (i : Spa) (lines : List Pair) (fault : MatchingFault) → NoneBelow i lines (number_of_pair_fault fault) → HasNone i lines fault → NoneBelow i lines (number_of_pair_fault fault + 1)
-none_below_more i lines fault below none f h = elim (cases_lt (number_of_pair_fault f) (number_of_pair_fault fault)) [
+-- nor the next one, where none is told
+pub none_below_more : (i : Spa) (lines : List Pair) (fault : MatchingFault) (row : Option ℕ) → NoneBelow i lines (number_of_pair_fault fault) → IsLeastOf (HasPairFault i lines fault) row → row ≡ None → NoneBelow i lines (number_of_pair_fault fault + 1)
+none_below_more i lines fault row below least told f h = elim (cases_lt (number_of_pair_fault f) (number_of_pair_fault fault)) [
   | inl less ↦ below f less
   | inr here ↦
       let same_number : number_of_pair_fault f ≡ number_of_pair_fault fault = omega arith in
       let same : f ≡ fault = sym (fault_of-number f) ∙ ap fault_of same_number ∙ fault_of-number fault in
+      let none : HasNone i lines fault = rw told at least in
       rw same none
 ]
 
@@ -57,10 +52,6 @@ first_fault i lines fault told row r below least e = rw e.0 (by_fault fault belo
     by_fault ProjectOver b l = record { here = l.0; least = l.1; none_before = b }
     by_fault LecturerOver b l = record { here = l.0; least = l.1; none_before = b }
     by_fault Memory b l = absurd l.0
-
--- none where none is told
-pub none_found : (i : Spa) (lines : List Pair) (fault : MatchingFault) (row : Option ℕ) → IsLeastOf (HasPairFault i lines fault) row → row ≡ None → HasNone i lines fault
-none_found i lines fault row least e = rw e at least
 
 -- there is none at all
 pub sound_pairs : (i : Spa) (lines : List Pair) → NoneBelow i lines 7 → AreSound i lines

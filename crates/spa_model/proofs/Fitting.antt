@@ -1,8 +1,6 @@
 -- Lemmas on matchings that fit.
-use Rattle.std.proofs.Common.{◌≡◌, ◌↔◌, inl, inr, ℕ, ◌<◌, ◌≤◌, Bool, true, false, eqb, List, length, get_or, Option, Some, None, refl, sym, ◌∙◌, arith}
+use Rattle.spa_model.proofs.Base.{◌≡◌, ◌↔◌, inl, inr, ℕ, ◌<◌, ◌≤◌, Bool, true, false, eqb, List, length, get_or, Option, Some, None, refl, sym, ◌∙◌, arith, eqb-true, eq-eqb, ne_eqb, cases_lt, true≢false, Spa, place, IsOn, is_project, is_lecturer, at_project, at_lecturer, project_of, lecturer_of, capacity_of, limit_of, IsLawful}
 use Rattle.std.specs.List.{IsAnyAnswer}
-use Rattle.std.proofs.lemmas.Bool.{eqb-true, eq-eqb, ne_eqb, cases_lt, true≢false}
-use Rattle.spa_model.specs.Spa.{Spa, place, IsOn, is_project, is_lecturer, at_project, at_lecturer, project_of, lecturer_of, capacity_of, limit_of, IsLawful}
 use Rattle.spa_model.specs.inner.Fitting.{AreAcceptable}
 use Rattle.spa_model.proofs.Places.{place-get_or-le, get_or-place}
 use Rattle.spa_model.proofs.Counts.{count_by-none}

@@ -1,20 +1,12 @@
 -- What the absence of faults says of lines.
-use Rattle.std.proofs.Common.{◌≡◌, inl, inr, ℕ, ◌<◌, ◌≤◌, true, false, List, length, get_or, map, take, All, Any, Ordering, Less, Equal, Greater, IsSortedByKey, refl, sym, ◌∙◌, ap, arith}
-use Rattle.std.specs.Ordering.{nat_cmp, is_lt}
-use Rattle.std.specs.Cmp.Lexicographic.{slice_cmp}
-use Rattle.std.proofs.lemmas.Cmp.{nat_list_cmp_total}
+use Rattle.spa_model.proofs.Base.{◌≡◌, inl, inr, ℕ, ◌<◌, ◌≤◌, true, false, List, length, get_or, map, take, All, Any, Ordering, Less, Equal, Greater, refl, sym, ◌∙◌, ap, arith, nat_cmp, is_lt, slice_cmp, nat_list_cmp_total, cases_lt, get_or_default, get_or-take, length-take, length-map, Text, Rows, BadAt, HasNoneBefore, IsKeyOf, NamesNone, Repeats, TooMany, BadKey, KeyTwice, BadCapacity, NoSuchLecturer, RepeatInList, ListTooLong, NotApplicant, at_place, map_at, Rise, student_keys, project_keys, lecturer_keys}
+use Rattle.std.proofs.Common.{IsSortedByKey}
 use Rattle.std.proofs.lemmas.Map.Lookups.{exact_bytes}
 use Rattle.std.proofs.lemmas.List.Sorted.{ranks_by, sorted_far}
-use Rattle.std.proofs.lemmas.Bool.{cases_lt, true_from_ne_false}
-use Rattle.std.proofs.lemmas.List.{get_or_default, get_or-take, length-take, length-map}
+use Rattle.std.proofs.lemmas.Bool.{true_from_ne_false}
 use Rattle.spa_rows.specs.Form.{is_key}
-use Rattle.spa_rows.specs.Lines.{Text, Rows}
-use Rattle.spa_rows.specs.Least.{BadAt}
-use Rattle.spa_rows.specs.Faults.{HasNoneBefore, IsBadCapacity, IsKeyOf, NamesNone, Repeats}
-use Rattle.spa_rows.specs.declared.faults.InstanceFault.TheVariants.{TooMany, BadKey, KeyTwice, BadCapacity, NoSuchLecturer, NoSuchProject, RepeatInList, ListTooLong, NotApplicant}
-use Rattle.spa_rows.proofs.Lists.{at_place, map_at}
-use Rattle.spa_model.specs.Spa.{Rise}
-use Rattle.spa_model.specs.inner.Numbers.{student_keys, project_keys, lecturer_keys}
+use Rattle.spa_rows.specs.Faults.{IsBadCapacity}
+use Rattle.spa_rows.specs.declared.faults.InstanceFault.TheVariants.{NoSuchProject}
 
 -- lines that are not bad
 none_bad : {X : Type 0} (lines : List X) (row : X → ℕ) (Bad : ℕ → X → Type 0) → ((r : ℕ) → BadAt lines row Bad r → ⊥) → (k : ℕ) (d : X) → k < length lines → Bad k (get_or lines k d) → ⊥

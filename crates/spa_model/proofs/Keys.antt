@@ -1,15 +1,5 @@
 -- Lemmas on keys that rise.
-use Rattle.std.proofs.Common.{◌≡◌, inl, inr, ℕ, ◌<◌, List, [], ◌∷◌, length, get_or, map, Less, Equal, sym, ◌∙◌, arith}
-use Rattle.std.specs.Ordering.{nat_cmp}
-use Rattle.std.specs.Cmp.Lexicographic.{slice_cmp}
-use Rattle.std.proofs.lemmas.Cmp.{nat_list_cmp_total, tied_itself}
-use Rattle.std.proofs.lemmas.Bool.{cases_lt}
-use Rattle.std.proofs.lemmas.List.{get_or-map, length-map}
-use Rattle.spa_rows.specs.Lines.{Text}
-use Rattle.spa_rows.specs.Faults.{IsKeyOf}
-use Rattle.spa_rows.proofs.Lists.{at_place, map_at}
-use Rattle.spa_model.specs.Spa.{Rise}
-use Rattle.spa_model.specs.Built.{HasKey}
+use Rattle.spa_model.proofs.Base.{◌≡◌, inl, inr, ℕ, ◌<◌, List, [], ◌∷◌, length, get_or, map, Less, Equal, sym, ◌∙◌, arith, nat_cmp, slice_cmp, nat_list_cmp_total, tied_itself, cases_lt, get_or-map, length-map, Text, IsKeyOf, at_place, map_at, Rise, HasKey}
 
 -- the key at a place
 pub has_key : {X : Type 0} (key : X → Text) (lines : List X) (k : ℕ) (text : Text) → k < length lines → ((d : X) → key (get_or lines k d) ≡ text) → HasKey (map key lines) k text

@@ -1,22 +1,9 @@
 -- The numbered rows of good lines are a lawful instance, which stands for the lines.
-use Rattle.std.proofs.Common.{◌≡◌, ◌⊎◌, inl, inr, ℕ, ◌<◌, ◌≤◌, true, eqb, List, [], ◌∷◌, length, get_or, map, None, Any, refl, sym, ◌∙◌, ap, subst, arith}
-use Rattle.std.specs.List.{AllZip, list_any}
-use Rattle.std.proofs.lemmas.Bool.{cases_lt, cases_Bool, eqb-true, eq-eqb}
-use Rattle.std.proofs.lemmas.List.{get_or_default, get_or_past, length-map}
-use Rattle.std.proofs.lemmas.List.Folds.{Any-from_list_any, list_any-from_Any}
-use Rattle.std.proofs.lemmas.Slice.Zip.{AllZip-long}
+use Rattle.spa_model.proofs.Base.{◌≡◌, ◌⊎◌, inl, inr, ℕ, ◌<◌, ◌≤◌, true, eqb, List, [], ◌∷◌, length, get_or, map, None, Any, refl, sym, ◌∙◌, ap, subst, arith, AllZip, cases_lt, cases_Bool, eqb-true, eq-eqb, get_or_default, get_or_past, length-map, Any-from_list_any, AllZip-long, Text, Rows, HasNoneBefore, Repeats, NotApplicant, ApplicantMissing, Memory, at_place, map_at, Student, Project, Lecturer, Spa, place, IsOn, IsDistinct, IsLawful, capacity_of, limit_of, HasKey, keys_at, StandsFor, StandsStudent, StandsProject, StandsLecturer, student_keys, project_keys, lecturer_keys, AreNumbers, IsStudentOf, IsProjectOf, IsLecturerOf, choices_at, lecturer_at, row_at, rank_at, Finds, MissesBelow}
+use Rattle.std.specs.List.{list_any}
+use Rattle.std.proofs.lemmas.List.Folds.{list_any-from_Any}
 use Rattle.spa_rows.specs.Lines
-use Rattle.spa_rows.specs.Lines.{Text, Rows}
-use Rattle.spa_rows.specs.Faults.{HasNoneBefore, Repeats}
-use Rattle.spa_rows.specs.declared.faults.InstanceFault.TheVariants.{NotApplicant, ApplicantMissing, Memory}
-use Rattle.spa_rows.proofs.Lists.{at_place, map_at}
-use Rattle.spa_model.specs.declared.instance.Student.{Student}
-use Rattle.spa_model.specs.declared.instance.Project.{Project}
-use Rattle.spa_model.specs.declared.instance.Lecturer.{Lecturer}
-use Rattle.spa_model.specs.Spa.{Spa, place, IsOn, IsDistinct, IsLawful, capacity_of, limit_of}
-use Rattle.spa_model.specs.Built.{HasKey, keys_at, StandsFor, StandsStudent, StandsProject, StandsLecturer}
 use Rattle.spa_model.specs.inner.Inside.{spa_of, AreRanks, HaveRanks}
-use Rattle.spa_model.specs.inner.Numbers.{student_keys, project_keys, lecturer_keys, AreNumbers, IsStudentOf, IsProjectOf, IsLecturerOf, choices_at, lecturer_at, row_at, rank_at, Finds, MissesBelow}
 use Rattle.spa_model.proofs.Places.{get_or-place, place-get_or-le}
 use Rattle.spa_model.proofs.Keys.{one_number, key_number}
 use Rattle.spa_model.proofs.Zips.{zip_at, zip_maps, zip_weaker, zip_all}

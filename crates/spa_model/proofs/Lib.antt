@@ -1,3 +1,4 @@
+pub mod Base
 pub mod Places
 pub mod Counts
 pub mod Numbers

@@ -1,21 +1,9 @@
 -- Numbered lecturers and the lines that they come from say the same of who is missing on a list.
-use Rattle.std.proofs.Common.{◌≡◌, inl, inr, ℕ, ◌<◌, ◌≤◌, true, false, ltb, List, [], length, get_or, Some, None, Any, refl, sym, ◌∙◌, ap, arith}
-use Rattle.std.specs.List.{AllZip}
-use Rattle.std.proofs.lemmas.Bool.{cases_lt}
+use Rattle.spa_model.proofs.Base.{◌≡◌, inl, inr, ℕ, ◌<◌, ◌≤◌, true, false, List, [], length, get_or, Some, None, Any, refl, sym, ◌∙◌, ap, arith, AllZip, cases_lt, length-map, AllZip-long, Rows, HasFault, ApplicantMissing, at_place, Student, Project, Lecturer, place, IsOn, HasKey, student_keys, IsLecturerOf, choices_at, lecturer_at, row_at, rank_at, Finds, MissesBelow}
+use Rattle.std.proofs.Common.{ltb}
 use Rattle.std.proofs.lemmas.Bool.Decides.{nat_tests}
-use Rattle.std.proofs.lemmas.List.{length-map}
-use Rattle.std.proofs.lemmas.Slice.Zip.{AllZip-long}
 use Rattle.spa_rows.specs.Lines
-use Rattle.spa_rows.specs.Lines.{Rows}
-use Rattle.spa_rows.specs.Faults.{HasFault}
-use Rattle.spa_rows.specs.declared.faults.InstanceFault.TheVariants.{ApplicantMissing}
-use Rattle.spa_rows.proofs.Lists.{at_place}
-use Rattle.spa_model.specs.declared.instance.Student.{Student}
-use Rattle.spa_model.specs.declared.instance.Project.{Project}
-use Rattle.spa_model.specs.declared.instance.Lecturer.{Lecturer}
-use Rattle.spa_model.specs.Spa.{place, rank_in, IsOn}
-use Rattle.spa_model.specs.Built.{HasKey}
-use Rattle.spa_model.specs.inner.Numbers.{student_keys, IsLecturerOf, choices_at, lecturer_at, row_at, rank_at, Finds, MissesBelow}
+use Rattle.spa_model.specs.Spa.{rank_in}
 use Rattle.spa_model.proofs.Places.{get_or-place, place-get_or-le}
 use Rattle.spa_model.proofs.Keys.{one_number, key_number}
 use Rattle.spa_model.proofs.Zips.{zip_at}

@@ -1,19 +1,7 @@
 -- Numbered rows and the lines that they come from say the same of applicants.
-use Rattle.std.proofs.Common.{◌≡◌, ℕ, ◌<◌, List, [], length, get_or, Any, sym, ◌∙◌, ap, arith}
-use Rattle.std.specs.List.{AllZip}
-use Rattle.std.proofs.lemmas.List.{get_or_default, length-map}
-use Rattle.std.proofs.lemmas.Slice.Zip.{AllZip-long}
+use Rattle.spa_model.proofs.Base.{◌≡◌, ℕ, ◌<◌, List, [], length, get_or, Any, sym, ◌∙◌, ap, arith, AllZip, get_or_default, length-map, AllZip-long, Text, Rows, BadAt, HasFault, NotApplicant, at_place, Student, Project, Rise, HasKey, student_keys, project_keys, lecturer_keys, AreNumbers, IsStudentOf, IsProjectOf, choices_at, lecturer_at, Finds, IsApplicantOf}
 use Rattle.spa_rows.specs.Lines
-use Rattle.spa_rows.specs.Lines.{Text, Rows}
-use Rattle.spa_rows.specs.Least.{BadAt}
-use Rattle.spa_rows.specs.Faults.{FindsOne, IsApplicant, HasFault}
-use Rattle.spa_rows.specs.declared.faults.InstanceFault.TheVariants.{NotApplicant}
-use Rattle.spa_rows.proofs.Lists.{at_place}
-use Rattle.spa_model.specs.declared.instance.Student.{Student}
-use Rattle.spa_model.specs.declared.instance.Project.{Project}
-use Rattle.spa_model.specs.Spa.{Rise}
-use Rattle.spa_model.specs.Built.{HasKey}
-use Rattle.spa_model.specs.inner.Numbers.{student_keys, project_keys, lecturer_keys, AreNumbers, IsStudentOf, IsProjectOf, choices_at, lecturer_at, Finds, IsApplicantOf}
+use Rattle.spa_rows.specs.Faults.{FindsOne, IsApplicant}
 use Rattle.spa_model.proofs.Keys.{one_number, key_number}
 use Rattle.spa_model.proofs.Ranks.{numbers_below}
 use Rattle.spa_model.proofs.Zips.{zip_at}

@@ -1,18 +1,9 @@
 -- The number of a key, among keys that rise.
-use Rattle.std.proofs.Common.{◌≡◌, ℕ, zero, suc, ◌+◌, ◌<◌, ◌≤◌, inl, inr, true, false, List, [], ◌∷◌, map, length, get_or, refl, sym, ◌∙◌, ap, arith, Contains, Less, Equal, Greater, Ordering}
+use Rattle.spa_model.proofs.Base.{◌≡◌, ℕ, zero, suc, ◌+◌, ◌<◌, ◌≤◌, inl, inr, true, false, List, [], ◌∷◌, map, length, get_or, refl, sym, ◌∙◌, ap, arith, Contains, Less, Equal, Greater, Ordering, nat_cmp, is_lt, slice_cmp, bytes_eq, nat_list_cmp_total, length-map, get_or-map, bytes_eq-Decides, cases_lt, true≢false, Text, Rise, number_in}
 use Rattle.std.specs.List.Sorted.{IsSortedBy}
-use Rattle.std.specs.Ordering.{nat_cmp, is_lt, is_eq, ordering_reverse}
-use Rattle.std.specs.Cmp.Lexicographic.{slice_cmp}
-use Rattle.std.specs.Str.{bytes_eq}
-use Rattle.std.proofs.lemmas.Cmp.{nat_list_cmp_total}
-use Rattle.std.proofs.lemmas.List.{length-map, get_or-map}
+use Rattle.std.specs.Ordering.{is_eq, ordering_reverse}
 use Rattle.std.proofs.lemmas.List.Sums.{position_or_len_is, passes_at_first, fails_before_first}
-use Rattle.std.proofs.lemmas.Slice.Eq.{bytes_eq-Decides}
 use Rattle.std.proofs.lemmas.Map.Text.{is_eq-slice_cmp}
-use Rattle.std.proofs.lemmas.Bool.{cases_lt, true≢false}
-use Rattle.spa_rows.specs.Lines.{Text}
-use Rattle.spa_model.specs.Spa.{Rise}
-use Rattle.spa_model.specs.Pairs.{number_in}
 
 -- what holds of a row's key holds of the key at its place
 at_map : {X : Type 0} (key : X → Text) (rows : List X) (P : Text → Type 0) (k : ℕ) → k < length rows → ((d : X) → P (key (get_or rows k d))) → P (get_or (map key rows) k [])

@@ -1,22 +1,14 @@
 -- Of rows without a fault one instance alone is made.
-use Rattle.std.proofs.Common.{◌≡◌, ◌≢◌, inl, inr, ℕ, zero, suc, ◌<◌, ◌≤◌, Bool, true, false, List, [], ◌∷◌, map, length, get_or, All, Contains, refl, sym, subst, ◌∙◌, ap, arith}
+use Rattle.spa_model.proofs.Base.{◌≡◌, ◌≢◌, inl, inr, ℕ, zero, suc, ◌<◌, ◌≤◌, Bool, true, false, List, [], ◌∷◌, map, length, get_or, All, Contains, refl, sym, subst, ◌∙◌, ap, arith, bytes_eq, cases_lt, ext_get_or, get_or_default, get_or_past, get_or-take, length-map, length-take, IsDistinct-from_AllPairs, bytes_eq-Decides, Text, Rows, HasNoneBefore, KeyTwice, Memory, at_place, map_at, Spa, Rise, IsLawful, IsOn, place, choices_of, lecturer_of, capacity_of, limit_of, HasKey, keys_at, StandsFor, StandsStudent, StandsProject, StandsLecturer, number_in}
 use Rattle.std.specs.Prelude.{◌||◌, AllPairs}
 use Rattle.std.specs.List.{AllByRecursion, IsDistinct}
 use Rattle.std.specs.Set.{is_member}
-use Rattle.std.specs.Str.{bytes_eq}
-use Rattle.std.proofs.lemmas.Bool.{cases_lt}
 use Rattle.std.proofs.lemmas.Cmp.{nat_list_eq_equiv}
-use Rattle.std.proofs.lemmas.List.{ext_get_or, get_or_default, get_or_past, get_or-take, length-map, length-take}
 use Rattle.std.proofs.lemmas.Map.Keys.{IsDistinct-cons}
-use Rattle.std.proofs.lemmas.Map.Made.{IsDistinct-from_AllPairs, is_member-Decides, length-le_from_is_member}
-use Rattle.std.proofs.lemmas.Slice.Eq.{bytes_eq-Decides}
-use Rattle.spa_rows.specs.Lines.{Text, Lecturer, Project, Student, Rows}
-use Rattle.spa_rows.specs.Faults.{IsEarlierKey, HasNoneBefore}
-use Rattle.spa_rows.specs.declared.faults.InstanceFault.TheVariants.{KeyTwice, Memory}
-use Rattle.spa_rows.proofs.Lists.{at_place, map_at}
-use Rattle.spa_model.specs.Spa.{Spa, Rise, IsLawful, IsOn, place, choices_of, lecturer_of, capacity_of, ranking_of, limit_of}
-use Rattle.spa_model.specs.Built.{HasKey, keys_at, StandsFor, StandsStudent, StandsProject, StandsLecturer}
-use Rattle.spa_model.specs.Pairs.{number_in}
+use Rattle.std.proofs.lemmas.Map.Made.{is_member-Decides, length-le_from_is_member}
+use Rattle.spa_rows.specs.Lines.{Lecturer, Project, Student}
+use Rattle.spa_rows.specs.Faults.{IsEarlierKey}
+use Rattle.spa_model.specs.Spa.{ranking_of}
 use Rattle.spa_model.proofs.Keys.{one_number}
 use Rattle.spa_model.proofs.Numbers.{number_is, number_known}
 use Rattle.spa_model.proofs.Places.{place-get_or-le}

@@ -1,7 +1,6 @@
 -- At most one letter, and one best matching.
-use Rattle.std.proofs.Common.{◌≡◌, ◌∙◌, inl, inr, ℕ, List, Option, Some, None, refl, sym, ap, arith}
-use Rattle.std.proofs.lemmas.List.{ext_get_or}
-use Rattle.spa_model.specs.Spa.{Spa, Blocks, IsAsGood, IsBest, project_of}
+use Rattle.spa_model.proofs.Base.{◌≡◌, ◌∙◌, inl, inr, ℕ, List, Option, Some, None, refl, sym, ap, arith, ext_get_or, Spa, project_of}
+use Rattle.spa_model.specs.Spa.{Blocks, IsAsGood, IsBest}
 use Rattle.spa_model.specs.declared.letter.Letter.{Letter}
 use Rattle.spa_model.specs.declared.letter.Letter.TheVariants.{A, B, C}
 

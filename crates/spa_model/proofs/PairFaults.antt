@@ -1,17 +1,10 @@
 -- The faults of pairs, among the first rows.
-use Rattle.std.proofs.Common.{◌≡◌, ◌↔◌, inl, inr, ℕ, ◌+◌, ◌<◌, ◌≤◌, Bool, true, false, cond, eqb, List, [], ◌∷◌, ◌++◌, map, length, take, set, get_or, Option, Some, refl, sym, ◌∙◌, ap, arith, Contains, Any}
-use Rattle.std.specs.List.{count_by}
-use Rattle.std.proofs.lemmas.Bool.{cases_lt, cases_eq, eq-eqb, ne_eqb}
-use Rattle.std.proofs.lemmas.List.{get_or-map, get_or_default, get_or-take, length-map, length-take-le, length-set, get_or-set_same, get_or-set_other, take_more, take-map}
+use Rattle.spa_model.proofs.Base.{◌≡◌, ◌↔◌, inl, inr, ℕ, ◌+◌, ◌<◌, ◌≤◌, Bool, true, false, cond, eqb, List, [], ◌∷◌, ◌++◌, map, length, take, set, get_or, Option, Some, refl, sym, ◌∙◌, ap, arith, Contains, Any, count_by, cases_lt, cases_eq, eq-eqb, ne_eqb, get_or-map, get_or_default, get_or-take, length-map, length-take-le, length-set, get_or-set_same, get_or-set_other, take_more, count_by_more_no, sum_by-cons, Pair, IsLeastOf, BadBelow, MatchingFault, NoSuchStudent, NoSuchProject, NotAcceptable, StudentTwice, ProjectOver, LecturerOver, Spa, IsLawful, IsAcceptable, lecturer_of, capacity_of, limit_of, number_in, student_in, project_in, lecturer_in, HasNone}
+use Rattle.std.proofs.lemmas.List.{take-map}
 use Rattle.std.proofs.lemmas.List.Elements.{Contains-push, Contains-append_left, Contains-push_cases}
-use Rattle.std.proofs.lemmas.List.Sums.{count_by_more_yes, count_by_more_no, sum_by-cons}
-use Rattle.spa_rows.specs.Lines.{Pair}
-use Rattle.spa_rows.specs.Least.{IsLeastOf, BadBelow, least_row}
-use Rattle.spa_model.specs.declared.matching.MatchingFault.{MatchingFault}
-use Rattle.spa_model.specs.declared.matching.MatchingFault.TheVariants.{NoSuchStudent, NoSuchProject, NotAcceptable, StudentTwice, ProjectOver, LecturerOver, Memory}
-use Rattle.spa_model.specs.Spa.{Spa, IsLawful, IsAcceptable, lecturer_of, capacity_of, limit_of}
-use Rattle.spa_model.specs.Pairs.{number_in, student_in, project_in, lecturer_in}
-use Rattle.spa_model.specs.Assigned.{HasNone}
+use Rattle.std.proofs.lemmas.List.Sums.{count_by_more_yes}
+use Rattle.spa_rows.specs.Least.{least_row}
+use Rattle.spa_model.specs.declared.matching.MatchingFault.TheVariants.{Memory}
 use Rattle.spa_rows.proofs.LeastRow.{least_skip, least_take}
 use Rattle.spa_model.proofs.Numbers.{number_known, known_number, number_is}
 
@@ -58,17 +51,21 @@ pub good_pair : (i : Spa) (lines : List Pair) (fault : MatchingFault) → ((r : 
 good_pair i lines fault none n x h e bad = none x.row (n, x, h, h, e, refl, bad)
 
 -- where each text is a key, its number is that of a student
-pub student_there : (i : Spa) (lines : List Pair) → IsLawful i → HasNone i lines NoSuchStudent → (n : ℕ) (x : Pair) → n < length lines → get_or lines n x ≡ x → student_in i x < length i.choices
-student_there i lines lawful none n x h e = elim (cases_lt (student_in i x) (length i.choices)) [
-  | inl less ↦ less
-  | inr past ↦ absurd (good_pair i lines NoSuchStudent none n x h e (unknown_student i x lawful past))
-]
+pub student_there : (i : Spa) (lines : List Pair) (numbers : List ℕ) → IsLawful i → HasNone i lines NoSuchStudent → numbers ≡ map (student_in i) lines → (n : ℕ) (x : Pair) → n < length lines → get_or lines n x ≡ x → get_or numbers n 0 < length i.choices
+student_there i lines numbers lawful none is n x h e =
+    rw (number_at (student_in i) lines numbers n x is h e)
+    (elim (cases_lt (student_in i x) (length i.choices)) [
+      | inl less ↦ less
+      | inr past ↦ absurd (good_pair i lines NoSuchStudent none n x h e (unknown_student i x lawful past))
+    ])
 
-pub project_there : (i : Spa) (lines : List Pair) → IsLawful i → HasNone i lines NoSuchProject → (n : ℕ) (x : Pair) → n < length lines → get_or lines n x ≡ x → project_in i x < length i.lecturers
-project_there i lines lawful none n x h e = elim (cases_lt (project_in i x) (length i.lecturers)) [
-  | inl less ↦ less
-  | inr past ↦ absurd (good_pair i lines NoSuchProject none n x h e (unknown_project i x lawful past))
-]
+pub project_there : (i : Spa) (lines : List Pair) (numbers : List ℕ) → IsLawful i → HasNone i lines NoSuchProject → numbers ≡ map (project_in i) lines → (n : ℕ) (x : Pair) → n < length lines → get_or lines n x ≡ x → get_or numbers n 0 < length i.lecturers
+project_there i lines numbers lawful none is n x h e =
+    rw (number_at (project_in i) lines numbers n x is h e)
+    (elim (cases_lt (project_in i x) (length i.lecturers)) [
+      | inl less ↦ less
+      | inr past ↦ absurd (good_pair i lines NoSuchProject none n x h e (unknown_project i x lawful past))
+    ])
 
 -- who has the same number has the same key
 pub same_student : (i : Spa) (x y : Pair) → IsLawful i → student_in i x < length i.choices → student_in i y ≡ student_in i x → y.student ≡ x.student

@@ -1,9 +1,6 @@
 -- Lemmas on places in a list.
-use Rattle.std.proofs.Common.{◌≡◌, ◌≢◌, inl, inr, ℕ, zero, suc, ◌+◌, ◌<◌, ◌≤◌, Bool, true, false, eqb, cond, List, [], ◌∷◌, length, refl, arith, get_or}
-use Rattle.std.proofs.lemmas.Bool.{eqb-true, eq-eqb, cases_lt}
-use Rattle.std.specs.List.{AllPairs}
+use Rattle.spa_model.proofs.Base.{◌≡◌, ◌≢◌, inl, inr, ℕ, zero, suc, ◌+◌, ◌<◌, ◌≤◌, Bool, true, false, eqb, cond, List, [], ◌∷◌, length, refl, arith, get_or, eqb-true, eq-eqb, cases_lt, AllPairs, place}
 use Rattle.std.proofs.Math.Numerals.{one-add}
-use Rattle.spa_model.specs.Spa.{place}
 
 -- no place is past the end
 pub place-le-length : (xs : List ℕ) (a : ℕ) → place xs a ≤ length xs

@@ -1,18 +1,8 @@
 -- Lemmas on the table of places.
-use Rattle.std.proofs.Common.{◌≡◌, ◌≢◌, inl, inr, ℕ, ◌+◌, ◌<◌, ◌≤◌, true, eqb, List, [], length, length-set, get_or, set, Option, Some, None, All, sym, ◌∙◌, ap, subst, arith}
-use Rattle.std.specs.List.{AllPairs, Any}
-use Rattle.std.proofs.lemmas.Bool.{cases_lt, cases_eq, eqb-true}
+use Rattle.spa_model.proofs.Base.{◌≡◌, ◌≢◌, inl, inr, ℕ, ◌+◌, ◌<◌, ◌≤◌, true, eqb, List, [], length, length-set, get_or, set, Option, Some, None, All, sym, ◌∙◌, ap, subst, arith, AllPairs, cases_lt, cases_eq, eqb-true, get_or-set_same, get_or-set_other, get_or_default, get_or-take, length-take, Any-from_list_any, IsDistinct-from_AllPairs, AllZip-long, Text, Repeats, place, HasKey, AreNumbers}
+use Rattle.std.specs.List.{Any}
 use Rattle.std.proofs.lemmas.Bool.Decides.{Decides-eqb}
-use Rattle.std.proofs.lemmas.List.{get_or-set_same, get_or-set_other, get_or_default, get_or-take, length-take}
-use Rattle.std.proofs.lemmas.List.Folds.{Any-from_list_any}
 use Rattle.std.proofs.lemmas.Map.Steps.{length-le_from_distinct_below}
-use Rattle.std.proofs.lemmas.Map.Made.{IsDistinct-from_AllPairs}
-use Rattle.std.proofs.lemmas.Slice.Zip.{AllZip-long}
-use Rattle.spa_rows.specs.Lines.{Text}
-use Rattle.spa_rows.specs.Faults.{Repeats}
-use Rattle.spa_model.specs.Spa.{place}
-use Rattle.spa_model.specs.Built.{HasKey}
-use Rattle.spa_model.specs.inner.Numbers.{AreNumbers}
 use Rattle.spa_model.proofs.Places.{place-injective, place-get_or}
 use Rattle.spa_model.proofs.Zips.{zip_at, zip_all}
 

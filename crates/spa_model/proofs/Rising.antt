@@ -1,12 +1,6 @@
 -- When two lists of keys that rise are one.
-use Rattle.std.proofs.Common.{◌≡◌, inl, inr, ℕ, zero, suc, ◌+◌, ◌-◌, ◌<◌, ◌≤◌, List, [], length, get_or, Less, Equal, Greater, refl, sym, ◌∙◌, ap, arith}
-use Rattle.std.specs.Ordering.{nat_cmp}
-use Rattle.std.specs.Cmp.Lexicographic.{slice_cmp}
-use Rattle.std.proofs.lemmas.Cmp.{nat_list_cmp_total, tied_itself}
-use Rattle.std.proofs.lemmas.Bool.{cases_lt}
-use Rattle.std.proofs.lemmas.List.{ext_get_or}
-use Rattle.spa_rows.specs.Lines.{Text}
-use Rattle.spa_model.specs.Spa.{Rise}
+use Rattle.spa_model.proofs.Base.{◌≡◌, inl, inr, ℕ, zero, suc, ◌+◌, ◌<◌, ◌≤◌, List, [], length, get_or, Less, Equal, Greater, refl, sym, ◌∙◌, ap, arith, nat_cmp, slice_cmp, nat_list_cmp_total, tied_itself, cases_lt, ext_get_or, Text, Rise}
+use Rattle.std.proofs.Common.{◌-◌}
 
 never_both : (a b : Text) → slice_cmp nat_cmp a b ≡ Less → slice_cmp nat_cmp b a ≡ Less → ⊥
 never_both a b h g = let turned : slice_cmp nat_cmp b a ≡ Greater = rw (nat_list_cmp_total.antisymm b a, h) refl in cc

@@ -1,13 +1,9 @@
 -- What is said of sorted rows holds of the rows.
-use Rattle.std.proofs.Common.{ℕ, ◌∙◌, arith}
+use Rattle.spa_model.proofs.Base.{ℕ, ◌∙◌, arith, Rows, HasNoneBefore, IsRefusal, TooMany, BadKey, KeyTwice, BadCapacity, NoSuchLecturer, RepeatInList, ListTooLong, NotApplicant, ApplicantMissing, Memory, SameLines, same_lines_sym, none_before_carry, Spa, StandsFor, StandsStudent, StandsProject, StandsLecturer}
 use Rattle.std.proofs.lemmas.List.Sorted.{All-permutation, IsPermutation-sym, length_permutation}
-use Rattle.spa_rows.specs.Lines.{Rows}
-use Rattle.spa_rows.specs.Faults.{HasNoneBefore, IsRefusal}
 use Rattle.spa_rows.specs.declared.faults.InstanceFault.{InstanceFault}
-use Rattle.spa_rows.specs.declared.faults.InstanceFault.TheVariants.{TooMany, BadKey, KeyTwice, BadCapacity, NoSuchLecturer, NoSuchProject, RepeatInList, ListTooLong, NotApplicant, ApplicantMissing, Memory}
-use Rattle.spa_rows.proofs.Carry.{SameLines, same_lines_sym, none_before_carry, first_fault_carry}
-use Rattle.spa_model.specs.Spa.{Spa}
-use Rattle.spa_model.specs.Built.{StandsFor, StandsStudent, StandsProject, StandsLecturer}
+use Rattle.spa_rows.specs.declared.faults.InstanceFault.TheVariants.{NoSuchProject}
+use Rattle.spa_rows.proofs.Carry.{first_fault_carry}
 
 -- the sorted rows are refused as the rows are
 pub refusal_of_rows : (rows sorted : Rows) → SameLines rows sorted → HasNoneBefore rows NoSuchLecturer → (fault : InstanceFault) (r : ℕ) → IsRefusal sorted fault r → IsRefusal rows fault r

@@ -1,16 +1,6 @@
 -- What one stage of building hands to the next.
-use Rattle.std.proofs.Common.{◌≡◌, ℕ, ◌<◌, List, length, get_or, Option, All, refl, sym, ◌∙◌, subst, arith}
-use Rattle.std.specs.List.{AllZip}
-use Rattle.std.proofs.lemmas.List.{get_or_default, length-map}
+use Rattle.spa_model.proofs.Base.{◌≡◌, ℕ, ◌<◌, List, length, get_or, Option, All, refl, sym, ◌∙◌, subst, arith, AllZip, get_or_default, length-map, Rows, IsLeastOf, HasFault, HasNoneBefore, NamesNone, NotApplicant, ApplicantMissing, Student, Project, Lecturer, student_keys, project_keys, lecturer_keys, IsStudentOf, IsProjectOf, IsLecturerOf, MissesBelow}
 use Rattle.spa_rows.specs.Lines
-use Rattle.spa_rows.specs.Lines.{Rows}
-use Rattle.spa_rows.specs.Least.{IsLeastOf}
-use Rattle.spa_rows.specs.Faults.{HasFault, HasNoneBefore, NamesNone}
-use Rattle.spa_rows.specs.declared.faults.InstanceFault.TheVariants.{NotApplicant, ApplicantMissing}
-use Rattle.spa_model.specs.declared.instance.Student.{Student}
-use Rattle.spa_model.specs.declared.instance.Project.{Project}
-use Rattle.spa_model.specs.declared.instance.Lecturer.{Lecturer}
-use Rattle.spa_model.specs.inner.Numbers.{student_keys, project_keys, lecturer_keys, IsStudentOf, IsProjectOf, IsLecturerOf, MissesBelow}
 use Rattle.spa_model.proofs.Keys.{is_key_of}
 use Rattle.spa_model.proofs.Zips.{zip_all}
 use Rattle.spa_model.proofs.Ranks.{numbers_below}

@@ -1,8 +1,6 @@
 -- Lemmas on two lists, place by place.
-use Rattle.std.proofs.Common.{◌≡◌, ℕ, zero, suc, ◌+◌, ◌<◌, List, [], ◌∷◌, ◌++◌, length, get_or, take, map, refl, sym, ◌∙◌, ap, subst, arith}
-use Rattle.std.specs.List.{Any, AllZip}
-use Rattle.spa_rows.proofs.Lists.{at_place, map_at}
-use Rattle.std.proofs.lemmas.List.{take_more, get_or-map, length-map}
+use Rattle.spa_model.proofs.Base.{◌≡◌, ℕ, zero, suc, ◌+◌, ◌<◌, List, [], ◌∷◌, ◌++◌, length, get_or, take, map, refl, sym, ◌∙◌, ap, subst, arith, AllZip, at_place, map_at, take_more, get_or-map, length-map}
+use Rattle.std.specs.List.{Any}
 use Rattle.std.proofs.lemmas.Slice.Zip.{all_zipped_more}
 
 -- one more of each

@@ -13,7 +13,8 @@ HasNone i lines fault = (r : ℕ) → HasPairFault i lines fault r → ⊥
 abbrev pub AreSound : Spa → List Pair → Type 0
 AreSound i lines = (fault : MatchingFault) → HasNone i lines fault
 
--- of n students, those on the list have the project at the same place of the other list, and nobody else has one
+-- of n students, those on the list have the project at the same place of the other list, and nobody
+-- else has one
 pub record AreAssigned (n : ℕ) (students projects : List ℕ) (m : List (Option ℕ)) : Type 0 where
   pub count : length m ≡ n
   pub each : (j : ℕ) → j < length students → project_of m (slice_index_or students j 0) ≡ Some (slice_index_or projects j 0)

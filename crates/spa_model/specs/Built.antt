@@ -21,7 +21,8 @@ StandsProject i x =
 abbrev pub StandsLecturer : Spa → Lecturer → Type 0
 StandsLecturer i x = (l : ℕ) × HasKey i.lecturer_keys l x.key × (limit_of i l ≡ x.capacity) × (keys_at i.student_keys (ranking_of i l) ≡ x.list)
 
--- the instance has exactly the lines of the rows (its keys rise, as in every lawful instance, so it is the only one)
+-- the instance has exactly the lines of the rows (its keys rise, as in every lawful instance, so it
+-- is the only one)
 pub record StandsFor (rows : Rows) (i : Spa) : Type 0 where
   pub students : All (StandsStudent i) rows.students
   pub student_count : length i.student_keys ≡ length rows.students

@@ -3,7 +3,6 @@ pub use Rattle.spa_rows.specs.Lines
 pub use Rattle.spa_rows.specs.Least
 pub use Rattle.spa_rows.specs.Faults
 pub mod Spa
-pub mod Shown
 pub mod Built
 pub mod Pairs
 pub mod Assigned

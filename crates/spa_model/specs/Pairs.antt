@@ -49,7 +49,8 @@ number_of_pair_fault Memory = 7
 abbrev pub HasNoPairFaultBefore : Spa → List Pair → MatchingFault → Type 0
 HasNoPairFaultBefore i lines fault = (f : MatchingFault) → number_of_pair_fault f < number_of_pair_fault fault → (q : ℕ) → HasPairFault i lines f q → ⊥
 
--- what is answered: the fault of the least number, at the least row that has it; memory needs no cause
+-- what is answered: the fault of the least number, at the least row that has it; memory needs no
+-- cause
 pub record IsFirstPairFault (i : Spa) (lines : List Pair) (fault : MatchingFault) (r : ℕ) : Type 0 where
   pub here : HasPairFault i lines fault r
   pub least : (q : ℕ) → HasPairFault i lines fault q → r ≤ q

@@ -1,7 +1,6 @@
--- Student-project allocation with lecturer preferences over students: instances, matchings, blocking pairs.
--- Students, projects and lecturers are numbers from 0, in the order of their keys.
-use Rattle.std.specs.Prelude.{◌≡◌, ◌≢◌, ℕ, ◌+◌, ◌<◌, ◌≤◌, ◌==◌, nat_lt, ◌⊎◌, ⊤, Bool, false, if◌then◌else◌, List, [], ◌∷◌, length, Option, Some, None}
-use Rattle.std.specs.Prelude.{count_by, slice_index_or, AllPairs}
+-- Student-project allocation with lecturer preferences over students: instances, matchings,
+-- blocking pairs. Students, projects and lecturers are numbers from 0, in the order of their keys.
+use Rattle.std.specs.Prelude.{◌≡◌, ◌≢◌, ℕ, ◌+◌, ◌<◌, ◌≤◌, ◌==◌, nat_lt, ◌⊎◌, ⊤, Bool, false, if◌then◌else◌, List, [], ◌∷◌, length, Option, Some, None, count_by, slice_index_or, AllPairs, codes}
 use Rattle.std.specs.declared.cmp.Ordering.TheVariants.{Less}
 use Rattle.std.specs.Ordering.{nat_cmp}
 use Rattle.std.specs.Cmp.Lexicographic.{slice_cmp}
@@ -104,8 +103,9 @@ SomeWorseAt i m p s = (t : ℕ) × (project_of m t ≡ Some p) × IsBefore (rank
 abbrev pub SomeWorseWith : Spa → List (Option ℕ) → ℕ → ℕ → Type 0
 SomeWorseWith i m l s = (t : ℕ) × IsWith i m l t × IsBefore (ranking_of i l) s t
 
--- the pair (s, p) blocks the matching: with room at p and at its lecturer (a); with room at p and a full lecturer who
--- has s already or some worse student (b); or at a full p with some worse student (c)
+-- the pair (s, p) blocks the matching: with room at p and at its lecturer (a); with room at p and a
+-- full lecturer who has s already or some worse student (b); or at a full p with some worse student
+-- (c)
 abbrev pub Blocks : Spa → List (Option ℕ) → ℕ → ℕ → Letter → Type 0
 Blocks i m s p A = Wants i m s p × (at_project m p < capacity_of i p) × (at_lecturer i m (lecturer_of i p) < limit_of i (lecturer_of i p))
 Blocks i m s p B =
@@ -137,8 +137,9 @@ Rise keys = AllPairs (λ a b. slice_cmp nat_cmp a b ≡ Less) keys
 abbrev pub IsDistinct : List ℕ → Type 0
 IsDistinct list = AllPairs (λ a b. a ≢ b) list
 
--- what every instance that was built is: keys rise; each project is offered by one known lecturer; a student's list
--- holds known projects, none twice; a lecturer's list holds exactly the students who list a project of the lecturer
+-- what every instance that was built is: keys rise; each project is offered by one known lecturer;
+-- a student's list holds known projects, none twice; a lecturer's list holds exactly the students
+-- who list a project of the lecturer
 pub record IsLawful (i : Spa) : Type 0 where
   pub student_rows : length i.student_keys ≡ length i.choices
   pub project_key_rows : length i.project_keys ≡ length i.lecturers
@@ -160,3 +161,9 @@ pub record IsLawful (i : Spa) : Type 0 where
   pub student_count : length i.choices ≤ 2000
   pub project_count : length i.lecturers ≤ 1000
   pub lecturer_count : length i.rankings ≤ 300
+
+-- how a letter is shown: as a small letter
+abbrev pub text_of : Letter → List ℕ
+text_of A = codes "a"
+text_of B = codes "b"
+text_of C = codes "c"

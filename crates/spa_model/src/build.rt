@@ -30,9 +30,11 @@ fn instance_of(
     requires lecturers { IsSortedByKey (λ x. x.key) (slice_cmp nat_cmp) lecturers.now }
     requires projects { IsSortedByKey (λ x. x.key) (slice_cmp nat_cmp) projects.now }
     requires students { IsSortedByKey (λ x. x.key) (slice_cmp nat_cmp) students.now }
-    requires faultless { HasNoneBefore (rows_of lecturers.now projects.now students.now) NotApplicant }
+    requires faultless { HasNoneBefore
+        (rows_of lecturers.now projects.now students.now) NotApplicant }
     ensures ok { IfOk result (λ i. StandsFor (rows_of lecturers.now projects.now students.now) i) }
-    ensures sound { OnOk result (HasNoneBefore (rows_of lecturers.now projects.now students.now) Memory) }
+    ensures sound { OnOk result
+        (HasNoneBefore (rows_of lecturers.now projects.now students.now) Memory) }
     ensures err { IfErr result
         (λ e. IsRefusal (rows_of lecturers.now projects.now students.now) e.fault e.row) }
 {

@@ -67,6 +67,13 @@ impl Instance {
         self.students.len()
     }
 
+    /// Brings the law of an instance into a proof, and does nothing else.
+    pub fn lawful(&self)
+        ensures { IsLawful self.now }
+    {
+        self.students();
+    }
+
     /// How many projects there are.
     pub fn projects(&self) -> usize
         ensures { result ≡ length self.now.lecturers }
@@ -221,7 +228,7 @@ impl Instance {
         ensures acceptable { IfSome result (λ p. IsAcceptable self.now student p) }
         ensures in_range { IfSome result (λ p. p < length self.now.lecturers) }
     {
-        let _lawful = &self.students;
+        self.lawful();
         matching.project(student)
     }
 

@@ -15,7 +15,7 @@ pub enum Letter {
 
 impl fmt::Display for Letter {
     ghost use Rattle.std.specs.Prelude.{Some};
-    ghost use Rattle.spa_model.specs.Shown.{text_of};
+    ghost use Rattle.spa_model.specs.Spa.{text_of};
 
     ghost output = { λ x. Some (text_of x) };
 

@@ -77,7 +77,7 @@ impl Matching {
         ensures sound { OnOk result (AreSound instance.now pairs.items) }
         ensures err { IfErr result (λ e. IsPairRefusal instance.now pairs.items e.fault e.row) }
     {
-        let _lawful = instance.students();
+        instance.lawful();
         let lines = pairs.as_slice();
         let students = student_numbers(alloc, instance, lines)?;
         let projects = project_numbers(alloc, instance, lines)?;

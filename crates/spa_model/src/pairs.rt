@@ -70,7 +70,7 @@ fn no_such_project(instance: &Instance, lines: &[PairLine], projects: &[usize]) 
     requires { projects.now ≡ map (project_in instance.now) lines.now }
     ensures { IsLeastOf (HasPairFault instance.now lines.now MatchingFault.NoSuchProject) result }
 {
-    let _lawful = instance.students();
+    instance.lawful();
     let mut best = None;
     for (j, line) in lines.iter().enumerate() {
         if projects[j] >= instance.projects() {
@@ -92,7 +92,7 @@ fn not_acceptable(
     requires known { HasNone instance.now lines.now MatchingFault.NoSuchStudent }
     ensures { IsLeastOf (HasPairFault instance.now lines.now MatchingFault.NotAcceptable) result }
 {
-    let _lawful = instance.students();
+    instance.lawful();
     let mut best = None;
     for (j, line) in lines.iter().enumerate() {
         if !is_on(instance.choices(students[j]), projects[j]) {
@@ -111,7 +111,8 @@ fn student_twice(
 ) -> Result<Option<u32>, AllocError>
     requires students { students.now ≡ map (student_in instance.now) lines.now }
     requires known { HasNone instance.now lines.now MatchingFault.NoSuchStudent }
-    ensures { IfOk result (IsLeastOf (HasPairFault instance.now lines.now MatchingFault.StudentTwice)) }
+    ensures { IfOk result
+        (IsLeastOf (HasPairFault instance.now lines.now MatchingFault.StudentTwice)) }
 {
     let mut seen = vec![in alloc; false; instance.students()]?;
     let mut best = None;
@@ -134,9 +135,10 @@ fn project_over(
 ) -> Result<Option<u32>, AllocError>
     requires projects { projects.now ≡ map (project_in instance.now) lines.now }
     requires known { HasNone instance.now lines.now MatchingFault.NoSuchProject }
-    ensures { IfOk result (IsLeastOf (HasPairFault instance.now lines.now MatchingFault.ProjectOver)) }
+    ensures { IfOk result
+        (IsLeastOf (HasPairFault instance.now lines.now MatchingFault.ProjectOver)) }
 {
-    let _lawful = instance.students();
+    instance.lawful();
     let mut counts = vec![in alloc; 0; instance.projects()]?;
     let mut best = None;
     for (j, line) in lines.iter().enumerate() {
@@ -158,9 +160,10 @@ fn lecturer_over(
 ) -> Result<Option<u32>, AllocError>
     requires projects { projects.now ≡ map (project_in instance.now) lines.now }
     requires known { HasNone instance.now lines.now MatchingFault.NoSuchProject }
-    ensures { IfOk result (IsLeastOf (HasPairFault instance.now lines.now MatchingFault.LecturerOver)) }
+    ensures { IfOk result
+        (IsLeastOf (HasPairFault instance.now lines.now MatchingFault.LecturerOver)) }
 {
-    let _lawful = instance.students();
+    instance.lawful();
     let mut counts = vec![in alloc; 0; instance.lecturers()]?;
     let mut best = None;
     for (j, line) in lines.iter().enumerate() {

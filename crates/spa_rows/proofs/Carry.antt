@@ -1,20 +1,16 @@
 -- Faults that do not depend on the order of the lines: rows have them exactly where a permutation of the rows has them.
-use Rattle.std.proofs.Common.{◌≡◌, ◌≢◌, ◌⊎◌, inl, inr, ℕ, ◌<◌, false, List, length, map, take, get_or, refl, sym, ◌∙◌, ap, subst, arith}
-use Rattle.std.proofs.lemmas.Bool.{false≢true, false_from_ne_true, cases_eq}
+use Rattle.spa_rows.proofs.Base.{◌≡◌, ◌⊎◌, inl, inr, ℕ, ◌<◌, false, List, length, map, take, get_or, refl, sym, ◌∙◌, ap, subst, arith, false≢true, bytes_eq-Decides, Any, length-map, Text, Rows, BadAt, HasFault, HasNoneBefore, IsFirstFault, IsBadCapacity, IsEarlierKey, IsKeyOf, NamesNone, Repeats, number_of, InstanceFault, TooMany, BadKey, KeyTwice, BadCapacity, NoSuchLecturer, NoSuchProject, RepeatInList, ListTooLong, NotApplicant, ApplicantMissing, Memory, is_key}
+use Rattle.std.proofs.Common.{◌≢◌}
+use Rattle.std.proofs.lemmas.Bool.{false_from_ne_true, cases_eq}
 use Rattle.std.proofs.lemmas.Cmp.{nat_list_eq_equiv}
-use Rattle.std.proofs.lemmas.Slice.Eq.{bytes_eq-Decides}
-use Rattle.std.specs.Prelude.{Any, IsPermutation}
+use Rattle.std.specs.Prelude.{IsPermutation}
 use Rattle.std.specs.List.{IsDistinct}
 use Rattle.std.specs.Str.{bytes_eq}
-use Rattle.std.proofs.lemmas.List.{length-map, length-take, get_or-take}
+use Rattle.std.proofs.lemmas.List.{length-take, get_or-take}
 use Rattle.std.proofs.lemmas.List.Sorted.{IsPermutation-sym, IsPermutation-map, Contains-permutation, length_permutation}
 use Rattle.std.proofs.lemmas.Map.Keys.{IsDistinct-from_apart, IsDistinct-IsPermutation, apart_from_distinct}
-use Rattle.spa_rows.specs.Lines.{Text, Rows, Lecturer, Project, Student}
-use Rattle.spa_rows.specs.Least.{BadAt}
-use Rattle.spa_rows.specs.Faults.{HasFault, HasNoneBefore, IsFirstFault, IsBadCapacity, IsEarlierKey, IsKeyOf, NamesNone, Repeats, IsOffered, FindsOne, IsApplicant, MissesOne, number_of}
-use Rattle.spa_rows.specs.declared.faults.InstanceFault.{InstanceFault}
-use Rattle.spa_rows.specs.declared.faults.InstanceFault.TheVariants.{TooMany, BadKey, KeyTwice, BadCapacity, NoSuchLecturer, NoSuchProject, RepeatInList, ListTooLong, NotApplicant, ApplicantMissing, Memory}
-use Rattle.spa_rows.specs.Form.{is_key}
+use Rattle.spa_rows.specs.Lines.{Lecturer, Project, Student}
+use Rattle.spa_rows.specs.Faults.{IsOffered, FindsOne, IsApplicant, MissesOne}
 use Rattle.spa_rows.proofs.Lists.{at_place, map_at}
 use Rattle.spa_rows.proofs.FirstFault.{same_number}
 

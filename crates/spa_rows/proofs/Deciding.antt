@@ -1,8 +1,6 @@
 -- Tests and what they say.
-use Rattle.std.proofs.Common.{◌≡◌, ℕ, ◌<◌, arith, Bool, true, false, IsTrue, ◌↔◌, refl, sym}
-use Rattle.std.specs.Prelude.{not, nat_lt}
-use Rattle.std.proofs.lemmas.Bool.{false≢true}
-use Rattle.std.proofs.lemmas.Bool.Decides.{nat_tests}
+use Rattle.spa_rows.proofs.Base.{◌≡◌, ℕ, ◌<◌, arith, Bool, true, false, IsTrue, ◌↔◌, refl, sym, not, false≢true, nat_tests}
+use Rattle.std.specs.Prelude.{nat_lt}
 
 -- a test that fails says that it does not hold
 pub not_iff : (b : Bool) (P : Type 0) → (IsTrue b ↔ P) → (IsTrue (not b) ↔ (P → ⊥))

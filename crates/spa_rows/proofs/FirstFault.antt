@@ -1,13 +1,8 @@
 -- The faults one after another: what a refusal says, and what is known once there is none.
-use Rattle.std.proofs.Common.{◌≡◌, inl, inr, ℕ, ◌+◌, ◌<◌, Option, Some, None, Result, Ok, Err, IsOk, IsErrAnd, OnOk, IfErr, MatchOption, refl, sym, ◌∙◌, ap, subst, arith}
-use Rattle.std.specs.Prelude.{if◌then◌else◌, ◌==◌}
-use Rattle.std.proofs.lemmas.Bool.{cases_lt, false≢true}
-use Rattle.spa_rows.specs.Lines.{Rows}
-use Rattle.spa_rows.specs.Least.{IsLeastOf}
-use Rattle.spa_rows.specs.Faults.{HasFault, HasNoneBefore, IsFirstFault, IsRefusal, number_of}
+use Rattle.spa_rows.proofs.Base.{◌≡◌, inl, inr, ℕ, ◌+◌, ◌<◌, Option, Some, None, Ok, Err, refl, sym, ◌∙◌, ap, subst, arith, if◌then◌else◌, cases_lt, false≢true, Rows, IsLeastOf, HasFault, HasNoneBefore, IsFirstFault, IsRefusal, number_of, InstanceFault, TooMany, BadKey, KeyTwice, BadCapacity, NoSuchLecturer, NoSuchProject, RepeatInList, ListTooLong, NotApplicant, ApplicantMissing, Memory}
+use Rattle.std.proofs.Common.{Result, IsOk, IsErrAnd, OnOk, IfErr, MatchOption}
+use Rattle.std.specs.Prelude.{◌==◌}
 use Rattle.spa_rows.specs.declared.faults.BadInstance.{BadInstance}
-use Rattle.spa_rows.specs.declared.faults.InstanceFault.{InstanceFault}
-use Rattle.spa_rows.specs.declared.faults.InstanceFault.TheVariants.{TooMany, BadKey, KeyTwice, BadCapacity, NoSuchLecturer, NoSuchProject, RepeatInList, ListTooLong, NotApplicant, ApplicantMissing, Memory}
 
 fault_at : ℕ → InstanceFault
 fault_at n = if n == 1 then TooMany else (if n == 2 then BadKey else (if n == 3 then KeyTwice else (if n == 4 then BadCapacity else (if n == 5 then NoSuchLecturer else (if n == 6 then NoSuchProject else (if n == 7 then RepeatInList else (if n == 8 then ListTooLong else (if n == 9 then NotApplicant else (if n == 10 then ApplicantMissing else Memory)))))))))

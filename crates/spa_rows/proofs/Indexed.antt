@@ -1,14 +1,9 @@
 -- An index of the first lines of a list.
-use Rattle.std.proofs.Common.{◌≡◌, inl, inr, ℕ, ◌+◌, ◌<◌, Bool, true, false, cond, IsTrue, ◌↔◌, List, length, get_or, refl, Bor, Option, Some, None, sym, ◌∙◌, ap, subst, arith}
-use Rattle.std.specs.Prelude.{Any, is_some, IfSome, IfNone}
+use Rattle.spa_rows.proofs.Base.{◌≡◌, inl, inr, ℕ, ◌+◌, ◌<◌, Bool, true, false, cond, IsTrue, ◌↔◌, List, length, get_or, refl, Bor, Option, Some, None, sym, ◌∙◌, ap, subst, arith, Any, false≢true, get_or_default, bytes_eq-Decides, Text, IsKeyOf, IsIndexOf, text_eq}
+use Rattle.std.specs.Prelude.{is_some, IfSome, IfNone}
 use Rattle.std.specs.HashMap as hash
 use Rattle.std.specs.HashMap.{HashMap}
-use Rattle.std.proofs.lemmas.Bool.{false≢true}
-use Rattle.std.proofs.lemmas.List.{get_or_default}
-use Rattle.std.proofs.lemmas.Slice.Eq.{bytes_eq-Decides}
-use Rattle.spa_rows.specs.Lines.{Text}
-use Rattle.spa_rows.specs.Faults.{IsKeyOf}
-use Rattle.spa_rows.specs.inner.Index.{IsIndexOf, HasPlace, text_eq}
+use Rattle.spa_rows.specs.inner.Index.{HasPlace}
 use Rattle.std.proofs.Math.Seq.{take-length}
 use Rattle.spa_rows.proofs.Lists.{at_place}
 use Rattle.spa_rows.proofs.Seen.{more}

@@ -1,13 +1,9 @@
 -- The least row so far.
-use Rattle.std.proofs.Common.{◌≡◌, ◌⊎◌, inl, inr, ℕ, ◌+◌, ◌<◌, min, List, length, get_or, Option, Some, None, Bool, true, false, IsTrue, ◌↔◌, if◌then◌else◌, refl, sym, ◌∙◌, ap, subst, arith}
-use Rattle.std.proofs.lemmas.List.{get_or_default}
-use Rattle.std.proofs.lemmas.Bool.{cases_lt, false≢true}
-use Rattle.spa_rows.specs.Least.{IsLeastOf, BadAt, BadBelow, least_row, lesser_row}
+use Rattle.spa_rows.proofs.Base.{◌≡◌, ◌⊎◌, inl, inr, ℕ, ◌+◌, ◌<◌, List, length, get_or, Option, Some, None, Bool, true, false, IsTrue, ◌↔◌, if◌then◌else◌, refl, sym, ◌∙◌, ap, subst, arith, get_or_default, cases_lt, false≢true, IsLeastOf, BadAt, BadBelow}
+use Rattle.std.proofs.Common.{min}
+use Rattle.spa_rows.specs.Least.{least_row, lesser_row}
 
 module _ {X : Type 0} (lines : List X) (row : X → ℕ) (Bad : ℕ → X → Type 0) where
-  pub none_bad : IsLeastOf (BadBelow lines row Bad 0) None
-  none_bad r bad = absurd (omega (arith, bad.2))
-
   -- who stands at a place stands there alone
   one_at : (n : ℕ) (x y : X) → n < length lines → get_or lines n x ≡ x → get_or lines n y ≡ y → y ≡ x
   one_at n x y h e f = sym f ∙ get_or_default lines n y x h ∙ e

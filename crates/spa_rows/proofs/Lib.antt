@@ -1,3 +1,4 @@
+pub mod Base
 pub mod Texts
 pub mod LeastRow
 pub mod Deciding

@@ -1,22 +1,16 @@
 -- A set that holds the texts of the first lines of a list.
-use Rattle.std.proofs.Common.{◌≡◌, ◌⊎◌, inl, inr, ℕ, zero, suc, ◌+◌, ◌<◌, Bool, true, false, cond, IsTrue, ◌↔◌, List, [], ◌∷◌, ◌++◌, length, take, get_or, Bor, Ordering, BTreeSet, refl, sym, ◌∙◌, ap, arith}
-use Rattle.std.specs.Prelude.{not, Any}
-use Rattle.std.specs.Ordering.{nat_cmp, is_eq}
+use Rattle.spa_rows.proofs.Base.{◌≡◌, ◌⊎◌, inl, inr, ℕ, zero, suc, ◌+◌, ◌<◌, Bool, true, false, cond, IsTrue, ◌↔◌, List, [], ◌∷◌, length, take, get_or, Bor, refl, sym, ◌∙◌, ap, arith, not, Any, nat_cmp, slice_cmp, false≢true, nat_list_cmp_total, bytes_eq-Decides, Text, IsEarlierKey, text_eq}
+use Rattle.std.proofs.Common.{◌++◌, Ordering, BTreeSet}
+use Rattle.std.specs.Ordering.{is_eq}
 use Rattle.std.specs.BTreeSet as tree
 use Rattle.std.specs.HashSet as hash
 use Rattle.std.specs.HashSet.{HashSet}
 use Rattle.std.specs.Cmp.{Equal-is}
-use Rattle.std.specs.Cmp.Lexicographic.{slice_cmp}
 use Rattle.std.proofs.Math.Bool.{not-not}
-use Rattle.std.proofs.lemmas.Bool.{false≢true}
 use Rattle.std.proofs.lemmas.List.{take_more, get_or_append_left, length-append}
 use Rattle.std.proofs.lemmas.List.Quantifiers.{Any-push}
-use Rattle.std.proofs.lemmas.Cmp.{nat_list_cmp_total, tied_itself}
+use Rattle.std.proofs.lemmas.Cmp.{tied_itself}
 use Rattle.std.proofs.lemmas.Map.Lookups.{exact_bytes}
-use Rattle.std.proofs.lemmas.Slice.Eq.{bytes_eq-Decides}
-use Rattle.spa_rows.specs.Lines.{Text}
-use Rattle.spa_rows.specs.Faults.{IsEarlierKey}
-use Rattle.spa_rows.specs.inner.Index.{text_eq}
 
 -- the order of slices
 abbrev pub text_cmp : Bor Text → Bor Text → Ordering

@@ -1,4 +1,5 @@
--- What can be wrong with the rows of an instance, fault by fault: `HasFault rows fault r` says that the row r has it.
+-- What can be wrong with the rows of an instance, fault by fault: `HasFault rows fault r` says that
+-- the row r has it.
 use Rattle.std.specs.Prelude.{◌≡◌, ◌⊎◌, ℕ, ◌<◌, ◌≤◌, false, List, Any, length, slice_index_or, take}
 use Rattle.spa_rows.specs.Form.{is_key}
 use Rattle.spa_rows.specs.Lines.{Text, Lecturer, Project, Student, Rows}
@@ -92,7 +93,8 @@ number_of Memory = 11
 abbrev pub HasNoneBefore : Rows → InstanceFault → Type 0
 HasNoneBefore rows fault = (f : InstanceFault) → number_of f < number_of fault → (q : ℕ) → HasFault rows f q → ⊥
 
--- what is answered: the fault of the least number, at the least row that has it; memory needs no cause
+-- what is answered: the fault of the least number, at the least row that has it; memory needs no
+-- cause
 pub record IsFirstFault (rows : Rows) (fault : InstanceFault) (r : ℕ) : Type 0 where
   pub here : HasFault rows fault r
   pub least : (q : ℕ) → HasFault rows fault q → r ≤ q

@@ -17,8 +17,12 @@ impl Model for LecturerLine {
 
     ghost Value = { Lecturer };
 
-    ghost view = { λ x. record { row = x.row; key = x.key.items; capacity = x.capacity; list = map
-        (λ text. text.items) x.list.items } };
+    ghost view = { λ x. record {
+      row = x.row;
+      key = x.key.items;
+      capacity = x.capacity;
+      list = map (λ text. text.items) x.list.items;
+    } };
 }
 
 /// A project, and the lecturer who offers it.
@@ -35,7 +39,12 @@ impl Model for ProjectLine {
 
     ghost Value = { Project };
 
-    ghost view = { λ x. record { row = x.row; key = x.key.items; capacity = x.capacity; lecturer = x.lecturer.items } };
+    ghost view = { λ x. record {
+      row = x.row;
+      key = x.key.items;
+      capacity = x.capacity;
+      lecturer = x.lecturer.items;
+    } };
 }
 
 /// A student, with the projects of the list, best first.
@@ -52,8 +61,11 @@ impl Model for StudentLine {
 
     ghost Value = { Student };
 
-    ghost view = { λ x. record { row = x.row; key = x.key.items; list = map
-        (λ text. text.items) x.list.items } };
+    ghost view = { λ x. record {
+      row = x.row;
+      key = x.key.items;
+      list = map (λ text. text.items) x.list.items;
+    } };
 }
 
 /// A student at a project.
@@ -69,7 +81,11 @@ impl Model for PairLine {
 
     ghost Value = { Pair };
 
-    ghost view = { λ x. record { row = x.row; student = x.student.items; project = x.project.items } };
+    ghost view = { λ x. record {
+      row = x.row;
+      student = x.student.items;
+      project = x.project.items;
+    } };
 }
 
 /// The lines of an instance, each kind in its order.
@@ -85,5 +101,9 @@ impl Model for InstanceRows {
 
     ghost Value = { Rows };
 
-    ghost view = { λ x. record { lecturers = x.lecturers.items; projects = x.projects.items; students = x.students.items } };
+    ghost view = { λ x. record {
+      lecturers = x.lecturers.items;
+      projects = x.projects.items;
+      students = x.students.items;
+    } };
 }

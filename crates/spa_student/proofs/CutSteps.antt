@@ -1,16 +1,11 @@
 -- The steps over cursors and cuts.
-use Rattle.std.proofs.Common.{◌≡◌, ◌≢◌, ◌⊎◌, inl, inr, ℕ, suc, ◌+◌, ◌-◌, ◌<◌, ◌≤◌, eqb, List, [], ◌∷◌, length, get_or, set, replicate, sum, Vec, Global, Option, Some, None, refl, sym, ◌∙◌, ap, subst, arith, length-set}
+use Rattle.spa_student.proofs.Base.{◌≡◌, ◌≢◌, ◌⊎◌, inl, inr, ℕ, suc, ◌+◌, ◌-◌, ◌<◌, ◌≤◌, eqb, List, [], length, get_or, set, replicate, sum, Option, Some, None, refl, sym, ◌∙◌, ap, subst, arith, length-set, get_or-set_same, get_or-set_other, get_or_past, get_or-replicate, length-replicate, cases_lt, cases_eq, Spa, place, is_project, is_lecturer, at_project, at_lecturer, project_of, choices_of, lecturer_of, ranking_of, capacity_of, limit_of, IsBefore, IsAcceptable, IsMatching, IsWith, IsLawful, IsBest, place-injective, one_if, count_by-set, Progress, rank_of, LecturerSpent, ProjectSpent, Holds, IsPastCut, IsUnderWay, Puts, IsSettled, IsWorstWith}
+use Rattle.std.proofs.Common.{◌∷◌, Vec, Global}
 use Rattle.std.specs.List.{sum_by}
 use Rattle.std.proofs.lemmas.List.Sums.{sum_by-set, sum_by-cons}
-use Rattle.std.proofs.lemmas.List.{get_or-set_same, get_or-set_other, get_or_past, get_or-replicate, length-replicate}
-use Rattle.std.proofs.lemmas.Bool.{cases_lt, cases_eq}
-use Rattle.spa_model.specs.Spa.{Spa, place, is_project, is_lecturer, at_project, at_lecturer, project_of, choices_of, lecturer_of, ranking_of, capacity_of, limit_of, IsBefore, IsAcceptable, IsMatching, IsWith, IsLawful, IsBest}
-use Rattle.spa_model.proofs.Places.{place-injective, get_or-place, place-get_or, place-get_or-le}
-use Rattle.spa_model.proofs.Counts.{one_if, count_by-set}
-use Rattle.spa_student.specs.declared.cuts.Progress.{Progress}
-use Rattle.spa_student.specs.inner.Machine.{rank_of, LecturerSpent, ProjectSpent, Holds}
-use Rattle.spa_student.specs.inner.Cuts.{IsPastCut, IsCut, IsUncut, AreCounts, AreMarks, IsUnderWay, IsNextEntry, KeepsCuts, Puts, Leaves, IsSettled}
-use Rattle.spa_student.specs.inner.Worst.{IsWorstAt, IsWorstWith}
+use Rattle.spa_model.proofs.Places.{get_or-place, place-get_or, place-get_or-le}
+use Rattle.spa_student.specs.inner.Cuts.{IsCut, IsUncut, AreCounts, AreMarks, IsNextEntry, KeepsCuts, Leaves}
+use Rattle.spa_student.specs.inner.Worst.{IsWorstAt}
 use Rattle.spa_student.proofs.Machine.{ranked_of, student_in_range, delete_holds, place_holds, swap_at_project_holds, swap_at_lecturer_holds, best_at_end, put_cases, put_at_project, put_at_lecturer, one_here, none_there}
 use Rattle.spa_student.proofs.Start.{nobody_matches, none_counted, none_there as none_there_yet}
 

@@ -1,3 +1,4 @@
+pub mod Base
 pub mod Machine
 pub mod Start
 pub mod CutSteps

@@ -1,13 +1,12 @@
 -- What the steps keep of the provisional matching and the deleted pairs, and what follows at the end.
-use Rattle.std.proofs.Common.{◌≡◌, ◌≢◌, ◌⊎◌, inl, inr, ℕ, ◌+◌, ◌<◌, ◌≤◌, true, false, eqb, List, length, refl, sym, ◌∙◌, ap, subst, arith, get_or, set, Option, Some, None, length-set}
-use Rattle.std.proofs.lemmas.List.{get_or-set_same, get_or-set_other, get_or_past}
-use Rattle.std.proofs.lemmas.Bool.{eqb-true, eq-eqb, ne_eqb, cases_Bool, cases_lt, cases_eq, cases_order}
+use Rattle.spa_student.proofs.Base.{◌≡◌, ◌≢◌, ◌⊎◌, inl, inr, ℕ, ◌+◌, ◌<◌, ◌≤◌, false, eqb, List, length, refl, sym, ◌∙◌, ap, subst, arith, get_or, set, Option, Some, None, length-set, get_or-set_same, get_or-set_other, get_or_past, cases_lt, cases_eq, Spa, place, is_project, is_lecturer, at_project, at_lecturer, project_of, choices_of, lecturer_of, ranking_of, capacity_of, limit_of, IsBefore, IsAcceptable, IsLawful, IsBest, rank_of, LecturerSpent, ProjectSpent, Holds, place-injective, one_if, count_by-set}
+use Rattle.std.proofs.Common.{true}
+use Rattle.std.proofs.lemmas.Bool.{eqb-true, eq-eqb, ne_eqb, cases_Bool, cases_order}
 use Rattle.spa_model.specs.declared.Letter.{Letter}
 use Rattle.spa_model.specs.declared.Letter.TheVariants.{A, B, C}
-use Rattle.spa_model.specs.Spa.{Spa, place, is_project, is_lecturer, at_project, at_lecturer, project_of, choices_of, lecturer_of, ranking_of, capacity_of, limit_of, IsOn, IsBefore, IsAcceptable, IsLawful, Improves, Wants, Blocks, IsStable, IsAsGood, IsBest}
-use Rattle.spa_student.specs.inner.Machine.{IsRanked, rank_of, LecturerSpent, ProjectSpent, IsSpent, Holds}
-use Rattle.spa_model.proofs.Places.{place-injective}
-use Rattle.spa_model.proofs.Counts.{one_if, off_project, count_by-set, count_by-le, sum_below, sum_below-lt, share, at_lecturer-sum}
+use Rattle.spa_model.specs.Spa.{IsOn, Improves, Wants, Blocks, IsStable, IsAsGood}
+use Rattle.spa_student.specs.inner.Machine.{IsRanked, IsSpent}
+use Rattle.spa_model.proofs.Counts.{off_project, count_by-le, sum_below, sum_below-lt, share, at_lecturer-sum}
 
 -- a lawful instance is ranked
 pub ranked_of : (i : Spa) → IsLawful i → IsRanked i

@@ -1,11 +1,9 @@
 -- At the start nobody has a project.
-use Rattle.std.proofs.Common.{◌≡◌, inl, inr, ℕ, zero, suc, List, length, get_or, replicate, Option, Some, None, refl, ap, arith}
+use Rattle.spa_student.proofs.Base.{◌≡◌, inl, inr, ℕ, suc, List, length, get_or, replicate, Option, Some, None, refl, ap, arith, false, get_or_past, get_or-replicate, length-replicate, cases_lt, Spa, is_project, is_lecturer, project_of, IsMatching, one_if}
+use Rattle.std.proofs.Common.{zero}
 use Rattle.std.specs.List.{count_by}
-use Rattle.std.specs.Prelude.{Bool, false}
-use Rattle.std.proofs.lemmas.List.{get_or_past, get_or-replicate, length-replicate}
-use Rattle.std.proofs.lemmas.Bool.{cases_lt}
-use Rattle.spa_model.specs.Spa.{Spa, is_project, is_lecturer, project_of, IsMatching}
-use Rattle.spa_model.proofs.Counts.{one_if, count_by-cons}
+use Rattle.std.specs.Prelude.{Bool}
+use Rattle.spa_model.proofs.Counts.{count_by-cons}
 
 -- nobody has a project
 abbrev nobody : ℕ → List (Option ℕ)

@@ -38,7 +38,7 @@ impl Progress {
         requires acceptable { IsAcceptable instance.now s p }
         ensures { IsTrue result ↔ IsPastCut instance.now self.now s p }
     {
-        let _lawful = instance.students();
+        instance.lawful();
         let l = instance.lecturer_of(p);
         match instance.rank(l, s) {
             Some(rank) => {
@@ -86,9 +86,10 @@ impl Progress {
         requires marks { AreMarks instance.now self.now }
         requires in_range { s < length self.now.projects.items }
         requires offered { p < length instance.now.lecturers }
-        ensures { IsTrue result ↔ IsWith instance.now self.now.projects.items (lecturer_of instance.now p) s }
+        ensures { IsTrue result
+            ↔ IsWith instance.now self.now.projects.items (lecturer_of instance.now p) s }
     {
-        let _lawful = instance.students();
+        instance.lawful();
         match self.projects[s] {
             Some(q) => instance.lecturer_of(q) == instance.lecturer_of(p),
             None => false,
@@ -105,7 +106,7 @@ impl Progress {
         ensures worst { IsWorstAt instance.now self.now.projects.items p
             (slice_index (ranking_of instance.now (lecturer_of instance.now p)) result) }
     {
-        let _lawful = instance.students();
+        instance.lawful();
         let ranking = instance.ranking(instance.lecturer_of(p));
         for k in (0..self.project_cuts[p]).rev() {
             if self.is_at(ranking[k], p) {
@@ -124,10 +125,11 @@ impl Progress {
         requires some { (s : ℕ) × IsWith instance.now self.now.projects.items
             (lecturer_of instance.now p) s }
         ensures in_range { result < length (ranking_of instance.now (lecturer_of instance.now p)) }
-        ensures worst { IsWorstWith instance.now self.now.projects.items (lecturer_of instance.now p)
+        ensures worst { IsWorstWith instance.now self.now.projects.items
+            (lecturer_of instance.now p)
             (slice_index (ranking_of instance.now (lecturer_of instance.now p)) result) }
     {
-        let _lawful = instance.students();
+        instance.lawful();
         let l = instance.lecturer_of(p);
         let ranking = instance.ranking(l);
         for k in (0..self.lecturer_cuts[l]).rev() {
@@ -149,7 +151,7 @@ impl Progress {
         ensures marks { AreMarks instance.now self.new }
         ensures counts { AreCounts instance.now self.new }
     {
-        let _lawful = instance.students();
+        instance.lawful();
         let entries = instance.choices(w).len();
         prove!(self.cursors[w] < entries);
         let l = instance.lecturer_of(u);
@@ -175,7 +177,7 @@ impl Progress {
         ensures marks { AreMarks instance.now self.new }
         ensures counts { AreCounts instance.now self.new }
     {
-        let _lawful = instance.students();
+        instance.lawful();
         let rank = self.worst_at(instance, p);
         let w = instance.ranking(instance.lecturer_of(p))[rank];
         self.project_cuts[p] = rank;
@@ -191,7 +193,8 @@ impl Progress {
         requires in_range { p < length instance.now.lecturers }
         requires some { (s : ℕ) × IsWith instance.now self.old.projects.items
             (lecturer_of instance.now p) s }
-        ensures worst { IsWorstWith instance.now self.old.projects.items (lecturer_of instance.now p) result }
+        ensures worst { IsWorstWith instance.now self.old.projects.items
+            (lecturer_of instance.now p) result }
         ensures leaves { Leaves result self.old self.new }
         ensures project_cuts { self.new.project_cuts.items ≡ self.old.project_cuts.items }
         ensures lecturer_cuts { self.new.lecturer_cuts.items
@@ -200,7 +203,7 @@ impl Progress {
         ensures marks { AreMarks instance.now self.new }
         ensures counts { AreCounts instance.now self.new }
     {
-        let _lawful = instance.students();
+        instance.lawful();
         let l = instance.lecturer_of(p);
         let rank = self.worst_with(instance, p);
         let w = instance.ranking(l)[rank];
@@ -221,7 +224,7 @@ impl Progress {
         ensures marks { AreMarks instance.now self.new }
         ensures counts { AreCounts instance.now self.new }
     {
-        let _lawful = instance.students();
+        instance.lawful();
         let l = instance.lecturer_of(p);
         self.projects[s] = Some(p);
         self.project_counts[p] += 1;
@@ -237,7 +240,7 @@ impl Progress {
         ensures moves { MatchOption result (Puts s p self.old self.new)
             (λ w. Exchanges s p w self.old self.new) }
     {
-        let _lawful = instance.students();
+        instance.lawful();
         let l = instance.lecturer_of(p);
         self.place(instance, s, p);
         if self.project_counts[p] > instance.project_capacity(p) as usize {
@@ -304,7 +307,7 @@ impl Progress {
     fn new(alloc: Global, instance: &Instance) -> Result<Progress, AllocError>
         ensures { IfOk result (λ q. IsUnderWay instance.now q) }
     {
-        let _lawful = instance.students();
+        instance.lawful();
         Ok(Progress {
             cursors: vec![in alloc; 0; instance.students()]?,
             projects: vec![in alloc; None; instance.students()]?,

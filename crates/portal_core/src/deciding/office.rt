@@ -21,11 +21,11 @@ ghost use Rattle.portal_core.specs.Meaning.{call_model, reply_model, act_model, 
 
 use crate::call::Call;
 use crate::deciding::bodies::{catalogue_body, key_value, phase_body, texts};
-use crate::deciding::kinds::{LecturerRoll, ProjectRoll, StudentRoll};
+use crate::deciding::kinds::{NewLecturers, NewProjects, NewStudents};
+use crate::deciding::new_rows::{Added, Roll, RollRefusal, take_rows};
 use crate::deciding::replies::{
     applies, json_reply, not_yours, refused, refuses, renders, shows, wrong_phase,
 };
-use crate::deciding::rolls::{Added, Roll, RollFault, take_rows};
 use crate::decision::{Act, Change, Decision, Reply, Sheet};
 use crate::phase::{Phase, Round};
 use crate::placing::Placings;
@@ -201,7 +201,7 @@ fn allocation_body(alloc: Global, pairs: &[(Key, Key)]) -> Result<Value, AllocEr
 }
 
 /// How a faulty row of a roll is refused.
-fn row_refusal(alloc: Global, fault: &RollFault) -> Result<Reply, AllocError>
+fn row_refusal(alloc: Global, fault: &RollRefusal) -> Result<Reply, AllocError>
     ensures { IfOk result (λ reply. reply_model reply
         ≡ row_fault fault.now.status fault.now.word fault.now.row) }
 {
@@ -448,13 +448,13 @@ pub(crate) fn decide_office(
         Call::Me => Ok(shows(me_body(alloc, view)?)),
         Call::Catalogue => Ok(shows(catalogue_body(alloc, &view.catalogue)?)),
         Call::AddLecturers(rows) => {
-            add_rows(alloc, is_open, &LecturerRoll(view), &view.lecturers, rows)
+            add_rows(alloc, is_open, &NewLecturers(view), &view.lecturers, rows)
         }
         Call::AddProjects(rows) => {
-            add_rows(alloc, is_open, &ProjectRoll(view), &view.projects, rows)
+            add_rows(alloc, is_open, &NewProjects(view), &view.projects, rows)
         }
         Call::AddStudents(rows) => {
-            add_rows(alloc, is_open, &StudentRoll(view), &view.students, rows)
+            add_rows(alloc, is_open, &NewStudents(view), &view.students, rows)
         }
         Call::Move { phase, round } => move_to(alloc, view, *phase, *round),
         Call::Status => Ok(shows(status_body(alloc, view)?)),

@@ -22,7 +22,8 @@ Partly cause.Write before after text = (k : ℕ) × Appends before after (take k
 Partly cause.Memory before after text = Appends before after []
 Partly _ before after text = ⊥
 
--- one reply: the step of the run, where the keeper is clean, and what keeps it clean, where the reply is not 503
+-- one reply: the step of the run, where the keeper is clean, and what keeps it clean, where the
+-- reply is not 503
 pub record Acted (old new : KeeperState) (r : Request) (reply : Answer) : Type 0 where
   pub serves : new.clean → Serves old.world r reply new.world
   pub lasts : reply ≢ unavailable → StaysClean old.disk new.disk old.clean new.clean

@@ -1,4 +1,5 @@
--- Rows put together to entries: each roll in its order takes what stands next for it, until nothing is left.
+-- Rows put together to entries: each roll in its order takes what stands next for it, until nothing
+-- is left.
 use Rattle.std.specs.Prelude.{◌&&◌, if◌then◌else◌, List, [], ◌∷◌, Option, Some, None, option_map}
 use Rattle.portal_core.specs.declared.phase.Round.{Round}
 use Rattle.portal_core.specs.declared.phase.Round.TheVariants.{First, Second}
@@ -17,7 +18,8 @@ abbrev pub rest_for : {V : Type 0} → Key → List (Key × V) → List (Key × 
 rest_for k [] = []
 rest_for k (x ∷ xs) = if equals x.0 k then xs else x ∷ xs
 
--- the list of the earlier round: in the second round the one that stands next, in the first an empty one
+-- the list of the earlier round: in the second round the one that stands next, in the first an
+-- empty one
 abbrev pub earlier_for : Round → Key → List (Key × List Key) → Option (List Key)
 earlier_for First k xs = Some []
 earlier_for Second k xs = next_for k xs

@@ -1,4 +1,5 @@
--- What makes a world sound, in two parts: what is said of the rolls alone, and what is said of lists, rankings and the result.
+-- What makes a world sound, in two parts: what is said of the rolls alone, and what is said of
+-- lists, rankings and the result.
 use Rattle.std.specs.Prelude.{◌≡◌, ◌≤◌, Bool, true, false, List, [], ◌∷◌, ◌++◌, map, filter, length, Option, None, IfSome}
 use Rattle.std.specs.List.{AllByRecursion, list_any}
 use Rattle.portal_core.specs.declared.phase.Phase.{Phase}
@@ -76,7 +77,8 @@ wanting projects students = filter (λ s. list_any (λ p. has s.choice p) projec
 abbrev pub applicant_keys : List ProjectRow → List Student → Key → List Key
 applicant_keys projects students lecturer = map student_key (wanting (own_keys projects lecturer) students)
 
--- the ranking, if there is one, is of the applicants; where it is asked for, it is there if there are any
+-- the ranking, if there is one, is of the applicants; where it is asked for, it is there if there
+-- are any
 pub record HasRanking (asked : Bool) (applicants : List Key) (ranking : Option (List Key)) : Type 0 where
   pub whole : IfSome ranking (IsRanking applicants)
   pub there : asked ≡ true → ranking ≡ None → applicants ≡ []

@@ -1,4 +1,5 @@
--- Who takes part in the second round, as a world of a single round: with the room that the first left, and nothing before it.
+-- Who takes part in the second round, as a world of a single round: with the room that the first
+-- left, and nothing before it.
 use Rattle.std.specs.Prelude.{Bool, true, if◌then◌else◌, List, map, Option, None, option_map}
 use Rattle.portal_core.specs.declared.phase.Round.{Round}
 use Rattle.portal_core.specs.declared.phase.Round.TheVariants.{First, Second}

@@ -10,7 +10,7 @@ use Rattle.portal_wire.specs.Routes.{the_paths}
 abbrev pub row_of : List ℕ × Route → List ℕ × RouteOf Route
 row_of p = (p.0, record { pattern = p.0; text = p.0; names = []; value = p.1 })
 
--- the rows of the router: of all routes, of the first ones, and of these with the rolls and the phase
+-- the rows of the router: of all routes, of the first ones, and of these with rolls and phase
 unfoldable pub the_rows : RowsOf (RouteOf Route)
 the_rows = map row_of the_paths
 

@@ -3,7 +3,8 @@ use Rattle.std.specs.Prelude.{◌≡◌, ℕ, ◌+◌, ◌<◌, List, Option, So
 use Rattle.spa_model.specs.Spa.{Spa, IsWith, place, ranking_of, lecturer_of, project_of, at_project, at_lecturer}
 use Rattle.spa_check.specs.declared.groups.Group.{Group}
 
--- the group counts n; it reaches down to the last place on the list of those who are in it, counted from 1
+-- the group counts n; it reaches down to the last place on the list of those who are in it, counted
+-- from 1
 pub record IsGroup (list : List ℕ) (IsIn : ℕ → Type 0) (n : ℕ) (g : Group) : Type 0 where
   pub count : g.count ≡ n
   pub none_deeper : (t : ℕ) → IsIn t → place list t < g.depth

@@ -1,4 +1,5 @@
--- An example: Ann with one list or another, and Ben and Cem; Lee offers Kites and Tides, and Moe offers Bells.
+-- An example: Ann with one list or another, and Ben and Cem; Lee offers Kites and Tides, and Moe
+-- offers Bells.
 use Rattle.std.specs.Prelude.{ℕ, List, [], ◌∷◌, codes}
 use Rattle.spa_model.specs.Spa.{Spa}
 
@@ -20,7 +21,8 @@ kites = 1
 abbrev pub tides : ℕ
 tides = 2
 
--- each project has one place; Lee has two places and ranks Ben, Ann, Cem; Moe has one and ranks Ann, Cem
+-- each project has one place; Lee has two places and ranks Ben, Ann, Cem; Moe has one and ranks
+-- Ann, Cem
 abbrev pub example : List ℕ → Spa
 example list_of_ann =
     record {

@@ -1,4 +1,5 @@
--- An example: Ann hands in the honest list, or asks for the popular project alone and waits; Dan asks for it too.
+-- An example: Ann hands in the honest list, or asks for the popular project alone and waits; Dan
+-- asks for it too.
 use Rattle.std.specs.Prelude.{ℕ, List, [], ◌∷◌, codes}
 use Rattle.spa_model.specs.Spa.{Spa}
 use Rattle.spa_honest.specs.examples.Example.{ann, ben, cem, bells, kites, tides, honest_list}
@@ -6,7 +7,8 @@ use Rattle.spa_honest.specs.examples.Example.{ann, ben, cem, bells, kites, tides
 abbrev pub dan : ℕ
 dan = 3
 
--- each project has one place; Lee has two places and ranks Ben, Ann, Cem, Dan; Moe has one and ranks those who ask for Bells
+-- each project has one place; Lee has two places and ranks Ben, Ann, Cem, Dan; Moe has one and
+-- ranks those who ask for Bells
 abbrev pub department : List ℕ → List ℕ → Spa
 department list_of_ann moe =
     record {

@@ -129,7 +129,9 @@ pub(crate) fn applicant_missing(
     requires offered { All (λ p. p.lecturer < length lecturers.now) projects.now }
     requires count { length lecturers.now ≡ length lines.now }
     requires ranks { All (λ l. length l.ranks.items ≡ length students.now) lecturers.now }
-    ensures { IsLeastOf (MissesBelow lines.now lecturers.now projects.now students.now (length students.now)) result }
+    ensures { IsLeastOf
+        (MissesBelow lines.now lecturers.now projects.now students.now (length students.now))
+        result }
 {
     let mut best = None;
     for (number, student) in students.iter().enumerate() {

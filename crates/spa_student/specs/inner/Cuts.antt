@@ -25,7 +25,8 @@ pub record AreCounts (i : Spa) (q : Progress) : Type 0 where
   pub at_projects : (p : ℕ) → slice_index q.project_counts.items p ≡ at_project q.projects.items p
   pub at_lecturers : (l : ℕ) → slice_index q.lecturer_counts.items l ≡ at_lecturer i q.projects.items l
 
--- cursors and cuts are within the lists, each entry before a cursor is past the cuts, and each student's project is at the cursor
+-- cursors and cuts are within the lists, each entry before a cursor is past the cuts, and each
+-- student's project is at the cursor
 pub record AreMarks (i : Spa) (q : Progress) : Type 0 where
   pub assigned : IsAssignment i q.projects.items
   pub cursor_rows : length q.cursors.items ≡ length i.choices

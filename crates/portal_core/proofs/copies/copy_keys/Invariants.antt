@@ -1,4 +1,4 @@
-use Rattle.std.proofs.Common.{◌≡◌, take}
+use Rattle.portal_core.proofs.Base.{◌≡◌, take}
 use Rattle.portal_core.proofs.copies.copy_keys.Given as goal
 
 abbrev pub invariant-loop-key : goal.invariant-loop-key

@@ -1,4 +1,4 @@
-use Rattle.std.proofs.Common.{◌≡◌, take}
+use Rattle.portal_core.proofs.Base.{◌≡◌, take}
 use Rattle.portal_core.proofs.copies.copy_pairs.Given as goal
 
 abbrev pub invariant-loop-student : goal.invariant-loop-student

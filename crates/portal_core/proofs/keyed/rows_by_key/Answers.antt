@@ -1,9 +1,4 @@
-use Rattle.std.proofs.Common.{reverse, map, ap, ◌∙◌, subst}
-use Rattle.std.specs.Slice.Iter.{iter_rest}
-use Rattle.std.proofs.lemmas.List.{reverse-reverse}
-use Rattle.std.proofs.lemmas.Iterator.Adapters.{YieldsList-from_rev_slice}
-use Rattle.std.proofs.lemmas.Iterator.Consumers.{YieldsList-at, YieldsList-end}
-use Rattle.portal_core.specs.inner.Tables.{HasRows}
+use Rattle.portal_core.proofs.Base.{reverse, map, ap, ◌∙◌, subst, iter_rest, reverse-reverse, YieldsList-from_rev_slice, YieldsList-at, YieldsList-end, HasRows}
 use Rattle.portal_core.proofs.Tables.{row_put, before_seen}
 use Rattle.portal_core.proofs.keyed.rows_by_key.Goals as goal
 

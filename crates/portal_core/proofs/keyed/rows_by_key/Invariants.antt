@@ -1,5 +1,4 @@
-use Rattle.std.proofs.Common.{map, reverse}
-use Rattle.portal_core.specs.inner.Tables.{HasRows}
+use Rattle.portal_core.proofs.Base.{map, reverse, HasRows}
 use Rattle.portal_core.proofs.keyed.rows_by_key.Given as goal
 
 -- the rows from the last one on are there

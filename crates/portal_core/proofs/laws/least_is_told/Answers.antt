@@ -1,4 +1,4 @@
-use Rattle.portal_core.specs.Rolls.{lecturer_roll, project_roll, student_roll}
+use Rattle.portal_core.proofs.Base.{lecturer_roll, project_roll, student_roll}
 use Rattle.portal_core.proofs.FirstBad.{choice_first, rank_first, row_first}
 use Rattle.portal_core.proofs.laws.least_is_told.Goals as goal
 

@@ -1,4 +1,4 @@
-use Rattle.portal_core.specs.Rolls.{lecturer_roll, project_roll, student_roll}
+use Rattle.portal_core.proofs.Base.{lecturer_roll, project_roll, student_roll}
 use Rattle.portal_core.proofs.Taken as taken
 use Rattle.portal_core.proofs.laws.legal_is_taken.Goals as goal
 

@@ -1,5 +1,4 @@
-use Rattle.std.proofs.Common.{◌≡◌, take, map}
-use Rattle.portal_core.specs.inner.Room.{pairs_among}
+use Rattle.portal_core.proofs.Base.{◌≡◌, take, map, pairs_among}
 use Rattle.portal_core.proofs.room.given_among.Given as goal
 
 abbrev pub invariant-loop-pair : goal.invariant-loop-pair

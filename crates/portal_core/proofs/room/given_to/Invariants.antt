@@ -1,5 +1,4 @@
-use Rattle.std.proofs.Common.{◌≡◌, take}
-use Rattle.portal_core.specs.Sheets.{students_at}
+use Rattle.portal_core.proofs.Base.{◌≡◌, take, students_at}
 use Rattle.portal_core.proofs.room.given_to.Given as goal
 
 abbrev pub invariant-loop-pair : goal.invariant-loop-pair

@@ -1,6 +1,5 @@
-use Rattle.std.proofs.Common.{◌∙◌, ap, map}
-use Rattle.std.specs.Prelude.{Some, option_map}
-use Rattle.portal_core.specs.inner.Room.{pairs_among, room_of}
+use Rattle.portal_core.proofs.Base.{◌∙◌, ap, map, Some, option_map, pairs_among}
+use Rattle.portal_core.specs.inner.Room.{room_of}
 use Rattle.portal_core.proofs.room.lecturer_left.Goals as goal
 
 pub returns-in-Some : goal.returns-in-Some

@@ -1,5 +1,4 @@
-use Rattle.std.proofs.Common.{◌≡◌, map, take}
-use Rattle.portal_core.specs.inner.Room.{own_keys}
+use Rattle.portal_core.proofs.Base.{◌≡◌, map, take, own_keys}
 use Rattle.portal_core.proofs.room.own_keys.Given as goal
 
 abbrev pub invariant-loop-project : goal.invariant-loop-project

@@ -1,5 +1,4 @@
-use Rattle.std.proofs.Common.{◌∙◌, [], ap, sym}
-use Rattle.portal_core.specs.Sight.{OfficeSees}
+use Rattle.portal_core.proofs.Base.{◌∙◌, [], ap, sym, OfficeSees}
 use Rattle.portal_core.proofs.Fills.{office_filled}
 use Rattle.portal_core.proofs.Refreshed.{seen_with}
 use Rattle.portal_core.proofs.view_cache.after_fill.Goals as goal

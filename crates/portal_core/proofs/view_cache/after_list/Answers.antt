@@ -1,8 +1,5 @@
-use Rattle.std.proofs.Common.{rules, ◌≡◌, ◌∙◌, ap, sym, refl, filter, not, false, List, [], ◌∷◌, length}
+use Rattle.portal_core.proofs.Base.{rules, ◌≡◌, ◌∙◌, ap, sym, refl, filter, not, false, List, [], ◌∷◌, length, Key, equals, is_empty, OfficeSees, Choosing}
 use Rattle.std.specs.Bool.{◌==◌}
-use Rattle.portal_core.specs.Words.{Key, equals, is_empty}
-use Rattle.portal_core.specs.Sight.{OfficeSees}
-use Rattle.portal_core.specs.declared.phase.Phase.TheVariants.{Choosing}
 use Rattle.portal_core.proofs.Refreshed.{choosing_seen, seen_with}
 use Rattle.portal_core.proofs.view_cache.after_list.Goals as goal
 

@@ -1,7 +1,4 @@
-use Rattle.std.proofs.Common.{rules, ◌≡◌, ◌∙◌, ap, sym, filter, not}
-use Rattle.portal_core.specs.Words.{equals}
-use Rattle.portal_core.specs.Sight.{OfficeSees}
-use Rattle.portal_core.specs.declared.phase.Phase.TheVariants.{Ranking}
+use Rattle.portal_core.proofs.Base.{rules, ◌≡◌, ◌∙◌, ap, sym, filter, not, equals, OfficeSees, Ranking}
 use Rattle.portal_core.proofs.Refreshed.{ranking_seen, seen_with}
 use Rattle.portal_core.proofs.view_cache.after_ranking.Goals as goal
 

@@ -1,4 +1,4 @@
-use Rattle.std.proofs.Common.{rules}
+use Rattle.portal_core.proofs.Base.{rules}
 use Rattle.std.proofs.lemmas.Fn.{filter_same}
 use Rattle.portal_core.proofs.view_cache.but_for.Goals as goal
 

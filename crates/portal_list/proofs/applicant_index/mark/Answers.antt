@@ -1,5 +1,4 @@
-use Rattle.std.proofs.Common.{ℕ, get_or, false, ap, ◌∙◌, arith}
-use Rattle.std.proofs.lemmas.List.{get_or_default}
+use Rattle.portal_list.proofs.Base.{ℕ, get_or, false, ap, ◌∙◌, arith, get_or_default}
 use Rattle.portal_list.proofs.Noted.{marked, unmarked, marks_more}
 use Rattle.portal_list.proofs.applicant_index.mark.Goals as goal
 use Rattle.portal_list.proofs.applicant_index.mark.Goals.{then-place-marks, else-place-marks}

@@ -1,6 +1,4 @@
-use Rattle.std.proofs.Common.{◌≡◌, ◌<◌, ℕ, false, length, get_or, take}
-use Rattle.std.specs.Prelude.{◌||◌}
-use Rattle.portal_list.specs.inner.ApplicantIndex.{is_among}
+use Rattle.portal_list.proofs.Base.{◌≡◌, ◌<◌, ℕ, false, length, get_or, take, ◌||◌, is_among}
 use Rattle.portal_list.proofs.applicant_index.mark.Given as goal
 
 abbrev pub invariant-loop-place : goal.invariant-loop-place

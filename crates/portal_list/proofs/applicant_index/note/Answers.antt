@@ -1,8 +1,6 @@
-use Rattle.std.proofs.Common.{◌≡◌, ℕ, ◌++◌, [], ◌∷◌, Vec, Global, unwrap_or, ap, ◌∙◌, arith}
+use Rattle.portal_list.proofs.Base.{◌≡◌, ℕ, ◌++◌, [], ◌∷◌, Vec, Global, unwrap_or, ap, ◌∙◌, arith, common_steps, text_eq}
 use Rattle.std.specs.HashMap as hash
 use Rattle.std.specs.HashMap.Entry.{map_with_value}
-use Rattle.std.proofs.lemmas.Grind.{common_steps}
-use Rattle.spa_rows.specs.inner.Index.{text_eq}
 use Rattle.portal_list.proofs.Noted.{noted, noted_or, noted_put}
 use Rattle.portal_list.proofs.applicant_index.note.Goals as goal
 

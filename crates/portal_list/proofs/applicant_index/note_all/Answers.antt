@@ -1,6 +1,4 @@
-use Rattle.std.proofs.Common.{sym}
-use Rattle.std.specs.Prelude.{◌==◌}
-use Rattle.portal_list.specs.inner.ApplicantIndex.{is_noted}
+use Rattle.portal_list.proofs.Base.{sym, ◌==◌, is_noted}
 use Rattle.portal_list.proofs.Noted.{noted_more}
 use Rattle.portal_list.proofs.applicant_index.note_all.Goals as goal
 

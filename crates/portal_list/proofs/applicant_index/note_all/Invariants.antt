@@ -1,7 +1,4 @@
-use Rattle.std.proofs.Common.{◌≡◌, ℕ, take, Bor}
-use Rattle.std.specs.Prelude.{◌==◌, ◌||◌, ◌&&◌}
-use Rattle.portal_core.specs.Words.{Key, has}
-use Rattle.portal_list.specs.inner.ApplicantIndex.{is_noted}
+use Rattle.portal_list.proofs.Base.{◌≡◌, ℕ, take, Bor, ◌==◌, ◌||◌, ◌&&◌, Key, has, is_noted}
 use Rattle.portal_list.proofs.applicant_index.note_all.Given as goal
 
 abbrev pub invariant-loop-project : goal.invariant-loop-project

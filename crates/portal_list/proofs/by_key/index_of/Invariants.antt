@@ -1,6 +1,4 @@
-use Rattle.std.proofs.Common.{◌≡◌, take, false}
-use Rattle.std.specs.List.{list_any}
-use Rattle.portal_core.specs.Words.{equals}
+use Rattle.portal_list.proofs.Base.{◌≡◌, take, false, list_any, equals}
 use Rattle.portal_list.proofs.by_key.index_of.Given as goal
 
 abbrev pub invariant-loop-i : goal.invariant-loop-i

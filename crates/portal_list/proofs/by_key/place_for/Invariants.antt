@@ -1,5 +1,4 @@
-use Rattle.std.proofs.Common.{◌≡◌, ◌++◌, take, drop}
-use Rattle.portal_core.specs.Words.{put}
+use Rattle.portal_list.proofs.Base.{◌≡◌, ◌++◌, take, drop, put}
 use Rattle.portal_list.proofs.by_key.place_for.Given as goal
 
 abbrev pub invariant-loop-i : goal.invariant-loop-i

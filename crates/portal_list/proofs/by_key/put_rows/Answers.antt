@@ -1,6 +1,4 @@
-use Rattle.std.proofs.Common.{◌∙◌, ap, sym, arith}
-use Rattle.std.proofs.lemmas.Grind.{common_steps}
-use Rattle.portal_core.specs.Words.{put}
+use Rattle.portal_list.proofs.Base.{◌∙◌, ap, sym, arith, common_steps, put}
 use Rattle.portal_list.proofs.Rows.{put_all-append}
 use Rattle.portal_list.proofs.by_key.put_rows.Goals as goal
 

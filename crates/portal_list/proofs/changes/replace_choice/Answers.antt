@@ -1,7 +1,4 @@
-use Rattle.std.proofs.Common.{List, get_or, sym, ap, ◌∙◌}
-use Rattle.portal_core.specs.Words.{Key}
-use Rattle.portal_core.specs.World.{Student, student_key}
-use Rattle.portal_core.specs.Change.{with_choice}
+use Rattle.portal_list.proofs.Base.{List, get_or, sym, ap, ◌∙◌, Key, Student, student_key, with_choice}
 use Rattle.portal_list.proofs.Replaced.{replaced, unchanged, choice_here, choice_elsewhere}
 use Rattle.portal_list.proofs.changes.replace_choice.Goals as goal
 

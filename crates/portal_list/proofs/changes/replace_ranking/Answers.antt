@@ -1,8 +1,4 @@
-use Rattle.std.proofs.Common.{List, get_or, sym, ap, ◌∙◌}
-use Rattle.std.specs.Prelude.{Some}
-use Rattle.portal_core.specs.Words.{Key}
-use Rattle.portal_core.specs.World.{Lecturer, lecturer_key}
-use Rattle.portal_core.specs.Change.{with_ranking}
+use Rattle.portal_list.proofs.Base.{List, get_or, sym, ap, ◌∙◌, Some, Key, Lecturer, lecturer_key, with_ranking}
 use Rattle.portal_list.proofs.Replaced.{replaced, unchanged, ranking_here, ranking_elsewhere}
 use Rattle.portal_list.proofs.changes.replace_ranking.Goals as goal
 

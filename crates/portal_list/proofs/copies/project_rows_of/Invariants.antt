@@ -1,4 +1,4 @@
-use Rattle.std.proofs.Common.{◌≡◌, take}
+use Rattle.portal_list.proofs.Base.{◌≡◌, take}
 use Rattle.portal_list.proofs.copies.project_rows_of.Given as goal
 
 abbrev pub invariant-loop-row : goal.invariant-loop-row

@@ -1,9 +1,4 @@
-use Rattle.std.proofs.Common.{◌≡◌, inl, inr, get_or, Bor, [], sym, refl, ◌∙◌, ap, subst, arith}
-use Rattle.std.specs.Prelude.{not}
-use Rattle.std.proofs.lemmas.List.{get_or_default}
-use Rattle.std.proofs.lemmas.Bool.{cases_lt, false≢true}
-use Rattle.spa_rows.specs.Lines.{Text}
-use Rattle.spa_rows.specs.Faults.{IsEarlierKey}
+use Rattle.portal_list.proofs.Base.{◌≡◌, inl, inr, get_or, Bor, [], sym, refl, ◌∙◌, ap, subst, arith, not, get_or_default, cases_lt, false≢true, Text, IsEarlierKey}
 use Rattle.spa_rows.proofs.Seen.{tree_more, tree_before}
 use Rattle.portal_list.proofs.Apart.{distinct_so, not_earlier}
 use Rattle.portal_list.proofs.distinct.are_distinct.Goals as goal

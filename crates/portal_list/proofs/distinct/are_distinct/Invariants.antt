@@ -1,6 +1,4 @@
-use Rattle.std.proofs.Common.{◌≡◌, ℕ, ◌<◌, get_or, Bor}
-use Rattle.spa_rows.specs.Lines.{Text}
-use Rattle.spa_rows.specs.Faults.{IsEarlierKey}
+use Rattle.portal_list.proofs.Base.{◌≡◌, ℕ, ◌<◌, get_or, Bor, Text, IsEarlierKey}
 use Rattle.spa_rows.proofs.Seen.{IsInTree}
 use Rattle.portal_list.proofs.distinct.are_distinct.Given as goal
 

@@ -1,4 +1,4 @@
-use Rattle.std.proofs.Common.{◌≡◌, map, take}
+use Rattle.portal_list.proofs.Base.{◌≡◌, map, take}
 use Rattle.portal_list.proofs.distinct.bytes_of.Given as goal
 
 abbrev pub invariant-loop-key : goal.invariant-loop-key

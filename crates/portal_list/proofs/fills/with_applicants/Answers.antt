@@ -1,7 +1,4 @@
-use Rattle.std.proofs.Common.{List, ◌∷◌, [], ◌++◌, map, take, ◌∙◌, ap, sym}
-use Rattle.std.proofs.lemmas.List.{map_push}
-use Rattle.portal_core.specs.Words.{Key}
-use Rattle.portal_list.specs.inner.Parts.{applicant_keys}
+use Rattle.portal_list.proofs.Base.{List, ◌∷◌, [], ◌++◌, map, take, ◌∙◌, ap, sym, map_push, Key, applicant_keys}
 use Rattle.portal_list.proofs.Steps.{grown}
 use Rattle.portal_list.proofs.fills.with_applicants.Goals as goal
 

@@ -1,6 +1,4 @@
-use Rattle.std.proofs.Common.{◌≡◌, List, take, map}
-use Rattle.portal_core.specs.Words.{Key}
-use Rattle.portal_list.specs.inner.Parts.{applicant_keys}
+use Rattle.portal_list.proofs.Base.{◌≡◌, List, take, map, Key, applicant_keys}
 use Rattle.portal_list.proofs.fills.with_applicants.Given as goal
 
 abbrev pub invariant-loop-lecturer : goal.invariant-loop-lecturer

@@ -1,4 +1,4 @@
-use Rattle.std.proofs.Common.{◌∙◌, ap, map, option_map}
+use Rattle.portal_list.proofs.Base.{◌∙◌, ap, map, option_map}
 use Rattle.portal_list.proofs.Fitting.{next_map, rest_map, lecturers_step}
 use Rattle.portal_list.proofs.fit.lecturer_entries.Goals as goal
 

@@ -1,6 +1,4 @@
-use Rattle.std.proofs.Common.{◌≡◌, ◌++◌, map, option_map}
-use Rattle.std.specs.Vec.Iter.{into_iter_items}
-use Rattle.portal_list.specs.inner.Fit.{students_fitting}
+use Rattle.portal_list.proofs.Base.{◌≡◌, ◌++◌, map, option_map, into_iter_items, students_fitting}
 use Rattle.portal_list.proofs.fit.student_entries.Given as goal
 
 -- what is still to come, behind what is there, makes the whole

@@ -1,6 +1,4 @@
-use Rattle.std.proofs.Common.{◌∙◌, sym, ap, subst}
-use Rattle.std.specs.Prelude.{option_map}
-use Rattle.portal_list.specs.Rows.{IsFitted}
+use Rattle.portal_list.proofs.Base.{◌∙◌, sym, ap, subst, option_map, IsFitted}
 use Rattle.portal_list.proofs.Parted.{fitted_rows, lecturers_of_sound, students_of_sound, nothing_made}
 use Rattle.portal_list.proofs.from_rows.fitted.Goals as goal
 

@@ -1,5 +1,4 @@
-use Rattle.std.proofs.Common.{◌≡◌, map, take}
-use Rattle.portal_core.specs.World.{first_published}
+use Rattle.portal_list.proofs.Base.{◌≡◌, map, take, first_published}
 use Rattle.portal_list.proofs.good.first_lecturers.Given as goal
 
 abbrev pub invariant-loop-lecturer : goal.invariant-loop-lecturer

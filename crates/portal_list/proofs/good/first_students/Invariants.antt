@@ -1,5 +1,4 @@
-use Rattle.std.proofs.Common.{◌≡◌, map, take}
-use Rattle.portal_core.specs.World.{first_placed}
+use Rattle.portal_list.proofs.Base.{◌≡◌, map, take, first_placed}
 use Rattle.portal_list.proofs.good.first_students.Given as goal
 
 abbrev pub invariant-loop-student : goal.invariant-loop-student

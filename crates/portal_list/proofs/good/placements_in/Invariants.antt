@@ -1,7 +1,4 @@
-use Rattle.std.proofs.Common.{◌≡◌, map, take}
-use Rattle.std.specs.Prelude.{filter, option_map}
-use Rattle.portal_list.specs.inner.Played.{takes_part}
-use Rattle.spa_model.specs.Pairs.{number_in}
+use Rattle.portal_list.proofs.Base.{◌≡◌, map, take, filter, option_map, takes_part, number_in}
 use Rattle.portal_list.proofs.good.placements_in.Given as goal
 
 abbrev pub invariant-loop-student : goal.invariant-loop-student

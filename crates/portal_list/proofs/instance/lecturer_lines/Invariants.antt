@@ -1,5 +1,4 @@
-use Rattle.std.proofs.Common.{◌≡◌, map, take}
-use Rattle.portal_list.specs.inner.Lines.{instance_lecturer}
+use Rattle.portal_list.proofs.Base.{◌≡◌, map, take, instance_lecturer}
 use Rattle.portal_list.proofs.instance.lecturer_lines.Given as goal
 
 abbrev pub invariant-loop-entry : goal.invariant-loop-entry

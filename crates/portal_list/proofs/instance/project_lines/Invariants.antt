@@ -1,5 +1,4 @@
-use Rattle.std.proofs.Common.{◌≡◌, map, take}
-use Rattle.portal_list.specs.inner.Lines.{instance_project}
+use Rattle.portal_list.proofs.Base.{◌≡◌, map, take, instance_project}
 use Rattle.portal_list.proofs.instance.project_lines.Given as goal
 
 abbrev pub invariant-loop-project : goal.invariant-loop-project

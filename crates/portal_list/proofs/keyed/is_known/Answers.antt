@@ -1,10 +1,5 @@
-use Rattle.std.proofs.Common.{rules, arith}
-use Rattle.std.specs.Ordering.{nat_cmp}
-use Rattle.std.specs.Cmp.Lexicographic.{slice_cmp}
-use Rattle.std.proofs.lemmas.Cmp.{nat_list_cmp_total}
-use Rattle.std.proofs.lemmas.Fn.{always_returns_same}
+use Rattle.portal_list.proofs.Base.{rules, arith, nat_cmp, slice_cmp, nat_list_cmp_total, always_returns_same, map}
 use Rattle.std.proofs.lemmas.List.Sorted.{searchable_from_sorted}
-use Rattle.std.proofs.Common.{map}
 use Rattle.spa_model.proofs.Numbers.{sorted_rows}
 use Rattle.portal_list.proofs.Rising.{pairs_rise}
 use Rattle.portal_list.proofs.KeyRows.{known_at, known_nowhere}

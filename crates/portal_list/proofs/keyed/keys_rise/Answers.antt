@@ -1,6 +1,4 @@
-use Rattle.std.proofs.Common.{rules}
-use Rattle.std.proofs.lemmas.Fn.{always_returns_same}
-use Rattle.portal_core.specs.Words.{is_before}
+use Rattle.portal_list.proofs.Base.{rules, always_returns_same, is_before}
 use Rattle.portal_core.proofs.Adjacent.{adjacent_rise}
 use Rattle.portal_list.proofs.keyed.keys_rise.Goals as goal
 

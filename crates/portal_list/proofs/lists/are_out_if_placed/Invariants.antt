@@ -1,5 +1,4 @@
-use Rattle.std.proofs.Common.{take}
-use Rattle.std.specs.List.{AllByRecursion}
+use Rattle.portal_list.proofs.Base.{take, AllByRecursion}
 use Rattle.portal_list.specs.inner.Parts.{IsOutIfPlaced}
 use Rattle.portal_list.proofs.lists.are_out_if_placed.Given as goal
 

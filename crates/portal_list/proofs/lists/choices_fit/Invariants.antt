@@ -1,7 +1,4 @@
-use Rattle.std.proofs.Common.{map, take}
-use Rattle.std.specs.List.{AllByRecursion}
-use Rattle.portal_core.specs.World.{project_key}
-use Rattle.portal_core.specs.Good.{IsChoice}
+use Rattle.portal_list.proofs.Base.{map, take, AllByRecursion, project_key, IsChoice}
 use Rattle.portal_list.proofs.lists.choices_fit.Given as goal
 
 abbrev pub invariant-loop-student : goal.invariant-loop-student

@@ -1,11 +1,5 @@
-use Rattle.std.proofs.Common.{◌≡◌, ◌↔◌, IfOk, IsTrue, List, map, sym, ap, subst, subst₂, ◌∙◌}
-use Rattle.std.specs.List.{AllByRecursion}
-use Rattle.portal_core.specs.Words.{Rise}
-use Rattle.portal_core.specs.World.{Student, project_key, projects_in}
-use Rattle.portal_core.specs.declared.phase.Round.TheVariants.{First, Second}
-use Rattle.portal_core.specs.declared.rows.ProjectRow.{ProjectRow}
-use Rattle.portal_core.specs.Good.{IsChoice}
-use Rattle.portal_list.specs.Entries.{AllEntries}
+use Rattle.portal_list.proofs.Base.{◌≡◌, ◌↔◌, IfOk, IsTrue, List, map, sym, ap, subst, subst₂, ◌∙◌, AllByRecursion, Rise, Student, project_key, First, Second, ProjectRow, IsChoice, AllEntries}
+use Rattle.portal_core.specs.World.{projects_in}
 use Rattle.portal_list.proofs.Plays.{left_rise}
 use Rattle.portal_list.proofs.lists.choices_in_play_fit.Goals as goal
 

@@ -1,5 +1,4 @@
-use Rattle.std.proofs.Common.{◌≡◌, [], take}
-use Rattle.std.specs.List.{AllByRecursion}
+use Rattle.portal_list.proofs.Base.{◌≡◌, [], take, AllByRecursion}
 use Rattle.portal_list.proofs.lists.have_no_choices.Given as goal
 
 abbrev pub invariant-loop-student : goal.invariant-loop-student

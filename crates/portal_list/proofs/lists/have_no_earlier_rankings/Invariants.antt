@@ -1,5 +1,4 @@
-use Rattle.std.proofs.Common.{◌≡◌, None, take}
-use Rattle.std.specs.List.{AllByRecursion}
+use Rattle.portal_list.proofs.Base.{◌≡◌, None, take, AllByRecursion}
 use Rattle.portal_list.proofs.lists.have_no_earlier_rankings.Given as goal
 
 abbrev pub invariant-loop-lecturer : goal.invariant-loop-lecturer

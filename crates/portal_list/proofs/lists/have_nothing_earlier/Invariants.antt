@@ -1,6 +1,4 @@
-use Rattle.std.proofs.Common.{take}
-use Rattle.std.specs.List.{AllByRecursion}
-use Rattle.portal_list.specs.inner.Parts.{HasNothingEarlier}
+use Rattle.portal_list.proofs.Base.{take, AllByRecursion, HasNothingEarlier}
 use Rattle.portal_list.proofs.lists.have_nothing_earlier.Given as goal
 
 abbrev pub invariant-loop-student : goal.invariant-loop-student

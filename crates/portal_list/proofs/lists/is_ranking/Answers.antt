@@ -1,9 +1,4 @@
-use Rattle.std.proofs.Common.{◌∙◌, ◌↔◌, IsTrue, map, sym}
-use Rattle.std.proofs.lemmas.Bool.{false≢true}
-use Rattle.std.proofs.lemmas.List.{length-map}
-use Rattle.std.proofs.lemmas.Result.{IfOk-weaker}
-use Rattle.portal_core.specs.Words.{AreDistinct}
-use Rattle.portal_core.specs.Good.{IsRanking}
+use Rattle.portal_list.proofs.Base.{◌∙◌, ◌↔◌, IsTrue, map, sym, false≢true, length-map, IfOk-weaker, AreDistinct, IsRanking}
 use Rattle.portal_list.proofs.Pigeons.{ranking_long, ranking_so}
 use Rattle.portal_list.proofs.lists.is_ranking.Goals as goal
 

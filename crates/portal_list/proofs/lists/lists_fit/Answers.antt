@@ -1,8 +1,4 @@
-use Rattle.std.proofs.Common.{◌≡◌, Bool, sym, ap, subst₂, ◌∙◌}
-use Rattle.std.specs.List.{AllByRecursion}
-use Rattle.std.proofs.lemmas.Result.{IfOk-weaker}
-use Rattle.portal_list.specs.Entries.{AllEntries}
-use Rattle.portal_list.specs.inner.Parts.{applicant_keys, HasRanking}
+use Rattle.portal_list.proofs.Base.{◌≡◌, Bool, sym, ap, subst₂, ◌∙◌, AllByRecursion, IfOk-weaker, AllEntries, applicant_keys, HasRanking}
 use Rattle.portal_list.proofs.lists.lists_fit.Goals as goal
 
 pub returns : goal.returns

@@ -1,11 +1,5 @@
-use Rattle.std.proofs.Common.{◌≡◌, ◌↔◌, IfOk, IsTrue, map, sym, ◌∙◌, ap, subst}
-use Rattle.std.specs.Prelude.{option_map}
-use Rattle.std.specs.List.{list_any}
-use Rattle.portal_core.specs.Words.{Rise, has}
-use Rattle.portal_core.specs.World.{student_key}
-use Rattle.portal_core.proofs.Fills.{rise_kept}
+use Rattle.portal_list.proofs.Base.{◌≡◌, ◌↔◌, IfOk, IsTrue, map, sym, ◌∙◌, ap, subst, option_map, list_any, Rise, has, student_key, rise_kept, applicant_keys, HasRanking}
 use Rattle.portal_core.specs.inner.Room.{own_keys}
-use Rattle.portal_list.specs.inner.Parts.{applicant_keys, HasRanking}
 use Rattle.portal_list.proofs.lists.ranking_fits.Goals as goal
 
 pub is_ranked-requires : goal.is_ranked-requires

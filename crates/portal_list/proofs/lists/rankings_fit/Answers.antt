@@ -1,8 +1,4 @@
-use Rattle.std.proofs.Common.{sym, ◌∙◌, subst, List}
-use Rattle.std.proofs.lemmas.Bool.{false≢true}
-use Rattle.portal_core.specs.World.{Lecturer, Student}
-use Rattle.portal_core.proofs.AllLaws.{all_at}
-use Rattle.portal_list.specs.inner.Parts.{applicant_keys, HasRanking}
+use Rattle.portal_list.proofs.Base.{sym, ◌∙◌, subst, List, false≢true, Lecturer, Student, all_at, applicant_keys, HasRanking}
 use Rattle.portal_list.proofs.Steps.{all_more}
 use Rattle.portal_list.proofs.lists.rankings_fit.Goals as goal
 

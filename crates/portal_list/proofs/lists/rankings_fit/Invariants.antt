@@ -1,6 +1,4 @@
-use Rattle.std.proofs.Common.{take}
-use Rattle.std.specs.List.{AllByRecursion}
-use Rattle.portal_list.specs.inner.Parts.{applicant_keys, HasRanking}
+use Rattle.portal_list.proofs.Base.{take, AllByRecursion, applicant_keys, HasRanking}
 use Rattle.portal_list.proofs.lists.rankings_fit.Given as goal
 
 abbrev pub invariant-loop-lecturer : goal.invariant-loop-lecturer

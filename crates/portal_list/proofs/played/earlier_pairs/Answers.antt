@@ -1,6 +1,4 @@
-use Rattle.std.proofs.Common.{arith}
-use Rattle.std.proofs.lemmas.Grind.{common_steps}
-use Rattle.std.proofs.lemmas.List.Elements.{filter_map-append}
+use Rattle.portal_list.proofs.Base.{arith, common_steps, filter_map-append}
 use Rattle.portal_list.proofs.played.earlier_pairs.Goals as goal
 use Rattle.portal_list.proofs.played.earlier_pairs.Goals.{in-Some+in_ok-push, in_default}
 

@@ -1,5 +1,4 @@
-use Rattle.std.proofs.Common.{◌≡◌, take}
-use Rattle.portal_core.specs.World.{pairs_with}
+use Rattle.portal_list.proofs.Base.{◌≡◌, take, pairs_with}
 use Rattle.portal_list.proofs.played.earlier_pairs.Given as goal
 
 abbrev pub invariant-loop-student : goal.invariant-loop-student

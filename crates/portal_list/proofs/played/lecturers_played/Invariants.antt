@@ -1,6 +1,4 @@
-use Rattle.std.proofs.Common.{◌≡◌, take}
-use Rattle.std.specs.List.{filter_map}
-use Rattle.portal_list.specs.inner.Played.{lecturer_played}
+use Rattle.portal_list.proofs.Base.{◌≡◌, take, filter_map, lecturer_played}
 use Rattle.portal_list.proofs.played.lecturers_played.Given as goal
 
 abbrev pub invariant-loop-lecturer : goal.invariant-loop-lecturer

@@ -1,9 +1,4 @@
-use Rattle.std.proofs.Common.{◌≡◌, map, ap, ◌∙◌}
-use Rattle.std.specs.Prelude.{filter}
-use Rattle.std.specs.List.{filter_map}
-use Rattle.portal_core.specs.declared.phase.Round.TheVariants.{First}
-use Rattle.portal_core.specs.World.{Student, alone_lecturer, alone_student, lecturers_left, is_left, pairs_with}
-use Rattle.portal_list.specs.inner.Played.{lecturer_played, project_played, all_played}
+use Rattle.portal_list.proofs.Base.{◌≡◌, map, ap, ◌∙◌, filter, filter_map, First, Student, alone_lecturer, alone_student, lecturers_left, is_left, pairs_with, lecturer_played, project_played, all_played}
 use Rattle.portal_list.proofs.Plays.{lecturers_are, projects_are}
 use Rattle.portal_list.proofs.played.played.Goals as goal
 

@@ -1,5 +1,4 @@
-use Rattle.std.proofs.Common.{◌∷◌, [], ◌++◌, sym, ap, ◌∙◌}
-use Rattle.portal_list.specs.inner.Played.{project_played}
+use Rattle.portal_list.proofs.Base.{◌∷◌, [], ◌++◌, sym, ap, ◌∙◌, project_played}
 use Rattle.portal_list.proofs.Steps.{some_more, none_more}
 use Rattle.portal_list.proofs.played.projects_played.Goals as goal
 use Rattle.portal_list.proofs.played.projects_played.Goals.{in-Some+in_ok-push, in_default}

@@ -1,6 +1,4 @@
-use Rattle.std.proofs.Common.{◌≡◌, take}
-use Rattle.std.specs.List.{filter_map}
-use Rattle.portal_list.specs.inner.Played.{project_played}
+use Rattle.portal_list.proofs.Base.{◌≡◌, take, filter_map, project_played}
 use Rattle.portal_list.proofs.played.projects_played.Given as goal
 
 abbrev pub invariant-loop-project : goal.invariant-loop-project

@@ -1,6 +1,4 @@
-use Rattle.std.proofs.Common.{◌≡◌, take, map}
-use Rattle.std.specs.Prelude.{filter}
-use Rattle.portal_core.specs.World.{is_left, alone_student}
+use Rattle.portal_list.proofs.Base.{◌≡◌, take, map, filter, is_left, alone_student}
 use Rattle.portal_list.proofs.played.students_played.Given as goal
 
 abbrev pub invariant-loop-student : goal.invariant-loop-student

@@ -1,8 +1,5 @@
-use Rattle.std.proofs.Common.{◌≡◌, ◌∙◌, ap, sym}
-use Rattle.portal_core.specs.World.{World}
-use Rattle.portal_core.specs.View.{lecturer_sees, catalogue}
-use Rattle.portal_list.specs.Entries.{world_with}
-use Rattle.portal_list.specs.inner.Shown.{applicants_shown, placements_shown}
+use Rattle.portal_list.proofs.Base.{◌≡◌, ◌∙◌, ap, sym, World, catalogue, world_with, applicants_shown, placements_shown}
+use Rattle.portal_core.specs.View.{lecturer_sees}
 use Rattle.portal_list.proofs.views.lecturer_view.Goals as goal
 
 pub returns : goal.returns

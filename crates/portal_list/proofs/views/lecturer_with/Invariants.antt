@@ -1,6 +1,4 @@
-use Rattle.std.proofs.Common.{◌≡◌, drop}
-use Rattle.std.specs.List.{find}
-use Rattle.portal_core.specs.Words.{equals}
+use Rattle.portal_list.proofs.Base.{◌≡◌, drop, find, equals}
 use Rattle.portal_list.proofs.views.lecturer_with.Given as goal
 
 abbrev pub invariant-loop-lecturer : goal.invariant-loop-lecturer

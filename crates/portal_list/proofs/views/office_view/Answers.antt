@@ -1,12 +1,6 @@
-use Rattle.std.proofs.Common.{◌≡◌, Bool, cond, List, [], map, ◌∙◌, ap, sym}
-use Rattle.std.specs.Prelude.{filter, ◌&&◌}
-use Rattle.portal_core.specs.Words.{Key, is_empty}
-use Rattle.portal_core.specs.World.{World, Lecturer, Student, is_still_to_rank, is_from_ranking, shown_placement, pairs_with}
-use Rattle.portal_core.specs.declared.rows.ProjectRow.{ProjectRow}
-use Rattle.portal_core.specs.View.{office_sees, catalogue}
-use Rattle.portal_list.specs.Entries.{world_with}
-use Rattle.portal_list.specs.inner.Played.{takes_part}
-use Rattle.portal_list.specs.inner.Shown.{is_waiting}
+use Rattle.portal_list.proofs.Base.{◌≡◌, Bool, cond, List, [], map, ◌∙◌, ap, sym, filter, ◌&&◌, Key, is_empty, World, Lecturer, Student, is_still_to_rank, shown_placement, pairs_with, ProjectRow, catalogue, world_with, takes_part, is_waiting}
+use Rattle.portal_core.specs.World.{is_from_ranking}
+use Rattle.portal_core.specs.View.{office_sees}
 use Rattle.portal_list.proofs.Plays.{part_and}
 use Rattle.portal_list.proofs.Waiting.{waiting_lecturers}
 use Rattle.portal_list.proofs.views.office_view.Goals as goal

@@ -1,6 +1,7 @@
-use Rattle.std.proofs.Common.{Vec, Global, ◌≡◌, ◌<◌, ◌++◌, ◌∙◌, List, length, get_or, ap, subst, codes, decimal}
+use Rattle.portal_reports.proofs.Base.{◌≡◌, ◌<◌, ◌++◌, ◌∙◌, List, length, ap, codes, decimal, project_line, padded_left, padded_right}
+use Rattle.std.proofs.Common.{Vec, Global, get_or, subst}
 use Rattle.portal_core.specs.declared.rows.ProjectRow.{ProjectRow}
-use Rattle.portal_core.specs.Sheets.{project_line, padded_left, padded_right, line_feed, students_at}
+use Rattle.portal_core.specs.Sheets.{line_feed, students_at}
 use Rattle.portal_core.proofs.Pieces.{one_more}
 use Rattle.portal_reports.proofs.allocation.put_projects.Goals as goal
 

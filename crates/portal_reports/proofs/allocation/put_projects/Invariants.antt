@@ -1,6 +1,4 @@
-use Rattle.std.proofs.Common.{◌≡◌, ◌++◌, take}
-use Rattle.std.specs.List.{flat_map}
-use Rattle.portal_core.specs.Sheets.{project_line}
+use Rattle.portal_reports.proofs.Base.{◌≡◌, ◌++◌, take, flat_map, project_line}
 use Rattle.portal_reports.proofs.allocation.put_projects.Given as goal
 
 abbrev pub invariant-loop-project : goal.invariant-loop-project

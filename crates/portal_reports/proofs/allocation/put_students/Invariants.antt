@@ -1,5 +1,4 @@
-use Rattle.std.proofs.Common.{◌≡◌, ◌++◌, take}
-use Rattle.std.specs.List.{flat_map}
+use Rattle.portal_reports.proofs.Base.{◌≡◌, ◌++◌, take, flat_map}
 use Rattle.portal_core.specs.Sheets.{student_line}
 use Rattle.portal_reports.proofs.allocation.put_students.Given as goal
 

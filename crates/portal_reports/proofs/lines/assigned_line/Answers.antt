@@ -1,5 +1,4 @@
-use Rattle.std.proofs.Common.{◌++◌, codes, decimal, append_assoc}
-use Rattle.portal_core.proofs.Pieces.{said}
+use Rattle.portal_reports.proofs.Base.{◌++◌, codes, decimal, append_assoc, said}
 use Rattle.portal_reports.proofs.lines.assigned_line.Goals as goal
 
 pub returns : goal.returns

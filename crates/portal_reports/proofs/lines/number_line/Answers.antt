@@ -1,8 +1,4 @@
-use Rattle.std.proofs.Common.{◌++◌, ◌∙◌, codes, decimal, append_assoc, sym, refl}
-use Rattle.std.specs.Fmt.{styled_text, styled_decimal}
-use Rattle.portal_core.specs.Sheets.{padded_left, padded_right}
-use Rattle.portal_reports.specs.Status.{number_line}
-use Rattle.portal_core.proofs.Pieces.{said}
+use Rattle.portal_reports.proofs.Base.{◌++◌, ◌∙◌, codes, decimal, append_assoc, sym, refl, styled_text, styled_decimal, padded_left, padded_right, number_line, said}
 use Rattle.portal_reports.proofs.Padding.{left-is, right-is}
 use Rattle.portal_reports.proofs.lines.number_line.Goals as goal
 

@@ -1,9 +1,6 @@
-use Rattle.std.proofs.Common.{◌++◌, ◌∙◌, codes, append_assoc, sym, refl, ap}
-use Rattle.std.specs.Fmt.{styled_text}
+use Rattle.portal_reports.proofs.Base.{◌++◌, ◌∙◌, codes, append_assoc, sym, refl, ap, styled_text, padded_left, said}
 use Rattle.portal_core.specs.World.{phase_word}
-use Rattle.portal_core.specs.Sheets.{padded_left}
 use Rattle.portal_reports.specs.Status.{phase_line}
-use Rattle.portal_core.proofs.Pieces.{said}
 use Rattle.portal_reports.proofs.Padding.{left-is}
 use Rattle.portal_reports.proofs.lines.phase_line.Goals as goal
 

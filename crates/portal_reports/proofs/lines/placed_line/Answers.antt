@@ -1,6 +1,4 @@
-use Rattle.std.proofs.Common.{◌++◌, ◌∙◌, codes, append_assoc, ap}
-use Rattle.std.specs.Fmt.{styled_text}
-use Rattle.portal_core.proofs.Pieces.{said}
+use Rattle.portal_reports.proofs.Base.{◌++◌, ◌∙◌, codes, append_assoc, ap, styled_text, said}
 use Rattle.portal_reports.proofs.Padding.{left-at}
 use Rattle.portal_reports.proofs.lines.placed_line.Goals as goal
 

@@ -1,6 +1,4 @@
-use Rattle.std.proofs.Common.{◌++◌, ◌∙◌, codes, append_assoc, refl, ap}
-use Rattle.std.specs.Fmt.{styled_text, styled_decimal}
-use Rattle.portal_core.proofs.Pieces.{said}
+use Rattle.portal_reports.proofs.Base.{◌++◌, ◌∙◌, codes, append_assoc, refl, ap, styled_text, styled_decimal, said}
 use Rattle.portal_reports.proofs.Padding.{left-at, right-is}
 use Rattle.portal_reports.proofs.lines.project_line.Goals as goal
 

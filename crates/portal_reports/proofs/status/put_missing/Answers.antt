@@ -1,5 +1,4 @@
-use Rattle.std.proofs.Common.{◌≡◌, ◌++◌, ◌∙◌, ap, codes, length}
-use Rattle.portal_reports.specs.Status.{number_line}
+use Rattle.portal_reports.proofs.Base.{◌≡◌, ◌++◌, ◌∙◌, ap, codes, length, number_line}
 use Rattle.portal_reports.proofs.status.put_missing.Goals as goal
 
 pub returns : goal.returns

@@ -1,6 +1,5 @@
-use Rattle.std.proofs.Common.{arith, ◌++◌, ◌∙◌, ◌≤◌, length, map, ap, Some}
+use Rattle.portal_rolls.proofs.Base.{arith, ◌++◌, ◌∙◌, ◌≤◌, length, map, ap, Some, default_writer, row_text}
 use Rattle.std.proofs.lemmas.List.{length-map}
-use Rattle.csv.specs.Writing.{default_writer, row_text}
 use Rattle.portal_rolls.proofs.Quotes.{appended, plain, record-text}
 use Rattle.portal_rolls.proofs.allocation.put_record.Goals as goal
 

@@ -1,9 +1,6 @@
-use Rattle.std.proofs.Common.{◌≡◌, ◌++◌, ◌∙◌, ◌∷◌, [], ℕ, List, ap, subst, Some, None, OnOk}
-use Rattle.portal_core.specs.declared.rows.ProjectRow.{ProjectRow}
-use Rattle.portal_core.specs.declared.rows.StudentRow.{StudentRow}
-use Rattle.portal_core.specs.Sight.{OfficeSees}
-use Rattle.portal_core.specs.Sheets.{project_given, project_fields, student_fields, csv_record}
-use Rattle.portal_rolls.specs.inner.Written.{HasWritten}
+use Rattle.portal_rolls.proofs.Base.{◌≡◌, ◌++◌, ◌∙◌, ◌∷◌, [], ℕ, List, ap, subst, Some, None, ProjectRow, StudentRow, OfficeSees, student_fields, csv_record, HasWritten}
+use Rattle.std.proofs.Common.{OnOk}
+use Rattle.portal_core.specs.Sheets.{project_given, project_fields}
 use Rattle.portal_rolls.proofs.allocation.put_student.Goals as goal
 
 placed : (v : OfficeSees) (s : StudentRow) (p : ProjectRow) (key name project title lecturer : List ℕ)

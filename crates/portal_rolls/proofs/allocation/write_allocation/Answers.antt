@@ -1,12 +1,7 @@
-use Rattle.std.proofs.Common.{◌≡◌, ◌<◌, ◌≤◌, ◌++◌, ◌∙◌, [], ℕ, List, length, take, get_or, refl, ap, subst, IfOk, Ok, Err}
-use Rattle.std.specs.Prelude.{Result, Vec}
+use Rattle.portal_rolls.proofs.Base.{◌≡◌, ◌<◌, ◌≤◌, ◌++◌, ◌∙◌, [], ℕ, List, length, take, get_or, refl, ap, subst, IfOk, Ok, Err, Result, flat_map, take_all, StudentRow, OfficeSees, student_fields, csv_record, csv_header, HasWritten}
+use Rattle.std.specs.Prelude.{Vec}
 use Rattle.std.specs.Global.{Global}
-use Rattle.std.specs.List.{flat_map}
-use Rattle.std.proofs.lemmas.List.{take_all}
-use Rattle.portal_core.specs.declared.rows.StudentRow.{StudentRow}
-use Rattle.portal_core.specs.Sight.{OfficeSees}
-use Rattle.portal_core.specs.Sheets.{student_fields, csv_record, csv_header, csv_text}
-use Rattle.portal_rolls.specs.inner.Written.{HasWritten}
+use Rattle.portal_core.specs.Sheets.{csv_text}
 use Rattle.portal_core.proofs.Pieces.{one_more}
 use Rattle.portal_rolls.proofs.allocation.write_allocation.Goals as goal
 

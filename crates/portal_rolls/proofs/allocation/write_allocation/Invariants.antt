@@ -1,7 +1,4 @@
-use Rattle.std.proofs.Common.{◌++◌, take}
-use Rattle.std.specs.List.{flat_map}
-use Rattle.portal_core.specs.Sheets.{csv_record, csv_header, student_fields}
-use Rattle.portal_rolls.specs.inner.Written.{HasWritten}
+use Rattle.portal_rolls.proofs.Base.{◌++◌, take, flat_map, csv_record, csv_header, student_fields, HasWritten}
 use Rattle.portal_rolls.proofs.allocation.write_allocation.Given as goal
 
 abbrev pub invariant-loop-student : goal.invariant-loop-student

@@ -1,6 +1,5 @@
-use Rattle.std.proofs.Common.{◌∙◌, ap, arith, rules}
+use Rattle.portal_rolls.proofs.Base.{◌∙◌, ap, arith, rules, take_all}
 use Rattle.std.proofs.lemmas.Grind.{common_steps, fold-append}
-use Rattle.std.proofs.lemmas.List.{take_all}
 use Rattle.portal_rolls.specs.Fields as spec
 use Rattle.portal_rolls.proofs.Cut.{capacity_is, ten_more, ten_pow}
 use Rattle.portal_rolls.proofs.fields.capacity_of.Goals as goal

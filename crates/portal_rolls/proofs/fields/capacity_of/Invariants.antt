@@ -1,4 +1,4 @@
-use Rattle.std.proofs.Common.{◌≡◌, ◌+◌, ◌*◌, ◌^◌, ◌≤◌, take}
+use Rattle.portal_rolls.proofs.Base.{◌≡◌, ◌+◌, ◌*◌, ◌^◌, ◌≤◌, take}
 use Rattle.portal_rolls.specs.Fields as spec
 use Rattle.portal_rolls.proofs.fields.capacity_of.Given as goal
 

@@ -1,4 +1,4 @@
-use Rattle.csv.specs.Records.{fields_of}
+use Rattle.portal_rolls.proofs.Base.{fields_of}
 use Rattle.portal_rolls.proofs.Cut.{four_is}
 use Rattle.portal_rolls.proofs.fields.four.Goals as goal
 

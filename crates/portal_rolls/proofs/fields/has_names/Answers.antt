@@ -1,5 +1,4 @@
-use Rattle.std.proofs.Common.{◌∙◌, sym, arith}
-use Rattle.csv.specs.Records.{fields_of}
+use Rattle.portal_rolls.proofs.Base.{◌∙◌, sym, arith, fields_of}
 use Rattle.portal_rolls.proofs.Header.{all_names, name_differs, name_same, other_count, texts_count}
 use Rattle.portal_rolls.proofs.fields.has_names.Goals as goal
 

@@ -1,6 +1,4 @@
-use Rattle.std.proofs.Common.{◌≡◌, drop, map}
-use Rattle.csv.specs.Records.{fields_of}
-use Rattle.portal_rolls.specs.Reading.{same_record}
+use Rattle.portal_rolls.proofs.Base.{◌≡◌, drop, map, fields_of, same_record}
 use Rattle.portal_rolls.proofs.fields.has_names.Given as goal
 
 abbrev pub invariant-loop-i : goal.invariant-loop-i

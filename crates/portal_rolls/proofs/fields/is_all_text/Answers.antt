@@ -1,4 +1,4 @@
-use Rattle.csv.specs.Records.{fields_of}
+use Rattle.portal_rolls.proofs.Base.{fields_of}
 use Rattle.portal_rolls.proofs.Header.{ends_text, one_text}
 use Rattle.portal_rolls.proofs.fields.is_all_text.Goals as goal
 

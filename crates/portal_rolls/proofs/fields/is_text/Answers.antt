@@ -1,4 +1,4 @@
-use Rattle.std.proofs.Common.{◌∙◌}
+use Rattle.portal_rolls.proofs.Base.{◌∙◌}
 use Rattle.portal_rolls.proofs.Cut.{text_test}
 use Rattle.portal_rolls.proofs.fields.is_text.Goals as goal
 

@@ -1,4 +1,4 @@
-use Rattle.std.proofs.Common.{arith, rules, ◌∙◌}
+use Rattle.portal_rolls.proofs.Base.{arith, rules, ◌∙◌}
 use Rattle.std.proofs.lemmas.List.{map-append}
 use Rattle.portal_rolls.proofs.Cut.{before_nil, last_piece, list_is_cut, step_blank, step_other}
 use Rattle.portal_rolls.proofs.fields.list_of.Goals as goal

@@ -1,4 +1,4 @@
-use Rattle.std.proofs.Common.{◌≡◌, ◌++◌, drop}
+use Rattle.portal_rolls.proofs.Base.{◌≡◌, ◌++◌, drop}
 use Rattle.portal_rolls.specs.Fields as spec
 use Rattle.portal_rolls.specs.Views as view
 use Rattle.portal_rolls.proofs.Cut.{before}

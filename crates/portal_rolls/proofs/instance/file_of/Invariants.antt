@@ -1,4 +1,4 @@
-use Rattle.std.proofs.Common.{◌≡◌}
+use Rattle.portal_rolls.proofs.Base.{◌≡◌}
 use Rattle.portal_rolls.specs.Lines as spec
 use Rattle.portal_rolls.specs.Views as view
 use Rattle.portal_rolls.proofs.instance.file_of.Given as goal

@@ -1,8 +1,4 @@
-use Rattle.std.proofs.Common.{◌∙◌, sym, ap, arith}
-use Rattle.std.proofs.lemmas.Result.{err_from_is_err_and}
-use Rattle.csv.specs.Records.{fields_of}
-use Rattle.portal_rolls.specs.Reading.{same_record}
-use Rattle.portal_rolls.specs.Records.{Record}
+use Rattle.portal_rolls.proofs.Base.{◌∙◌, sym, ap, arith, err_from_is_err_and, fields_of, same_record, Record}
 use Rattle.portal_rolls.proofs.Run.{bad_header, begun, goes_on, is_whole, no_header, stops, too_many}
 use Rattle.portal_rolls.proofs.reading.read_lines.Goals as goal
 

@@ -1,4 +1,4 @@
-use Rattle.csv.specs.Records.{fields_of}
+use Rattle.portal_rolls.proofs.Base.{fields_of}
 use Rattle.portal_rolls.proofs.Rest.{takes_next}
 use Rattle.portal_rolls.proofs.record.take_record.Goals as goal
 

@@ -1,5 +1,9 @@
-use Rattle.portal_run.proofs.Upgraded.{upgrade_said}
+use Rattle.std.proofs.Common.{inr}
+use Rattle.portal_run.proofs.Upgraded.{unopened}
 use Rattle.portal_run.proofs.init.upgrade_database.Goals as goal
 
-pub returns-clause-says : goal.returns-clause-says
-returns-clause-says g c = upgrade_said _ c.upgrade.result _ _ _ c.say_done.ensures.done c.say_done.ensures.refused
+pub returns-in-Err-clause-says : goal.returns-in-Err-clause-says
+returns-in-Err-clause-says g c = unopened _ _ _ _ _ c.in-Err.ensures.refused c.refuse.ensures
+
+pub returns-in-Ok-clause-says : goal.returns-in-Ok-clause-says
+returns-in-Ok-clause-says g c small = inr (c.in-Ok.conn, c.upgrade_opened.ensures.says small)

@@ -5,4 +5,4 @@ use Rattle.portal_wire.proofs.replies.first_lines.Goals as goal
 
 pub returns : goal.returns
 unfolding common_lines
-returns c = said c.format.result _ _ c.format.ensures.ok (rw (c.status_number-status.ensures, c.phrase-phrase.ensures, c.content_type-kind.ensures) refl)
+returns c = said c.format.result _ _ c.format.ensures.ok (rw (c.phrase-phrase.ensures, c.content_type-kind.ensures) refl)

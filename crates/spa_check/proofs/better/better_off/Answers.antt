@@ -1,7 +1,6 @@
-use Rattle.std.proofs.Common.{◌≡◌, inl, inr, arith, ◌≤◌, length, None, Some, IsTrue}
+use Rattle.spa_check.proofs.Base.{◌≡◌, inl, inr, arith, ◌≤◌, length, None, Some, cases_lt, project_of}
+use Rattle.std.proofs.Common.{IsTrue}
 use Rattle.std.proofs.Math.ListN.{get_or-eq_default}
-use Rattle.std.proofs.lemmas.Bool.{cases_lt}
-use Rattle.spa_model.specs.Spa.{project_of}
 use Rattle.spa_check.proofs.better.better_off.Goals as goal
 
 pub loop-s-preserved : goal.loop-s-preserved

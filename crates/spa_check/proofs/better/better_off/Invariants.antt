@@ -1,5 +1,5 @@
-use Rattle.std.proofs.Common.{ℕ, ◌<◌}
-use Rattle.spa_check.specs.Better.{IsBetterOff}
+use Rattle.spa_check.proofs.Base.{ℕ, ◌<◌}
+use Rattle.spa_check.specs.Listed.{IsBetterOff}
 use Rattle.spa_check.proofs.better.better_off.Given as goal
 
 -- no student so far is better off

@@ -1,5 +1,4 @@
-use Rattle.std.proofs.Common.{◌≡◌, Some, None, sym, ◌∙◌, arith}
-use Rattle.spa_model.specs.Spa.{project_of}
+use Rattle.spa_check.proofs.Base.{◌≡◌, Some, None, sym, ◌∙◌, arith, project_of}
 use Rattle.spa_check.proofs.Grouping.{lecturer_groups_more, lecturer_groups_skip}
 use Rattle.spa_check.proofs.groups.lecturer_groups.Goals as goal
 use Rattle.spa_check.proofs.groups.lecturer_groups.Goals.{in-Some, in_default}

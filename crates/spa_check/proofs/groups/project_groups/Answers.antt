@@ -1,5 +1,4 @@
-use Rattle.std.proofs.Common.{◌≡◌, ◌+◌, Some, None, sym, ◌∙◌, ap, arith}
-use Rattle.spa_model.specs.Spa.{project_of, place, ranking_of, lecturer_of}
+use Rattle.spa_check.proofs.Base.{◌≡◌, ◌+◌, Some, None, sym, ◌∙◌, ap, arith, project_of, place, ranking_of, lecturer_of}
 use Rattle.spa_check.proofs.Grouping.{project_groups_more, project_groups_skip}
 use Rattle.spa_check.proofs.groups.project_groups.Goals as goal
 use Rattle.spa_check.proofs.groups.project_groups.Goals.{in-Some, in_default}

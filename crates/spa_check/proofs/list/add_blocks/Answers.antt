@@ -1,5 +1,4 @@
-use Rattle.std.proofs.Common.{arith}
-use Rattle.spa_check.specs.Listed.{AreBlocksBefore}
+use Rattle.spa_check.proofs.Base.{arith, AreBlocksBefore}
 use Rattle.spa_check.proofs.Listing.{blocks_jump, blocks_skip, blocks_push, blocks_row}
 use Rattle.spa_check.proofs.Wanting.{least_wanted, apart_from, below_from}
 use Rattle.spa_check.proofs.list.add_blocks.Goals as goal
@@ -8,7 +7,7 @@ use Rattle.spa_check.proofs.list.add_blocks.Goals.{in-Some-letter_of+in_ok-push,
 pub letter_of-requires-clause-project : goal.letter_of-requires-clause-project
 letter_of-requires-clause-project c =
     let found = least_wanted c.args.instance.now c.args.matching.now c.args.s c.loop-p.next c.wanted-list.result.now c.wanted-list.ensures c.in-Some.p c.in-Some.ensures in
-    c.students-lawful.ensures.lawful.known c.args.s c.in-Some.p found.0.0
+    c.lawful.ensures.known c.args.s c.in-Some.p found.0.0
 
 pub letter_of-requires-clause-wants : goal.letter_of-requires-clause-wants
 letter_of-requires-clause-wants c = (least_wanted c.args.instance.now c.args.matching.now c.args.s c.loop-p.next c.wanted-list.result.now c.wanted-list.ensures c.in-Some.p c.in-Some.ensures).0
@@ -16,12 +15,12 @@ letter_of-requires-clause-wants c = (least_wanted c.args.instance.now c.args.mat
 pub overflow_add-next : goal.overflow_add-next
 overflow_add-next c =
     let found = least_wanted c.args.instance.now c.args.matching.now c.args.s c.loop-p.next c.wanted-list.result.now c.wanted-list.ensures c.in-Some.p c.in-Some.ensures in
-    omega (arith, c.students-lawful.ensures.lawful.known c.args.s c.in-Some.p found.0.0, c.students-lawful.ensures.lawful.project_count)
+    omega (arith, c.lawful.ensures.known c.args.s c.in-Some.p found.0.0, c.lawful.ensures.project_count)
 
 pub loop-p-smaller : goal.loop-p-smaller
 loop-p-smaller c =
     let found = least_wanted c.args.instance.now c.args.matching.now c.args.s c.loop-p.next c.wanted-list.result.now c.wanted-list.ensures c.in-Some.p c.in-Some.ensures in
-    omega (arith, c.students-lawful.ensures.lawful.known c.args.s c.in-Some.p found.0.0, found.1)
+    omega (arith, c.lawful.ensures.known c.args.s c.in-Some.p found.0.0, found.1)
 
 pub loop-p-preserved : goal.loop-p-preserved
 loop-p-preserved c =

@@ -1,5 +1,5 @@
-use Rattle.std.proofs.Common.{◌-◌, length}
-use Rattle.spa_check.specs.Listed.{AreBlocksBefore}
+use Rattle.spa_check.proofs.Base.{length, AreBlocksBefore}
+use Rattle.std.proofs.Common.{◌-◌}
 use Rattle.spa_check.proofs.list.add_blocks.Given as goal
 
 -- the pairs so far

@@ -1,4 +1,4 @@
-use Rattle.spa_check.specs.Listed.{AreBlocksBefore}
+use Rattle.spa_check.proofs.Base.{AreBlocksBefore}
 use Rattle.spa_check.proofs.list.blocking_pairs.Given as goal
 
 -- the pairs of the students so far

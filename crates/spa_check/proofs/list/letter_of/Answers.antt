@@ -1,8 +1,6 @@
-use Rattle.std.proofs.Common.{◌≡◌, ◌⊎◌, inl, inr, sym, ◌∙◌, arith, get_or}
+use Rattle.spa_check.proofs.Base.{◌≡◌, ◌⊎◌, inl, inr, sym, ◌∙◌, arith, get_or, IsWith, SomeWorseWith, ranking_of, at_lecturer, Group, IsGroup}
 use Rattle.std.proofs.lemmas.Bool.{ltb-true}
-use Rattle.spa_model.specs.Spa.{IsWith, SomeWorseWith, ranking_of, at_lecturer, limit_of}
-use Rattle.spa_check.specs.declared.groups.Group.{Group}
-use Rattle.spa_check.specs.inner.Groups.{IsGroup}
+use Rattle.spa_model.specs.Spa.{limit_of}
 use Rattle.spa_check.proofs.Grouping.{worse_with}
 use Rattle.spa_check.proofs.list.letter_of.Goals as goal
 use Rattle.spa_check.proofs.list.letter_of.Goals.{then-is_with, else-is_with}
@@ -13,7 +11,7 @@ returns-then-depth-lecturers c =
     let at = c.requires.projects.each c.args.p nobody (omega (arith, c.requires.projects.size)) in
     let with : IsGroup (ranking_of c.args.instance.now c.lecturer_of-l.result) (IsWith c.args.instance.now c.args.matching.now c.lecturer_of-l.result) (at_lecturer c.args.instance.now c.args.matching.now c.lecturer_of-l.result) (get_or c.args.lecturers.now c.lecturer_of-l.result nobody) =
     c.requires.lecturers.each c.lecturer_of-l.result nobody (omega (arith, c.requires.lecturers.size)) in
-    let worse = worse_with c.args.instance.now c.args.matching.now c.lecturer_of-l.result c.args.s c.depth_of-depth.result (get_or c.args.lecturers.now c.lecturer_of-l.result nobody) c.students-lawful.ensures.lawful c.requires.fits with c.depth_of-depth.ensures in
+    let worse = worse_with c.args.instance.now c.args.matching.now c.lecturer_of-l.result c.args.s c.depth_of-depth.result (get_or c.args.lecturers.now c.lecturer_of-l.result nobody) c.lawful.ensures c.requires.fits with c.depth_of-depth.ensures in
     let full : at_lecturer c.args.instance.now c.args.matching.now c.lecturer_of-l.result ≡ limit_of c.args.instance.now c.lecturer_of-l.result = omega (arith, with.count, c.requires.fits.lecturers c.lecturer_of-l.result) in
     let either : IsWith c.args.instance.now c.args.matching.now c.lecturer_of-l.result c.args.s ⊎ SomeWorseWith c.args.instance.now c.args.matching.now c.lecturer_of-l.result c.args.s = elim c.if-is_with.branch [
       | then-is_with w ↦ inl (c.is_with.ensures.cases.0 w.if-is_with.true)

@@ -1,5 +1,4 @@
-use Rattle.std.proofs.Common.{◌≡◌, ℕ, ◌<◌, Some}
-use Rattle.spa_model.specs.Spa.{project_of, IsBefore, ranking_of, lecturer_of}
+use Rattle.spa_check.proofs.Base.{◌≡◌, ℕ, ◌<◌, Some, project_of, IsBefore, ranking_of, lecturer_of}
 use Rattle.spa_check.proofs.stable.has_worse_at.Given as goal
 
 -- none so far

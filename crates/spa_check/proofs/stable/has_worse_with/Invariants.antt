@@ -1,5 +1,4 @@
-use Rattle.std.proofs.Common.{ℕ, ◌<◌}
-use Rattle.spa_model.specs.Spa.{IsWith, IsBefore, ranking_of}
+use Rattle.spa_check.proofs.Base.{ℕ, ◌<◌, IsWith, IsBefore, ranking_of}
 use Rattle.spa_check.proofs.stable.has_worse_with.Given as goal
 
 -- none so far

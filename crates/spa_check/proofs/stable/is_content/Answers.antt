@@ -1,8 +1,5 @@
-use Rattle.std.proofs.Common.{◌≡◌, inl, inr, get_or, sym, ◌∙◌, refl, arith, Contains}
-use Rattle.std.proofs.lemmas.Bool.{cases_lt}
-use Rattle.std.proofs.lemmas.List.{get_or_default}
+use Rattle.spa_check.proofs.Base.{◌≡◌, inl, inr, get_or, sym, ◌∙◌, refl, arith, Contains, cases_lt, get_or_default, Wants}
 use Rattle.std.proofs.lemmas.List.Elements.{Contains-get_or}
-use Rattle.spa_model.specs.Spa.{Wants}
 use Rattle.spa_check.proofs.Listing.{blocks_wants, none_blocks}
 use Rattle.spa_check.proofs.stable.is_content.Goals as goal
 
@@ -10,7 +7,7 @@ pub letter_of-requires-clause-project : goal.letter_of-requires-clause-project
 letter_of-requires-clause-project c =
     let p = get_or c.wanted-p-items.result.now c.loop-p.p-index 0 in
     let wants : Wants c.args.instance.now c.args.matching.now c.args.s p = (c.wanted-p-items.ensures p).0 (Contains-get_or c.wanted-p-items.result.now c.loop-p.p-index 0 c.loop-p-test.true) in
-    c.students-lawful.ensures.lawful.known c.args.s p wants.0
+    c.lawful.ensures.known c.args.s p wants.0
 
 pub loop-p-preserved : goal.loop-p-preserved
 loop-p-preserved c k x below = elim (cases_lt k c.loop-p.p-index) [

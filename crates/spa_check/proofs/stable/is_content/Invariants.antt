@@ -1,6 +1,4 @@
-use Rattle.std.proofs.Common.{ℕ, ◌<◌, get_or}
-use Rattle.spa_model.specs.declared.letter.Letter.{Letter}
-use Rattle.spa_model.specs.Spa.{Blocks}
+use Rattle.spa_check.proofs.Base.{ℕ, ◌<◌, get_or, Letter, Blocks}
 use Rattle.spa_check.proofs.stable.is_content.Given as goal
 
 -- no pair so far blocks

@@ -1,5 +1,4 @@
-use Rattle.std.proofs.Common.{◌≡◌, inl, inr, arith}
-use Rattle.std.proofs.lemmas.Bool.{cases_lt}
+use Rattle.spa_check.proofs.Base.{◌≡◌, inl, inr, arith, cases_lt}
 use Rattle.spa_check.proofs.stable.is_stable.Goals as goal
 
 pub loop-s-preserved : goal.loop-s-preserved

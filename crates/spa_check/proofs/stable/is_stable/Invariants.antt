@@ -1,6 +1,4 @@
-use Rattle.std.proofs.Common.{ℕ, ◌<◌}
-use Rattle.spa_model.specs.declared.letter.Letter.{Letter}
-use Rattle.spa_model.specs.Spa.{Blocks}
+use Rattle.spa_check.proofs.Base.{ℕ, ◌<◌, Letter, Blocks}
 use Rattle.spa_check.proofs.stable.is_stable.Given as goal
 
 -- no student so far is in a pair that blocks

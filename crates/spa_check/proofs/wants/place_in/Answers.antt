@@ -1,5 +1,5 @@
-use Rattle.std.proofs.Common.{◌≡◌, eqb, rules, tests}
-use Rattle.std.specs.List.{position}
+use Rattle.spa_check.proofs.Base.{◌≡◌, eqb, position}
+use Rattle.std.proofs.Common.{rules, tests}
 use Rattle.std.proofs.lemmas.Iterator.{YieldsList-from_slice}
 use Rattle.std.proofs.lemmas.Iterator.Search.{position_from_yields_List}
 use Rattle.spa_check.proofs.Wanting.{place_found, place_none}

@@ -1,5 +1,4 @@
-use Rattle.std.proofs.Common.{◌≡◌, Some, None, sym, ◌∙◌, ap}
-use Rattle.spa_model.specs.Spa.{project_of, choices_of, place}
+use Rattle.spa_check.proofs.Base.{◌≡◌, Some, None, sym, ◌∙◌, ap, project_of, choices_of, place}
 use Rattle.spa_check.proofs.Wanting.{wanted_all, wanted_front}
 use Rattle.spa_check.proofs.wants.wanted.Goals as goal
 

@@ -1,4 +1,4 @@
-use Rattle.spa_student.proofs.Machine.{ranked_of}
+use Rattle.spa_honest.proofs.Base.{ranked_of}
 use Rattle.spa_honest.proofs.Exists.{best_of}
 use Rattle.spa_honest.proofs.laws.best_there_is.Goals as goal
 

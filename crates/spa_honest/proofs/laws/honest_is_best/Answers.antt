@@ -1,4 +1,4 @@
-use Rattle.spa_student.proofs.Machine.{ranked_of}
+use Rattle.spa_honest.proofs.Base.{ranked_of}
 use Rattle.spa_honest.proofs.Gains.{honest_is_best}
 use Rattle.spa_honest.proofs.laws.honest_is_best.Goals as goal
 

@@ -1,4 +1,4 @@
-use Rattle.spa_student.proofs.Machine.{ranked_of}
+use Rattle.spa_honest.proofs.Base.{ranked_of}
 use Rattle.spa_honest.proofs.Gains.{no_group_gains}
 use Rattle.spa_honest.proofs.laws.no_group_gains.Goals as goal
 

@@ -1,4 +1,4 @@
-use Rattle.spa_student.proofs.Machine.{ranked_of}
+use Rattle.spa_honest.proofs.Base.{ranked_of}
 use Rattle.spa_honest.proofs.Assigned.{same_assigned}
 use Rattle.spa_honest.proofs.laws.same_assigned.Goals as goal
 

@@ -1,4 +1,4 @@
-use Rattle.spa_student.proofs.Machine.{ranked_of}
+use Rattle.spa_honest.proofs.Base.{ranked_of}
 use Rattle.spa_honest.proofs.Waits.{waiting_never_pays}
 use Rattle.spa_honest.proofs.laws.waiting_never_pays.Goals as goal
 

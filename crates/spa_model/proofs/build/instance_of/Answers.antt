@@ -1,13 +1,7 @@
-use Rattle.std.proofs.Common.{List, Ok, Err, refl}
-use Rattle.spa_rows.specs.Lines.{Rows}
-use Rattle.spa_rows.specs.Least.{IsLeastOf}
-use Rattle.spa_rows.specs.Faults.{HasNoneBefore, HasFault, IsRefusal}
-use Rattle.spa_rows.specs.declared.faults.InstanceFault.TheVariants.{NotApplicant, ApplicantMissing, Memory}
-use Rattle.spa_rows.proofs.FirstFault.{refuse_ok, refuse_err, handed_on}
+use Rattle.spa_model.proofs.Base.{List, refl, Rows, IsLeastOf, HasNoneBefore, HasFault, IsRefusal, NotApplicant, ApplicantMissing, Memory, handed_on, Student, Project, Lecturer}
+use Rattle.std.proofs.Common.{Ok, Err}
+use Rattle.spa_rows.proofs.FirstFault.{refuse_ok, refuse_err}
 use Rattle.spa_model.specs.inner.Numbers.{rows_of}
-use Rattle.spa_model.specs.declared.instance.Student.{Student}
-use Rattle.spa_model.specs.declared.instance.Project.{Project}
-use Rattle.spa_model.specs.declared.instance.Lecturer.{Lecturer}
 use Rattle.spa_model.proofs.Good.{AreGood, are_good}
 use Rattle.spa_model.proofs.Numbered.{AreNumbered}
 use Rattle.spa_model.proofs.Numbered
@@ -15,187 +9,130 @@ use Rattle.spa_model.proofs.Missing
 use Rattle.spa_model.proofs.Lawful
 use Rattle.spa_model.proofs.Stages
 use Rattle.spa_model.proofs.build.instance_of.Goals as goal
+use Rattle.spa_model.proofs.build.instance_of.Goals.{Start, After-deref-2, In_ok-refuse, In_ok-refuse-2}
+
+-- the rows at the start, which are good
+abbrev rows : Start → Rows
+rows c = rows_of c.args.lecturers.now c.args.projects.now c.args.students.now
+
+good : (c : Start) → AreGood (rows c)
+good c = are_good (rows c) c.requires.lecturers c.requires.projects c.requires.students c.requires.faultless
+
+-- the same once students and projects have numbers
+abbrev start : After-deref-2 → Start
+start c = (goal.at.not_applicant-requires-clause-rise c).Start
+
+abbrev students : After-deref-2 → List Student
+students c = c.in_ok-student_rows.student_rows.items
+
+abbrev projects : After-deref-2 → List Project
+projects c = c.in_ok-project_rows.project_rows.items
+
+so : (c : After-deref-2) → AreNumbered (rows (start c)) (students c) (projects c)
+so c = Stages.numbered _ _ _ (good (start c)) c.in_ok-student_rows.ensures c.in_ok-project_rows.ensures
+
+-- and once no list names another than an applicant
+abbrev numbers : In_ok-refuse → After-deref-2
+numbers c = (goal.at.number_lecturers-requires-clause-form c).After-deref-2
+
+none_other : (c : In_ok-refuse) → HasNoneBefore (rows (start (numbers c))) ApplicantMissing
+none_other c =
+    let all : Rows = rows (start (numbers c)) in
+    let ss : List Student = students (numbers c) in
+    let ps : List Project = projects (numbers c) in
+    let told : AreNumbered all ss ps = so (numbers c) in
+    let least : IsLeastOf (HasFault all NotApplicant) c.in_ok-not_applicant.field-0 = Stages.other_least all ss ps told c.in_ok-not_applicant.field-0 (rw (← c.deref.ensures.value, ← c.deref-2.ensures.value) c.in_ok-not_applicant.ensures) in
+    refuse_ok all NotApplicant ApplicantMissing c.in_ok-not_applicant.field-0 (Ok c.in_ok-refuse.field-0) refl c.in_ok-refuse.ensures c.requires.faultless least
 
 pub number_students-requires-clause-form : goal.number_students-requires-clause-form
-number_students-requires-clause-form c =
-    let rows : Rows = rows_of c.args.lecturers.now c.args.projects.now c.args.students.now in
-    let good : AreGood rows = are_good rows c.requires.lecturers c.requires.projects c.requires.students c.requires.faultless in
-    good.form_students
+number_students-requires-clause-form c = (good c).form_students
 
 pub number_students-requires-clause-known : goal.number_students-requires-clause-known
-number_students-requires-clause-known c =
-    let rows : Rows = rows_of c.args.lecturers.now c.args.projects.now c.args.students.now in
-    let good : AreGood rows = are_good rows c.requires.lecturers c.requires.projects c.requires.students c.requires.faultless in
-    good.known_projects
+number_students-requires-clause-known c = (good c).known_projects
 
 pub number_projects-requires-clause-form : goal.number_projects-requires-clause-form
-number_projects-requires-clause-form c =
-    let rows : Rows = rows_of c.args.lecturers.now c.args.projects.now c.args.students.now in
-    let good : AreGood rows = are_good rows c.requires.lecturers c.requires.projects c.requires.students c.requires.faultless in
-    good.form_projects
+number_projects-requires-clause-form c = (good (goal.at.number_projects-requires-clause-form c).Start).form_projects
 
 pub number_projects-requires-clause-known : goal.number_projects-requires-clause-known
-number_projects-requires-clause-known c =
-    let rows : Rows = rows_of c.args.lecturers.now c.args.projects.now c.args.students.now in
-    let good : AreGood rows = are_good rows c.requires.lecturers c.requires.projects c.requires.students c.requires.faultless in
-    good.known_lecturers
+number_projects-requires-clause-known c = (good (goal.at.number_projects-requires-clause-known c).Start).known_lecturers
 
 pub not_applicant-requires-clause-rise : goal.not_applicant-requires-clause-rise
-not_applicant-requires-clause-rise c =
-    let rows : Rows = rows_of c.args.lecturers.now c.args.projects.now c.args.students.now in
-    let good : AreGood rows = are_good rows c.requires.lecturers c.requires.projects c.requires.students c.requires.faultless in
-    good.rise_students
+not_applicant-requires-clause-rise c = (so c).rise_students
 
 pub not_applicant-requires-clause-count : goal.not_applicant-requires-clause-count
-not_applicant-requires-clause-count c =
-    let rows : Rows = rows_of c.args.lecturers.now c.args.projects.now c.args.students.now in
-    let good : AreGood rows = are_good rows c.requires.lecturers c.requires.projects c.requires.students c.requires.faultless in
-    let students : List Student = c.in_ok-student_rows.student_rows.items in
-    let projects : List Project = c.in_ok-project_rows.project_rows.items in
-    let so : AreNumbered rows students projects = Stages.numbered rows students projects good c.in_ok-student_rows.ensures c.in_ok-project_rows.ensures in
-    rw c.deref.ensures.value (Numbered.student_count rows students projects so)
+not_applicant-requires-clause-count c = rw c.deref.ensures.value (Numbered.student_count _ _ _ (so c))
 
 pub not_applicant-requires-clause-choices : goal.not_applicant-requires-clause-choices
-not_applicant-requires-clause-choices c =
-    let rows : Rows = rows_of c.args.lecturers.now c.args.projects.now c.args.students.now in
-    let good : AreGood rows = are_good rows c.requires.lecturers c.requires.projects c.requires.students c.requires.faultless in
-    let students : List Student = c.in_ok-student_rows.student_rows.items in
-    let projects : List Project = c.in_ok-project_rows.project_rows.items in
-    let so : AreNumbered rows students projects = Stages.numbered rows students projects good c.in_ok-student_rows.ensures c.in_ok-project_rows.ensures in
-    rw (c.deref.ensures.value, c.deref-2.ensures.value) (Stages.choices_below rows students projects so)
+not_applicant-requires-clause-choices c = rw (c.deref.ensures.value, c.deref-2.ensures.value) (Stages.choices_below _ _ _ (so c))
 
 pub returns-in_err-refuse-clause-err : goal.returns-in_err-refuse-clause-err
 returns-in_err-refuse-clause-err c =
-    let rows : Rows = rows_of c.args.lecturers.now c.args.projects.now c.args.students.now in
-    let good : AreGood rows = are_good rows c.requires.lecturers c.requires.projects c.requires.students c.requires.faultless in
-    let students : List Student = c.in_ok-student_rows.student_rows.items in
-    let projects : List Project = c.in_ok-project_rows.project_rows.items in
-    let so : AreNumbered rows students projects = Stages.numbered rows students projects good c.in_ok-student_rows.ensures c.in_ok-project_rows.ensures in
-    let least : IsLeastOf (HasFault rows NotApplicant) c.in_ok-not_applicant.field-0 = Stages.other_least rows students projects so c.in_ok-not_applicant.field-0 (rw (← c.deref.ensures.value, ← c.deref-2.ensures.value) c.in_ok-not_applicant.ensures) in
-    let refusal = refuse_err rows NotApplicant c.in_ok-not_applicant.field-0 (Err c.in_err-refuse.field-0.0) c.in_err-refuse.ensures c.requires.faultless least in
-    handed_on c.from_residual-in_err-refuse.result c.in_err-refuse.field-0.0 (λ e. IsRefusal rows e.fault e.row) c.from_residual-in_err-refuse.ensures.1 refusal
+    let known : After-deref-2 = (goal.at.returns-in_err-refuse-clause-err c).After-deref-2 in
+    let all : Rows = rows (start known) in
+    let ss : List Student = students known in
+    let ps : List Project = projects known in
+    let told : AreNumbered all ss ps = so known in
+    let least : IsLeastOf (HasFault all NotApplicant) c.in_ok-not_applicant.field-0 = Stages.other_least all ss ps told c.in_ok-not_applicant.field-0 (rw (← c.deref.ensures.value, ← c.deref-2.ensures.value) c.in_ok-not_applicant.ensures) in
+    let refusal = refuse_err all NotApplicant c.in_ok-not_applicant.field-0 (Err c.in_err-refuse.field-0.0) c.in_err-refuse.ensures c.requires.faultless least in
+    handed_on c.from_residual-in_err-refuse.result c.in_err-refuse.field-0.0 (λ e. IsRefusal all e.fault e.row) c.from_residual-in_err-refuse.ensures.1 refusal
 
 pub number_lecturers-requires-clause-form : goal.number_lecturers-requires-clause-form
-number_lecturers-requires-clause-form c =
-    let rows : Rows = rows_of c.args.lecturers.now c.args.projects.now c.args.students.now in
-    let good : AreGood rows = are_good rows c.requires.lecturers c.requires.projects c.requires.students c.requires.faultless in
-    good.form_lecturers
+number_lecturers-requires-clause-form c = (good (start (numbers c))).form_lecturers
 
 pub number_lecturers-requires-clause-known : goal.number_lecturers-requires-clause-known
-number_lecturers-requires-clause-known c =
-    let rows : Rows = rows_of c.args.lecturers.now c.args.projects.now c.args.students.now in
-    let good : AreGood rows = are_good rows c.requires.lecturers c.requires.projects c.requires.students c.requires.faultless in
-    let students : List Student = c.in_ok-student_rows.student_rows.items in
-    let projects : List Project = c.in_ok-project_rows.project_rows.items in
-    let so : AreNumbered rows students projects = Stages.numbered rows students projects good c.in_ok-student_rows.ensures c.in_ok-project_rows.ensures in
-    let least : IsLeastOf (HasFault rows NotApplicant) c.in_ok-not_applicant.field-0 = Stages.other_least rows students projects so c.in_ok-not_applicant.field-0 (rw (← c.deref.ensures.value, ← c.deref-2.ensures.value) c.in_ok-not_applicant.ensures) in
-    let none : HasNoneBefore rows ApplicantMissing = refuse_ok rows NotApplicant ApplicantMissing c.in_ok-not_applicant.field-0 (Ok c.in_ok-refuse.field-0) refl c.in_ok-refuse.ensures c.requires.faultless least in
-    Stages.lists_known rows students projects so none
+number_lecturers-requires-clause-known c = Stages.lists_known _ _ _ (so (numbers c)) (none_other c)
 
 pub number_lecturers-requires-clause-apart : goal.number_lecturers-requires-clause-apart
-number_lecturers-requires-clause-apart c =
-    let rows : Rows = rows_of c.args.lecturers.now c.args.projects.now c.args.students.now in
-    let good : AreGood rows = are_good rows c.requires.lecturers c.requires.projects c.requires.students c.requires.faultless in
-    good.apart_lecturers
+number_lecturers-requires-clause-apart c = (good (start (numbers c))).apart_lecturers
 
 pub applicant_missing-requires-clause-choices : goal.applicant_missing-requires-clause-choices
-applicant_missing-requires-clause-choices c =
-    let rows : Rows = rows_of c.args.lecturers.now c.args.projects.now c.args.students.now in
-    let good : AreGood rows = are_good rows c.requires.lecturers c.requires.projects c.requires.students c.requires.faultless in
-    let students : List Student = c.in_ok-student_rows.student_rows.items in
-    let projects : List Project = c.in_ok-project_rows.project_rows.items in
-    let so : AreNumbered rows students projects = Stages.numbered rows students projects good c.in_ok-student_rows.ensures c.in_ok-project_rows.ensures in
-    rw (c.deref-5.ensures.value, c.deref-4.ensures.value) (Stages.choices_below rows students projects so)
+applicant_missing-requires-clause-choices c = rw (c.deref-5.ensures.value, c.deref-4.ensures.value) (Stages.choices_below _ _ _ (so (goal.at.applicant_missing-requires-clause-choices c).After-deref-2))
 
 pub applicant_missing-requires-clause-offered : goal.applicant_missing-requires-clause-offered
-applicant_missing-requires-clause-offered c =
-    let rows : Rows = rows_of c.args.lecturers.now c.args.projects.now c.args.students.now in
-    let good : AreGood rows = are_good rows c.requires.lecturers c.requires.projects c.requires.students c.requires.faultless in
-    let students : List Student = c.in_ok-student_rows.student_rows.items in
-    let projects : List Project = c.in_ok-project_rows.project_rows.items in
-    let so : AreNumbered rows students projects = Stages.numbered rows students projects good c.in_ok-student_rows.ensures c.in_ok-project_rows.ensures in
-    let lecturers : List Lecturer = c.in_ok-lecturer_rows.lecturer_rows.items in
-    let lists = c.in_ok-lecturer_rows.ensures in
-    rw (c.deref-4.ensures.value, c.deref-3.ensures.value) (Stages.offered_below rows students projects so lecturers lists)
+applicant_missing-requires-clause-offered c = rw (c.deref-4.ensures.value, c.deref-3.ensures.value) (Stages.offered_below _ _ _ (so (goal.at.applicant_missing-requires-clause-offered c).After-deref-2) _ c.in_ok-lecturer_rows.ensures)
 
 pub applicant_missing-requires-clause-count : goal.applicant_missing-requires-clause-count
-applicant_missing-requires-clause-count c =
-    let rows : Rows = rows_of c.args.lecturers.now c.args.projects.now c.args.students.now in
-    let good : AreGood rows = are_good rows c.requires.lecturers c.requires.projects c.requires.students c.requires.faultless in
-    let students : List Student = c.in_ok-student_rows.student_rows.items in
-    let projects : List Project = c.in_ok-project_rows.project_rows.items in
-    let so : AreNumbered rows students projects = Stages.numbered rows students projects good c.in_ok-student_rows.ensures c.in_ok-project_rows.ensures in
-    let lecturers : List Lecturer = c.in_ok-lecturer_rows.lecturer_rows.items in
-    let lists = c.in_ok-lecturer_rows.ensures in
-    rw c.deref-3.ensures.value (Missing.lecturer_count rows students projects lecturers so lists)
+applicant_missing-requires-clause-count c = rw c.deref-3.ensures.value (Missing.lecturer_count _ _ _ _ (so (goal.at.applicant_missing-requires-clause-count c).After-deref-2) c.in_ok-lecturer_rows.ensures)
 
 pub applicant_missing-requires-clause-ranks : goal.applicant_missing-requires-clause-ranks
-applicant_missing-requires-clause-ranks c =
-    let rows : Rows = rows_of c.args.lecturers.now c.args.projects.now c.args.students.now in
-    let good : AreGood rows = are_good rows c.requires.lecturers c.requires.projects c.requires.students c.requires.faultless in
-    let students : List Student = c.in_ok-student_rows.student_rows.items in
-    let projects : List Project = c.in_ok-project_rows.project_rows.items in
-    let so : AreNumbered rows students projects = Stages.numbered rows students projects good c.in_ok-student_rows.ensures c.in_ok-project_rows.ensures in
-    let lecturers : List Lecturer = c.in_ok-lecturer_rows.lecturer_rows.items in
-    let lists = c.in_ok-lecturer_rows.ensures in
-    rw (c.deref-3.ensures.value, c.deref-5.ensures.value) (Stages.ranks_for_all rows students projects so lecturers lists)
+applicant_missing-requires-clause-ranks c = rw (c.deref-3.ensures.value, c.deref-5.ensures.value) (Stages.ranks_for_all _ _ _ (so (goal.at.applicant_missing-requires-clause-ranks c).After-deref-2) _ c.in_ok-lecturer_rows.ensures)
 
 pub returns-in_err-refuse-2-clause-err : goal.returns-in_err-refuse-2-clause-err
 returns-in_err-refuse-2-clause-err c =
-    let rows : Rows = rows_of c.args.lecturers.now c.args.projects.now c.args.students.now in
-    let good : AreGood rows = are_good rows c.requires.lecturers c.requires.projects c.requires.students c.requires.faultless in
-    let students : List Student = c.in_ok-student_rows.student_rows.items in
-    let projects : List Project = c.in_ok-project_rows.project_rows.items in
-    let so : AreNumbered rows students projects = Stages.numbered rows students projects good c.in_ok-student_rows.ensures c.in_ok-project_rows.ensures in
-    let least : IsLeastOf (HasFault rows NotApplicant) c.in_ok-not_applicant.field-0 = Stages.other_least rows students projects so c.in_ok-not_applicant.field-0 (rw (← c.deref.ensures.value, ← c.deref-2.ensures.value) c.in_ok-not_applicant.ensures) in
-    let none : HasNoneBefore rows ApplicantMissing = refuse_ok rows NotApplicant ApplicantMissing c.in_ok-not_applicant.field-0 (Ok c.in_ok-refuse.field-0) refl c.in_ok-refuse.ensures c.requires.faultless least in
-    let lecturers : List Lecturer = c.in_ok-lecturer_rows.lecturer_rows.items in
+    let before : In_ok-refuse = (goal.at.returns-in_err-refuse-2-clause-err c).In_ok-refuse in
+    let all : Rows = rows (start (numbers before)) in
+    let ss : List Student = students (numbers before) in
+    let ps : List Project = projects (numbers before) in
+    let told : AreNumbered all ss ps = so (numbers before) in
+    let ls : List Lecturer = c.in_ok-lecturer_rows.lecturer_rows.items in
     let lists = c.in_ok-lecturer_rows.ensures in
-    let missing : IsLeastOf (HasFault rows ApplicantMissing) c.applicant_missing.result = Stages.missing_least rows students projects so lecturers lists c.applicant_missing.result (rw (← c.deref-3.ensures.value, ← c.deref-4.ensures.value, ← c.deref-5.ensures.value) c.applicant_missing.ensures) in
-    let refusal = refuse_err rows ApplicantMissing c.applicant_missing.result (Err c.in_err-refuse-2.field-0.0) c.in_err-refuse-2.ensures none missing in
-    handed_on c.from_residual-in_err-refuse-2.result c.in_err-refuse-2.field-0.0 (λ e. IsRefusal rows e.fault e.row) c.from_residual-in_err-refuse-2.ensures.1 refusal
+    let missing : IsLeastOf (HasFault all ApplicantMissing) c.applicant_missing.result = Stages.missing_least all ss ps told ls lists c.applicant_missing.result (rw (← c.deref-3.ensures.value, ← c.deref-4.ensures.value, ← c.deref-5.ensures.value) c.applicant_missing.ensures) in
+    let refusal = refuse_err all ApplicantMissing c.applicant_missing.result (Err c.in_err-refuse-2.field-0.0) c.in_err-refuse-2.ensures (none_other before) missing in
+    handed_on c.from_residual-in_err-refuse-2.result c.in_err-refuse-2.field-0.0 (λ e. IsRefusal all e.fault e.row) c.from_residual-in_err-refuse-2.ensures.1 refusal
+
+-- and once there is no fault
+abbrev before : In_ok-refuse-2 → In_ok-refuse
+before c = (goal.at.returns-clause-ok c).In_ok-refuse
+
+faultless : (c : In_ok-refuse-2) → HasNoneBefore (rows (start (numbers (before c)))) Memory
+faultless c =
+    let all : Rows = rows (start (numbers (before c))) in
+    let ss : List Student = students (numbers (before c)) in
+    let ps : List Project = projects (numbers (before c)) in
+    let told : AreNumbered all ss ps = so (numbers (before c)) in
+    let ls : List Lecturer = c.in_ok-lecturer_rows.lecturer_rows.items in
+    let lists = c.in_ok-lecturer_rows.ensures in
+    let missing : IsLeastOf (HasFault all ApplicantMissing) c.applicant_missing.result = Stages.missing_least all ss ps told ls lists c.applicant_missing.result (rw (← c.deref-3.ensures.value, ← c.deref-4.ensures.value, ← c.deref-5.ensures.value) c.applicant_missing.ensures) in
+    refuse_ok all ApplicantMissing Memory c.applicant_missing.result (Ok c.in_ok-refuse-2.field-0) refl c.in_ok-refuse-2.ensures (none_other (before c)) missing
 
 pub invariant_of-result : goal.invariant_of-result
 invariant_of-result c =
-    let rows : Rows = rows_of c.args.lecturers.now c.args.projects.now c.args.students.now in
-    let good : AreGood rows = are_good rows c.requires.lecturers c.requires.projects c.requires.students c.requires.faultless in
-    let students : List Student = c.in_ok-student_rows.student_rows.items in
-    let projects : List Project = c.in_ok-project_rows.project_rows.items in
-    let so : AreNumbered rows students projects = Stages.numbered rows students projects good c.in_ok-student_rows.ensures c.in_ok-project_rows.ensures in
-    let least : IsLeastOf (HasFault rows NotApplicant) c.in_ok-not_applicant.field-0 = Stages.other_least rows students projects so c.in_ok-not_applicant.field-0 (rw (← c.deref.ensures.value, ← c.deref-2.ensures.value) c.in_ok-not_applicant.ensures) in
-    let none : HasNoneBefore rows ApplicantMissing = refuse_ok rows NotApplicant ApplicantMissing c.in_ok-not_applicant.field-0 (Ok c.in_ok-refuse.field-0) refl c.in_ok-refuse.ensures c.requires.faultless least in
-    let lecturers : List Lecturer = c.in_ok-lecturer_rows.lecturer_rows.items in
-    let lists = c.in_ok-lecturer_rows.ensures in
-    let missing : IsLeastOf (HasFault rows ApplicantMissing) c.applicant_missing.result = Stages.missing_least rows students projects so lecturers lists c.applicant_missing.result (rw (← c.deref-3.ensures.value, ← c.deref-4.ensures.value, ← c.deref-5.ensures.value) c.applicant_missing.ensures) in
-    let all_good : HasNoneBefore rows Memory = refuse_ok rows ApplicantMissing Memory c.applicant_missing.result (Ok c.in_ok-refuse-2.field-0) refl c.in_ok-refuse-2.ensures none missing in
-    (Lawful.lawful rows students projects lecturers good so lists all_good, Lawful.have_ranks rows students projects lecturers good so lists all_good)
+    let good' : AreGood (rows (start (numbers (before c)))) = good (start (numbers (before c))) in
+    let so' = so (numbers (before c)) in
+    (Lawful.lawful _ _ _ _ good' so' c.in_ok-lecturer_rows.ensures (faultless c), Lawful.have_ranks _ _ _ _ good' so' c.in_ok-lecturer_rows.ensures (faultless c))
 
 pub returns-clause-ok : goal.returns-clause-ok
-returns-clause-ok c =
-    let rows : Rows = rows_of c.args.lecturers.now c.args.projects.now c.args.students.now in
-    let good : AreGood rows = are_good rows c.requires.lecturers c.requires.projects c.requires.students c.requires.faultless in
-    let students : List Student = c.in_ok-student_rows.student_rows.items in
-    let projects : List Project = c.in_ok-project_rows.project_rows.items in
-    let so : AreNumbered rows students projects = Stages.numbered rows students projects good c.in_ok-student_rows.ensures c.in_ok-project_rows.ensures in
-    let least : IsLeastOf (HasFault rows NotApplicant) c.in_ok-not_applicant.field-0 = Stages.other_least rows students projects so c.in_ok-not_applicant.field-0 (rw (← c.deref.ensures.value, ← c.deref-2.ensures.value) c.in_ok-not_applicant.ensures) in
-    let none : HasNoneBefore rows ApplicantMissing = refuse_ok rows NotApplicant ApplicantMissing c.in_ok-not_applicant.field-0 (Ok c.in_ok-refuse.field-0) refl c.in_ok-refuse.ensures c.requires.faultless least in
-    let lecturers : List Lecturer = c.in_ok-lecturer_rows.lecturer_rows.items in
-    let lists = c.in_ok-lecturer_rows.ensures in
-    let missing : IsLeastOf (HasFault rows ApplicantMissing) c.applicant_missing.result = Stages.missing_least rows students projects so lecturers lists c.applicant_missing.result (rw (← c.deref-3.ensures.value, ← c.deref-4.ensures.value, ← c.deref-5.ensures.value) c.applicant_missing.ensures) in
-    let all_good : HasNoneBefore rows Memory = refuse_ok rows ApplicantMissing Memory c.applicant_missing.result (Ok c.in_ok-refuse-2.field-0) refl c.in_ok-refuse-2.ensures none missing in
-    Lawful.stands_for rows students projects lecturers good so lists all_good
+returns-clause-ok c = Lawful.stands_for _ _ _ _ (good (start (numbers (before c)))) (so (numbers (before c))) c.in_ok-lecturer_rows.ensures (faultless c)
 
 pub returns-clause-sound : goal.returns-clause-sound
-returns-clause-sound c =
-    let rows : Rows = rows_of c.args.lecturers.now c.args.projects.now c.args.students.now in
-    let good : AreGood rows = are_good rows c.requires.lecturers c.requires.projects c.requires.students c.requires.faultless in
-    let students : List Student = c.in_ok-student_rows.student_rows.items in
-    let projects : List Project = c.in_ok-project_rows.project_rows.items in
-    let so : AreNumbered rows students projects = Stages.numbered rows students projects good c.in_ok-student_rows.ensures c.in_ok-project_rows.ensures in
-    let least : IsLeastOf (HasFault rows NotApplicant) c.in_ok-not_applicant.field-0 = Stages.other_least rows students projects so c.in_ok-not_applicant.field-0 (rw (← c.deref.ensures.value, ← c.deref-2.ensures.value) c.in_ok-not_applicant.ensures) in
-    let none : HasNoneBefore rows ApplicantMissing = refuse_ok rows NotApplicant ApplicantMissing c.in_ok-not_applicant.field-0 (Ok c.in_ok-refuse.field-0) refl c.in_ok-refuse.ensures c.requires.faultless least in
-    let lecturers : List Lecturer = c.in_ok-lecturer_rows.lecturer_rows.items in
-    let lists = c.in_ok-lecturer_rows.ensures in
-    let missing : IsLeastOf (HasFault rows ApplicantMissing) c.applicant_missing.result = Stages.missing_least rows students projects so lecturers lists c.applicant_missing.result (rw (← c.deref-3.ensures.value, ← c.deref-4.ensures.value, ← c.deref-5.ensures.value) c.applicant_missing.ensures) in
-    let all_good : HasNoneBefore rows Memory = refuse_ok rows ApplicantMissing Memory c.applicant_missing.result (Ok c.in_ok-refuse-2.field-0) refl c.in_ok-refuse-2.ensures none missing in
-    all_good
+returns-clause-sound c = faultless c

@@ -1,5 +1,4 @@
-use Rattle.std.proofs.Common.{◌≡◌, ℕ, ◌<◌, Some}
-use Rattle.spa_model.specs.Spa.{project_of, IsAcceptable}
+use Rattle.spa_model.proofs.Base.{◌≡◌, ℕ, ◌<◌, Some, project_of, IsAcceptable}
 use Rattle.spa_model.proofs.fits.are_acceptable.Given as goal
 
 -- acceptable so far

@@ -1,5 +1,4 @@
-use Rattle.std.proofs.Common.{◌≡◌, take}
-use Rattle.spa_model.specs.Spa.{at_lecturer}
+use Rattle.spa_model.proofs.Base.{◌≡◌, take, at_lecturer}
 use Rattle.spa_model.proofs.fits.count_with.Given as goal
 
 -- the number among the students so far

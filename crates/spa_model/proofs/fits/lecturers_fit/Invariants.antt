@@ -1,5 +1,4 @@
-use Rattle.std.proofs.Common.{ℕ, ◌<◌, ◌≤◌}
-use Rattle.spa_model.specs.Spa.{at_lecturer, limit_of}
+use Rattle.spa_model.proofs.Base.{ℕ, ◌<◌, ◌≤◌, at_lecturer, limit_of}
 use Rattle.spa_model.proofs.fits.lecturers_fit.Given as goal
 
 -- none over capacity so far

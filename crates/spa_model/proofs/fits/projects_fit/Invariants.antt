@@ -1,5 +1,4 @@
-use Rattle.std.proofs.Common.{ℕ, ◌<◌, ◌≤◌}
-use Rattle.spa_model.specs.Spa.{at_project, capacity_of}
+use Rattle.spa_model.proofs.Base.{ℕ, ◌<◌, ◌≤◌, at_project, capacity_of}
 use Rattle.spa_model.proofs.fits.projects_fit.Given as goal
 
 -- none over capacity so far

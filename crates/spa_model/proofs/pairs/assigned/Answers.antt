@@ -1,4 +1,4 @@
-use Rattle.std.proofs.Common.{refl}
+use Rattle.spa_model.proofs.Base.{refl}
 use Rattle.spa_model.proofs.AssignedPairs.{assigned_more}
 use Rattle.spa_model.proofs.pairs.assigned.Goals as goal
 

@@ -1,5 +1,4 @@
-use Rattle.std.proofs.Common.{length, take}
-use Rattle.spa_model.specs.Assigned.{AreAssigned}
+use Rattle.spa_model.proofs.Base.{length, take, AreAssigned}
 use Rattle.spa_model.proofs.pairs.assigned.Given as goal
 
 -- the pairs so far

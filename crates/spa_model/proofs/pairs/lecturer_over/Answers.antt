@@ -1,21 +1,11 @@
-use Rattle.std.proofs.Common.{◌≡◌, ◌+◌, ◌<◌, eqb, map, set, get_or, sym, ap, subst, length, take, arith, ◌∙◌}
-use Rattle.std.proofs.lemmas.List.{get_or_default, get_or-map, length-map, length-set}
-use Rattle.std.specs.List.{count_by}
-use Rattle.spa_rows.specs.Least.{IsLeastOf}
-use Rattle.spa_model.specs.declared.matching.MatchingFault.TheVariants.{LecturerOver}
-use Rattle.std.proofs.lemmas.List.{length-take-le}
-use Rattle.std.proofs.lemmas.List.Sums.{count_by-le-length}
-use Rattle.spa_model.specs.Spa.{lecturer_of}
-use Rattle.spa_model.specs.Pairs.{project_in, lecturer_in}
+use Rattle.spa_model.proofs.Base.{◌≡◌, ◌+◌, ◌<◌, eqb, map, set, get_or, sym, ap, subst, length, take, arith, ◌∙◌, get_or_default, get_or-map, length-map, length-set, count_by, IsLeastOf, LecturerOver, length-take-le, count_by-le-length, lecturer_of, project_in, lecturer_in}
 use Rattle.spa_model.proofs.PairFaults.{FaultBelow, AreCounts, pair_take, pair_skip, number_at, project_there, counts_more, count_pairs, lecturers_are}
 use Rattle.spa_model.proofs.pairs.lecturer_over.Goals as goal
 use Rattle.spa_model.proofs.pairs.lecturer_over.Goals.{then-index-lecturer_capacity, else-index-lecturer_capacity}
 
 pub lecturer_of-l-requires : goal.lecturer_of-l-requires
 lecturer_of-l-requires c =
-    let p : get_or c.args.projects.now c.loop-j.j 0 ≡ project_in c.args.instance.now c.index-lines-j.result = number_at (project_in c.args.instance.now) c.args.lines.now c.args.projects.now c.loop-j.j c.index-lines-j.result c.requires.projects c.loop-j-test.true (sym c.index-lines-j.is) in
-    let there = project_there c.args.instance.now c.args.lines.now c.students-lawful.ensures.lawful c.requires.known c.loop-j.j c.index-lines-j.result c.loop-j-test.true (sym c.index-lines-j.is) in
-    rw p there
+    project_there c.args.instance.now c.args.lines.now c.args.projects.now c.lawful.ensures c.requires.known c.requires.projects c.loop-j.j c.index-lines-j.result c.loop-j-test.true (sym c.index-lines-j.is)
 
 pub overflow_add-index_mut : goal.overflow_add-index_mut
 overflow_add-index_mut c =
@@ -30,7 +20,7 @@ overflow_add-index_mut c =
 pub loop-j-preserved : goal.loop-j-preserved
 loop-j-preserved c =
     let p : get_or c.args.projects.now c.loop-j.j 0 ≡ project_in c.args.instance.now c.index-lines-j.result = number_at (project_in c.args.instance.now) c.args.lines.now c.args.projects.now c.loop-j.j c.index-lines-j.result c.requires.projects c.loop-j-test.true (sym c.index-lines-j.is) in
-    let there = project_there c.args.instance.now c.args.lines.now c.students-lawful.ensures.lawful c.requires.known c.loop-j.j c.index-lines-j.result c.loop-j-test.true (sym c.index-lines-j.is) in
+    let there = project_there c.args.instance.now c.args.lines.now c.args.projects.now c.lawful.ensures c.requires.known c.requires.projects c.loop-j.j c.index-lines-j.result c.loop-j-test.true (sym c.index-lines-j.is) in
     let in_range : c.lecturer_of-l.result < length c.loop-j.counts.items = omega arith in
     let old : c.index_mut.result.now ≡ get_or c.loop-j.counts.items c.lecturer_of-l.result 0 = c.index_mut.ensures.value ∙ get_or_default c.loop-j.counts.items c.lecturer_of-l.result c.index_mut.result.now 0 in_range in
     let long : length c.args.projects.now ≡ length c.args.lines.now = ap length c.requires.projects ∙ length-map c.args.lines.now (project_in c.args.instance.now) in

@@ -1,7 +1,4 @@
-use Rattle.std.proofs.Common.{◌≡◌, length, map}
-use Rattle.spa_rows.specs.Least.{IsLeastOf}
-use Rattle.spa_model.specs.declared.matching.MatchingFault.TheVariants.{LecturerOver}
-use Rattle.spa_model.specs.Spa.{lecturer_of}
+use Rattle.spa_model.proofs.Base.{◌≡◌, length, map, IsLeastOf, LecturerOver, lecturer_of}
 use Rattle.spa_model.proofs.PairFaults.{FaultBelow, AreCounts}
 use Rattle.spa_model.proofs.pairs.lecturer_over.Given as goal
 

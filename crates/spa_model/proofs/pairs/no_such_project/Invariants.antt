@@ -1,5 +1,4 @@
-use Rattle.spa_rows.specs.Least.{IsLeastOf}
-use Rattle.spa_model.specs.declared.matching.MatchingFault.TheVariants.{NoSuchProject}
+use Rattle.spa_model.proofs.Base.{IsLeastOf, NoSuchProject}
 use Rattle.spa_model.proofs.PairFaults.{FaultBelow}
 use Rattle.spa_model.proofs.pairs.no_such_project.Given as goal
 

@@ -1,7 +1,4 @@
-use Rattle.std.proofs.Common.{◌≡◌, get_or, sym, ap, subst, length, arith}
-use Rattle.spa_rows.specs.Least.{IsLeastOf}
-use Rattle.spa_model.specs.declared.matching.MatchingFault.TheVariants.{NoSuchStudent}
-use Rattle.spa_model.specs.Pairs.{student_in}
+use Rattle.spa_model.proofs.Base.{◌≡◌, get_or, sym, ap, subst, length, arith, IsLeastOf, NoSuchStudent, student_in}
 use Rattle.spa_model.proofs.PairFaults.{FaultBelow, pair_take, pair_skip, number_at, unknown_student, student_known}
 use Rattle.spa_model.proofs.pairs.no_such_student.Goals as goal
 use Rattle.spa_model.proofs.pairs.no_such_student.Goals.{then-students-j, else-students-j}

@@ -1,16 +1,12 @@
-use Rattle.std.proofs.Common.{◌≡◌, get_or, sym, ap, subst, length, arith}
+use Rattle.spa_model.proofs.Base.{◌≡◌, get_or, sym, ap, subst, length, arith, IsLeastOf, NotAcceptable, student_in, project_in}
 use Rattle.std.proofs.lemmas.Bool.{iff_false}
-use Rattle.spa_rows.specs.Least.{IsLeastOf}
-use Rattle.spa_model.specs.declared.matching.MatchingFault.TheVariants.{NotAcceptable}
-use Rattle.spa_model.specs.Pairs.{student_in, project_in}
 use Rattle.spa_model.proofs.PairFaults.{FaultBelow, pair_take, pair_skip, number_at, student_there}
 use Rattle.spa_model.proofs.pairs.not_acceptable.Goals as goal
 use Rattle.spa_model.proofs.pairs.not_acceptable.Goals.{then-not-is_on, else-not-is_on}
 
 pub choices-requires : goal.choices-requires
 choices-requires c =
-    let s : get_or c.args.students.now c.loop-j.j 0 ≡ student_in c.args.instance.now c.index-lines-j.result = number_at (student_in c.args.instance.now) c.args.lines.now c.args.students.now c.loop-j.j c.index-lines-j.result c.requires.students c.loop-j-test.true (sym c.index-lines-j.is) in
-    rw s (student_there c.args.instance.now c.args.lines.now c.students-lawful.ensures.lawful c.requires.known c.loop-j.j c.index-lines-j.result c.loop-j-test.true (sym c.index-lines-j.is))
+    student_there c.args.instance.now c.args.lines.now c.args.students.now c.lawful.ensures c.requires.known c.requires.students c.loop-j.j c.index-lines-j.result c.loop-j-test.true (sym c.index-lines-j.is)
 
 pub loop-j-preserved : goal.loop-j-preserved
 loop-j-preserved c =

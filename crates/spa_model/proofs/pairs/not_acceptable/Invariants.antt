@@ -1,5 +1,4 @@
-use Rattle.spa_rows.specs.Least.{IsLeastOf}
-use Rattle.spa_model.specs.declared.matching.MatchingFault.TheVariants.{NotAcceptable}
+use Rattle.spa_model.proofs.Base.{IsLeastOf, NotAcceptable}
 use Rattle.spa_model.proofs.PairFaults.{FaultBelow}
 use Rattle.spa_model.proofs.pairs.not_acceptable.Given as goal
 

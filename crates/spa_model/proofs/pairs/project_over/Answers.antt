@@ -1,25 +1,16 @@
-use Rattle.std.proofs.Common.{◌≡◌, ◌+◌, ◌<◌, eqb, set, get_or, sym, ap, subst, length, take, arith, refl, ◌∙◌}
-use Rattle.std.proofs.lemmas.List.{get_or_default, length-map, length-set}
-use Rattle.std.specs.List.{count_by}
-use Rattle.spa_rows.specs.Least.{IsLeastOf}
-use Rattle.spa_model.specs.declared.matching.MatchingFault.TheVariants.{ProjectOver}
-use Rattle.std.proofs.lemmas.List.{length-take-le}
-use Rattle.std.proofs.lemmas.List.Sums.{count_by-le-length}
-use Rattle.spa_model.specs.Pairs.{project_in}
+use Rattle.spa_model.proofs.Base.{◌≡◌, ◌+◌, ◌<◌, eqb, set, get_or, sym, ap, subst, length, take, arith, refl, ◌∙◌, get_or_default, length-map, length-set, count_by, IsLeastOf, ProjectOver, length-take-le, count_by-le-length, project_in}
 use Rattle.spa_model.proofs.PairFaults.{FaultBelow, AreCounts, pair_take, pair_skip, number_at, project_there, counts_more, count_pairs}
 use Rattle.spa_model.proofs.pairs.project_over.Goals as goal
 use Rattle.spa_model.proofs.pairs.project_over.Goals.{then-index-project_capacity, else-index-project_capacity}
 
 pub index_mut-requires : goal.index_mut-requires
 index_mut-requires c =
-    let p : get_or c.args.projects.now c.loop-j.j 0 ≡ project_in c.args.instance.now c.index-lines-j.result = number_at (project_in c.args.instance.now) c.args.lines.now c.args.projects.now c.loop-j.j c.index-lines-j.result c.requires.projects c.loop-j-test.true (sym c.index-lines-j.is) in
-    let there = project_there c.args.instance.now c.args.lines.now c.students-lawful.ensures.lawful c.requires.known c.loop-j.j c.index-lines-j.result c.loop-j-test.true (sym c.index-lines-j.is) in
+    let there = project_there c.args.instance.now c.args.lines.now c.args.projects.now c.lawful.ensures c.requires.known c.requires.projects c.loop-j.j c.index-lines-j.result c.loop-j-test.true (sym c.index-lines-j.is) in
     omega (arith, c.loop-j.counts.ok.0)
 
 pub overflow_add-index_mut : goal.overflow_add-index_mut
 overflow_add-index_mut c =
-    let p : get_or c.args.projects.now c.loop-j.j 0 ≡ project_in c.args.instance.now c.index-lines-j.result = number_at (project_in c.args.instance.now) c.args.lines.now c.args.projects.now c.loop-j.j c.index-lines-j.result c.requires.projects c.loop-j-test.true (sym c.index-lines-j.is) in
-    let there = project_there c.args.instance.now c.args.lines.now c.students-lawful.ensures.lawful c.requires.known c.loop-j.j c.index-lines-j.result c.loop-j-test.true (sym c.index-lines-j.is) in
+    let there = project_there c.args.instance.now c.args.lines.now c.args.projects.now c.lawful.ensures c.requires.known c.requires.projects c.loop-j.j c.index-lines-j.result c.loop-j-test.true (sym c.index-lines-j.is) in
     let in_range : (get_or c.args.projects.now c.loop-j.j 0) < length c.loop-j.counts.items = omega arith in
     let old : c.index_mut.result.now ≡ get_or c.loop-j.counts.items (get_or c.args.projects.now c.loop-j.j 0) 0 = c.index_mut.ensures.value ∙ get_or_default c.loop-j.counts.items (get_or c.args.projects.now c.loop-j.j 0) c.index_mut.result.now 0 in_range in
     let long : length c.args.projects.now ≡ length c.args.lines.now = ap length c.requires.projects ∙ length-map c.args.lines.now (project_in c.args.instance.now) in
@@ -29,20 +20,17 @@ overflow_add-index_mut c =
 
 pub index-requires : goal.index-requires
 index-requires c =
-    let p : get_or c.args.projects.now c.loop-j.j 0 ≡ project_in c.args.instance.now c.index-lines-j.result = number_at (project_in c.args.instance.now) c.args.lines.now c.args.projects.now c.loop-j.j c.index-lines-j.result c.requires.projects c.loop-j-test.true (sym c.index-lines-j.is) in
-    let there = project_there c.args.instance.now c.args.lines.now c.students-lawful.ensures.lawful c.requires.known c.loop-j.j c.index-lines-j.result c.loop-j-test.true (sym c.index-lines-j.is) in
+    let there = project_there c.args.instance.now c.args.lines.now c.args.projects.now c.lawful.ensures c.requires.known c.requires.projects c.loop-j.j c.index-lines-j.result c.loop-j-test.true (sym c.index-lines-j.is) in
     omega (arith, c.loop-j.counts.ok.0)
 
 pub project_capacity-requires : goal.project_capacity-requires
 project_capacity-requires c =
-    let p : get_or c.args.projects.now c.loop-j.j 0 ≡ project_in c.args.instance.now c.index-lines-j.result = number_at (project_in c.args.instance.now) c.args.lines.now c.args.projects.now c.loop-j.j c.index-lines-j.result c.requires.projects c.loop-j-test.true (sym c.index-lines-j.is) in
-    let there = project_there c.args.instance.now c.args.lines.now c.students-lawful.ensures.lawful c.requires.known c.loop-j.j c.index-lines-j.result c.loop-j-test.true (sym c.index-lines-j.is) in
-    rw p there
+    project_there c.args.instance.now c.args.lines.now c.args.projects.now c.lawful.ensures c.requires.known c.requires.projects c.loop-j.j c.index-lines-j.result c.loop-j-test.true (sym c.index-lines-j.is)
 
 pub loop-j-preserved : goal.loop-j-preserved
 loop-j-preserved c =
     let p : get_or c.args.projects.now c.loop-j.j 0 ≡ project_in c.args.instance.now c.index-lines-j.result = number_at (project_in c.args.instance.now) c.args.lines.now c.args.projects.now c.loop-j.j c.index-lines-j.result c.requires.projects c.loop-j-test.true (sym c.index-lines-j.is) in
-    let there = project_there c.args.instance.now c.args.lines.now c.students-lawful.ensures.lawful c.requires.known c.loop-j.j c.index-lines-j.result c.loop-j-test.true (sym c.index-lines-j.is) in
+    let there = project_there c.args.instance.now c.args.lines.now c.args.projects.now c.lawful.ensures c.requires.known c.requires.projects c.loop-j.j c.index-lines-j.result c.loop-j-test.true (sym c.index-lines-j.is) in
     let in_range : (get_or c.args.projects.now c.loop-j.j 0) < length c.loop-j.counts.items = omega arith in
     let old : c.index_mut.result.now ≡ get_or c.loop-j.counts.items (get_or c.args.projects.now c.loop-j.j 0) 0 = c.index_mut.ensures.value ∙ get_or_default c.loop-j.counts.items (get_or c.args.projects.now c.loop-j.j 0) c.index_mut.result.now 0 in_range in
     let long : length c.args.projects.now ≡ length c.args.lines.now = ap length c.requires.projects ∙ length-map c.args.lines.now (project_in c.args.instance.now) in

@@ -1,6 +1,4 @@
-use Rattle.std.proofs.Common.{◌≡◌, length}
-use Rattle.spa_rows.specs.Least.{IsLeastOf}
-use Rattle.spa_model.specs.declared.matching.MatchingFault.TheVariants.{ProjectOver}
+use Rattle.spa_model.proofs.Base.{◌≡◌, length, IsLeastOf, ProjectOver}
 use Rattle.spa_model.proofs.PairFaults.{FaultBelow, AreCounts}
 use Rattle.spa_model.proofs.pairs.project_over.Given as goal
 

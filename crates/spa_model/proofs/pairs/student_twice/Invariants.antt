@@ -1,6 +1,4 @@
-use Rattle.std.proofs.Common.{◌≡◌, length}
-use Rattle.spa_rows.specs.Least.{IsLeastOf}
-use Rattle.spa_model.specs.declared.matching.MatchingFault.TheVariants.{StudentTwice}
+use Rattle.spa_model.proofs.Base.{◌≡◌, length, IsLeastOf, StudentTwice}
 use Rattle.spa_model.proofs.PairFaults.{FaultBelow, AreMarks}
 use Rattle.spa_model.proofs.pairs.student_twice.Given as goal
 

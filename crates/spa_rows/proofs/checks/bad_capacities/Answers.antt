@@ -1,6 +1,4 @@
-use Rattle.std.proofs.Common.{◌≡◌, sym, ◌∙◌, ap}
-use Rattle.spa_rows.specs.Faults.{BadLecturer, BadProject, IsBadCapacity}
-use Rattle.spa_rows.specs.Least.{IsLeastOf}
+use Rattle.spa_rows.proofs.Base.{◌≡◌, sym, ◌∙◌, ap, BadLecturer, BadProject, IsBadCapacity, IsLeastOf}
 use Rattle.spa_rows.proofs.LeastRow.{least_either}
 use Rattle.spa_rows.proofs.checks.bad_capacities.Goals as goal
 

@@ -1,7 +1,4 @@
-use Rattle.std.proofs.Common.{◌≡◌, ◌⊎◌, false, sym, ◌∙◌, ap}
-use Rattle.spa_rows.specs.Faults.{BadLecturer, BadProject, BadStudent}
-use Rattle.spa_rows.specs.Form.{is_key}
-use Rattle.spa_rows.specs.Least.{IsLeastOf}
+use Rattle.spa_rows.proofs.Base.{◌≡◌, ◌⊎◌, false, sym, ◌∙◌, ap, BadLecturer, BadProject, BadStudent, is_key, IsLeastOf}
 use Rattle.spa_rows.proofs.LeastRow.{least_either}
 use Rattle.spa_rows.proofs.checks.bad_keys.Goals as goal
 

@@ -1,6 +1,4 @@
-use Rattle.std.proofs.Common.{Ok, Err, refl}
-use Rattle.spa_rows.specs.Faults.{HasNoneBefore, IsRefusal}
-use Rattle.spa_rows.specs.declared.faults.InstanceFault.TheVariants.{TooMany, BadKey, KeyTwice, BadCapacity, NoSuchLecturer}
+use Rattle.spa_rows.proofs.Base.{Ok, Err, refl, HasNoneBefore, IsRefusal, TooMany, BadKey, KeyTwice, BadCapacity, NoSuchLecturer}
 use Rattle.spa_rows.proofs.FirstFault.{refuse_ok, refuse_err, none_before_first, handed_on}
 use Rattle.spa_rows.proofs.checks.check_lines.Goals as goal
 

@@ -1,6 +1,4 @@
-use Rattle.std.proofs.Common.{Ok, Err, refl}
-use Rattle.spa_rows.specs.Faults.{HasNoneBefore, IsRefusal}
-use Rattle.spa_rows.specs.declared.faults.InstanceFault.TheVariants.{NoSuchLecturer, NoSuchProject, RepeatInList, ListTooLong, NotApplicant}
+use Rattle.spa_rows.proofs.Base.{Ok, Err, refl, HasNoneBefore, IsRefusal, NoSuchLecturer, NoSuchProject, RepeatInList, ListTooLong, NotApplicant}
 use Rattle.spa_rows.proofs.FirstFault.{refuse_ok, refuse_err, handed_on}
 use Rattle.spa_rows.proofs.checks.check_lists.Goals as goal
 

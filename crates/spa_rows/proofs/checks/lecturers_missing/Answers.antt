@@ -1,4 +1,4 @@
-use Rattle.std.proofs.Common.{◌≡◌, sym, ◌∙◌, ap}
+use Rattle.spa_rows.proofs.Base.{◌≡◌, sym, ◌∙◌, ap}
 use Rattle.spa_rows.proofs.checks.lecturers_missing.Goals as goal
 
 pub returns : goal.returns

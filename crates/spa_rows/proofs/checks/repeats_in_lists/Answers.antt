@@ -1,6 +1,4 @@
-use Rattle.std.proofs.Common.{◌≡◌, sym, ◌∙◌, ap}
-use Rattle.spa_rows.specs.Faults.{BadLecturer, BadStudent, Repeats}
-use Rattle.spa_rows.specs.Least.{IsLeastOf}
+use Rattle.spa_rows.proofs.Base.{◌≡◌, sym, ◌∙◌, ap, BadLecturer, BadStudent, Repeats, IsLeastOf}
 use Rattle.spa_rows.proofs.LeastRow.{least_either}
 use Rattle.spa_rows.proofs.checks.repeats_in_lists.Goals as goal
 

@@ -1,5 +1,4 @@
-use Rattle.std.proofs.Common.{IsTrue, ◌↔◌, sym, arith}
-use Rattle.spa_rows.specs.Faults.{IsBadCapacity}
+use Rattle.spa_rows.proofs.Base.{IsTrue, ◌↔◌, sym, arith, IsBadCapacity}
 use Rattle.spa_rows.proofs.LeastRow.{least_step, least_all}
 use Rattle.spa_rows.proofs.least.bad_capacity.Goals as goal
 

@@ -1,5 +1,4 @@
-use Rattle.spa_rows.specs.Faults.{IsBadCapacity}
-use Rattle.spa_rows.specs.Least.{IsLeastOf, BadBelow}
+use Rattle.spa_rows.proofs.Base.{IsBadCapacity, IsLeastOf, BadBelow}
 use Rattle.spa_rows.proofs.least.bad_capacity.Given as goal
 
 -- the least row so far

@@ -1,5 +1,4 @@
-use Rattle.std.proofs.Common.{◌≡◌, false, sym, arith, ◌∙◌, ap}
-use Rattle.spa_rows.specs.Form.{is_key}
+use Rattle.spa_rows.proofs.Base.{◌≡◌, false, sym, arith, ◌∙◌, ap, is_key}
 use Rattle.spa_rows.proofs.LeastRow.{least_step, least_all}
 use Rattle.spa_rows.proofs.Deciding.{not_false}
 use Rattle.spa_rows.proofs.least.bad_key.Goals as goal

@@ -1,6 +1,4 @@
-use Rattle.std.proofs.Common.{◌≡◌, false}
-use Rattle.spa_rows.specs.Form.{is_key}
-use Rattle.spa_rows.specs.Least.{IsLeastOf, BadBelow}
+use Rattle.spa_rows.proofs.Base.{◌≡◌, false, is_key, IsLeastOf, BadBelow}
 use Rattle.spa_rows.proofs.least.bad_key.Given as goal
 
 -- the least row so far

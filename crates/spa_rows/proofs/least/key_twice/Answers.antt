@@ -1,5 +1,4 @@
-use Rattle.std.proofs.Common.{sym, arith}
-use Rattle.spa_rows.specs.Faults.{IsEarlierKey}
+use Rattle.spa_rows.proofs.Base.{sym, arith, IsEarlierKey}
 use Rattle.spa_rows.proofs.LeastRow.{least_step, least_all}
 use Rattle.spa_rows.proofs.Seen.{tree_more, tree_before}
 use Rattle.spa_rows.proofs.least.key_twice.Goals as goal

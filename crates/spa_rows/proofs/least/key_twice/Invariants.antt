@@ -1,5 +1,4 @@
-use Rattle.spa_rows.specs.Faults.{IsEarlierKey}
-use Rattle.spa_rows.specs.Least.{IsLeastOf, BadBelow}
+use Rattle.spa_rows.proofs.Base.{IsEarlierKey, IsLeastOf, BadBelow}
 use Rattle.spa_rows.proofs.Seen.{IsInTree}
 use Rattle.spa_rows.proofs.least.key_twice.Given as goal
 

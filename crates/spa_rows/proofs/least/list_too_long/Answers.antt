@@ -1,5 +1,4 @@
-use Rattle.std.proofs.Common.{◌<◌, length, sym, arith, ap, ◌∙◌}
-use Rattle.std.proofs.lemmas.List.{length-map}
+use Rattle.spa_rows.proofs.Base.{◌<◌, length, sym, arith, ap, ◌∙◌, length-map}
 use Rattle.spa_rows.proofs.Deciding.{over_iff}
 use Rattle.spa_rows.proofs.LeastRow.{least_step, least_all}
 use Rattle.spa_rows.proofs.least.list_too_long.Goals as goal

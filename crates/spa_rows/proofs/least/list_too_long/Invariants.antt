@@ -1,5 +1,4 @@
-use Rattle.std.proofs.Common.{◌<◌, length}
-use Rattle.spa_rows.specs.Least.{IsLeastOf, BadBelow}
+use Rattle.spa_rows.proofs.Base.{◌<◌, length, IsLeastOf, BadBelow}
 use Rattle.spa_rows.proofs.least.list_too_long.Given as goal
 
 -- the least row so far

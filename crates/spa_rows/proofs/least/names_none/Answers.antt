@@ -1,7 +1,5 @@
-use Rattle.std.proofs.Common.{◌≡◌, ◌<◌, inl, inr, map, length, sym, refl, ◌∙◌, arith}
-use Rattle.std.proofs.lemmas.List.{length-map, get_or_default}
-use Rattle.std.proofs.lemmas.Bool.{cases_lt, iff_false, false≢true}
-use Rattle.spa_rows.specs.Faults.{IsKeyOf}
+use Rattle.spa_rows.proofs.Base.{◌≡◌, ◌<◌, inl, inr, map, length, sym, refl, ◌∙◌, arith, length-map, get_or_default, cases_lt, false≢true, IsKeyOf}
+use Rattle.std.proofs.lemmas.Bool.{iff_false}
 use Rattle.spa_rows.proofs.Lists.{map_at}
 use Rattle.spa_rows.proofs.least.names_none.Goals as goal
 

@@ -1,6 +1,4 @@
-use Rattle.std.proofs.Common.{◌≡◌, ℕ, ◌<◌, map, get_or}
-use Rattle.spa_rows.specs.Lines.{Text}
-use Rattle.spa_rows.specs.Faults.{IsKeyOf}
+use Rattle.spa_rows.proofs.Base.{◌≡◌, ℕ, ◌<◌, map, get_or, Text, IsKeyOf}
 use Rattle.spa_rows.proofs.least.names_none.Given as goal
 
 -- the texts so far are keys

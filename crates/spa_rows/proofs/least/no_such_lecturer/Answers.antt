@@ -1,6 +1,4 @@
-use Rattle.std.proofs.Common.{IsTrue, ◌↔◌, sym, arith, ap, ◌∙◌}
-use Rattle.std.specs.Prelude.{not}
-use Rattle.spa_rows.specs.Faults.{IsKeyOf}
+use Rattle.spa_rows.proofs.Base.{IsTrue, ◌↔◌, sym, arith, ap, ◌∙◌, not, IsKeyOf}
 use Rattle.spa_rows.proofs.LeastRow.{least_step, least_all}
 use Rattle.spa_rows.proofs.Deciding.{not_iff}
 use Rattle.spa_rows.proofs.least.no_such_lecturer.Goals as goal

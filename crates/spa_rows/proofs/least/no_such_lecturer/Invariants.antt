@@ -1,5 +1,4 @@
-use Rattle.spa_rows.specs.Faults.{IsKeyOf}
-use Rattle.spa_rows.specs.Least.{IsLeastOf, BadBelow}
+use Rattle.spa_rows.proofs.Base.{IsKeyOf, IsLeastOf, BadBelow}
 use Rattle.spa_rows.proofs.least.no_such_lecturer.Given as goal
 
 -- the least row so far

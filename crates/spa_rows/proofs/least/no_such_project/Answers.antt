@@ -1,5 +1,4 @@
-use Rattle.std.proofs.Common.{IsTrue, ◌↔◌, sym, arith, ap}
-use Rattle.spa_rows.specs.Faults.{NamesNone}
+use Rattle.spa_rows.proofs.Base.{IsTrue, ◌↔◌, sym, arith, ap, NamesNone}
 use Rattle.spa_rows.proofs.LeastRow.{least_step, least_all}
 use Rattle.spa_rows.proofs.least.no_such_project.Goals as goal
 

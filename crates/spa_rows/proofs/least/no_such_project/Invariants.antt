@@ -1,5 +1,4 @@
-use Rattle.spa_rows.specs.Faults.{NamesNone}
-use Rattle.spa_rows.specs.Least.{IsLeastOf, BadBelow}
+use Rattle.spa_rows.proofs.Base.{NamesNone, IsLeastOf, BadBelow}
 use Rattle.spa_rows.proofs.least.no_such_project.Given as goal
 
 -- the least row so far

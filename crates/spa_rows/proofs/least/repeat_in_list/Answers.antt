@@ -1,5 +1,4 @@
-use Rattle.std.proofs.Common.{IsTrue, ◌↔◌, sym, arith}
-use Rattle.spa_rows.specs.Faults.{Repeats}
+use Rattle.spa_rows.proofs.Base.{IsTrue, ◌↔◌, sym, arith, Repeats}
 use Rattle.spa_rows.proofs.LeastRow.{least_step, least_all}
 use Rattle.spa_rows.proofs.least.repeat_in_list.Goals as goal
 

@@ -1,5 +1,4 @@
-use Rattle.spa_rows.specs.Faults.{Repeats}
-use Rattle.spa_rows.specs.Least.{IsLeastOf, BadBelow}
+use Rattle.spa_rows.proofs.Base.{Repeats, IsLeastOf, BadBelow}
 use Rattle.spa_rows.proofs.least.repeat_in_list.Given as goal
 
 -- the least row so far

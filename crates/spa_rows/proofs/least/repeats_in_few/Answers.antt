@@ -1,7 +1,4 @@
-use Rattle.std.proofs.Common.{◌≡◌, ◌<◌, inl, inr, map, length, sym, refl, ◌∙◌, ap, arith}
-use Rattle.std.specs.Prelude.{not}
-use Rattle.std.proofs.lemmas.List.{length-map, get_or_default}
-use Rattle.std.proofs.lemmas.Bool.{cases_lt, false≢true}
+use Rattle.spa_rows.proofs.Base.{◌≡◌, ◌<◌, inl, inr, map, length, sym, refl, ◌∙◌, ap, arith, not, length-map, get_or_default, cases_lt, false≢true}
 use Rattle.spa_rows.proofs.Lists.{map_at}
 use Rattle.spa_rows.proofs.Seen.{hash_more, hash_before}
 use Rattle.spa_rows.proofs.least.repeats_in_few.Goals as goal

@@ -1,6 +1,4 @@
-use Rattle.std.proofs.Common.{◌≡◌, ℕ, ◌<◌, map, get_or}
-use Rattle.spa_rows.specs.Lines.{Text}
-use Rattle.spa_rows.specs.Faults.{IsEarlierKey}
+use Rattle.spa_rows.proofs.Base.{◌≡◌, ℕ, ◌<◌, map, get_or, Text, IsEarlierKey}
 use Rattle.spa_rows.proofs.Seen.{IsInTree}
 use Rattle.spa_rows.proofs.least.repeats_in_many.Given as goal
 

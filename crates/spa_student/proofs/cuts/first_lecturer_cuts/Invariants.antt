@@ -1,4 +1,4 @@
-use Rattle.std.proofs.Common.{◌≡◌, map, take, length}
+use Rattle.spa_student.proofs.Base.{◌≡◌, map, take, length}
 use Rattle.spa_student.proofs.cuts.first_lecturer_cuts.Given as goal
 
 abbrev pub invariant-loop-l : goal.invariant-loop-l

@@ -1,5 +1,4 @@
-use Rattle.std.proofs.Common.{◌≡◌, map, take, length}
-use Rattle.spa_model.specs.Spa.{ranking_of}
+use Rattle.spa_student.proofs.Base.{◌≡◌, map, take, length, ranking_of}
 use Rattle.spa_student.proofs.cuts.first_project_cuts.Given as goal
 
 abbrev pub invariant-loop-p : goal.invariant-loop-p

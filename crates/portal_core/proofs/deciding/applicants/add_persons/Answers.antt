@@ -1,4 +1,4 @@
-use Rattle.std.proofs.Common.{refl, arith}
+use Rattle.portal_core.proofs.Base.{refl, arith}
 use Rattle.portal_core.proofs.Tables.{person_more, person_all}
 use Rattle.portal_core.proofs.deciding.applicants.add_persons.Goals as goal
 

@@ -1,8 +1,4 @@
-use Rattle.std.proofs.Common.{Bool, take}
-use Rattle.std.specs.Prelude.{◌||◌}
-use Rattle.std.specs.List.{list_any}
-use Rattle.portal_core.specs.Words.{Key, equals}
-use Rattle.portal_core.specs.inner.Tables.{HasKeys}
+use Rattle.portal_core.proofs.Base.{Bool, take, ◌||◌, list_any, Key, equals, HasKeys}
 use Rattle.portal_core.proofs.deciding.applicants.add_persons.Given as goal
 
 -- the keys of the persons so far are there

@@ -1,8 +1,4 @@
-use Rattle.std.proofs.Common.{List, ap, sym, ◌∙◌, arith}
-use Rattle.std.specs.Prelude.{◌||◌, not}
-use Rattle.std.specs.List.{list_any}
-use Rattle.portal_core.specs.Words.{has}
-use Rattle.portal_core.specs.declared.rows.Person.{Person}
+use Rattle.portal_core.proofs.Base.{List, ap, sym, ◌∙◌, arith, ◌||◌, not, list_any, has, Person}
 use Rattle.portal_core.proofs.Persons.{passed_at, passed_more}
 use Rattle.portal_core.proofs.Tables.{left_out}
 use Rattle.portal_core.proofs.deciding.applicants.lacks_one.Goals as goal

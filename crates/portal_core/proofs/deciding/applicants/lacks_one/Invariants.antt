@@ -1,6 +1,4 @@
-use Rattle.std.proofs.Common.{◌≡◌, false, take}
-use Rattle.portal_core.specs.Faults.{lacks_one}
-use Rattle.portal_core.specs.Meaning.{by_project}
+use Rattle.portal_core.proofs.Base.{◌≡◌, false, take, lacks_one, by_project}
 use Rattle.portal_core.proofs.deciding.applicants.lacks_one.Given as goal
 
 abbrev pub invariant-loop-persons : goal.invariant-loop-persons

@@ -1,6 +1,4 @@
-use Rattle.std.proofs.Common.{[], arith, subst}
-use Rattle.std.proofs.lemmas.List.{map-id}
-use Rattle.portal_core.specs.inner.Tables.{HasTexts}
+use Rattle.portal_core.proofs.Base.{[], arith, subst, map-id, HasTexts}
 use Rattle.portal_core.proofs.Tables.{text_more, text_all}
 use Rattle.portal_core.proofs.deciding.applicants.texts_of.Goals as goal
 

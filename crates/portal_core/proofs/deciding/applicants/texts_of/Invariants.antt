@@ -1,5 +1,4 @@
-use Rattle.std.proofs.Common.{map, take}
-use Rattle.portal_core.specs.inner.Tables.{HasTexts}
+use Rattle.portal_core.proofs.Base.{map, take, HasTexts}
 use Rattle.portal_core.proofs.deciding.applicants.texts_of.Given as goal
 
 -- the texts so far are there

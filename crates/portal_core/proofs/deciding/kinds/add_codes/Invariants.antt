@@ -1,6 +1,4 @@
-use Rattle.std.proofs.Common.{List, ◌++◌, map, take}
-use Rattle.portal_core.specs.Words.{Key}
-use Rattle.portal_core.specs.inner.Tables.{HasTexts}
+use Rattle.portal_core.proofs.Base.{List, ◌++◌, map, take, Key, HasTexts}
 use Rattle.portal_core.proofs.deciding.kinds.add_codes.Given as goal
 
 -- the codes so far are there

@@ -1,6 +1,4 @@
-use Rattle.std.proofs.Common.{[], ◌∷◌, ap}
-use Rattle.std.specs.List.{list_any}
-use Rattle.spa_rows.specs.inner.Index.{text_eq}
+use Rattle.portal_core.proofs.Base.{[], ◌∷◌, ap, list_any, text_eq}
 use Rattle.portal_core.proofs.Tables.{text_put}
 use Rattle.portal_core.proofs.deciding.kinds.given_codes.Goals as goal
 

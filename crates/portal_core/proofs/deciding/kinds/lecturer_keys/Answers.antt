@@ -1,4 +1,4 @@
-use Rattle.std.proofs.Common.{[], arith}
+use Rattle.portal_core.proofs.Base.{[], arith}
 use Rattle.portal_core.proofs.Tables.{text_more, text_all}
 use Rattle.portal_core.proofs.deciding.kinds.lecturer_keys.Goals as goal
 

@@ -1,5 +1,4 @@
-use Rattle.std.proofs.Common.{map, take}
-use Rattle.portal_core.specs.inner.Tables.{HasTexts}
+use Rattle.portal_core.proofs.Base.{map, take, HasTexts}
 use Rattle.portal_core.proofs.deciding.kinds.lecturer_keys.Given as goal
 
 -- the keys so far are there

@@ -1,6 +1,5 @@
-use Rattle.std.proofs.Common.{[], ◌∷◌, ◌++◌, sym, ap, ◌∙◌, subst, arith}
+use Rattle.portal_core.proofs.Base.{[], ◌∷◌, ◌++◌, sym, ap, ◌∙◌, subst, arith, HasTexts}
 use Rattle.std.proofs.lemmas.Grind.{common_steps}
-use Rattle.portal_core.specs.inner.Tables.{HasTexts}
 use Rattle.portal_core.proofs.Tables.{text_push}
 use Rattle.portal_core.proofs.deciding.lists.ranked.Goals as goal
 

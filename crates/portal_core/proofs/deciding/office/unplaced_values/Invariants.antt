@@ -1,8 +1,5 @@
-use Rattle.std.proofs.Common.{◌≡◌, map, take}
-use Rattle.std.specs.Prelude.{filter, not}
+use Rattle.portal_core.proofs.Base.{◌≡◌, map, take, filter, not, string, is_assigned}
 use Rattle.serde_json.specs.View.{view as data_of}
-use Rattle.serde_json.specs.Data.{string}
-use Rattle.portal_core.specs.Bodies.{is_assigned}
 use Rattle.portal_core.proofs.deciding.office.unplaced_values.Given as goal
 
 -- the students so far who have no project

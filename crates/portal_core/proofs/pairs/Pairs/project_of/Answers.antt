@@ -1,5 +1,4 @@
-use Rattle.std.proofs.Common.{option_map, ap, sym, ◌∙◌}
-use Rattle.portal_core.specs.Change.{placement_in}
+use Rattle.portal_core.proofs.Base.{option_map, ap, sym, ◌∙◌, placement_in}
 use Rattle.portal_core.proofs.Tables.{looked_up}
 use Rattle.portal_core.proofs.pairs.Pairs.project_of.Goals as goal
 

@@ -1,6 +1,4 @@
-use Rattle.std.proofs.Common.{ap, ◌∙◌}
-use Rattle.portal_core.specs.Sight.{OfficeSees}
-use Rattle.portal_core.specs.Change.{placement_in}
+use Rattle.portal_core.proofs.Base.{ap, ◌∙◌, OfficeSees, placement_in}
 use Rattle.portal_core.proofs.Tables.{is_placed}
 use Rattle.portal_core.proofs.placing.Placings.is_placed.Goals as goal
 

@@ -1,10 +1,5 @@
-use Rattle.std.proofs.Common.{◌≡◌, sym, ap, subst}
-use Rattle.std.specs.Prelude.{Option, Some, None, IfSome}
-use Rattle.portal_core.specs.Change.{Change, Choices, Ranks, Students, Placements, Fill, changed}
+use Rattle.portal_core.proofs.Base.{◌≡◌, sym, ap, subst, Option, Some, None, IfSome, Change, Choices, Ranks, Students, Placements, Fill, changed, OfficeSees, catalogue, office_sees, World}
 use Rattle.portal_core.specs.Meaning.{change_model}
-use Rattle.portal_core.specs.Sight.{OfficeSees}
-use Rattle.portal_core.specs.View.{catalogue, office_sees}
-use Rattle.portal_core.specs.World.{World}
 use Rattle.portal_core.proofs.Acts.{catalogue_chosen, catalogue_ranked, catalogue_joined, catalogue_placed}
 use Rattle.portal_core.proofs.Fills.{catalogue_filled}
 use Rattle.portal_core.specs.declared.view_cache.ViewCache.{ViewCache}

@@ -1,8 +1,5 @@
-use Rattle.std.proofs.Common.{◌≡◌, false, get_or, length, subst, sym, ap, ◌∙◌, arith}
-use Rattle.std.specs.Prelude.{◌||◌}
+use Rattle.portal_list.proofs.Base.{◌≡◌, false, get_or, length, subst, sym, ap, ◌∙◌, arith, ◌||◌, or-false, is_among, is_noted_in, IsIndexOf}
 use Rattle.std.proofs.lemmas.List.{length-replicate, with_items_is}
-use Rattle.std.proofs.Math.Bool.{or-false}
-use Rattle.portal_list.specs.inner.ApplicantIndex.{is_among, is_noted_in, IsIndexOf}
 use Rattle.portal_list.proofs.Noted.{passes_never, wanted_more, none_marked}
 use Rattle.portal_list.proofs.applicant_index.ApplicantIndex.marks.Goals as goal
 use Rattle.portal_list.proofs.applicant_index.ApplicantIndex.marks.Goals.{in-Some, in_default}

@@ -1,7 +1,4 @@
-use Rattle.std.proofs.Common.{◌≡◌, ◌<◌, ℕ, false, length, get_or, take, map}
-use Rattle.std.specs.List.{list_any}
-use Rattle.portal_core.specs.Words.{has}
-use Rattle.portal_list.specs.inner.ApplicantIndex.{passes_at}
+use Rattle.portal_list.proofs.Base.{◌≡◌, ◌<◌, ℕ, false, length, get_or, take, map, list_any, has, passes_at}
 use Rattle.portal_list.proofs.applicant_index.ApplicantIndex.marks.Given as goal
 
 abbrev pub invariant-loop-project : goal.invariant-loop-project

@@ -1,7 +1,4 @@
-use Rattle.std.proofs.Common.{◌≡◌, sym, ap, ◌∙◌}
-use Rattle.std.specs.Prelude.{◌==◌, ◌||◌, ◌&&◌}
-use Rattle.portal_core.specs.Words.{has}
-use Rattle.portal_core.specs.World.{Student}
+use Rattle.portal_list.proofs.Base.{◌≡◌, sym, ap, ◌∙◌, ◌==◌, ◌||◌, ◌&&◌, has, Student}
 use Rattle.portal_list.proofs.Noted.{passes_more}
 use Rattle.portal_list.proofs.applicant_index.ApplicantIndex.of.Goals as goal
 

@@ -1,9 +1,4 @@
-use Rattle.std.proofs.Common.{◌≡◌, ◌<◌, true, false, [], ◌∷◌, ◌++◌, List, Bool, map, take, length, get_or, append-nil, subst, sym, ◌∙◌, ap, arith}
-use Rattle.std.specs.List.{list_any}
-use Rattle.std.proofs.lemmas.List.{map_push, get_or_default}
-use Rattle.portal_core.specs.Words.{Key, has}
-use Rattle.portal_core.specs.World.{Student, student_key}
-use Rattle.portal_list.specs.inner.Parts.{wanting}
+use Rattle.portal_list.proofs.Base.{◌≡◌, ◌<◌, true, false, [], ◌∷◌, ◌++◌, List, Bool, map, take, length, get_or, append-nil, subst, sym, ◌∙◌, ap, arith, list_any, map_push, get_or_default, Key, has, Student, student_key, wanting}
 use Rattle.portal_list.proofs.Noted.{passes_here}
 use Rattle.portal_list.proofs.Steps.{filter_more}
 use Rattle.portal_list.proofs.applicant_index.ApplicantIndex.wanting.Goals as goal

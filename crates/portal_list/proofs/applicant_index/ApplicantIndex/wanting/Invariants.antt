@@ -1,6 +1,4 @@
-use Rattle.std.proofs.Common.{◌≡◌, map, take}
-use Rattle.portal_core.specs.World.{student_key}
-use Rattle.portal_list.specs.inner.Parts.{wanting}
+use Rattle.portal_list.proofs.Base.{◌≡◌, map, take, student_key, wanting}
 use Rattle.portal_list.proofs.applicant_index.ApplicantIndex.wanting.Given as goal
 
 abbrev pub invariant-loop-i : goal.invariant-loop-i

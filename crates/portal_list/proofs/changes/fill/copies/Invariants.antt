@@ -1,4 +1,4 @@
-use Rattle.std.proofs.Common.{◌≡◌, take, map}
+use Rattle.portal_list.proofs.Base.{◌≡◌, take, map}
 use Rattle.portal_list.proofs.changes.fill.copies.Given as goal
 
 abbrev pub invariant-loop-key : goal.invariant-loop-key

@@ -1,9 +1,4 @@
-use Rattle.std.proofs.Common.{◌≡◌, ◌+◌, ◌<◌, List, length, get_or, drop, map, sym, ap, ◌∙◌, arith}
-use Rattle.std.specs.Prelude.{slice_set}
-use Rattle.std.proofs.lemmas.List.{drop-set-lt}
-use Rattle.std.proofs.lemmas.List.Edits.{map_over_more}
-use Rattle.portal_core.specs.World.{Lecturer}
-use Rattle.portal_list.specs.inner.Fill.{missing, with_missing, filled}
+use Rattle.portal_list.proofs.Base.{◌≡◌, ◌+◌, ◌<◌, List, length, get_or, drop, map, sym, ap, ◌∙◌, arith, slice_set, drop-set-lt, map_over_more, Lecturer, missing, with_missing, filled}
 use Rattle.portal_list.proofs.Placed.{place_read, row_read}
 use Rattle.portal_list.proofs.changes.fill.fill_rankings.Goals as goal
 

@@ -1,5 +1,4 @@
-use Rattle.std.proofs.Common.{◌≡◌, ◌++◌, take, drop, map}
-use Rattle.portal_list.specs.inner.Fill.{missing, filled}
+use Rattle.portal_list.proofs.Base.{◌≡◌, ◌++◌, take, drop, map, missing, filled}
 use Rattle.portal_list.proofs.changes.fill.fill_rankings.Given as goal
 
 abbrev pub invariant-loop-i : goal.invariant-loop-i

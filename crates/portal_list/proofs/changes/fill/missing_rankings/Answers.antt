@@ -1,6 +1,4 @@
-use Rattle.std.proofs.Common.{◌∷◌, [], ◌++◌, map, take, ◌∙◌, ap, sym}
-use Rattle.std.proofs.lemmas.List.{map_push}
-use Rattle.portal_list.specs.inner.Fill.{missing}
+use Rattle.portal_list.proofs.Base.{◌∷◌, [], ◌++◌, map, take, ◌∙◌, ap, sym, map_push, missing}
 use Rattle.portal_list.proofs.Steps.{grown}
 use Rattle.portal_list.proofs.changes.fill.missing_rankings.Goals as goal
 

@@ -1,5 +1,4 @@
-use Rattle.std.proofs.Common.{◌≡◌, take, map}
-use Rattle.portal_list.specs.inner.Fill.{missing}
+use Rattle.portal_list.proofs.Base.{◌≡◌, take, map, missing}
 use Rattle.portal_list.proofs.changes.fill.missing_rankings.Given as goal
 
 abbrev pub invariant-loop-lecturer : goal.invariant-loop-lecturer

@@ -1,5 +1,4 @@
-use Rattle.std.proofs.Common.{◌≡◌, ◌++◌, take, drop, map}
-use Rattle.portal_core.specs.Change.{placed_before}
+use Rattle.portal_list.proofs.Base.{◌≡◌, ◌++◌, take, drop, map, placed_before}
 use Rattle.portal_list.proofs.changes.opening.lay_by_lists.Given as goal
 
 abbrev pub invariant-loop-student : goal.invariant-loop-student

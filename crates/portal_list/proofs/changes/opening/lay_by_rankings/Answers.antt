@@ -1,7 +1,4 @@
-use Rattle.std.proofs.Common.{◌<◌, length, ap, ◌∙◌, sym, arith}
-use Rattle.std.specs.Prelude.{slice_set}
-use Rattle.std.proofs.lemmas.List.Edits.{map_over_more}
-use Rattle.portal_core.specs.Change.{ranked_before}
+use Rattle.portal_list.proofs.Base.{◌<◌, length, ap, ◌∙◌, sym, arith, slice_set, map_over_more, ranked_before}
 use Rattle.portal_list.proofs.changes.opening.lay_by_rankings.Goals as goal
 
 pub loop-lecturer-preserved : goal.loop-lecturer-preserved

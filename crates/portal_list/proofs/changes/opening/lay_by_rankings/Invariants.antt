@@ -1,5 +1,4 @@
-use Rattle.std.proofs.Common.{◌≡◌, ◌++◌, take, drop, map}
-use Rattle.portal_core.specs.Change.{ranked_before}
+use Rattle.portal_list.proofs.Base.{◌≡◌, ◌++◌, take, drop, map, ranked_before}
 use Rattle.portal_list.proofs.changes.opening.lay_by_rankings.Given as goal
 
 abbrev pub invariant-loop-lecturer : goal.invariant-loop-lecturer

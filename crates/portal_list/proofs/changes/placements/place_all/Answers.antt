@@ -1,9 +1,4 @@
-use Rattle.std.proofs.Common.{◌≡◌, ◌+◌, ◌<◌, List, length, get_or, drop, map, sym, ap, ◌∙◌, arith}
-use Rattle.std.specs.Prelude.{slice_set}
-use Rattle.std.proofs.lemmas.List.{drop-set-lt}
-use Rattle.std.proofs.lemmas.List.Edits.{map_over_more}
-use Rattle.portal_core.specs.World.{Student}
-use Rattle.portal_core.specs.Change.{placement_in, with_place}
+use Rattle.portal_list.proofs.Base.{◌≡◌, ◌+◌, ◌<◌, List, length, get_or, drop, map, sym, ap, ◌∙◌, arith, slice_set, drop-set-lt, map_over_more, Student, placement_in, with_place}
 use Rattle.portal_list.specs.inner.Played.{placed_now}
 use Rattle.portal_list.proofs.Placed.{place_read, row_read}
 use Rattle.portal_list.proofs.changes.placements.place_all.Goals as goal

@@ -1,5 +1,4 @@
-use Rattle.std.proofs.Common.{◌≡◌, ◌++◌, take, drop, map}
-use Rattle.portal_core.specs.Change.{placement_in, with_place}
+use Rattle.portal_list.proofs.Base.{◌≡◌, ◌++◌, take, drop, map, placement_in, with_place}
 use Rattle.portal_list.proofs.changes.placements.place_all.Given as goal
 
 abbrev pub invariant-loop-i : goal.invariant-loop-i

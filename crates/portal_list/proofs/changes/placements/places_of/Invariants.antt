@@ -1,5 +1,4 @@
-use Rattle.std.proofs.Common.{◌≡◌, take, map}
-use Rattle.portal_core.specs.Change.{placement_in}
+use Rattle.portal_list.proofs.Base.{◌≡◌, take, map, placement_in}
 use Rattle.portal_list.proofs.changes.placements.places_of.Given as goal
 
 abbrev pub invariant-loop-student : goal.invariant-loop-student

@@ -1,11 +1,4 @@
-use Rattle.std.proofs.Common.{◌≡◌, List, map, sym, ap, ◌∙◌}
-use Rattle.std.specs.Prelude.{filter}
-use Rattle.std.proofs.lemmas.Result.{IfOk-weaker}
-use Rattle.portal_core.specs.Words.{Key}
-use Rattle.portal_core.specs.World.{Lecturer}
-use Rattle.portal_list.specs.Entries.{AllEntries}
-use Rattle.portal_list.specs.inner.Shown.{is_waiting}
-use Rattle.portal_list.specs.inner.Parts.{applicant_keys}
+use Rattle.portal_list.proofs.Base.{◌≡◌, List, map, sym, ap, ◌∙◌, filter, IfOk-weaker, Key, Lecturer, AllEntries, is_waiting, applicant_keys}
 use Rattle.portal_list.proofs.Missing.{fills_are}
 use Rattle.portal_list.proofs.entries.Entries.fills.Goals as goal
 

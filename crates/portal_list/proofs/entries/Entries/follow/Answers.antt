@@ -1,11 +1,5 @@
-use Rattle.std.proofs.Common.{List, length, map, sym, ap, subst, ◌∙◌}
-use Rattle.std.proofs.lemmas.List.{take_at, length-map}
-use Rattle.portal_core.specs.Words.{Rise}
-use Rattle.portal_core.specs.World.{Lecturer, Student, lecturer_key, student_key}
-use Rattle.portal_core.specs.Change.{Choices, Ranks}
-use Rattle.portal_core.specs.Meaning.{change_model}
-use Rattle.portal_list.specs.Entries.{AllEntries}
-use Rattle.portal_list.specs.inner.Fill.{filled}
+use Rattle.portal_list.proofs.Base.{List, length, map, sym, ap, subst, ◌∙◌, length-map, Rise, Lecturer, Student, lecturer_key, student_key, Choices, Ranks, change_model, AllEntries, filled}
+use Rattle.std.proofs.lemmas.List.{take_at}
 use Rattle.portal_list.proofs.Followed.{list_followed, ranking_followed, fill_followed}
 use Rattle.portal_list.proofs.entries.Entries.follow.Goals as goal
 

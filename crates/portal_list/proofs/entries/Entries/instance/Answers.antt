@@ -1,7 +1,4 @@
-use Rattle.std.proofs.Common.{◌≡◌, sym, ◌∙◌, ap}
-use Rattle.std.proofs.lemmas.Result.{IfOk-weaker}
-use Rattle.portal_core.specs.declared.phase.Round.TheVariants.{Second}
-use Rattle.portal_list.specs.Entries.{AllEntries}
+use Rattle.portal_list.proofs.Base.{◌≡◌, sym, ◌∙◌, ap, IfOk-weaker, Second, AllEntries}
 use Rattle.portal_list.proofs.Second.{round_alone, has_alone, sound_alone, instance_alone, ranked_alone}
 use Rattle.portal_list.proofs.entries.Entries.instance.Goals as goal
 

@@ -1,10 +1,5 @@
-use Rattle.std.proofs.Common.{◌≡◌, sym, ap, subst, ◌∙◌}
-use Rattle.std.specs.Prelude.{IfSome, Ok}
-use Rattle.portal_core.specs.World.{World}
-use Rattle.portal_core.specs.Change.{changed}
-use Rattle.portal_core.specs.Meaning.{change_model}
-use Rattle.portal_list.specs.Entries.{HasEntries, entries_in}
-use Rattle.portal_list.specs.inner.Shown.{catalogue_in}
+use Rattle.portal_list.proofs.Base.{◌≡◌, sym, ap, subst, ◌∙◌, IfSome, World, changed, change_model, HasEntries, entries_in, catalogue_in}
+use Rattle.std.specs.Prelude.{Ok}
 use Rattle.portal_list.proofs.Followed.{catalogue_after}
 use Rattle.portal_list.proofs.keeper.ListKeeper.follow.Goals as goal
 

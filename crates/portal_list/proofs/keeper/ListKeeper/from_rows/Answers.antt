@@ -1,8 +1,4 @@
-use Rattle.std.proofs.Common.{◌↔◌, IsTrue, map, sym, subst}
-use Rattle.std.proofs.lemmas.Bool.{iff_false}
-use Rattle.portal_core.specs.Words.{Rise}
-use Rattle.portal_core.specs.World.{World, student_key}
-use Rattle.portal_list.specs.inner.Parts.{ListsOf}
+use Rattle.portal_list.proofs.Base.{◌↔◌, IsTrue, map, sym, subst, iff_false, Rise, World, student_key, ListsOf}
 use Rattle.portal_list.proofs.Parted.{rolls_tell, lists_tell, students_rise, both_sound}
 use Rattle.portal_list.proofs.keeper.ListKeeper.from_rows.Goals as goal
 

@@ -1,5 +1,4 @@
-use Rattle.std.proofs.Common.{sym, subst}
-use Rattle.portal_list.specs.inner.Parts.{RollsOf}
+use Rattle.portal_list.proofs.Base.{sym, subst, RollsOf}
 use Rattle.portal_list.proofs.Parted.{rolls_first}
 use Rattle.portal_list.proofs.keeper.ListKeeper.is_before_good.Goals as goal
 

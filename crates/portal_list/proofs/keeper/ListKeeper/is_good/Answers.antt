@@ -1,5 +1,4 @@
-use Rattle.std.proofs.lemmas.Bool.{false≢true, iff_false}
-use Rattle.std.proofs.lemmas.Result.{IfOk-weaker}
+use Rattle.portal_list.proofs.Base.{false≢true, iff_false, IfOk-weaker}
 use Rattle.portal_list.proofs.keeper.ListKeeper.is_good.Goals as goal
 
 pub returns-then-not-branch : goal.returns-then-not-branch

@@ -1,9 +1,4 @@
-use Rattle.std.proofs.Common.{◌↔◌, IsTrue, map, sym, subst}
-use Rattle.std.proofs.lemmas.Bool.{false≢true, iff_false}
-use Rattle.std.proofs.lemmas.Result.{IfOk-weaker}
-use Rattle.portal_core.specs.Words.{Rise}
-use Rattle.portal_core.specs.World.{World, student_key}
-use Rattle.portal_list.specs.inner.Parts.{ListsOf}
+use Rattle.portal_list.proofs.Base.{◌↔◌, IsTrue, map, sym, subst, false≢true, iff_false, IfOk-weaker, Rise, World, student_key, ListsOf}
 use Rattle.portal_list.proofs.Rising.{map_map}
 use Rattle.portal_list.proofs.Parted.{lists_of, sound_of}
 use Rattle.portal_list.proofs.keeper.ListKeeper.is_round.Goals as goal

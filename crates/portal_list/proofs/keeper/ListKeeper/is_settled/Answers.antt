@@ -1,10 +1,4 @@
-use Rattle.std.proofs.Common.{◌≡◌, true, map, rules, sym, ap, ◌∙◌}
-use Rattle.std.specs.Prelude.{filter, option_map}
-use Rattle.spa_model.specs.Pairs.{number_in}
-use Rattle.portal_core.specs.World.{World, is_published}
-use Rattle.portal_core.specs.Instance.{instance}
-use Rattle.portal_list.specs.Entries.{AllEntries, entries_in}
-use Rattle.portal_list.specs.inner.Played.{takes_part}
+use Rattle.portal_list.proofs.Base.{◌≡◌, true, map, rules, sym, ap, ◌∙◌, filter, option_map, number_in, World, is_published, instance, AllEntries, entries_in, takes_part}
 use Rattle.portal_list.proofs.Stable.{settled_if}
 use Rattle.portal_list.proofs.keeper.ListKeeper.is_settled.Goals as goal
 

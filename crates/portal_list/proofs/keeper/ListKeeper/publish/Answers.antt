@@ -1,6 +1,4 @@
-use Rattle.std.proofs.Common.{◌≡◌, sym, ap, subst, ◌∙◌}
-use Rattle.std.specs.Prelude.{IfSome}
-use Rattle.portal_list.specs.inner.Shown.{catalogue_in}
+use Rattle.portal_list.proofs.Base.{◌≡◌, sym, ap, subst, ◌∙◌, IfSome, catalogue_in}
 use Rattle.portal_list.proofs.Shared.{shown_placed}
 use Rattle.portal_list.proofs.keeper.ListKeeper.publish.Goals as goal
 

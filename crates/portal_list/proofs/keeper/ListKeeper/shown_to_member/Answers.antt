@@ -1,11 +1,6 @@
-use Rattle.std.proofs.Common.{◌≡◌, ap, ◌∙◌}
-use Rattle.std.specs.Prelude.{Some, None}
-use Rattle.std.specs.List.{find}
-use Rattle.portal_core.specs.Words.{equals}
-use Rattle.portal_core.specs.World.{Lecturer, Student}
+use Rattle.portal_list.proofs.Base.{◌≡◌, ap, ◌∙◌, Some, None, find, equals, Lecturer, Student, AllEntries, entries_in}
 use Rattle.portal_core.specs.View.{lecturer_with, student_with, caller_among, sight_of}
 use Rattle.portal_core.specs.declared.view.View.TheVariants as views
-use Rattle.portal_list.specs.Entries.{AllEntries, entries_in}
 use Rattle.portal_list.proofs.keeper.ListKeeper.shown_to_member.Goals as goal
 
 pub returns-in_ok-student_view-in-Some-student_with :

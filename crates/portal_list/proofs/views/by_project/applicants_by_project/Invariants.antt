@@ -1,5 +1,4 @@
-use Rattle.std.proofs.Common.{◌≡◌, take, map}
-use Rattle.portal_list.specs.inner.Shown.{applicants_shown}
+use Rattle.portal_list.proofs.Base.{◌≡◌, take, map, applicants_shown}
 use Rattle.portal_list.proofs.views.by_project.applicants_by_project.Given as goal
 
 abbrev pub invariant-loop-project : goal.invariant-loop-project

@@ -1,7 +1,4 @@
-use Rattle.std.proofs.Common.{◌≡◌, take}
-use Rattle.std.specs.Prelude.{filter}
-use Rattle.portal_core.specs.Words.{has}
-use Rattle.portal_core.specs.View.{persons}
+use Rattle.portal_list.proofs.Base.{◌≡◌, take, filter, has, persons}
 use Rattle.portal_list.proofs.views.by_project.applicants_to.Given as goal
 
 abbrev pub invariant-loop-student : goal.invariant-loop-student

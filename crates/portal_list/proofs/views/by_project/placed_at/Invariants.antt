@@ -1,7 +1,5 @@
-use Rattle.std.proofs.Common.{◌≡◌, take}
-use Rattle.std.specs.Prelude.{filter}
-use Rattle.portal_core.specs.World.{is_at, shown_placement}
-use Rattle.portal_core.specs.View.{persons}
+use Rattle.portal_list.proofs.Base.{◌≡◌, take, filter, shown_placement, persons}
+use Rattle.portal_core.specs.World.{is_at}
 use Rattle.portal_list.proofs.views.by_project.placed_at.Given as goal
 
 abbrev pub invariant-loop-student : goal.invariant-loop-student

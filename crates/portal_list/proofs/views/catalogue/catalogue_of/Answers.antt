@@ -1,10 +1,4 @@
-use Rattle.std.proofs.Common.{◌≡◌, List, map, refl, sym, ap, ◌∙◌}
-use Rattle.std.proofs.lemmas.Result.{IfOk-weaker}
-use Rattle.portal_core.specs.World.{Lecturer, lecturers_left, projects_left, alone_lecturer}
-use Rattle.portal_core.specs.declared.phase.Round.TheVariants.{First, Second}
-use Rattle.portal_core.proofs.AllLaws.{map_same}
-use Rattle.portal_list.specs.Entries.{AllEntries}
-use Rattle.portal_list.specs.inner.Shown.{offered, catalogue_in}
+use Rattle.portal_list.proofs.Base.{◌≡◌, List, map, refl, sym, ap, ◌∙◌, IfOk-weaker, Lecturer, lecturers_left, projects_left, alone_lecturer, First, Second, map_same, AllEntries, offered, catalogue_in}
 use Rattle.portal_list.proofs.Listings.{row_of, offered_rows}
 use Rattle.portal_list.proofs.views.catalogue.catalogue_of.Goals as goal
 

@@ -1,5 +1,4 @@
-use Rattle.std.proofs.Common.{◌≡◌, map, take}
-use Rattle.portal_list.specs.inner.Shown.{offered}
+use Rattle.portal_list.proofs.Base.{◌≡◌, map, take, offered}
 use Rattle.portal_list.proofs.views.catalogue.listings_of.Given as goal
 
 abbrev pub invariant-loop-project : goal.invariant-loop-project

@@ -1,5 +1,4 @@
-use Rattle.std.proofs.Common.{◌≡◌, map, drop}
-use Rattle.portal_list.specs.inner.Shown.{name_of}
+use Rattle.portal_list.proofs.Base.{◌≡◌, map, drop, name_of}
 use Rattle.portal_list.proofs.views.catalogue.name_among.Given as goal
 
 abbrev pub invariant-loop-lecturer : goal.invariant-loop-lecturer

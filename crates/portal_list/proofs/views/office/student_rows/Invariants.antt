@@ -1,4 +1,4 @@
-use Rattle.std.proofs.Common.{◌≡◌, take, map}
+use Rattle.portal_list.proofs.Base.{◌≡◌, take, map}
 use Rattle.portal_list.proofs.views.office.student_rows.Given as goal
 
 abbrev pub invariant-loop-student : goal.invariant-loop-student

@@ -1,6 +1,4 @@
-use Rattle.std.proofs.Common.{◌≡◌, take, map}
-use Rattle.std.specs.Prelude.{filter}
-use Rattle.portal_list.specs.inner.Shown.{is_waiting}
+use Rattle.portal_list.proofs.Base.{◌≡◌, take, map, filter, is_waiting}
 use Rattle.portal_list.proofs.views.office.waiting.Given as goal
 
 abbrev pub invariant-loop-lecturer : goal.invariant-loop-lecturer

@@ -1,7 +1,4 @@
-use Rattle.std.proofs.Common.{◌≡◌, take, map}
-use Rattle.std.specs.Prelude.{filter, ◌&&◌}
-use Rattle.portal_list.specs.inner.Played.{takes_part}
-use Rattle.portal_core.specs.Words.{is_empty}
+use Rattle.portal_list.proofs.Base.{◌≡◌, take, map, filter, ◌&&◌, takes_part, is_empty}
 use Rattle.portal_list.proofs.views.office.without_list.Given as goal
 
 abbrev pub invariant-loop-student : goal.invariant-loop-student

@@ -1,5 +1,4 @@
-use Rattle.std.proofs.Common.{◌≡◌, take}
-use Rattle.portal_core.specs.World.{shown_placement, pairs_with}
+use Rattle.portal_list.proofs.Base.{◌≡◌, take, shown_placement, pairs_with}
 use Rattle.portal_list.proofs.views.placements.pairs_of.Given as goal
 
 abbrev pub invariant-loop-student : goal.invariant-loop-student

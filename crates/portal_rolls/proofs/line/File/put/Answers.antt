@@ -1,4 +1,4 @@
-use Rattle.std.proofs.Common.{◌∙◌, ap}
+use Rattle.portal_rolls.proofs.Base.{◌∙◌, ap}
 use Rattle.portal_rolls.specs.Lines as spec
 use Rattle.portal_rolls.specs.declared.line.Line.TheVariants as variant
 use Rattle.portal_rolls.proofs.Cut.{put, put_last}

@@ -1,6 +1,4 @@
-use Rattle.std.proofs.lemmas.Result.{err_from_is_err_and}
-use Rattle.spa_rows.specs.Form.{is_key}
-use Rattle.portal_core.specs.Form.{is_code, is_name}
+use Rattle.portal_rolls.proofs.Base.{err_from_is_err_and, is_key, is_code, is_name}
 use Rattle.portal_rolls.proofs.Columns.{fourth_fails}
 use Rattle.portal_rolls.proofs.rolls.LecturerRollKind.says.Goals as goal
 

@@ -1,6 +1,4 @@
-use Rattle.std.proofs.Common.{◌≡◌, None, Some, length, subst, arith}
-use Rattle.spa_rows.specs.Least.{IsLeastOf}
-use Rattle.spa_model.specs.inner.Numbers.{choices_at, Misses, MissesBelow}
+use Rattle.spa_model.proofs.Base.{◌≡◌, None, Some, length, subst, arith, IsLeastOf, choices_at, Misses, MissesBelow}
 use Rattle.spa_model.proofs.Applicants.{choices_here, misses_more}
 use Rattle.spa_model.proofs.build.applicants.applicant_missing.Goals as goal
 use Rattle.spa_model.proofs.build.applicants.applicant_missing.Goals.{in-Some, in_default}

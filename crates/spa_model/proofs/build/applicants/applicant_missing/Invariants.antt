@@ -1,5 +1,4 @@
-use Rattle.spa_rows.specs.Least.{IsLeastOf}
-use Rattle.spa_model.specs.inner.Numbers.{MissesBelow}
+use Rattle.spa_model.proofs.Base.{IsLeastOf, MissesBelow}
 use Rattle.spa_model.proofs.build.applicants.applicant_missing.Given as goal
 
 -- the least row so far

@@ -1,5 +1,4 @@
-use Rattle.std.proofs.Common.{◌≡◌, ℕ, ◌<◌, get_or}
-use Rattle.spa_model.specs.inner.Numbers.{lecturer_at}
+use Rattle.spa_model.proofs.Base.{◌≡◌, ℕ, ◌<◌, get_or, lecturer_at}
 use Rattle.spa_model.proofs.build.applicants.finds.Given as goal
 
 -- none so far

@@ -1,6 +1,4 @@
-use Rattle.std.proofs.Common.{◌≡◌, ◌↔◌, IsTrue, arith}
-use Rattle.spa_model.specs.Built.{HasKey}
-use Rattle.spa_model.specs.inner.Numbers.{student_keys, choices_at, Finds}
+use Rattle.spa_model.proofs.Base.{◌≡◌, ◌↔◌, IsTrue, arith, HasKey, student_keys, choices_at, Finds}
 use Rattle.spa_model.proofs.Keys.{has_key}
 use Rattle.spa_model.proofs.Applicants.{applicant_iff, no_applicant, choices_here}
 use Rattle.spa_model.proofs.build.applicants.is_applicant.Goals as goal

@@ -1,6 +1,4 @@
-use Rattle.std.proofs.Common.{arith}
-use Rattle.std.proofs.lemmas.Bool.{false≢true}
-use Rattle.spa_model.specs.inner.Numbers.{IsApplicantOf}
+use Rattle.spa_model.proofs.Base.{arith, false≢true, IsApplicantOf}
 use Rattle.spa_model.proofs.Zips.{any_unmap}
 use Rattle.spa_model.proofs.build.applicants.lists_other.Goals as goal
 

@@ -1,5 +1,5 @@
-use Rattle.std.proofs.Common.{◌≡◌, ℕ, ◌<◌, get_or, Vec, Global}
-use Rattle.spa_model.specs.inner.Numbers.{IsApplicantOf}
+use Rattle.spa_model.proofs.Base.{◌≡◌, ℕ, ◌<◌, get_or, IsApplicantOf}
+use Rattle.std.proofs.Common.{Vec, Global}
 use Rattle.spa_model.proofs.build.applicants.lists_other.Given as goal
 
 -- all are applicants so far

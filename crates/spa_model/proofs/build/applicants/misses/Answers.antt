@@ -1,7 +1,4 @@
-use Rattle.std.proofs.Common.{◌≡◌, ◌<◌, ◌∙◌, ◌↔◌, IsTrue, ℕ, None, get_or, length, sym, ap, arith}
-use Rattle.std.proofs.lemmas.List.{get_or_default}
-use Rattle.spa_rows.proofs.LeastRow.{least_step, least_all}
-use Rattle.spa_model.specs.inner.Numbers.{lecturer_at, row_at, rank_at}
+use Rattle.spa_model.proofs.Base.{◌≡◌, ◌<◌, ◌∙◌, ◌↔◌, IsTrue, ℕ, None, get_or, length, sym, ap, arith, get_or_default, least_step, least_all, lecturer_at, row_at, rank_at}
 use Rattle.spa_model.proofs.Applicants.{rank_read, row_read, none_iff}
 use Rattle.spa_model.proofs.build.applicants.misses.Goals as goal
 

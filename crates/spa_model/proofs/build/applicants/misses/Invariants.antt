@@ -1,6 +1,4 @@
-use Rattle.std.proofs.Common.{◌≡◌, None}
-use Rattle.spa_rows.specs.Least.{IsLeastOf, BadBelow}
-use Rattle.spa_model.specs.inner.Numbers.{lecturer_at, row_at, rank_at}
+use Rattle.spa_model.proofs.Base.{◌≡◌, None, IsLeastOf, BadBelow, lecturer_at, row_at, rank_at}
 use Rattle.spa_model.proofs.build.applicants.misses.Given as goal
 
 -- the least row so far

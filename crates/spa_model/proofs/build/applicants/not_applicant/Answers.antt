@@ -1,7 +1,5 @@
-use Rattle.std.proofs.Common.{◌↔◌, IsTrue, ℕ, Any, sym, ap, arith}
+use Rattle.spa_model.proofs.Base.{◌↔◌, IsTrue, ℕ, Any, sym, ap, arith, least_step, least_all, IsApplicantOf}
 use Rattle.spa_rows.specs.Lines
-use Rattle.spa_rows.proofs.LeastRow.{least_step, least_all}
-use Rattle.spa_model.specs.inner.Numbers.{IsApplicantOf}
 use Rattle.spa_model.proofs.build.applicants.not_applicant.Goals as goal
 
 pub loop-number-preserved : goal.loop-number-preserved

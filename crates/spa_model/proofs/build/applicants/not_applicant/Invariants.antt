@@ -1,6 +1,4 @@
-use Rattle.std.proofs.Common.{Any}
-use Rattle.spa_rows.specs.Least.{IsLeastOf, BadBelow}
-use Rattle.spa_model.specs.inner.Numbers.{IsApplicantOf}
+use Rattle.spa_model.proofs.Base.{Any, IsLeastOf, BadBelow, IsApplicantOf}
 use Rattle.spa_model.proofs.build.applicants.not_applicant.Given as goal
 
 -- the least row so far

@@ -1,6 +1,4 @@
-use Rattle.std.proofs.Common.{take}
-use Rattle.std.specs.List.{AllZip}
-use Rattle.spa_model.specs.inner.Numbers.{student_keys, IsLecturerOf}
+use Rattle.spa_model.proofs.Base.{take, AllZip, student_keys, IsLecturerOf}
 use Rattle.spa_model.proofs.build.numbers.number_lecturers.Given as goal
 
 -- the rows so far

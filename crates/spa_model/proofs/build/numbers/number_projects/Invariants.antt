@@ -1,6 +1,4 @@
-use Rattle.std.proofs.Common.{take}
-use Rattle.std.specs.List.{AllZip}
-use Rattle.spa_model.specs.inner.Numbers.{lecturer_keys, IsProjectOf}
+use Rattle.spa_model.proofs.Base.{take, AllZip, lecturer_keys, IsProjectOf}
 use Rattle.spa_model.proofs.build.numbers.number_projects.Given as goal
 
 -- the rows so far

@@ -1,7 +1,4 @@
-use Rattle.std.proofs.Common.{subst}
-use Rattle.std.specs.List.{AllZip}
-use Rattle.std.proofs.lemmas.List.{take_all}
-use Rattle.spa_model.specs.inner.Numbers.{project_keys, IsStudentOf}
+use Rattle.spa_model.proofs.Base.{subst, AllZip, take_all, project_keys, IsStudentOf}
 use Rattle.spa_model.proofs.Zips.{zip_more}
 use Rattle.spa_model.proofs.build.numbers.number_students.Goals as goal
 

@@ -1,6 +1,4 @@
-use Rattle.std.proofs.Common.{◌<◌, subst, All}
-use Rattle.std.proofs.lemmas.List.{length-map}
-use Rattle.spa_model.specs.inner.Numbers.{AreNumbers, student_keys}
+use Rattle.spa_model.proofs.Base.{◌<◌, subst, All, length-map, AreNumbers, student_keys}
 use Rattle.spa_model.proofs.Ranks.{distinct_numbers, numbers_below}
 use Rattle.spa_model.proofs.build.numbers.numbered_lecturer.Goals as goal
 

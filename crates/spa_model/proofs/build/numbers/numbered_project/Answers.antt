@@ -1,4 +1,4 @@
-use Rattle.std.proofs.Common.{◌∙◌, ap}
+use Rattle.spa_model.proofs.Base.{◌∙◌, ap}
 use Rattle.spa_model.proofs.Keys.{has_key}
 use Rattle.spa_model.proofs.build.numbers.numbered_project.Goals as goal
 

@@ -1,5 +1,4 @@
-use Rattle.std.proofs.Common.{◌≤◌, length, get_or, ℕ, arith}
-use Rattle.std.proofs.lemmas.List.{get_or_default}
+use Rattle.spa_model.proofs.Base.{◌≤◌, length, get_or, ℕ, arith, get_or_default}
 use Rattle.spa_model.proofs.Ranks.{one_rank, at_most}
 use Rattle.spa_model.proofs.build.numbers.ranks_of.Goals as goal
 

@@ -1,9 +1,4 @@
-use Rattle.std.proofs.Common.{◌∙◌, subst}
-use Rattle.std.specs.List.{AllZip}
-use Rattle.std.proofs.lemmas.List.{take_all}
-use Rattle.spa_rows.specs.Faults.{IsKeyOf}
-use Rattle.spa_model.specs.Built.{HasKey}
-use Rattle.spa_model.specs.inner.Numbers.{student_keys}
+use Rattle.spa_model.proofs.Base.{◌∙◌, subst, AllZip, take_all, IsKeyOf, HasKey, student_keys}
 use Rattle.spa_model.proofs.Keys.{has_key}
 use Rattle.spa_model.proofs.Zips.{zip_more, zip_map, any_map}
 use Rattle.spa_model.proofs.build.numbers.student_numbers.Goals as goal

@@ -1,7 +1,4 @@
-use Rattle.std.proofs.Common.{take}
-use Rattle.std.specs.List.{AllZip}
-use Rattle.spa_model.specs.Built.{HasKey}
-use Rattle.spa_model.specs.inner.Numbers.{student_keys}
+use Rattle.spa_model.proofs.Base.{take, AllZip, HasKey, student_keys}
 use Rattle.spa_model.proofs.build.numbers.student_numbers.Given as goal
 
 -- the numbers so far

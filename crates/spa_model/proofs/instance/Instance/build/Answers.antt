@@ -1,10 +1,6 @@
 use Rattle.std.proofs.Common.{IfOk, IfErr, OnOk}
-use Rattle.std.proofs.lemmas.Result.{IfOk-weaker, IfErr-weaker, on_ok_weaker}
-use Rattle.spa_rows.specs.Faults.{HasNoneBefore, IsRefusal}
-use Rattle.spa_rows.specs.declared.faults.InstanceFault.TheVariants.{NoSuchLecturer, Memory}
-use Rattle.spa_rows.proofs.Carry.{SameLines, none_before_carry, same_lines_sym}
-use Rattle.spa_rows.proofs.FirstFault.{handed_on}
-use Rattle.spa_model.specs.Built.{StandsFor}
+use Rattle.spa_model.proofs.Base.{on_ok_weaker, HasNoneBefore, IsRefusal, NoSuchLecturer, Memory, SameLines, none_before_carry, same_lines_sym, handed_on, StandsFor}
+use Rattle.std.proofs.lemmas.Result.{IfOk-weaker, IfErr-weaker}
 use Rattle.spa_model.proofs.Sorted.{refusal_of_rows, stands_for_rows}
 use Rattle.spa_model.proofs.instance.Instance.build.Goals as goal
 

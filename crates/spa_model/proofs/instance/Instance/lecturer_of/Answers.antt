@@ -1,7 +1,5 @@
-use Rattle.std.proofs.Common.{◌≡◌, subst}
+use Rattle.spa_model.proofs.Base.{◌≡◌, subst, arith, lecturer_of, IsLawful}
 use Rattle.std.proofs.lemmas.Grind.{common_steps}
-use Rattle.std.proofs.Common.{arith}
-use Rattle.spa_model.specs.Spa.{lecturer_of, IsLawful}
 use Rattle.spa_model.proofs.instance.Instance.lecturer_of.Goals as goal
 
 -- each project's lecturer is there

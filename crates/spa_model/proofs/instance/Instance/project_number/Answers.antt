@@ -1,11 +1,4 @@
-use Rattle.std.proofs.Common.{◌≡◌, map, length, sym, ap, ◌∙◌, arith, rules}
-use Rattle.std.proofs.lemmas.List.{length-map}
-use Rattle.std.specs.Ordering.{nat_cmp}
-use Rattle.std.specs.Cmp.Lexicographic.{slice_cmp}
-use Rattle.std.proofs.lemmas.Cmp.{nat_list_cmp_total}
-use Rattle.std.proofs.lemmas.Fn.{always_returns_same}
-use Rattle.std.proofs.lemmas.List.Sorted.{searchable_from_sorted}
-use Rattle.spa_model.specs.Spa.{Rise}
+use Rattle.spa_model.proofs.Base.{◌≡◌, map, length, sym, ap, ◌∙◌, arith, rules, length-map, nat_cmp, slice_cmp, nat_list_cmp_total, always_returns_same, searchable_from_sorted, Rise}
 use Rattle.spa_model.proofs.Numbers.{number_found, number_none, sorted_rows}
 use Rattle.spa_model.proofs.instance.Instance.project_number.Goals as goal
 

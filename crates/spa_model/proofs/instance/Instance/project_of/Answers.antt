@@ -1,5 +1,5 @@
-use Rattle.std.proofs.Common.{◌≡◌, ℕ, ◌<◌, List, length, Option, Some, None, sym, subst, IfSome}
-use Rattle.spa_model.specs.Spa.{Spa, project_of, IsMatching, IsLawful}
+use Rattle.spa_model.proofs.Base.{◌≡◌, ℕ, ◌<◌, List, length, Option, Some, None, sym, Spa, project_of, IsMatching, IsLawful}
+use Rattle.std.proofs.Common.{IfSome}
 use Rattle.spa_model.proofs.instance.Instance.project_of.Goals as goal
 
 known_project : (i : Spa) (m : List (Option ℕ)) → IsLawful i → IsMatching i m → (s : ℕ) (o : Option ℕ) → o ≡ project_of m s → IfSome o (λ p. p < length i.lecturers)
@@ -8,4 +8,4 @@ known_project i m lawful fits s (Some p) e = lawful.known s p (fits.acceptable s
 
 -- what is acceptable is there
 pub returns-clause-in_range : goal.returns-clause-in_range
-returns-clause-in_range c = known_project c.args.self.now c.args.matching.now (subst IsLawful c.self.view_is c.self.invariant.0) c.requires.fits c.args.student c.project.result c.project.ensures
+returns-clause-in_range c = known_project c.args.self.now c.args.matching.now c.lawful.ensures c.requires.fits c.args.student c.project.result c.project.ensures

@@ -1,23 +1,22 @@
-use Rattle.std.proofs.Common.{◌∙◌, subst}
-use Rattle.spa_model.specs.Pairs.{HasPairs}
+use Rattle.spa_model.proofs.Base.{◌∙◌, subst, HasPairs}
 use Rattle.spa_model.proofs.AssignedPairs.{known_pairs, apart_pairs, has_pairs, is_matching}
 use Rattle.spa_model.proofs.matching.Matching.build.Goals as goal
 
 pub assigned-requires-clause-known : goal.assigned-requires-clause-known
 assigned-requires-clause-known c =
-    known_pairs c.args.instance.now c.as_slice-lines.result.now _ c.students-lawful.ensures.lawful c.in_ok-check_pairs.ensures.ok (c.deref-3.ensures.value ∙ c.in_ok-students.ensures)
+    known_pairs c.args.instance.now c.as_slice-lines.result.now _ c.lawful.ensures c.in_ok-check_pairs.ensures.ok (c.deref-3.ensures.value ∙ c.in_ok-students.ensures)
 
 pub assigned-requires-clause-apart : goal.assigned-requires-clause-apart
 assigned-requires-clause-apart c =
-    apart_pairs c.args.instance.now c.as_slice-lines.result.now _ c.students-lawful.ensures.lawful c.in_ok-check_pairs.ensures.ok (c.deref-3.ensures.value ∙ c.in_ok-students.ensures)
+    apart_pairs c.args.instance.now c.as_slice-lines.result.now _ c.lawful.ensures c.in_ok-check_pairs.ensures.ok (c.deref-3.ensures.value ∙ c.in_ok-students.ensures)
 
 pub returns-clause-ok : goal.returns-clause-ok
 returns-clause-ok c =
     subst (λ lines. HasPairs c.args.instance.now lines c.in_ok-own.own.items) c.as_slice-lines.ensures.value
-    (has_pairs c.args.instance.now c.as_slice-lines.result.now c.deref-3.result.now c.deref-4.result.now c.in_ok-own.own.items c.students-lawful.ensures.lawful c.in_ok-check_pairs.ensures.ok
+    (has_pairs c.args.instance.now c.as_slice-lines.result.now c.deref-3.result.now c.deref-4.result.now c.in_ok-own.own.items c.lawful.ensures c.in_ok-check_pairs.ensures.ok
     (c.deref-3.ensures.value ∙ c.in_ok-students.ensures) (c.deref-4.ensures.value ∙ c.in_ok-projects.ensures) c.in_ok-own.ensures)
 
 pub returns-clause-matching : goal.returns-clause-matching
 returns-clause-matching c =
-    is_matching c.args.instance.now c.as_slice-lines.result.now c.deref-3.result.now c.deref-4.result.now c.in_ok-own.own.items c.students-lawful.ensures.lawful c.in_ok-check_pairs.ensures.ok
+    is_matching c.args.instance.now c.as_slice-lines.result.now c.deref-3.result.now c.deref-4.result.now c.in_ok-own.own.items c.lawful.ensures c.in_ok-check_pairs.ensures.ok
     (c.deref-3.ensures.value ∙ c.in_ok-students.ensures) (c.deref-4.ensures.value ∙ c.in_ok-projects.ensures) c.in_ok-own.ensures

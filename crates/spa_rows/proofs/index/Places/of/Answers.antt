@@ -1,5 +1,4 @@
-use Rattle.std.proofs.Common.{sym, arith, subst}
-use Rattle.spa_rows.specs.inner.Index.{IsIndexOf}
+use Rattle.spa_rows.proofs.Base.{sym, arith, subst, IsIndexOf}
 use Rattle.spa_rows.proofs.Indexed.{index_more}
 use Rattle.spa_rows.proofs.index.Places.of.Goals as goal
 

@@ -1,4 +1,4 @@
-use Rattle.spa_rows.specs.inner.Index.{IsIndexOf}
+use Rattle.spa_rows.proofs.Base.{IsIndexOf}
 use Rattle.spa_rows.proofs.index.Places.of.Given as goal
 
 -- the keys so far have their places

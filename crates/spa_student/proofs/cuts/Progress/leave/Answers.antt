@@ -1,6 +1,4 @@
-use Rattle.std.proofs.Common.{◌≡◌, ◌<◌, ◌-◌, ◌+◌, length, get_or, set, refl, ◌∙◌, ap, arith}
-use Rattle.std.proofs.lemmas.List.{get_or_read}
-use Rattle.spa_model.specs.Spa.{lecturer_of}
+use Rattle.spa_student.proofs.Base.{◌≡◌, ◌<◌, ◌-◌, ◌+◌, length, get_or, set, refl, ◌∙◌, ap, arith, get_or_read, lecturer_of}
 use Rattle.spa_student.proofs.CutSteps.{leaver_cursor, leaver_has_entry, some_at, some_with, left_marks, left_counts}
 use Rattle.spa_student.proofs.cuts.Progress.leave.Goals as goal
 
@@ -12,12 +10,12 @@ prove-unreachable-requires c =
     omega (arith, ap length c.choices-entries.ensures, leaver_has_entry c.args.instance.now q c.requires.marks c.args.w c.args.u c.requires.has)
 
 pub lecturer_of-l-requires : goal.lecturer_of-l-requires
-lecturer_of-l-requires c = c.students-lawful.ensures.lawful.known c.args.w c.args.u (c.requires.marks.assigned.acceptable c.args.w c.args.u c.requires.has)
+lecturer_of-l-requires c = c.lawful.ensures.known c.args.w c.args.u (c.requires.marks.assigned.acceptable c.args.w c.args.u c.requires.has)
 
 pub overflow_sub-index_mut : goal.overflow_sub-index_mut
 overflow_sub-index_mut c =
     let q = c.args.self.now in
-    let known : c.args.u < length c.args.instance.now.lecturers = c.students-lawful.ensures.lawful.known c.args.w c.args.u (c.requires.marks.assigned.acceptable c.args.w c.args.u c.requires.has) in
+    let known : c.args.u < length c.args.instance.now.lecturers = c.lawful.ensures.known c.args.w c.args.u (c.requires.marks.assigned.acceptable c.args.w c.args.u c.requires.has) in
     let count : c.index_mut-3.result.now ≡ get_or q.project_counts.items c.args.u 0 = get_or_read q.project_counts.items c.args.u c.index_mut-3.result.now (omega (arith, c.requires.counts.project_rows)) c.index_mut-3.ensures.value 0 in
     omega (arith, c.requires.counts.at_projects c.args.u, some_at c.args.instance.now q c.requires.marks c.args.w c.args.u c.requires.has)
 
@@ -40,7 +38,7 @@ returns-clause-counts c =
     let q = c.args.self.now in
     let in_range : c.args.w < length q.cursors.items = leaver_cursor c.args.instance.now q c.requires.marks c.args.w c.args.u c.requires.has in
     let cursor : c.index_mut-2.result.now ≡ get_or q.cursors.items c.args.w 0 = get_or_read q.cursors.items c.args.w c.index_mut-2.result.now in_range c.index_mut-2.ensures.value 0 in
-    let known : c.args.u < length c.args.instance.now.lecturers = c.students-lawful.ensures.lawful.known c.args.w c.args.u (c.requires.marks.assigned.acceptable c.args.w c.args.u c.requires.has) in
+    let known : c.args.u < length c.args.instance.now.lecturers = c.lawful.ensures.known c.args.w c.args.u (c.requires.marks.assigned.acceptable c.args.w c.args.u c.requires.has) in
     let count : c.index_mut-3.result.now ≡ get_or q.project_counts.items c.args.u 0 = get_or_read q.project_counts.items c.args.u c.index_mut-3.result.now (omega (arith, c.requires.counts.project_rows)) c.index_mut-3.ensures.value 0 in
     let count_l : c.index_mut-4.result.now ≡ get_or q.lecturer_counts.items c.lecturer_of-l.result 0 = get_or_read q.lecturer_counts.items c.lecturer_of-l.result c.index_mut-4.result.now (omega (arith, c.requires.counts.lecturer_rows, c.lecturer_of-l.ensures.in_range)) c.index_mut-4.ensures.value 0 in
     left_counts c.args.instance.now q _ c.requires.marks c.args.w c.args.u c.requires.has (record { projects = refl; cursors = ap (λ n. set q.cursors.items c.args.w (n + 1)) cursor }) c.requires.counts known (rw c.lecturer_of-l.ensures.gives at c.lecturer_of-l.ensures.in_range)

@@ -1,6 +1,5 @@
-use Rattle.std.proofs.Common.{◌≡◌, [], length, replicate, None, ◌∙◌, ap, rules}
+use Rattle.spa_student.proofs.Base.{◌≡◌, [], length, replicate, None, ◌∙◌, ap, rules, ranking_of}
 use Rattle.std.proofs.lemmas.List.{get_or-map, length-map}
-use Rattle.spa_model.specs.Spa.{ranking_of}
 use Rattle.spa_student.proofs.CutSteps.{zeros, state_at_first}
 use Rattle.spa_student.proofs.cuts.Progress.new.Goals as goal
 
@@ -13,7 +12,7 @@ returns c =
     let counts_l : c.in_ok-vec-4.field-0.items ≡ zeros (length c.args.instance.now.rankings) = search rules in
     let cuts = c.in_ok-first_project_cuts.ensures in
     let cuts_l = c.in_ok-first_lecturer_cuts.ensures in
-    state_at_first i c.students-lawful.ensures.lawful _ nobody start counts counts_l
+    state_at_first i c.lawful.ensures _ nobody start counts counts_l
     (ap length cuts ∙ length-map i.lecturers (λ l. length (ranking_of i l)))
     (λ p h. rw cuts (get_or-map (λ l. length (ranking_of i l)) i.lecturers p 0 0 h))
     (ap length cuts_l ∙ length-map i.rankings length)

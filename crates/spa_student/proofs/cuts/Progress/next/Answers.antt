@@ -1,5 +1,4 @@
-use Rattle.std.proofs.Common.{◌<◌, length, ap, arith}
-use Rattle.spa_model.specs.Spa.{choices_of}
+use Rattle.spa_student.proofs.Base.{◌<◌, length, ap, arith, choices_of}
 use Rattle.spa_student.proofs.CutSteps.{entry_acceptable}
 use Rattle.spa_student.proofs.cuts.Progress.next.Goals as goal
 

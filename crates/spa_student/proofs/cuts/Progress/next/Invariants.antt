@@ -1,6 +1,4 @@
-use Rattle.std.proofs.Common.{ℕ, ◌≤◌, ◌<◌, get_or}
-use Rattle.spa_model.specs.Spa.{choices_of}
-use Rattle.spa_student.specs.inner.Cuts.{IsPastCut}
+use Rattle.spa_student.proofs.Base.{ℕ, ◌≤◌, ◌<◌, get_or, choices_of, IsPastCut}
 use Rattle.spa_student.proofs.cuts.Progress.next.Given as goal
 
 -- each entry from the cursor on is cut so far

@@ -1,6 +1,4 @@
-use Rattle.std.proofs.Common.{◌≡◌, ◌<◌, ◌≤◌, length, get_or, arith}
-use Rattle.std.proofs.lemmas.List.{get_or_read}
-use Rattle.spa_model.specs.Spa.{lecturer_of, capacity_of, limit_of}
+use Rattle.spa_student.proofs.Base.{◌≡◌, ◌<◌, ◌≤◌, length, get_or, arith, get_or_read, lecturer_of, capacity_of, limit_of}
 use Rattle.spa_student.proofs.CutSteps.{placed_uncut, placed_state, project_state, lecturer_state}
 use Rattle.spa_student.proofs.cuts.Progress.put.Goals as goal
 
@@ -13,7 +11,7 @@ let_go_with-requires-clause-uncut c = placed_uncut c.args.instance.now c.args.se
 pub returns-then-index-project_capacity-clause-state : goal.returns-then-index-project_capacity-clause-state
 returns-then-index-project_capacity-clause-state c =
     let i = c.args.instance.now in
-    let lawful = c.students-lawful.ensures.lawful in
+    let lawful = c.lawful.ensures in
     let q = c.place.new.self in
     let counts = c.place.ensures.counts in
     let p_in : c.args.p < length q.project_counts.items = omega (arith, lawful.known c.args.s c.args.p c.requires.next.acceptable, counts.project_rows) in
@@ -25,7 +23,7 @@ returns-then-index-project_capacity-clause-state c =
 pub returns-then-index-lecturer_capacity-clause-state : goal.returns-then-index-lecturer_capacity-clause-state
 returns-then-index-lecturer_capacity-clause-state c =
     let i = c.args.instance.now in
-    let lawful = c.students-lawful.ensures.lawful in
+    let lawful = c.lawful.ensures in
     let q = c.place.new.self in
     let counts = c.place.ensures.counts in
     let own : c.lecturer_of-l.result ≡ lecturer_of i c.args.p = c.lecturer_of-l.ensures.gives in
@@ -41,7 +39,7 @@ returns-then-index-lecturer_capacity-clause-state c =
 pub returns-clause-state : goal.returns-clause-state
 returns-clause-state c =
     let i = c.args.instance.now in
-    let lawful = c.students-lawful.ensures.lawful in
+    let lawful = c.lawful.ensures in
     let q = c.place.new.self in
     let counts = c.place.ensures.counts in
     let own : c.lecturer_of-l.result ≡ lecturer_of i c.args.p = c.lecturer_of-l.ensures.gives in

@@ -1,4 +1,4 @@
-use Rattle.std.proofs.Common.{arith}
+use Rattle.spa_student.proofs.Base.{arith}
 use Rattle.spa_student.proofs.CutSteps.{best_when_settled}
 use Rattle.spa_student.proofs.cuts.Progress.run.Goals as goal
 

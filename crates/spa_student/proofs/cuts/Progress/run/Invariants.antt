@@ -1,5 +1,4 @@
-use Rattle.std.proofs.Common.{ℕ, ◌<◌}
-use Rattle.spa_student.specs.inner.Cuts.{IsUnderWay, IsSettled}
+use Rattle.spa_student.proofs.Base.{ℕ, ◌<◌, IsUnderWay, IsSettled}
 use Rattle.spa_student.proofs.cuts.Progress.run.Given as goal
 
 -- the students so far are settled

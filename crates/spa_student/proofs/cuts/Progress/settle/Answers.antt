@@ -1,4 +1,4 @@
-use Rattle.std.proofs.Common.{arith}
+use Rattle.spa_student.proofs.Base.{arith}
 use Rattle.spa_student.proofs.CutSteps.{cursors_within}
 use Rattle.spa_student.proofs.cuts.Progress.settle.Goals as goal
 

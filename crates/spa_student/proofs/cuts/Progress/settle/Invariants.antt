@@ -1,6 +1,5 @@
-use Rattle.std.proofs.Common.{◌≡◌, ◌≢◌, ◌⊎◌, ℕ, ◌<◌, ◌-◌, None, length, sum, sum_by}
-use Rattle.spa_model.specs.Spa.{project_of}
-use Rattle.spa_student.specs.inner.Cuts.{IsUnderWay, IsSettled}
+use Rattle.spa_student.proofs.Base.{◌≡◌, ◌≢◌, ◌⊎◌, ℕ, ◌<◌, ◌-◌, None, length, sum, project_of, IsUnderWay, IsSettled}
+use Rattle.std.proofs.Common.{sum_by}
 use Rattle.spa_student.proofs.cuts.Progress.settle.Given as goal
 
 -- all who were settled, and s, are settled, but for who is free now

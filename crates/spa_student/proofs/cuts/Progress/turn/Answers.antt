@@ -1,7 +1,6 @@
-use Rattle.std.proofs.Common.{◌≡◌, ℕ, ◌<◌, ◌≤◌, length, get_or, set, sum, Option, Some, None, IfSome, MatchOption, refl, sym, ◌∙◌, ap, arith}
-use Rattle.spa_model.specs.Spa.{choices_of}
-use Rattle.spa_student.specs.declared.cuts.Progress.{Progress}
-use Rattle.spa_student.specs.inner.Cuts.{Puts, Exchanges}
+use Rattle.spa_student.proofs.Base.{◌≡◌, ℕ, ◌<◌, ◌≤◌, length, get_or, set, sum, Option, Some, None, refl, sym, ◌∙◌, ap, arith, choices_of, Progress, Puts}
+use Rattle.std.proofs.Common.{IfSome, MatchOption}
+use Rattle.spa_student.specs.inner.Cuts.{Exchanges}
 use Rattle.spa_student.proofs.CutSteps.{moved_state, moved_next, sum_moved}
 use Rattle.spa_student.proofs.cuts.Progress.turn.Goals as goal
 

@@ -1,5 +1,4 @@
-use Rattle.std.proofs.Common.{◌≡◌, ℕ, ◌≤◌, ◌<◌, get_or, Some}
-use Rattle.spa_model.specs.Spa.{project_of, ranking_of, lecturer_of}
+use Rattle.spa_student.proofs.Base.{◌≡◌, ℕ, ◌≤◌, ◌<◌, get_or, Some, project_of, ranking_of, lecturer_of}
 use Rattle.spa_student.proofs.cuts.Progress.worst_at.Given as goal
 
 -- nobody later on the list is there, of those who are not cut

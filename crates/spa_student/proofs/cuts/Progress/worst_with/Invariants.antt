@@ -1,5 +1,4 @@
-use Rattle.std.proofs.Common.{ℕ, ◌≤◌, ◌<◌, get_or}
-use Rattle.spa_model.specs.Spa.{IsWith, ranking_of, lecturer_of}
+use Rattle.spa_student.proofs.Base.{ℕ, ◌≤◌, ◌<◌, get_or, IsWith, ranking_of, lecturer_of}
 use Rattle.spa_student.proofs.cuts.Progress.worst_with.Given as goal
 
 -- nobody later on the list is there, of those who are not cut

@@ -1,10 +1,4 @@
-use Rattle.std.proofs.Common.{List, take, arith, sym, ap, ◌∙◌}
-use Rattle.std.specs.Prelude.{◌||◌}
-use Rattle.std.specs.List.{list_any}
-use Rattle.portal_core.specs.Words.{equals}
-use Rattle.portal_core.specs.declared.rows.Person.{Person}
-use Rattle.portal_core.specs.Faults.{is_applicant}
-use Rattle.portal_core.specs.Meaning.{by_project}
+use Rattle.portal_core.proofs.Base.{List, take, arith, sym, ap, ◌∙◌, ◌||◌, list_any, equals, Person, is_applicant, by_project}
 use Rattle.portal_core.proofs.Persons.{passed_more}
 use Rattle.portal_core.proofs.Tables.{known_alike}
 use Rattle.portal_core.proofs.deciding.applicants.Applicants.of.Goals as goal

@@ -1,7 +1,4 @@
-use Rattle.std.proofs.Common.{take}
-use Rattle.portal_core.specs.Faults.{is_applicant}
-use Rattle.portal_core.specs.Meaning.{by_project}
-use Rattle.portal_core.specs.inner.Tables.{HasKeys}
+use Rattle.portal_core.proofs.Base.{take, is_applicant, by_project, HasKeys}
 use Rattle.portal_core.proofs.deciding.applicants.Applicants.of.Given as goal
 
 -- the applicants to the projects so far are there

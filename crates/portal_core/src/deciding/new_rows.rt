@@ -1,0 +1,244 @@
+//! A roll, taken row by row, whole or not at all.
+
+ghost use Rattle.std.specs.Prelude.{◌≡◌, [], ◌∷◌, ◌++◌, List, reverse, nat_le, length};
+ghost use Rattle.std.specs.Prelude.{if◌then◌else◌, OnOk, IfOk, IfErr, MatchResult};
+ghost use Rattle.std.specs.List.{find};
+ghost use Rattle.portal_core.specs.Words as words;
+ghost use Rattle.portal_core.specs.Words.{equals};
+ghost use Rattle.portal_core.specs.Change.{Change};
+ghost use Rattle.portal_core.specs.Meaning.{change_model};
+ghost use Rattle.portal_core.specs.Rolls as rolls;
+ghost use Rattle.portal_core.specs.Rolls.{Faulty, Took, Taken, take_row, one_new, one_same};
+ghost use Rattle.portal_core.specs.inner.Tables.{HasRows, HasTexts};
+
+use crate::decision::Change;
+use crate::keyed::row_at;
+use spa_rows::Key;
+use std::alloc::{AllocError, Global};
+use std::collections::{HashMap, HashSet};
+use std::marker::Model;
+
+/// The status and the word of a refusal, and the row where the fault has one.
+#[derive(Drop)]
+pub(crate) struct RollRefusal {
+    pub(crate) status: u16,
+    pub(crate) word: &'static str,
+    pub(crate) row: Option<u64>,
+}
+
+impl Model for RollRefusal {
+    ghost use Rattle.portal_core.specs.Rolls as rolls;
+
+    ghost Value = { rolls.RollRefusal };
+
+    ghost view = { λ f. record { status = f.status; word = f.word.now; row = f.row } };
+}
+
+/// The row stands against another one: its key is there with other fields, or its code is given.
+pub(crate) fn conflict_at(row: u64) -> RollRefusal
+    ensures { result ≡ rolls.conflict_at row }
+{
+    RollRefusal {
+        status: 409,
+        word: "roll_conflict",
+        row: Some(row),
+    }
+}
+
+/// The row's lecturer is not on the roll.
+pub(crate) fn bad_row_at(row: u64) -> RollRefusal
+    ensures { result ≡ rolls.bad_row_at row }
+{
+    RollRefusal {
+        status: 422,
+        word: "bad_row",
+        row: Some(row),
+    }
+}
+
+/// There are more rows than the roll may have.
+fn roll_full() -> RollRefusal
+    ensures { result ≡ rolls.roll_full }
+{
+    RollRefusal {
+        status: 422,
+        word: "roll_full",
+        row: None,
+    }
+}
+
+/// A kind of roll, and what is asked of its rows.
+pub(crate) trait Roll<X> {
+    /// The rules that its rows are taken by.
+    ghost rules: { Self → rolls.Roll X };
+
+    /// The change that new rows make.
+    ghost changes: { Self → List X → Change };
+
+    /// The texts that a new row is judged by beside the rows that are there.
+    ghost texts_beside: { Self → List X → List words.Key };
+
+    /// How many rows there may be.
+    fn limit(&self) -> usize
+        ensures { result ≡ (rules self.now).limit };
+
+    /// The row's key.
+    fn key<'a>(&self, row: &'a X) -> &'a Key
+        ensures { result.now ≡ (rules self.now).key row.now };
+
+    /// Whether the two rows are equal in all fields.
+    fn is_same(&self, old: &X, row: &X) -> bool
+        ensures { result ≡ (rules self.now).same old.now row.now };
+
+    /// The texts that a new row is judged by, where no row is there.
+    fn texts<'a>(&'a self, alloc: Global) -> Result<HashSet<&'a [u8]>, AllocError>
+        ensures { IfOk result (HasTexts (texts_beside self.now [])) };
+
+    /// Adds the text of a row that is there now, where a new row is judged by it.
+    fn add_text<'a>(&self, texts: &mut HashSet<&'a [u8]>, row: &'a X) -> Result<(), AllocError>
+        ensures { OnOk result ((there : List X) → HasTexts (texts_beside self.now there) texts.old
+            → HasTexts (texts_beside self.now (row.now ∷ there)) texts.new) };
+
+    /// Whether a new row is bad by these texts.
+    fn is_bad(&self, texts: &HashSet<&[u8]>, row: &X) -> bool
+        ensures { (there : List X) → HasTexts (texts_beside self.now there) texts.now
+            → result ≡ (rules self.now).is_bad there row.now };
+
+    /// How a bad row is refused.
+    fn fault(&self, row: u64) -> RollRefusal
+        ensures { result ≡ (rules self.now).fault row };
+
+    /// The same row again.
+    fn copy(&self, alloc: Global, row: &X) -> Result<X, AllocError>
+        ensures { IfOk result (λ copy. copy ≡ row.now) };
+
+    /// The change that brings these new rows.
+    fn change(&self, rows: Vec<X>) -> Change
+        ensures { change_model result ≡ changes self.now rows.items };
+}
+
+/// The rows that are there, to be found by their keys, and the texts that a new row is judged by.
+#[derive(Drop)]
+struct Register<'a, X> {
+    rows: HashMap<&'a [u8], &'a X>,
+    texts: HashSet<&'a [u8]>,
+}
+
+/// The row is there now, before the others.
+fn enter<'a, X, R: Roll<X>>(
+    register: &mut Register<'a, X>,
+    roll: &R,
+    row: &'a X,
+) -> Result<(), AllocError>
+    ensures rows { OnOk result ((there : List X)
+        → HasRows (R.rules roll.now).key there register.old.rows
+        → HasRows (R.rules roll.now).key (row.now ∷ there) register.new.rows) }
+    ensures texts { OnOk result ((there : List X)
+        → HasTexts (R.texts_beside roll.now there) register.old.texts
+        → HasTexts (R.texts_beside roll.now (row.now ∷ there)) register.new.texts) }
+{
+    register.rows.insert(roll.key(row).as_bytes(), row)?;
+    roll.add_text(&mut register.texts, row)
+}
+
+/// The register of the rows on the roll; where a key stands twice, the first counts.
+fn register_of<'a, X, R: Roll<X>>(
+    alloc: Global,
+    roll: &'a R,
+    on_roll: &'a [X],
+) -> Result<Register<'a, X>, AllocError>
+    ensures rows { IfOk result (λ register. HasRows
+        (R.rules roll.now).key on_roll.now register.rows) }
+    ensures texts { IfOk result (λ register. HasTexts
+        (R.texts_beside roll.now on_roll.now) register.texts) }
+{
+    let mut register = Register {
+        rows: HashMap::with_capacity(alloc, on_roll.len())?,
+        texts: roll.texts(alloc)?,
+    };
+    for old in on_roll.iter().rev() {
+        enter(&mut register, roll, old)?;
+    }
+    Ok(register)
+}
+
+/// Whether the row is a new one, or one that is there already; or its fault.
+fn is_new<X, R: Roll<X>>(
+    roll: &R,
+    register: &Register<X>,
+    on_roll: &[X],
+    new: &[X],
+    at: u64,
+    row: &X,
+) -> Result<bool, RollRefusal>
+    requires rows { HasRows (R.rules roll.now).key
+        (reverse new.now ++ on_roll.now) register.now.rows }
+    requires texts { HasTexts (R.texts_beside roll.now
+        (reverse new.now ++ on_roll.now)) register.now.texts }
+    ensures { let rules = R.rules roll.now in
+        let rows = reverse new.now ++ on_roll.now in
+        let old = find (λ x. equals (rules.key x) (rules.key row.now)) rows in
+        let full = nat_le rules.limit (length rows) in
+        MatchResult result
+        (λ new. (if_same if_new : Taken X)
+        → take_row rules old (rules.is_bad rows row.now) full at row.now if_same if_new
+        ≡ (if new then one_new row.now if_new else one_same if_same))
+        (λ fault. (if_same if_new : Taken X)
+        → take_row rules old (rules.is_bad rows row.now) full at row.now if_same if_new
+        ≡ Faulty fault) }
+{
+    if let Some(old) = row_at(&register.rows, roll.key(row).as_bytes()) {
+        return if roll.is_same(old, row) {
+            Ok(false)
+        } else {
+            Err(conflict_at(at))
+        };
+    }
+    if roll.is_bad(&register.texts, row) {
+        return Err(roll.fault(at));
+    }
+    if new.len() >= roll.limit().saturating_sub(on_roll.len()) {
+        return Err(roll_full());
+    }
+    Ok(true)
+}
+
+/// What a file adds to a roll: its new rows, in order, and how many were there.
+#[derive(Drop)]
+pub(crate) struct Added<X: Drop> {
+    pub(crate) new: Vec<X>,
+    pub(crate) same: u64,
+}
+
+/// The rows taken one after the other, or the first fault.
+pub(crate) fn take_rows<'a, X: Drop, R: Roll<X>>(
+    alloc: Global,
+    roll: &'a R,
+    on_roll: &'a [X],
+    rows: &'a [X],
+) -> Result<Result<Added<X>, RollRefusal>, AllocError>
+    ensures ok { IfOk result (λ taken. IfOk taken
+        (λ a. rolls.take_rows (R.rules roll.now) 1 on_roll.now rows.now
+        ≡ Took a.new.items a.same)) }
+    ensures err { IfOk result (λ taken. IfErr taken
+        (λ fault. rolls.take_rows (R.rules roll.now) 1 on_roll.now rows.now ≡ Faulty fault)) }
+{
+    let mut register = register_of(alloc, roll, on_roll)?;
+    let mut new = Vec::new(alloc);
+    let mut same: u64 = 0;
+    let mut at: u64 = 0;
+    for row in rows {
+        at += 1;
+        let added = match is_new(roll, &register, on_roll, &new, at, row) {
+            Ok(added) => added,
+            Err(fault) => return Ok(Err(fault)),
+        };
+        if added {
+            enter(&mut register, roll, row)?;
+            new.push(roll.copy(alloc, row)?)?;
+        } else {
+            same += 1;
+        }
+    }
+    Ok(Ok(Added { new, same }))
+}

@@ -1,6 +1,0 @@
-use Rattle.std.proofs.Common.{◌≡◌, take, map}
-use Rattle.portal_core.specs.Change.{new_student}
-use Rattle.portal_list.proofs.changes.rolls.new_students.Given as goal
-
-abbrev pub invariant-loop-row : goal.invariant-loop-row
-invariant-loop-row l = l.fresh.items ≡ map new_student (take l.row-index l.rows)
