@@ -1,3 +1,4 @@
+pub mod Base
 pub mod Assigned
 pub mod OneAnswer
 pub mod Statuses

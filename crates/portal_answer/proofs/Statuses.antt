@@ -1,17 +1,9 @@
 -- The status of an answer is at most 2.
-use Rattle.std.proofs.Common.{◌≡◌, ◌≤◌, ◌==◌, ℕ, Bool, true, false, List, Option, Result, Ok, Err, refl, sym, subst, inl, inr, arith, length, if◌then◌else◌}
-use Rattle.spa_rows.specs.declared.faults.InstanceFault.{InstanceFault}
+use Rattle.portal_answer.proofs.Base.{◌≡◌, ℕ, Bool, true, false, List, Option, Result, Ok, Err, refl, sym, subst, inl, inr, arith, length, InstanceFault, File, rows, RollFault, Spa, Pair, Text, Told, refused_instance, Tells, OfPairs, OfRead, IfLonger, IsAnswer, Task, Check, Solve}
+use Rattle.std.proofs.Common.{◌≤◌, ◌==◌, if◌then◌else◌}
 use Rattle.spa_rows.specs.declared.faults.InstanceFault.TheVariants as instance
-use Rattle.portal_rolls.specs.Lines.{File, rows}
-use Rattle.portal_rolls.specs.declared.fault.RollFault.{RollFault}
 use Rattle.portal_rolls.specs.declared.fault.RollFault.TheVariants as file
-use Rattle.spa_model.specs.Spa.{Spa}
-use Rattle.spa_rows.specs.Lines.{Pair}
-use Rattle.portal_answer.specs.Told.{Text, Told}
-use Rattle.portal_answer.specs.Refused.{refused_file, refused_instance}
-use Rattle.portal_answer.specs.Answer.{Tells, OfPairs, OfRead, IfLonger, IsAnswer}
-use Rattle.portal_answer.specs.declared.answer.Task.{Task}
-use Rattle.portal_answer.specs.declared.answer.Task.TheVariants.{Check, Solve}
+use Rattle.portal_answer.specs.Refused.{refused_file}
 
 -- a told text of a known status
 of_status : (t u : Told) (n : ℕ) → t ≡ u → u.status ≡ n → n ≤ 2 → t.status ≤ 2

@@ -2,8 +2,7 @@
 use Rattle.std.specs.Prelude.{◌≡◌, ℕ, List, [], Option, length, slice_index_or, ◌==◌, if◌then◌else◌, codes, ◌++◌}
 use Rattle.std.specs.Fmt.{decimal}
 use Rattle.std.specs.List.{flat_map}
-use Rattle.spa_model.specs.Spa.{Spa}
-use Rattle.spa_model.specs.Shown.{text_of}
+use Rattle.spa_model.specs.Spa.{Spa, text_of}
 use Rattle.spa_check.specs.Listed.{AreAllBlocks}
 use Rattle.spa_check.specs.declared.block.Block.{Block}
 use Rattle.portal_answer.specs.Told.{Text, Told}

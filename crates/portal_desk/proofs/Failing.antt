@@ -1,7 +1,6 @@
 -- That the desk fails exactly where its keeper's faults rise, and what keeps a keeper clean over several calls.
-use Rattle.std.proofs.Common.{◌≡◌, ℕ, ◌+◌, Bool, true, false, refl, sym, ◌∙◌, ap}
+use Rattle.portal_desk.proofs.Base.{◌≡◌, ℕ, ◌+◌, Bool, true, false, refl, sym, ◌∙◌, ap, FailsByCount}
 use Rattle.portal_core.specs.Counting.{StaysClean}
-use Rattle.portal_desk.specs.Outcome.{FailsByCount}
 
 -- what keeps a keeper clean, over one call after another
 pub lasts_then : (a b c d e f : Type 0) → StaysClean a b d e → StaysClean b c e f → StaysClean a c d f

@@ -1,3 +1,4 @@
+pub mod Base
 pub mod Known
 pub mod Pairs
 pub mod Sheet

@@ -1,15 +1,12 @@
 -- What was decided in a good world may be done, and leaves a good world.
-use Rattle.std.proofs.Common.{◌≡◌, List, sym, ◌∙◌, ap, subst}
+use Rattle.portal_desk.proofs.Base.{◌≡◌, List, sym, ◌∙◌, ap, subst, Key, World, pairs_by, AbstractCall, Nothing, Apply, Decision, decision, Good, Step, view}
 use Rattle.spa_model.specs.Spa.{Spa, IsBest}
-use Rattle.portal_core.specs.Words.{Key}
-use Rattle.portal_core.specs.World.{World, is_setup}
+use Rattle.portal_core.specs.World.{is_setup}
 use Rattle.portal_core.specs.Change.{Placements, changed}
-use Rattle.portal_core.specs.Instance.{instance, matching_of, pairs_by}
-use Rattle.portal_core.specs.AbstractCall.{AbstractCall}
-use Rattle.portal_core.specs.Answer.{Act, Nothing, Apply, Publish, Render, Decision, decision}
-use Rattle.portal_core.specs.Good.{Good, CanPublish}
-use Rattle.portal_core.specs.Run.{HasForm, StepLeaves, Step}
-use Rattle.portal_core.specs.View.{view}
+use Rattle.portal_core.specs.Instance.{instance, matching_of}
+use Rattle.portal_core.specs.Answer.{Act, Publish, Render}
+use Rattle.portal_core.specs.Good.{CanPublish}
+use Rattle.portal_core.specs.Run.{HasForm, StepLeaves}
 use Rattle.portal_core.proofs.Kept.{to_published}
 use Rattle.portal_core.proofs.Play.{can_apply, can_publish}
 use Rattle.portal_core.proofs.Published.{pairs_place}

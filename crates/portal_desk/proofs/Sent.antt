@@ -1,13 +1,7 @@
 -- What was written of one reply.
-use Rattle.std.proofs.Common.{◌≡◌, ℕ, Bool, true, false, List, subst}
-use Rattle.std.specs.Prelude.{Option, ◌||◌}
-use Rattle.std.specs.Io.KnownBytes.{Appends}
-use Rattle.portal_core.specs.Answer.{Answer}
+use Rattle.portal_desk.proofs.Base.{◌≡◌, ℕ, Bool, true, false, List, subst, Option, ◌||◌, Appends, Answer, Cause, reply_text, Partly, Broke}
 use Rattle.portal_core.specs.Run.{unavailable}
-use Rattle.portal_desk.specs.declared.served.Cause.{Cause}
 use Rattle.portal_desk.specs.declared.served.Cause.TheVariants as cause
-use Rattle.portal_wire.specs.Text.{reply_text}
-use Rattle.portal_desk.specs.inner.Serving.{Partly, Broke}
 
 pub broke : (why : Cause) (failed : Bool) (reply : Answer) (head closes : Bool) (before after : Option (List ℕ))
     → Partly why before after (reply_text reply head (closes || failed)) → Broke why failed reply head closes before after

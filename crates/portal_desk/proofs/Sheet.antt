@@ -1,6 +1,6 @@
 -- A decision whose sheet is written is the whole decision.
-use Rattle.std.proofs.Common.{◌≡◌, ℕ, Bool, true, false, List, [], refl, ◌∙◌, ap}
-use Rattle.std.specs.Prelude.{Option, Some, None, is_none, if◌then◌else◌}
+use Rattle.portal_desk.proofs.Base.{◌≡◌, ℕ, Bool, true, false, List, [], refl, ◌∙◌, ap, Option, Some, None, if◌then◌else◌, AbstractCall, Answer, Nothing, Apply, Decision, decision}
+use Rattle.std.specs.Prelude.{is_none}
 use Rattle.serde_json.specs.Data.{Data}
 use Rattle.portal_core.specs.declared.phase.Phase.{Phase}
 use Rattle.portal_core.specs.declared.phase.Phase.TheVariants.{Setup, Choosing, Ranking, Published}
@@ -12,10 +12,9 @@ use Rattle.portal_core.specs.Change.{Change, Lecturers, Projects, Students, Fill
 use Rattle.portal_core.specs.Sight.{StudentSees, LecturerSees, OfficeSees}
 use Rattle.portal_core.specs.declared.view.View.{View as Sight}
 use Rattle.portal_core.specs.declared.view.View.TheVariants.{Nobody, Office, Lecturer, Student}
-use Rattle.portal_core.specs.AbstractCall.{AbstractCall}
 use Rattle.portal_core.specs.Faults.{ListFault, choice_fault, ranking_fault}
 use Rattle.portal_core.specs.Rolls.{Taken, Faulty, Took, take_rows, lecturer_roll, project_roll, student_roll}
-use Rattle.portal_core.specs.Answer.{Answer, Said, Json, Unavailable, Nothing, Apply, Decision, decision, emptied, open_where, unless_faulty, added, row_fault, already_placed, moves_on, opens, moves_in, moves, publishes, is_open_to_rolls, to_student, to_lecturer, to_office}
+use Rattle.portal_core.specs.Answer.{Said, Json, Unavailable, emptied, open_where, unless_faulty, added, row_fault, already_placed, moves_on, opens, moves_in, moves, publishes, is_open_to_rolls, to_student, to_lecturer, to_office}
 use Rattle.portal_desk.specs.inner.Play.{with_sheet}
 
 -- another body than that of 503

@@ -1,10 +1,8 @@
 -- How many bytes a reader gave.
-use Rattle.std.proofs.Common.{◌≡◌, ℕ, ◌+◌, ◌*◌, ◌-◌, ◌<◌, ◌≤◌, List, ◌++◌, length, drop, sym, ap, ◌∙◌, subst, arith}
-use Rattle.std.specs.Prelude.{Option, Some, None}
-use Rattle.std.proofs.lemmas.List.{length-append, length-drop}
-use Rattle.portal_frame.specs.declared.types.Frame.{Frame}
+use Rattle.portal_desk.proofs.Base.{◌≡◌, ℕ, ◌+◌, ◌-◌, ◌<◌, ◌≤◌, List, ◌++◌, length, drop, sym, ap, ◌∙◌, subst, arith, Option, Some, None, length-append, Frame, Follows}
+use Rattle.std.proofs.Common.{◌*◌}
+use Rattle.std.proofs.lemmas.List.{length-drop}
 use Rattle.portal_desk.specs.Devices.{TakesAtMost}
-use Rattle.portal_desk.specs.inner.Reading.{Follows}
 
 -- the lengths of what stays one stream
 one_stream : (before after more rest : List ℕ) → after ++ rest ≡ before ++ more → length after + length rest ≡ length before + length more

@@ -1,28 +1,18 @@
 -- What is known at each exit of the serving loop.
-use Rattle.std.proofs.Common.{◌≡◌, ℕ, ◌+◌, ◌-◌, ◌<◌, inl, inr, Bool, true, false, List, [], ◌∷◌, ◌++◌, length, drop, take, refl, sym, ap, ◌∙◌, subst, arith, append-nil}
-use Rattle.std.specs.Prelude.{Option, Some, None, IfSome, nat_le, ◌||◌}
-use Rattle.std.specs.Io.KnownBytes.{Appends}
+use Rattle.portal_desk.proofs.Base.{◌≡◌, ℕ, ◌+◌, ◌-◌, ◌<◌, inl, inr, Bool, true, false, List, [], ◌∷◌, ◌++◌, length, drop, take, refl, sym, ap, ◌∙◌, subst, arith, append-nil, Option, Some, None, nat_le, ◌||◌, Appends, length-append, both_ways, Answer, Frame, Asked, Opens, whole, fault, is_head, seen, refused, Cause, reply_text, Heads, Follows, request_of, closes_at, more, shut, Leads, Exchange, asked_in, text, exchange_text, Deals, ServesWhole, Partly, Broke, KeeperState}
+use Rattle.std.specs.Prelude.{IfSome}
 use Rattle.std.proofs.lemmas.Bool.{leb-false}
-use Rattle.std.proofs.lemmas.List.{length-append}
-use Rattle.std.proofs.lemmas.Bool.{both_ways}
-use Rattle.portal_core.specs.Answer.{Answer}
 use Rattle.portal_core.specs.Run.{Request as Wanted}
-use Rattle.portal_frame.specs.declared.types.Frame.{Frame}
 use Rattle.portal_frame.specs.declared.types.Frame.TheVariants as frame
 use Rattle.portal_frame.specs.declared.types.Refusal.{Refusal}
 use Rattle.portal_frame.specs.declared.types.Request.{Request}
-use Rattle.portal_frame.specs.Stream.{Asked, Opens, whole, fault, is_head, seen, refused}
-use Rattle.portal_desk.specs.declared.served.Cause.{Cause}
 use Rattle.portal_desk.specs.declared.served.Cause.TheVariants as cause
-use Rattle.portal_wire.specs.Text.{reply_text}
 use Rattle.portal_wire.specs.Refusals.{answer_to}
-use Rattle.portal_desk.specs.inner.Reading.{Heads, Follows}
 use Rattle.portal_wire.specs.Conversation as talk
-use Rattle.portal_wire.specs.Conversation.{request_of, closes_at, last_for, more, shut, Leads, Exchange, asked_in, text, exchange_text}
+use Rattle.portal_wire.specs.Conversation.{last_for}
 use Rattle.portal_wire.proofs.Exist.{shut_ends}
-use Rattle.portal_desk.specs.Serving.{Deals, ServesWhole, Stops}
-use Rattle.portal_desk.specs.inner.Serving.{ServesPart, Partly, Acted, Replied, Broke}
-use Rattle.portal_desk.specs.Keeping.{KeeperState}
+use Rattle.portal_desk.specs.Serving.{Stops}
+use Rattle.portal_desk.specs.inner.Serving.{ServesPart, Acted, Replied}
 use Rattle.portal_desk.specs.Kept.{Kept}
 use Rattle.portal_desk.proofs.Known.{Appends-append}
 use Rattle.portal_desk.proofs.Failing.{lasts_then}

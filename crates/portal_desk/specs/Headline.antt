@@ -10,7 +10,7 @@ use Rattle.portal_core.specs.Honest.{HasBest, ShowsBest}
 use Rattle.portal_core.specs.Run.{Request, AllAnswered, end_of}
 use Rattle.portal_core.specs.Heard.{HeardItem, IsMember}
 use Rattle.portal_wire.specs.Conversation.{Exchange, asked_in, told_in}
-use Rattle.portal_desk.specs.Keeping.{KeeperState}
+use Rattle.portal_desk.specs.Kept.{KeeperState}
 use Rattle.portal_desk.specs.Visits.{Finish, Ended, Stopped, Visit, AreVisits, exchanges_of, worlds_of, Hears, replies_in, Session, IsSession, AllTellOf}
 
 -- A keeper goes on from what an earlier one left: it is the same one, or what was kept was closed

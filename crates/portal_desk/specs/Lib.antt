@@ -1,8 +1,6 @@
 pub mod Kept
 pub mod Devices
-pub mod Play
 pub mod Outcome
-pub mod Keeping
 pub mod Serving
 pub mod Visits
 pub mod Headline

@@ -5,7 +5,7 @@ use Rattle.portal_core.specs.Counting.{StaysClean}
 use Rattle.portal_core.specs.Run.{AllAnswered, unavailable}
 use Rattle.portal_frame.specs.Stream.{Asked, Opens, whole}
 use Rattle.portal_desk.specs.Devices.{FailsAfter}
-use Rattle.portal_desk.specs.Keeping.{KeeperState}
+use Rattle.portal_desk.specs.Kept.{KeeperState}
 use Rattle.portal_desk.specs.declared.served.Cause.{Cause}
 use Rattle.portal_desk.specs.declared.served.Cause.TheVariants as cause
 use Rattle.portal_wire.specs.Text.{reply_text}

@@ -6,7 +6,7 @@ use Rattle.portal_core.specs.Run.{Run, AllAnswered, end_of}
 use Rattle.portal_core.specs.Heard.{HeardItem, Heard}
 use Rattle.portal_core.specs.Places.{Unless, has_places, moves_to_published}
 use Rattle.portal_wire.specs.Conversation.{Rest, Leads, Last, Requests, Exchange, asked_in, told_in, text, exchange_text}
-use Rattle.portal_desk.specs.Keeping.{KeeperState}
+use Rattle.portal_desk.specs.Kept.{KeeperState}
 use Rattle.portal_desk.specs.declared.served.Cause.{Cause}
 use Rattle.portal_desk.specs.Serving.{Wrote, ServesBy, StopsBy}
 

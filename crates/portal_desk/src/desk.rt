@@ -12,7 +12,7 @@ ghost use Rattle.portal_wire.specs.Conversation.{request_of, closes_at, last, la
 ghost use Rattle.portal_wire.specs.Text.{reply_text};
 ghost use Rattle.portal_core.specs.Answer.{HasWholeNumbers};
 ghost use Rattle.portal_desk.specs.Devices.{FailsAfter, TakesAtMost};
-ghost use Rattle.portal_desk.specs.Keeping.{state_of};
+ghost use Rattle.portal_desk.specs.Kept.{state_of};
 ghost use Rattle.portal_desk.specs.Outcome.{is_store, TurnsAway, FailsByCount};
 ghost use Rattle.portal_desk.specs.Serving.{ServesWhole, Stops, Blames, AtFirst};
 ghost use Rattle.portal_desk.specs.inner.Serving.{Broke, Replied};

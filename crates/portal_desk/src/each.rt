@@ -2,7 +2,7 @@
 
 ghost use Rattle.std.specs.Prelude.{List, IfSome, map};
 ghost use Rattle.portal_desk.specs.Headline.{ServesEach};
-ghost use Rattle.portal_desk.specs.Keeping.{state_of};
+ghost use Rattle.portal_desk.specs.Kept.{state_of};
 
 use crate::desk::Desk;
 use crate::devices::Counted;

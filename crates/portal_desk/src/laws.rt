@@ -10,7 +10,7 @@ ghost use Rattle.portal_core.specs.Heard.{HeardItem};
 ghost use Rattle.portal_core.specs.Places.{SameButPlaces, SameRequest};
 ghost use Rattle.portal_wire.specs.Conversation.{asked_in};
 ghost use Rattle.portal_desk.specs.Headline.{IsServed, MainPromise};
-ghost use Rattle.portal_desk.specs.Keeping.{state_of};
+ghost use Rattle.portal_desk.specs.Kept.{state_of};
 ghost use Rattle.portal_desk.specs.Visits.{Visit, AreVisits, AreAnswered, exchanges_of, worlds_of};
 ghost use Rattle.portal_desk.specs.Visits.{Hears, replies_in, AlikeTexts, Session, AreServed};
 ghost use Rattle.portal_desk.specs.Visits.{AllTellOf};

@@ -12,7 +12,7 @@ ghost use Rattle.portal_core.specs.Meaning.{body_model};
 ghost use Rattle.portal_core.specs.Run.{HasForm, StepLeaves, Step};
 ghost use Rattle.portal_core.specs.View as seen;
 ghost use Rattle.portal_core.specs.Answer.{HasWholeNumbers};
-ghost use Rattle.portal_desk.specs.Play.{IsTold};
+ghost use Rattle.portal_desk.specs.Outcome.{IsTold};
 ghost use Rattle.portal_desk.specs.inner.Play.{CanDo, IsSolved, sheet_text, with_sheet};
 
 use portal_core::{

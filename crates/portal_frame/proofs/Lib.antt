@@ -1,3 +1,4 @@
+pub mod Base
 pub mod Heads
 pub mod HeadLines
 pub mod Limits

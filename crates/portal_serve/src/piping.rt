@@ -2,7 +2,7 @@
 
 ghost use Rattle.std.specs.Prelude.{◌≡◌, ◌*◌, true, IfOk, OnOk, IfErr, IfSome};
 ghost use Rattle.portal_desk.specs.Serving.{ServesWhole, Stops, AtFirst};
-ghost use Rattle.portal_desk.specs.Keeping.{state_of};
+ghost use Rattle.portal_desk.specs.Kept.{state_of};
 ghost use Rattle.portal_desk.specs.Outcome.{FailsByCount};
 ghost use Rattle.portal_desk.specs.declared.served.Cause.TheVariants.{Read as ReadFailed};
 ghost use Rattle.portal_desk.specs.declared.served.Cause.TheVariants.{Store as StoreFailed};

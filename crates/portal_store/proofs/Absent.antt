@@ -1,28 +1,7 @@
 -- Whether a lecturer is on the roll, as a query tells; without the lecturer a ranking changes nothing.
-use Rattle.std.proofs.Common.{◌≡◌, ◌≢◌, ℕ, Bool, true, false, ◌||◌, cond, List, [], ◌∷◌, map, filter, length, refl, sym, ap, ◌∙◌}
-use Rattle.std.proofs.Math.Bool.{or-true}
+use Rattle.portal_store.proofs.Base.{◌≡◌, ◌≢◌, ℕ, Bool, true, false, ◌||◌, cond, List, [], ◌∷◌, map, filter, length, refl, sym, ap, ◌∙◌, or-true, AllByRecursion, length_permutation, Row, bytes, Database, Round, Key, equals, has, put_all, Lecturer, lecturer_key, Ranks, with_ranking, is_own, lecturer_tree, has_text, row_key, ListsBy, columns, ranking_elsewhere, world_in, lecturer_stored, IsTransitionIn, TurnsThere, put_all_map, map_twice, IsLecturerRow, lecturer_rows_formed, all_map_on}
 use Rattle.std.proofs.lemmas.List.{length-map}
-use Rattle.std.specs.List.{AllByRecursion}
-use Rattle.std.proofs.lemmas.List.Sorted.{length_permutation}
-use Rattle.sqlite.specs.Order.{Row, bytes}
-use Rattle.sqlite.specs.Effect.{Database}
-use Rattle.portal_core.specs.declared.phase.Round.{Round}
-use Rattle.portal_core.specs.Words.{Key, equals, has, put_all}
-use Rattle.portal_core.specs.World.{Lecturer, lecturer_key}
-use Rattle.portal_core.specs.Change.{Ranks, with_ranking}
-use Rattle.portal_core.proofs.Keys.{is_own}
-use Rattle.portal_tables.specs.Tables.{lecturer_tree}
-use Rattle.portal_tables.specs.Changes.{has_text}
-use Rattle.portal_tables.specs.inner.Changes.{ListsBy, columns}
-use Rattle.portal_list.proofs.Replaced.{ranking_elsewhere}
-use Rattle.portal_tables.specs.Rolls.{row_key}
-use Rattle.portal_store.specs.World.{world_in, lecturer_stored}
-use Rattle.portal_store.specs.inner.Kept.{IsTransitionIn}
-use Rattle.portal_store.specs.inner.Putting.{TurnsThere}
-use Rattle.portal_tables.proofs.Sorted.{put_all_map, map_twice}
-use Rattle.portal_tables.proofs.Shapes.{IsLecturerRow, lecturer_rows_formed}
 use Rattle.portal_tables.proofs.Parents.{text_there}
-use Rattle.portal_tables.proofs.Listed.{all_map_on}
 use Rattle.portal_store.proofs.RankTurns.{key_test, same_key}
 use Rattle.portal_store.proofs.Rounds.{key_in}
 

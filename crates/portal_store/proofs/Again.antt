@@ -1,23 +1,15 @@
 -- What a crash leaves stands for a good world, and the schema that is found over it is the portal's own.
-use Rattle.std.proofs.Common.{◌≡◌, ◌⊎◌, inl, inr, refl, sym, ap, subst, ◌∙◌}
-use Rattle.sqlite.specs.Tree.{Trees}
-use Rattle.sqlite.specs.Effect.{Database, IsDatabase}
-use Rattle.portal_core.specs.Good.{Good}
-use Rattle.portal_tables.specs.Tables.{first_version}
-use Rattle.portal_tables.specs.Schema.{IsFirstSchema, IsCurrentSchema}
+use Rattle.portal_store.proofs.Base.{◌≡◌, inl, inr, refl, sym, ap, subst, ◌∙◌, Trees, Database, IsDatabase, Good, first_version, IsFirstSchema, IsCurrentSchema, world_in, world_of, HasGoodWorld, HasGoodFirst, IsConsistent, OpenFault, First}
+use Rattle.std.proofs.Common.{◌⊎◌}
 use Rattle.portal_tables.proofs.Owned.{own_again}
-use Rattle.portal_store.specs.World.{world_in, world_of}
-use Rattle.portal_store.specs.Kept.{HasGoodWorld, HasGoodFirst, IsConsistent}
 use Rattle.portal_store.specs.Asked.{Refutes, Bars}
 use Rattle.portal_store.specs.Crash.{Reopens, OpensAgain, OpensFresh, UpgradesAgain}
-use Rattle.portal_store.specs.declared.store.OpenFault.{OpenFault}
 use Rattle.portal_store.specs.declared.store.OpenFault.TheVariants as opening
 use Rattle.portal_store.specs.declared.store.UpgradeFault.{UpgradeFault}
 use Rattle.portal_store.specs.declared.store.UpgradeFault.TheVariants as upgrading
 use Rattle.portal_store.proofs.First.{first_holds, first_is, first_is_good}
 use Rattle.portal_store.proofs.Upgraded.{second, upgraded_stands, upgraded_world}
 use Rattle.portal_store.proofs.Rounds.{world_told}
-use Rattle.portal_core.specs.declared.phase.Round.TheVariants.{First}
 
 only_store : (db : Trees) → HasGoodWorld db → (fault : OpenFault) → Refutes fault db → (fault ≡ opening.Store) ⊎ (fault ≡ opening.Memory)
 only_store db stands opening.NotPortal none = absurd (let e = sym stands.1.office.is ∙ none in cc)

@@ -1,38 +1,14 @@
 -- Applicants and placed students, of what queries show.
-use Rattle.std.proofs.Common.{◌≡◌, Bool, true, false, ◌&&◌, ◌||◌, List, [], ◌∷◌, ◌++◌, map, filter, Option, refl, sym, ap, subst, ◌∙◌}
-use Rattle.std.specs.Prelude.{if◌then◌else◌, cond, is_none, IfSome, None, Some}
+use Rattle.portal_store.proofs.Base.{◌≡◌, Bool, true, false, ◌&&◌, ◌||◌, List, [], ◌∷◌, ◌++◌, map, filter, Option, refl, sym, ap, subst, ◌∙◌, if◌then◌else◌, cond, is_none, IfSome, None, Some, AllByRecursion, IsPermutation, IsPermutation-cons, IsPermutation-middle, IsPermutation-refl, IsPermutation-sym, IsPermutation-trans, Row, column, bytes, Trees, filter-map, map-map, all_of, Phase, Setup, Choosing, Ranking, Published, Round, First, Second, Listing, ProjectRow, Key, Rise, equals, has, put_all, World, Student, first_placed, project_key, student_key, is_left, is_from_ranking, is_published, is_second, shown_placement, catalogue, Good, is_same, all_weaker, project_tree, student_tree, HasSecond, choice_shown, by_key, roll_columns, world_in, student_stored, project_row, first_cell, lecturer_shown, lecturer_from, distinct_permuted, map_alike, permutes_more, put_all_map, rise_distinct}
 use Rattle.std.proofs.Math.Bool.{and-false}
-use Rattle.std.specs.List.{AllByRecursion}
-use Rattle.std.specs.List.Sorted.{IsPermutation}
-use Rattle.std.proofs.lemmas.List.Sorted.{IsPermutation-cons, IsPermutation-middle, IsPermutation-refl, IsPermutation-sym, IsPermutation-trans}
-use Rattle.sqlite.specs.Order.{Row, column, bytes}
-use Rattle.sqlite.specs.Tree.{Trees}
-use Rattle.sqlite_trees.proofs.ListLemmas.{filter-map, map-map, all_of}
-use Rattle.portal_core.specs.declared.phase.Phase.{Phase}
-use Rattle.portal_core.specs.declared.phase.Phase.TheVariants.{Setup, Choosing, Ranking, Published}
-use Rattle.portal_core.specs.declared.phase.Round.{Round}
-use Rattle.portal_core.specs.declared.phase.Round.TheVariants.{First, Second}
-use Rattle.portal_core.specs.declared.rows.Listing.{Listing}
 use Rattle.portal_core.specs.declared.rows.Person.{Person}
-use Rattle.portal_core.specs.declared.rows.ProjectRow.{ProjectRow}
-use Rattle.portal_core.specs.Words.{Key, Rise, equals, has, put_all}
-use Rattle.portal_core.specs.World.{World, Student, first_placed, project_key, student_key, projects_of, applicants_to, placed_at, is_at, is_left, is_from_ranking, is_published, is_second, shown_placement}
-use Rattle.portal_core.specs.View.{persons, catalogue, lecturer_sees}
-use Rattle.portal_core.specs.Good.{Good}
-use Rattle.portal_core.proofs.Keys.{is_same}
+use Rattle.portal_core.specs.World.{projects_of, applicants_to, placed_at, is_at}
+use Rattle.portal_core.specs.View.{persons, lecturer_sees}
 use Rattle.portal_core.proofs.Fills.{rise_kept}
-use Rattle.portal_core.proofs.AllLaws.{all_weaker}
-use Rattle.portal_tables.specs.Tables.{project_tree, student_tree}
 use Rattle.portal_views.specs.declared.lines.ApplicantLine.{ApplicantLine}
-use Rattle.portal_store.specs.Kept.{HasSecond}
 use Rattle.portal_views.specs.inner.Lines.{shown_line, applicant_lines}
-use Rattle.portal_tables.specs.inner.Owners.{choice_shown}
-use Rattle.portal_tables.specs.inner.Rolls.{by_key, roll_columns}
-use Rattle.portal_store.specs.World.{world_in, student_stored, project_row}
-use Rattle.portal_tables.specs.inner.Shown.{first_cell}
-use Rattle.portal_views.specs.inner.Callers.{person_key, lines_shown, persons_at, persons_before, placed_among, placed_at_shown, applicants_told, placed_told, own_keys_shown, lecturer_shown}
-use Rattle.portal_store.specs.inner.Queried.{lecturer_from}
-use Rattle.portal_tables.proofs.Sorted.{distinct_permuted, map_alike, one_rise, permutes_more, put_all_map, rise_distinct, rise_put_all}
+use Rattle.portal_views.specs.inner.Callers.{person_key, lines_shown, persons_at, persons_before, placed_among, placed_at_shown, applicants_told, placed_told, own_keys_shown}
+use Rattle.portal_tables.proofs.Sorted.{one_rise, rise_put_all}
 use Rattle.portal_store.proofs.Loaded.{none_earlier, projects_by_key, students_by_key}
 use Rattle.portal_store.proofs.Fine.{first_left, good_before, placed_on_lists}
 

@@ -1,100 +1,16 @@
--- Queries in turn, and what `open` makes of them.
-use Rattle.std.proofs.Common.{List, [], ◌∷◌, pos, ◌≡◌, ◌≢◌, ◌⊎◌, inl, inr, ℕ, Bool, true, false, not, IsTrue, IfErr, Ok, Err, Result, OnOk, map, length, filter, slice_index_or, refl, sym, ap, subst, ◌∙◌}
-use Rattle.std.specs.Result.{IsErr, IsErrAnd}
-use Rattle.std.specs.List.Sorted.{IsPermutation}
-use Rattle.std.proofs.lemmas.List.Sorted.{length_permutation}
-use Rattle.sqlite.specs.declared.types.Value.TheVariants.{Int}
-use Rattle.sqlite.specs.Order.{Row, column}
-use Rattle.sqlite.specs.Tree.{Trees}
-use Rattle.sqlite.specs.Effect.{Database, IsDatabase}
-use Rattle.sqlite.specs.State.{State, HasCleanDisk, IsUnchanged, IsLive}
-use Rattle.sqlite.specs.Store.{Ghosts}
-use Rattle.sqlite.specs.Held.{Held, state}
-use Rattle.sqlite.proofs.StateLemmas.{survives_then, survives_weaker}
+-- What `open` makes of what was read.
+use Rattle.portal_store.proofs.Base.{List, [], ◌∷◌, pos, ◌≡◌, ◌≢◌, ℕ, Bool, true, false, not, IsTrue, Ok, Err, Result, map, length, filter, slice_index_or, refl, sym, ap, subst, ◌∙◌, IsPermutation, length_permutation, Int, Row, column, Trees, IsUnchanged, Ghosts, Held, state, Round, First, Second, portal_tree, second_tree, choice2_tree, ranked2_tree, ranking2_tree, assigned2_tree, first_trees, own_trees, version, IsCurrentSchema, RowNumbersDiffer, portal_row, second_row, ListsBy, every, columns, HasOffice, number_of_phase, is_empty, AllNumbersDiffer, HasSecond, IsUnopened, IsConsistent, IsConsistentIn, later_trees, IsKept, early_trees, apart_one, current_own, Denies, AdmitsAs, Admits, TableFault, OpenFault}
+use Rattle.std.proofs.Common.{IfErr}
+use Rattle.sqlite.specs.State.{IsLive}
 use Rattle.sqlite.proofs.Callers.{one_permutation}
-use Rattle.portal_core.specs.declared.phase.Round.{Round}
-use Rattle.portal_core.specs.declared.phase.Round.TheVariants.{First, Second}
-use Rattle.portal_tables.specs.Tables.{portal_tree, second_tree, choice2_tree, ranked2_tree, ranking2_tree, assigned2_tree, own_trees, version}
-use Rattle.portal_tables.specs.Schema.{HasRound, IsCurrentSchema}
-use Rattle.portal_tables.specs.Changes.{RowNumbersDiffer}
-use Rattle.portal_tables.specs.inner.Changes.{ListsBy, every, columns}
-use Rattle.portal_tables.specs.Rows.{portal_row, second_row}
-use Rattle.portal_tables.specs.Office.{HasOffice, number_of_phase}
-use Rattle.portal_tables.specs.Reading.{RunsQueryIn}
-use Rattle.portal_tables.specs.inner.Reading.{RunsQueriesIn}
 use Rattle.portal_tables.specs.inner.Decoding.{FindsAny}
 use Rattle.portal_tables.specs.inner.Queries.{selection, Shows}
 use Rattle.portal_tables.specs.declared.select.Query.{Query}
-use Rattle.portal_core.specs.Words.{is_empty}
-use Rattle.std.proofs.lemmas.Result.{on_ok_weaker, on_err_weaker}
-use Rattle.portal_store.specs.Kept.{AllNumbersDiffer, HasSecond, IsUnopened, IsConsistent, IsConsistentIn, HasGoodWorld}
-use Rattle.portal_store.specs.inner.Kept.{IsKept}
-use Rattle.portal_tables.proofs.InTurn.{clean_before, unchanged_then, then_leaves, reads_of}
-use Rattle.portal_tables.proofs.Keeping.{apart_one, apart_none}
-use Rattle.portal_tables.proofs.Owned.{current_own, has_round}
-use Rattle.portal_store.specs.Asked.{HasVersion, RefusalSays, Refutes}
-use Rattle.portal_store.specs.inner.Asked.{NumbersDiffer, Denies, SaysNothing, AdmitsAs, Admits}
-use Rattle.portal_tables.specs.declared.fault.TableFault.{TableFault}
+use Rattle.portal_tables.proofs.Keeping.{apart_none}
+use Rattle.portal_store.specs.Asked.{HasVersion, RefusalSays}
+use Rattle.portal_store.specs.inner.Asked.{NumbersDiffer, SaysNothing}
 use Rattle.portal_tables.specs.declared.fault.TableFault.TheVariants as told
-use Rattle.portal_store.specs.declared.store.OpenFault.{OpenFault}
 use Rattle.portal_store.specs.declared.store.OpenFault.TheVariants.{NotPortal, OtherVersion, Damaged, Store, Memory}
-
--- after one that answered, others or none
-pub asks_reads : {round : Round} {U V D E : Type 0} (u : U) (r : Result V E) (a b c : State) → RunsQueryIn round {V = U} {E = D} (Ok u) a b → RunsQueriesIn round r b c → RunsQueryIn round r a c
-asks_reads {round} u r a b c p q =
-    let middle : HasRound round a.now.schema → HasCleanDisk c → IsUnchanged a b = λ own clean. p.same own (clean_before b c _ q.crash clean) in
-    let own_there : IsUnchanged a b → HasRound round a.now.schema → HasRound round b.now.schema = λ same own. subst (λ (d : Database). HasRound round d.schema) (sym same.0.now_is) own in
-    record {
-      same = λ own clean. let m = middle own clean in on_ok_weaker r (unchanged_then a b c m) (q.same (own_there m own) clean m.0.is_open);
-      err = λ own clean. let m = middle own clean in on_err_weaker r (then_leaves a b c m) (q.err (own_there m own) clean m.0.is_open);
-      mode = λ idle. q.mode (p.mode idle);
-      crash = survives_then a b c _ _ _ (λ clean db no. no) (λ clean db no own. let m = middle own clean in no (own_there m own) m.0.is_open) p.crash q.crash;
-    }
-
--- after one that answered, another
-pub asks_then : {round : Round} {U V D E : Type 0} (u : U) (r : Result V E) (a b c : State) → RunsQueryIn round {V = U} {E = D} (Ok u) a b → RunsQueryIn round r b c → RunsQueryIn round r a c
-asks_then {round} u r a b c p q = asks_reads u r a b c p (reads_of r b c q)
-
--- the same queries, where an error is answered in the end
-pub asks_fail : {round : Round} {U V D E : Type 0} (x : Result U D) (e : E) (a b : State) → RunsQueryIn round x a b → RunsQueryIn round {V = V} {E = E} (Err e) a b
-asks_fail (Ok u) e a b h = record { same = λ own clean. tt; err = λ own clean. inl (h.same own clean); mode = h.mode; crash = h.crash }
-asks_fail (Err d) e a b h = record { same = λ own clean. tt; err = h.err; mode = h.mode; crash = h.crash }
-
-pub asks_err : {round : Round} {U V D E : Type 0} (x : Result U D) (r : Result V E) (a b : State) → IsErr r → RunsQueryIn round x a b → RunsQueryIn round r a b
-asks_err x (Ok v) a b is h = absurd (cc)
-asks_err x (Err e) a b is h = asks_fail x e a b h
-
--- the same queries, where they answered, whatever is answered then
-pub asks_more : {round : Round} {U V D E : Type 0} (u : U) (r : Result V E) (a b : State) → RunsQueryIn round {V = U} {E = D} (Ok u) a b → RunsQueryIn round r a b
-asks_more u (Ok v) a b h = record { same = h.same; err = λ own clean. tt; mode = h.mode; crash = h.crash }
-asks_more u (Err e) a b h = asks_fail (Ok u) e a b h
-
--- after one that answered what was wanted, another
-pub asks_after : {round : Round} {U V D E : Type 0} (x : Result U D) (u : U) (r : Result V E) (a b c : State) → x ≡ Ok u → RunsQueryIn round x a b → RunsQueryIn round r b c → RunsQueryIn round r a c
-asks_after {round} {U} {V} {D} x u r a b c is h then = asks_then u r a b c (subst (λ (y : Result U D). RunsQueryIn round y a b) is h) then
-
--- the same queries, where they answered what was wanted, or an error is answered
-pub asks_so : {round : Round} {U V D E : Type 0} (x : Result U D) (u : U) (r : Result V E) (a b : State) → OnOk r (x ≡ Ok u) → RunsQueryIn round x a b → RunsQueryIn round r a b
-asks_so {round} {U} {V} {D} x u (Ok v) a b is h = asks_more u (Ok v) a b (subst (λ (y : Result U D). RunsQueryIn round y a b) is h)
-asks_so x u (Err e) a b is h = asks_fail x e a b h
-
--- what reads the tables of either round reads those of both
-pub asks_all : (round : Round) {V E : Type 0} (r : Result V E) (a b : State) → RunsQueryIn round r a b → RunsQueryIn Second r a b
-asks_all round r a b h = record {
-  same = λ own. h.same (has_round round a.now.schema own);
-  err = λ own. h.err (has_round round a.now.schema own);
-  mode = h.mode;
-  crash = survives_weaker a b _ _ (λ clean db no own. no (has_round round a.now.schema own)) h.crash;
-}
-
-pub reads_all : (round : Round) {V E : Type 0} (r : Result V E) (a b : State) → RunsQueriesIn round r a b → RunsQueriesIn Second r a b
-reads_all round r a b h = record {
-  same = λ own. h.same (has_round round a.now.schema own);
-  err = λ own. h.err (has_round round a.now.schema own);
-  now = λ own. h.now (has_round round a.now.schema own);
-  mode = h.mode;
-  crash = survives_weaker a b _ _ (λ clean db no own. no (has_round round a.now.schema own)) h.crash;
-}
 
 -- refusals
 
@@ -108,15 +24,6 @@ denies_more Memory A B back h = tt
 -- who says nothing denies anything
 pub denies_any : (fault : OpenFault) (A : Type 0) → SaysNothing fault → Denies fault A
 denies_any fault A = denies_more fault (Unit {0}) A (λ _. tt)
-
-pub denied_by : (fault : OpenFault) (A : Type 0) → (fault ≡ Damaged) ⊎ (fault ≡ Memory) → (fault ≡ Damaged → A → ⊥) → Denies fault A
-denied_by NotPortal A (inl e) h = absurd (cc)
-denied_by NotPortal A (inr e) h = absurd (cc)
-denied_by OtherVersion A (inl e) h = absurd (cc)
-denied_by OtherVersion A (inr e) h = absurd (cc)
-denied_by Damaged A e h = h refl
-denied_by Store A e h = tt
-denied_by Memory A e h = tt
 
 -- as a fault of the tables' rows
 pub denied_of : (fault : OpenFault) (why : TableFault) (A : Type 0) → (why ≡ told.Damaged → fault ≡ Damaged) → ((why ≡ told.Damaged → ⊥) → SaysNothing fault) → (why ≡ told.Damaged → A → ⊥) → Denies fault A
@@ -146,24 +53,6 @@ blames_none OtherVersion of A db h = absurd h
 blames_none Damaged of A db h = absurd (h tt)
 blames_none Store of A db h = tt
 blames_none Memory of A db h = tt
-
-pub live_still : (a b : State) → IsUnchanged a b → IsLive a → IsLive b
-live_still a b same live = λ on.
-    let was = live same.0.was_open in
-    (subst IsDatabase (sym same.0.now_is) was.0, subst IsDatabase (sym same.0.committed_is) was.1)
-
-pub if_err_weaker : {V E : Type 0} (P Q : E → Type 0) (r : Result V E) → ((e : E) → P e → Q e) → IfErr r P → IfErr r Q
-if_err_weaker P Q (Ok v) more h = tt
-if_err_weaker P Q (Err e) more h = more e h
-
--- of the tables of both rounds, once those of the first are known to be of the version
-pub refuted : {V : Type 0} (A : Type 0) (db : Trees) (r : Result V OpenFault) → HasVersion version db → (HasGoodWorld db → A) → IfErr r (λ f. Denies f A) → IfErr r (λ f. Refutes f db)
-refuted A db r of_version so = if_err_weaker (λ f. Denies f A) (λ f. Refutes f db) r (λ f h. blamed f version (HasGoodWorld db) db of_version (denies_more f A (HasGoodWorld db) so h))
-
--- what is handed on says what was said
-pub handed : {V E : Type 0} (P : E → Type 0) (e : E) (r : Result V E) → IsErrAnd r (λ f. f ≡ e) → P e → IfErr r P
-handed P e (Ok v) is h = tt
-handed P e (Err f) is h = subst P (sym is) h
 
 -- the row of the office
 
@@ -231,7 +120,13 @@ found_some q db found all h some none =
     let e : not (is_empty {X = Row} []) ≡ true = ap (λ (l : List Row). not (is_empty l)) (sym rows) ∙ sym h.told ∙ some in
     absurd (cc)
 
--- row numbers differ in the tables of both rounds
+-- row numbers differ in the tables of one round, and of both
+pub first_apart : (of : ℕ) (db : Trees) → HasOffice of (db portal_tree) → AllNumbersDiffer early_trees db → AllNumbersDiffer first_trees db
+first_apart of db office many = (apart_one (db portal_tree) (portal_row (pos of) (pos (number_of_phase office.phase)) office.office) (pos 1) refl office.is, many)
+
+pub all_apart : (db : Trees) → AllNumbersDiffer early_trees db → AllNumbersDiffer later_trees db → NumbersDiffer db
+all_apart db early later = (early.0, (early.1.0, (early.1.1.0, (early.1.1.1.0, (early.1.1.1.1.0, later)))))
+
 pub apart_all : (db : Trees) (of : ℕ) → AdmitsAs of db → IsUnopened db → AllNumbersDiffer own_trees db
 apart_all db of admits second =
     let six = admits.apart in

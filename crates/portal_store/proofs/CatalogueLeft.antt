@@ -1,30 +1,15 @@
 -- The catalogue of the tables is that of the world: in the second round of what the first left.
-use Rattle.std.proofs.Common.{◌≡◌, Bool, true, false, cond, List, [], ◌∷◌, map, refl, sym, ap, ap₂, ◌∙◌}
-use Rattle.std.specs.Prelude.{filter, nat_lt, ◌-◌, ◌&&◌, ◌||◌, Option, Some, None, option_map}
-use Rattle.std.specs.List.{find, filter_map, cons_option}
+use Rattle.portal_store.proofs.Base.{◌≡◌, Bool, true, false, cond, List, [], ◌∷◌, map, refl, sym, ap, ap₂, ◌∙◌, filter, ◌&&◌, Option, Some, None, option_map, find, filter_map, cons_option, Trees, map-map, filter-map, Round, First, Second, LecturerRow, ProjectRow, Key, equals, has, World, Lecturer, Student, lecturer_key, pairs_with, catalogue, is_sym, first_plays, student_tree, columns, by_key, AllRows, world_in, student_stored}
+use Rattle.std.specs.Prelude.{nat_lt, ◌-◌}
 use Rattle.std.proofs.lemmas.Bool.{or_parts}
-use Rattle.sqlite.specs.Tree.{Trees}
-use Rattle.sqlite_trees.proofs.ListLemmas.{map-map, filter-map}
-use Rattle.portal_core.specs.declared.phase.Round.{Round}
-use Rattle.portal_core.specs.declared.phase.Round.TheVariants.{First, Second}
-use Rattle.portal_core.specs.declared.rows.LecturerRow.{LecturerRow}
-use Rattle.portal_core.specs.declared.rows.ProjectRow.{ProjectRow}
-use Rattle.portal_core.specs.Words.{Key, equals, has}
-use Rattle.portal_core.specs.World.{World, Lecturer, Student, lecturer_key, pairs_with, given_with, lowered_lecturer, lowered_project, lecturers_left, projects_left}
-use Rattle.portal_core.specs.View.{name_in, listing_with, listings, catalogue}
+use Rattle.portal_core.specs.World.{given_with, lowered_lecturer, lowered_project, lecturers_left, projects_left}
+use Rattle.portal_core.specs.View.{name_in, listing_with, listings}
 use Rattle.portal_core.specs.inner.Room.{lecturer_left, project_left}
-use Rattle.portal_core.proofs.AllLaws.{is_sym}
-use Rattle.portal_core.proofs.Capacities.{first_plays}
 use Rattle.portal_core.proofs.Rooms.{project_left_is, lecturer_left_is, each_left}
 use Rattle.portal_list.specs.inner.Shown.{offered}
 use Rattle.portal_list.proofs.Listings.{row_of, offered_rows}
-use Rattle.portal_tables.specs.Tables.{student_tree}
-use Rattle.portal_tables.specs.inner.Changes.{columns}
 use Rattle.portal_tables.specs.inner.Placements.{first_pairs, pair_told}
-use Rattle.portal_tables.specs.inner.Rolls.{by_key}
 use Rattle.portal_views.specs.inner.Catalogue.{catalogue_shown}
-use Rattle.portal_views.specs.inner.Contents.{AllRows}
-use Rattle.portal_store.specs.World.{world_in, student_stored}
 use Rattle.portal_store.proofs.Loaded.{each_found, students_by_key, round_rows, world_first}
 
 -- a lecturer who is not there has no name

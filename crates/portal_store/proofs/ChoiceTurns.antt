@@ -1,31 +1,7 @@
 -- Putting a student's list turns the tables to the world with that list.
-use Rattle.std.proofs.Common.{◌≡◌, inl, inr, ℕ, true, false, cond, List, [], map, refl, sym, ap, subst, ◌∙◌}
-use Rattle.std.proofs.lemmas.Bool.{cases_Bool}
-use Rattle.std.specs.List.{AllByRecursion}
-use Rattle.sqlite.specs.Order.{Row}
-use Rattle.sqlite.specs.Tree.{Trees}
-use Rattle.sqlite.specs.Effect.{Database}
-use Rattle.sqlite.specs.State.{State}
-use Rattle.portal_core.specs.declared.phase.Round.{Round}
-use Rattle.portal_core.specs.declared.phase.Round.TheVariants.{First, Second}
-use Rattle.portal_core.specs.Words.{Key, equals, put_all}
-use Rattle.portal_core.specs.World.{Student, student_key}
-use Rattle.portal_core.specs.Change.{changed, Choices, with_choice}
-use Rattle.portal_core.proofs.Keys.{is_same}
-use Rattle.portal_core.proofs.AllLaws.{all_weaker}
-use Rattle.portal_tables.specs.ListTables.{tree_of}
-use Rattle.portal_tables.specs.Changes.{RowNumbersDiffer}
-use Rattle.portal_tables.specs.Tables.{choice_tree, choice2_tree}
-use Rattle.portal_tables.specs.inner.Steps.{GoesOn}
-use Rattle.portal_tables.proofs.Runs.{goes_more}
-use Rattle.portal_tables.specs.Lists.{of_key, list_in_order, chosen, IsWhole}
+use Rattle.portal_store.proofs.Base.{◌≡◌, inl, inr, ℕ, true, false, cond, List, [], map, refl, sym, ap, subst, ◌∙◌, cases_Bool, AllByRecursion, Row, Trees, Database, State, Round, First, Second, Key, equals, put_all, Student, student_key, changed, Choices, is_same, all_weaker, tree_of, RowNumbersDiffer, row_key, choice_tree, choice2_tree, GoesOn, goes_more, of_key, list_in_order, chosen, IsWhole, world_in, choice_table, student_stored, Whole, IsConsistentIn, IsTransitionIn, HasPut, PutsList, put_all_map, map_alike, map_twice}
+use Rattle.portal_core.specs.Change.{with_choice}
 use Rattle.portal_store.proofs.Still.{but_one, holds_after, holds_there, opened_kept, world_after}
-use Rattle.portal_store.specs.World.{world_in, choice_table, student_stored}
-use Rattle.portal_tables.specs.Rolls.{row_key}
-use Rattle.portal_store.specs.Kept.{Whole, IsConsistentIn}
-use Rattle.portal_store.specs.inner.Kept.{IsTransitionIn}
-use Rattle.portal_tables.specs.inner.Putting.{HasPut, PutsList}
-use Rattle.portal_tables.proofs.Sorted.{put_all_map, map_alike, map_twice}
 use Rattle.portal_tables.proofs.Putting.{list_is, whole_is}
 
 -- in any table of lists

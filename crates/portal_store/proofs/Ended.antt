@@ -1,19 +1,7 @@
 -- How a call ends that makes a change: of one transaction, after a query or with none.
-use Rattle.std.proofs.Common.{◌≡◌, subst, inl, inr, false, IsTrue, Ok, Err, Result, OnOk, OnErr, sym, ap, ◌∙◌}
-use Rattle.std.specs.Result.{IsErr}
-use Rattle.std.proofs.lemmas.Result.{on_ok_weaker, on_err_weaker}
-use Rattle.sqlite.specs.Effect.{Database}
-use Rattle.sqlite.specs.Tree.{Trees}
-use Rattle.sqlite.specs.State.{State, HasCleanDisk, IsUnchanged, Survives}
-use Rattle.sqlite.proofs.StateLemmas.{survives_weaker, survives_then}
-use Rattle.portal_tables.specs.Schema.{IsCurrentSchema}
-use Rattle.portal_tables.proofs.Owned.{has_round}
-use Rattle.portal_core.specs.declared.phase.Round.{Round}
-use Rattle.portal_tables.specs.Reading.{RunsQueryIn}
-use Rattle.portal_tables.specs.Steps.{Commits, IsAfter, IsUnchangedOrUndone, LeavesOnly, Stays}
-use Rattle.portal_tables.proofs.Asking.{IsSettled, commits_asked, commits_none}
-use Rattle.portal_tables.proofs.InTurn.{clean_before}
-use Rattle.portal_store.specs.inner.Ending.{CommitsChange}
+use Rattle.portal_store.proofs.Base.{◌≡◌, subst, inl, inr, false, IsTrue, Ok, Err, Result, OnOk, OnErr, sym, ap, ◌∙◌, IsErr, on_ok_weaker, on_err_weaker, Database, Trees, State, HasCleanDisk, IsUnchanged, Survives, survives_weaker, survives_then, IsCurrentSchema, has_round, Round, RunsQueryIn, Commits, IsAfter, IsUnchangedOrUndone, Stays, commits_asked, clean_before, CommitsChange}
+use Rattle.portal_tables.specs.Steps.{LeavesOnly}
+use Rattle.portal_tables.proofs.Asking.{IsSettled, commits_none}
 
 -- the tables are read, and then the change is made, or not
 pub ends_then : {round : Round} {U F V E : Type 0} (C D : Database → Database → Type 0) (u : U) (r : Result V E) (old mid new : State) → RunsQueryIn round {V = U} {E = F} (Ok u) old mid → CommitsChange C r mid new
@@ -25,6 +13,7 @@ ends_then {round} C D u r old mid new asks then more =
     record {
       ok = λ own clean. let m = same own (before clean) in on_ok_weaker r (commits_asked old mid new C D (more own) (before clean) m) (then.ok (mine m own) clean);
       err = λ own clean on. let m = same own (before clean) in on_err_weaker r (λ s. (m.0.was_open, s.1 ∙ m.0.now_is, s.2 ∙ m.0.committed_is)) (then.err (mine m own) clean on);
+      mode = λ idle. then.mode (asks.mode idle);
       durable = λ own clean. then.durable (mine (same own (before clean)) own) clean;
       crash = survives_then old mid new _ _ (λ db. IsCurrentSchema old.now.schema → IsAfter D old db) (λ clean db no own. absurd (no (has_round round old.now.schema own)))
           (λ clean db left own.
@@ -39,14 +28,15 @@ pub ends_more : {V E : Type 0} (C D : Database → Database → Type 0) (r : Res
 ends_more C D r old new h more = record {
   ok = λ own clean. on_ok_weaker r (λ d. record { was_open = d.was_open; is_open = d.is_open; settled = d.settled; changed = more new.now d.changed }) (h.ok own clean);
   err = h.err;
+  mode = h.mode;
   durable = h.durable;
   crash = survives_weaker old new _ _ (λ clean db left own. let l = left own in (l.0, more l.0 l.1, l.2)) h.crash;
 }
 
 -- one transaction alone
-pub ends_by : {V E : Type 0} (D : Database → Database → Type 0) (r : Result V E) (old new : State) → (HasCleanDisk new → OnOk r (Commits D old new)) → (HasCleanDisk new → IsTrue new.is_open → OnErr r (Stays old new))
+pub ends_by : {V E : Type 0} (D : Database → Database → Type 0) (r : Result V E) (old new : State) → new.in_transaction ≡ false → (HasCleanDisk new → OnOk r (Commits D old new)) → (HasCleanDisk new → IsTrue new.is_open → OnErr r (Stays old new))
     → (HasCleanDisk new → OnOk r (LeavesOnly new)) → Survives old new (IsAfter D old) → CommitsChange D r old new
-ends_by D r old new ok err durable crash = record { ok = λ own. ok; err = λ own. err; durable = λ own. durable; crash = survives_weaker old new _ _ (λ clean db left own. left) crash }
+ends_by D r old new idle ok err durable crash = record { ok = λ own. ok; err = λ own. err; mode = λ _. idle; durable = λ own. durable; crash = survives_weaker old new _ _ (λ clean db left own. left) crash }
 
 -- the tables are read, and one transaction makes the change
 module _
@@ -54,12 +44,13 @@ module _
     (C D : Database → Database → Type 0)
     (r : Result V E)
     (old mid new : State)
+    (idle : new.in_transaction ≡ false)
     (ok : HasCleanDisk new → OnOk r (Commits C mid new))
     (err : HasCleanDisk new → IsTrue new.is_open → OnErr r (Stays mid new))
     (durable : HasCleanDisk new → OnOk r (LeavesOnly new))
     (crash : Survives mid new (IsAfter C mid)) where
   pub ends_asked : {round : Round} {U F : Type 0} (u : U) → RunsQueryIn round {V = U} {E = F} (Ok u) old mid → (IsCurrentSchema old.now.schema → HasCleanDisk mid → (after : Database) → C old.now after → D old.now after) → CommitsChange D r old new
-  ends_asked u asks more = ends_then C D u r old mid new asks (ends_by C r mid new ok err durable crash) more
+  ends_asked u asks more = ends_then C D u r old mid new asks (ends_by C r mid new idle ok err durable crash) more
 
 -- what at most undoes a transaction that is not there changes nothing
 pub stays_left : (old new : State) → IsSettled old → IsUnchangedOrUndone old new → IsTrue new.is_open → Stays old new
@@ -69,15 +60,20 @@ stays_left old new settled (inr undone) on =
     let was = undone.undone on in
     (first, was.0 ∙ sym (settled first), was.1)
 
--- the tables are read, and that is refused
-pub ends_refused : {round : Round} {V E : Type 0} (D : Database → Database → Type 0) (r : Result V E) (old new : State) → IsErr r → old.in_transaction ≡ false → IsSettled old → RunsQueryIn round r old new → CommitsChange D r old new
-ends_refused {round} D (Ok v) old new is idle settled asks = absurd (cc)
-ends_refused {round} D (Err e) old new is idle settled asks = record {
+-- the tables are read, and that or what comes of it is refused
+pub ends_refused : {round : Round} {U F V E : Type 0} (D : Database → Database → Type 0) (x : Result U F) (r : Result V E) (old new : State) → IsErr r → IsSettled old → RunsQueryIn round x old new → CommitsChange D r old new
+ends_refused D x (Ok v) old new is settled asks = absurd (cc)
+ends_refused {round} {U} {F} D x (Err e) old new is settled asks = record {
   ok = λ own clean. tt;
-  err = λ own clean on. stays_left old new settled (asks.err (has_round round old.now.schema own) clean) on;
+  err = λ own clean on. stays_left old new settled (either x (asks.same (has_round round old.now.schema own) clean) (asks.err (has_round round old.now.schema own) clean)) on;
+  mode = asks.mode;
   durable = λ own clean. tt;
   crash = survives_weaker old new _ _ (λ clean db no own. absurd (no (has_round round old.now.schema own))) asks.crash;
 }
+  where
+    either : (x : Result U F) → OnOk x (IsUnchanged old new) → OnErr x (IsUnchangedOrUndone old new) → IsUnchangedOrUndone old new
+    either (Ok u) same err = inl same
+    either (Err d) same err = err
 
 -- the tables are read, and there is nothing to do: what is open leaves what is committed alone
 pub ends_none : {round : Round} {U F V E : Type 0} (D : Database → Database → Type 0) (u : U) (v : V) (old new : State) → IsSettled old → ((db : Trees) → IsTrue new.is_open → new.may_leave db → db ≡ new.committed.trees)
@@ -85,6 +81,7 @@ pub ends_none : {round : Round} {U F V E : Type 0} (D : Database → Database �
 ends_none {round} D u v old new settled law asks done = record {
   ok = λ own clean. commits_none old new D settled (asks.same (has_round round old.now.schema own) clean) (done own clean);
   err = λ own clean on. tt;
+  mode = asks.mode;
   durable = λ own clean db leaves.
       let same = asks.same (has_round round old.now.schema own) clean in
       law db same.0.is_open leaves ∙ ap (λ (d : Database). d.trees) (same.0.committed_is ∙ sym (settled same.0.was_open) ∙ sym same.0.now_is);
@@ -93,4 +90,4 @@ ends_none {round} D u v old new settled law asks done = record {
 
 -- the same, with another error
 pub ends_err : {V U E F : Type 0} (D : Database → Database → Type 0) (d : F) (e : E) (old new : State) → CommitsChange {V = U} {E = F} D (Err d) old new → CommitsChange {V = V} {E = E} D (Err e) old new
-ends_err D d e old new h = record { ok = λ own clean. tt; err = h.err; durable = λ own clean. tt; crash = h.crash }
+ends_err D d e old new h = record { ok = λ own clean. tt; err = h.err; mode = h.mode; durable = λ own clean. tt; crash = h.crash }

@@ -1,25 +1,8 @@
 -- Rankings put one after the other into the tables, and those that a fill would put.
-use Rattle.std.proofs.Common.{◌≡◌, ℕ, ◌+◌, ◌<◌, true, List, [], ◌∷◌, ◌++◌, map, take, length, get_or, refl, sym, ap, subst, ◌∙◌}
-use Rattle.std.proofs.lemmas.List.{take_more, map-append}
-use Rattle.std.specs.List.{AllByRecursion}
-use Rattle.std.proofs.lemmas.List.Sorted.{list_any-IsPermutation, IsPermutation-map, IsPermutation-sym}
-use Rattle.sqlite.specs.Effect.{Database}
-use Rattle.sqlite.specs.State.{State}
-use Rattle.portal_core.specs.Words.{Key, equals, has, Rise, put_all}
-use Rattle.portal_core.specs.World.{World, lecturer_key}
-use Rattle.portal_core.specs.Change.{changed, Ranks, Fill}
-use Rattle.portal_core.specs.Good.{Sound}
-use Rattle.portal_core.specs.declared.phase.Round.{Round}
-use Rattle.portal_list.specs.inner.Fill.{fill_missing}
-use Rattle.portal_tables.specs.Tables.{lecturer_tree}
-use Rattle.portal_store.specs.World.{world_in, lecturer_stored}
-use Rattle.portal_tables.specs.Rolls.{row_key}
-use Rattle.portal_store.specs.Kept.{IsConsistentIn}
-use Rattle.portal_store.specs.inner.Kept.{IsTransitionIn}
-use Rattle.portal_tables.specs.inner.Steps.{GoesOn}
-use Rattle.portal_store.specs.inner.Putting.{with_rankings, TurnsAll, TurnsThere}
+use Rattle.portal_store.proofs.Base.{◌≡◌, ℕ, ◌+◌, ◌<◌, true, List, [], ◌∷◌, ◌++◌, map, take, length, get_or, refl, sym, ap, subst, ◌∙◌, map-append, AllByRecursion, IsPermutation-map, IsPermutation-sym, Database, State, Key, equals, has, Rise, put_all, World, lecturer_key, changed, Ranks, Fill, Sound, Round, fill_missing, lecturer_tree, world_in, lecturer_stored, row_key, IsConsistentIn, IsTransitionIn, GoesOn, with_rankings, TurnsAll, TurnsThere, permutes}
+use Rattle.std.proofs.lemmas.List.{take_more}
+use Rattle.std.proofs.lemmas.List.Sorted.{list_any-IsPermutation}
 use Rattle.portal_tables.proofs.Runs.{goes_both}
-use Rattle.portal_tables.proofs.Sorted.{permutes}
 use Rattle.portal_store.proofs.Rounds.{keys_in}
 use Rattle.portal_store.proofs.Filled.{ranked_more, keys_still, all_filled, fills_there}
 

@@ -1,17 +1,6 @@
 -- The world with rankings put one after the other; those that a fill would put make the filled world.
-use Rattle.std.proofs.Common.{◌≡◌, inl, inr, Bool, true, false, ◌||◌, cond, Some, List, [], ◌∷◌, ◌++◌, map, filter, refl, sym, ap, subst, ◌∙◌}
-use Rattle.std.proofs.Math.Bool.{or-true}
-use Rattle.std.specs.List.{AllByRecursion, IsDistinct}
-use Rattle.sqlite_rules.specs.Lists.{Has}
-use Rattle.portal_core.specs.Words.{Key, equals, has, Rise}
-use Rattle.portal_core.specs.World.{World, Lecturer, lecturer_key, student_key, applicants_of, is_still_to_rank}
-use Rattle.portal_core.specs.Change.{changed, Ranks, Fill, with_ranking, with_fill}
-use Rattle.portal_core.proofs.Keys.{is_own}
-use Rattle.portal_core.proofs.AllLaws.{is_sym, map_same}
-use Rattle.portal_list.specs.inner.Fill.{fill_missing}
-use Rattle.portal_list.proofs.Replaced.{ranking_elsewhere, ranking_here}
-use Rattle.portal_store.specs.inner.Putting.{with_rankings}
-use Rattle.portal_tables.proofs.Sorted.{map_twice, map_alike_on, rise_distinct}
+use Rattle.portal_store.proofs.Base.{◌≡◌, inl, inr, Bool, true, false, ◌||◌, cond, Some, List, [], ◌∷◌, ◌++◌, map, filter, refl, sym, ap, subst, ◌∙◌, or-true, AllByRecursion, IsDistinct, Has, Key, equals, has, Rise, World, Lecturer, lecturer_key, student_key, applicants_of, is_still_to_rank, changed, Ranks, Fill, with_ranking, is_own, is_sym, map_same, fill_missing, ranking_elsewhere, ranking_here, with_rankings, map_twice, map_alike_on, rise_distinct}
+use Rattle.portal_core.specs.Change.{with_fill}
 use Rattle.portal_store.proofs.RankTurns.{same_key}
 
 -- one ranking more

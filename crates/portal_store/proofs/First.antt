@@ -1,30 +1,12 @@
 -- The tables as `create` makes them stand for the empty world in setup.
-use Rattle.std.proofs.Common.{◌≡◌, ◌≢◌, ℕ, Bool, IsTrue, List, [], ◌∷◌, true, false, not, eqb, refl, slice_index_or, map, sym, subst, ◌∙◌}
-use Rattle.std.specs.List.{AllByRecursion, list_all}
-use Rattle.sqlite.specs.Order.{Row, column, bytes}
-use Rattle.sqlite.specs.Effect.{Database}
-use Rattle.sqlite.specs.Store.{Ghosts}
-use Rattle.sqlite.specs.Held.{Held, state}
-use Rattle.sqlite_trees.specs.Objects.{number_in}
-use Rattle.portal_core.specs.declared.phase.Phase.TheVariants.{Setup}
-use Rattle.portal_core.specs.declared.phase.Round.TheVariants.{First}
-use Rattle.portal_core.specs.Form.{is_code}
-use Rattle.portal_core.specs.Words.{Key, put_all}
-use Rattle.portal_core.specs.World.{lecturer_key, project_key, student_key}
-use Rattle.portal_core.specs.Good.{Good}
-use Rattle.portal_tables.specs.Tables.{no_schema, portal_tree, second_tree}
-use Rattle.portal_tables.specs.Making.{IsFresh, Creates}
-use Rattle.portal_tables.specs.Steps.{Commits}
-use Rattle.portal_tables.proofs.Keeping.{others_are}
-use Rattle.portal_tables.proofs.Making.{parts_of}
-use Rattle.portal_tables.proofs.Owned.{own_made, current_own}
+use Rattle.portal_store.proofs.Base.{◌≡◌, ◌≢◌, ℕ, Bool, IsTrue, List, [], ◌∷◌, true, false, not, eqb, refl, slice_index_or, map, sym, subst, ◌∙◌, AllByRecursion, list_all, Row, column, bytes, Database, Ghosts, Held, state, number_in, Setup, First, is_code, Key, put_all, lecturer_key, project_key, student_key, Good, portal_tree, second_tree, IsFresh, Commits, others_are, parts_of, current_own, world_in, world_of, phase_numbered, project_row, IsConsistent, IsConsistentIn, later_trees, IsKept, early_trees}
+use Rattle.portal_tables.specs.Tables.{no_schema}
+use Rattle.portal_tables.specs.Making.{Creates}
+use Rattle.portal_tables.proofs.Owned.{own_made}
 use Rattle.portal_tables.proofs.Fresh.{fresh_apart}
 use Rattle.portal_list.proofs.Fresh.{fresh_good}
-use Rattle.portal_store.specs.World.{world_in, world_of, phase_numbered, project_row}
+use Rattle.portal_store.specs.World.{first_world}
 use Rattle.portal_store.proofs.FirstRows.{lecturer_of, student_of}
-use Rattle.portal_store.specs.Kept.{IsConsistent, IsConsistentIn, later_trees}
-use Rattle.portal_store.specs.inner.Kept.{IsKept, early_trees}
-use Rattle.portal_store.specs.Made.{first_world}
 use Rattle.portal_store.proofs.Rounds.{world_told}
 
 none : (P : Row → Type 0) (rows : List Row) → rows ≡ [] → AllByRecursion P rows

@@ -1,12 +1,5 @@
 -- What the rows of the rolls stand for in the first round, by the rows of its lists.
-use Rattle.std.specs.Prelude.{Bool, if◌then◌else◌, ◌==◌, List, [], Some, None}
-use Rattle.sqlite.specs.Order.{Row, column}
-use Rattle.sqlite_trees.specs.Objects.{number_in}
-use Rattle.portal_core.specs.World.{Lecturer, Student}
-use Rattle.portal_tables.specs.Lists.{chosen}
-use Rattle.portal_tables.specs.Rolls.{row_key}
-use Rattle.portal_tables.specs.Shown.{text_or_none}
-use Rattle.portal_store.specs.World.{lecturer_row, student_row}
+use Rattle.portal_store.proofs.Base.{Bool, if◌then◌else◌, ◌==◌, List, [], Some, None, Row, column, number_in, Lecturer, Student, chosen, row_key, text_or_none, lecturer_row, student_row}
 
 abbrev pub has_ranking : Row → Bool
 has_ranking r = number_in (column r 5) == 1

@@ -1,25 +1,9 @@
 -- What the store keeps of its tables, where some of them are as they were.
-use Rattle.std.proofs.Common.{◌≡◌, pos, false, [], refl, sym, ap, ◌∙◌}
-use Rattle.std.specs.Prelude.{slice_index_or}
-use Rattle.sqlite.specs.Order.{column, bytes}
-use Rattle.sqlite.specs.Effect.{Database}
-use Rattle.sqlite_trees.specs.Objects.{number_in}
-use Rattle.portal_core.specs.declared.phase.Phase.{Phase}
-use Rattle.portal_core.specs.declared.phase.Round.{Round}
-use Rattle.portal_core.specs.declared.phase.Round.TheVariants.{First, Second}
-use Rattle.portal_core.specs.World.{is_setup}
-use Rattle.portal_core.specs.Change.{To}
-use Rattle.portal_tables.specs.Tables.{portal_tree, second_tree, version}
-use Rattle.portal_tables.specs.Rows.{portal_row, second_row}
-use Rattle.portal_tables.specs.inner.Rows.{MovesTo, MovesSecond}
-use Rattle.portal_tables.proofs.Keeping.{apart_one}
-use Rattle.portal_store.specs.Kept.{IsConsistentIn}
-use Rattle.portal_store.specs.inner.Kept.{HasChangedIn, IsTransitionIn}
+use Rattle.portal_store.proofs.Base.{◌≡◌, pos, false, [], refl, sym, ap, ◌∙◌, slice_index_or, column, bytes, Database, number_in, Phase, Round, First, Second, is_setup, To, portal_tree, second_tree, version, portal_row, second_row, MovesTo, MovesSecond, apart_one, IsConsistentIn, HasChangedIn, IsTransitionIn, number_of_phase, world_in, phase_numbered}
 use Rattle.portal_views.specs.inner.Lines.{HasTables}
-use Rattle.portal_tables.specs.Office.{number_of_phase}
 use Rattle.portal_store.proofs.Rounds.{phase_back}
 use Rattle.portal_store.proofs.Still.{holds_after, holds_there, world_after}
-use Rattle.portal_store.specs.World.{world_in, phase_numbered, office_row}
+use Rattle.portal_store.specs.World.{office_row}
 
 pub has_tables : {round : Round} (db : Database) → IsConsistentIn round db → HasTables db
 has_tables db holds = record { own = holds.own; current = holds.current; sound = holds.sound; apart = holds.apart }

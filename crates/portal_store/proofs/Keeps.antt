@@ -1,28 +1,11 @@
 -- What a change that was committed, or left all as it was, is to the store: whatever the change.
 use Rattle.std.specs.Prelude.{◌↔◌}
-use Rattle.std.proofs.Common.{inl, inr, ◌≡◌, ℕ, Bool, IsTrue, Ok, Err, Result, Option, IfOk, OnOk, OnErr, true, false, refl, sym, ap, subst, ◌∙◌, arith}
-use Rattle.sqlite.specs.Effect.{Database}
-use Rattle.sqlite.specs.State.{HasCleanDisk, IsUnchanged, Survives}
-use Rattle.sqlite.specs.Tree.{Trees}
-use Rattle.sqlite.specs.Store.{Ghosts}
-use Rattle.sqlite.specs.Held.{Held, state}
-use Rattle.portal_core.specs.Change.{Change, changed}
-use Rattle.portal_core.specs.declared.phase.Round.TheVariants.{Second}
-use Rattle.portal_core.specs.World.{World}
-use Rattle.portal_core.specs.Good.{Good, Sound}
-use Rattle.portal_tables.specs.Schema.{IsCurrentSchema}
-use Rattle.portal_tables.proofs.Runs.{clean_if_open}
-use Rattle.portal_tables.specs.Reading.{RunsQueryIn}
-use Rattle.portal_tables.specs.Steps.{Commits, Stays, IsUnchangedOrUndone, IsAfter}
-use Rattle.portal_core.specs.inner.ViewCache.{IsCacheOf}
+use Rattle.portal_store.proofs.Base.{inl, inr, ◌≡◌, ℕ, Bool, IsTrue, Ok, Err, Result, Option, IfOk, OnOk, OnErr, true, false, refl, sym, ap, subst, ◌∙◌, arith, Database, HasCleanDisk, IsUnchanged, Survives, Trees, Ghosts, Held, state, Change, changed, Second, World, Good, Sound, IsCurrentSchema, clean_if_open, Reading, Anyhow, Commits, Stays, IsUnchangedOrUndone, IsAfter, IsCacheOf, world_of, IsConsistent, HasChanged, IsTransition, Seen, IsCleanStore, kept_world, AreEntries, IsKept, CommitsChange}
 use Rattle.portal_core.specs.declared.view_cache.ViewCache.{ViewCache}
-use Rattle.portal_store.specs.World.{world_of}
 use Rattle.portal_list.specs.Entries.{AllEntries}
-use Rattle.portal_store.specs.Kept.{IsConsistent, HasChanged, IsTransition, Seen, HasDisk, DiskInMemory, IsCleanStore, KeepsClean, Lasts, LastsInMemory, kept_world}
-use Rattle.portal_store.specs.inner.Kept.{AreEntries, IsKept}
+use Rattle.portal_store.specs.Kept.{HasDisk, DiskInMemory, KeepsClean, Lasts, LastsInMemory}
 use Rattle.portal_store.specs.Crash.{IsLeft}
-use Rattle.portal_store.specs.inner.Ending.{CommitsChange}
-use Rattle.portal_store.specs.inner.Reading.{KeepsCache, KeepsEntries}
+use Rattle.portal_store.specs.inner.Reading.{KeepsEntries}
 
 -- nothing is changed
 pub still : {S : Type 0} (g : Ghosts S) (old new : Held S) (own : Bool) → IsKept g old own → new.in_transaction ≡ false
@@ -47,15 +30,15 @@ lasts_by g old new own few before P is s (Err e) Q leaves up = tt
 -- `old` is the connection at the start of the call and `before` the store, as its caller sees it
 module _
     {S : Type 0}
-    (g : Ghosts S)
+    {g : Ghosts S}
     (change : Change)
-    (old new : Held S)
-    (own : Bool)
-    (few : ℕ)
-    (before : Seen S)
+    {old : Held S}
+    (new : Held S)
+    {own : Bool}
+    {few : ℕ}
+    {before : Seen S}
     (is : ◌≡◌ {A = Seen S} (record { conn = old; own = own; faults = few }) before)
     (kept : IsKept g old own)
-    (idle : new.in_transaction ≡ false)
     (is_own : IsTrue before.own → IsCurrentSchema before.conn.schema)
     (law : IsTrue (state g new).is_open → HasCleanDisk (state g new))
     (good : IsCleanStore g before → Good (kept_world g before))
@@ -91,7 +74,7 @@ module _
 
   module _
       {V E : Type 0}
-      (r : Result V E)
+      {r : Result V E}
       (ends : CommitsChange (IsTransition change) r (state g old) (state g new)) where
     done : IsTrue own → IsTrue (state g new).is_open → OnOk r (Commits (IsTransition change) (state g old) (state g new))
     done mine on = ends.ok (known mine) (law on)
@@ -102,10 +85,10 @@ module _
     kept_by : (r : Result V E) → (IsTrue own → IsTrue (state g new).is_open → OnOk r (Commits (IsTransition change) (state g old) (state g new)))
         → (IsTrue own → IsTrue (state g new).is_open → OnErr r (Stays (state g old) (state g new))) → IsKept g new own
     kept_by (Ok v) did same = record {
-      idle = idle;
+      idle = ends.mode kept.idle;
       ready = λ mine on. let d = did mine on in record { settled = d.settled; holds = (turned mine d).holds };
     }
-    kept_by (Err e) did same = still g old new own kept idle same
+    kept_by (Err e) did same = still g old new own kept (ends.mode kept.idle) same
 
     clean_by : (r : Result V E) → (IsTrue own → IsTrue (state g new).is_open → OnOk r (Commits (IsTransition change) (state g old) (state g new)))
         → (IsTrue own → IsTrue (state g new).is_open → OnErr r (Stays (state g old) (state g new))) → IsCleanStore g (record { conn = new; own = own; faults = few }) → IsCleanStore g seen
@@ -181,18 +164,20 @@ rests g old new own kept mine (inr undone) on =
 
 module _
     {S V E : Type 0}
-    (g : Ghosts S)
-    (old new : Held S)
-    (own : Bool)
-    (few : ℕ)
-    (before : Seen S)
+    {g : Ghosts S}
+    {old : Held S}
+    (new : Held S)
+    {own : Bool}
+    {few : ℕ}
+    {before : Seen S}
     (is : ◌≡◌ {A = Seen S} (record { conn = old; own = own; faults = few }) before)
     (kept : IsKept g old own)
-    (idle : new.in_transaction ≡ false)
     (is_own : IsTrue before.own → IsCurrentSchema before.conn.schema)
     (law : IsTrue (state g new).is_open → HasCleanDisk (state g new))
-    (r : Result V E)
-    (asks : RunsQueryIn Second r (state g old) (state g new)) where
+    {r : Result V E}
+    {Right : Database → Type 0}
+    {Told : Trees → Result V E → Type 0}
+    (reads : Reading Second Anyhow Right Told r (state g old) (state g new)) where
   own_known : IsTrue own → IsCurrentSchema old.schema
   own_known = subst (λ (s : Seen S). IsTrue s.own → IsCurrentSchema s.conn.schema) (sym is) is_own
 
@@ -201,37 +186,35 @@ module _
   either (Err e) a b = b
 
   rest : IsTrue own → IsTrue (state g new).is_open → Stays (state g old) (state g new)
-  rest mine on = rests g old new own kept mine (either r (asks.same (own_known mine) (law on)) (asks.err (own_known mine) (law on))) on
+  rest mine on = rests g old new own kept mine (either r (reads.same (own_known mine) (law on) tt) (reads.err (own_known mine) (law on) tt)) on
+
+  abbrev later : Seen S
+  later = record { conn = new; own = own; faults = few }
 
   pub read_keeps : IsKept g new own
-  read_keeps = still g old new own kept idle rest
+  read_keeps = still g old new own kept (reads.mode kept.idle) rest
 
-  pub read_clean : IsCleanStore g (record { conn = new; own = own; faults = few }) → IsCleanStore g before
+  pub read_clean : IsCleanStore g later → IsCleanStore g before
   read_clean on = subst (λ s. IsCleanStore g s) is (on.0, (rest on.0 on.1).0)
 
-  pub read_same : IsCleanStore g (record { conn = new; own = own; faults = few }) → world_of (state g new).now.trees ≡ kept_world g before
+  pub read_same : IsCleanStore g later → world_of (state g new).now.trees ≡ kept_world g before
   read_same on = ap (λ (d : Database). world_of d.trees) (rest on.0 on.1).1 ∙ ap (λ s. kept_world g s) is
 
-  pub read_lasts : OnOk r (KeepsClean g before (record { conn = new; own = own; faults = few }))
-  read_lasts = lasts_by g old new own few before _ is asks.crash r _ (λ clean mine. asks.same (own_known mine) clean) (λ unchanged. unchanged.0.is_open)
+  pub read_lasts : OnOk r (KeepsClean g before later)
+  read_lasts = lasts_by g old new own few before _ is reads.crash r _ (λ clean mine. reads.same (own_known mine) clean tt) (λ unchanged. unchanged.0.is_open)
 
-  -- what is remembered stays right
-  pub read_shown : (m n : ViewCache) → (IsCleanStore g (record { conn = old; own = own; faults = few }) → IsCacheOf m (world_of (state g old).now.trees)) → KeepsCache m n (state g old) (state g new)
-      → IsCleanStore g (record { conn = new; own = own; faults = few }) → IsCacheOf n (world_of (state g new).now.trees)
-  read_shown m n was cache on =
-      let same = rest on.0 on.1 in
-      subst (λ (d : Database). IsCacheOf n (world_of d.trees)) (sym same.1) (cache (kept.ready on.0 same.0).holds (law on.1) same.0 (was (on.0, same.0)))
+  -- what is told, where a call may rely on what is kept
+  pub read_told : (IsConsistent (state g old).now → IsCleanStore g (record { conn = old; own = own; faults = few }) → Right (state g old).now) → IsCleanStore g later → Told (state g old).now.trees r
+  read_told right on =
+      let was = (rest on.0 on.1).0 in
+      reads.told (own_known on.0) (right (kept.ready on.0 was).holds (on.0, was)) (law on.1)
 
-  -- the entries stay the world's
-  pub read_still : (n : Option AllEntries) → (IsCleanStore g (record { conn = old; own = own; faults = few }) → AreEntries n (world_of (state g old).now.trees))
-      → IsCleanStore g (record { conn = new; own = own; faults = few }) → AreEntries n (world_of (state g new).now.trees)
-  read_still n was on =
-      let same = rest on.0 on.1 in
-      subst (λ (d : Database). AreEntries n (world_of d.trees)) (sym same.1) (was (on.0, same.0))
+  -- what is so of the world before, and what was so, is so of the same world after
+  pub read_so : (P : World → Type 0) → (IsCleanStore g later → P (world_of (state g old).now.trees)) → IsCleanStore g later → P (world_of (state g new).now.trees)
+  read_so P so on = subst (λ (d : Database). P (world_of d.trees)) (sym (rest on.0 on.1).1) (so on)
 
-  -- what is known where a call may rely on what is kept
-  pub read_holds : (P : Type 0) → (IsCurrentSchema old.schema → HasCleanDisk (state g new) → IsConsistent (state g old).now → P) → IsCleanStore g (record { conn = new; own = own; faults = few }) → P
-  read_holds P found on = found (own_known on.0) (law on.1) (kept.ready on.0 (rest on.0 on.1).0).holds
+  pub read_still : (P : World → Type 0) → (IsCleanStore g (record { conn = old; own = own; faults = few }) → P (world_of (state g old).now.trees)) → IsCleanStore g later → P (world_of (state g new).now.trees)
+  read_still P was = read_so P (λ on. was (on.0, (rest on.0 on.1).0))
 
 -- what follows of an answer, whatever it is, from what is said of it under a premise
 pub when_ok : {V E : Type 0} (C : Type 0) (A B : V → Type 0) (r : Result V E) → (C → IfOk r A) → ((v : V) → (C → A v) → B v) → IfOk r B

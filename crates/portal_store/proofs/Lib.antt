@@ -1,3 +1,4 @@
+pub mod Base
 pub mod Absent
 pub mod Adding
 pub mod Again
@@ -18,8 +19,8 @@ pub mod OfficeSeen
 pub mod Opened
 pub mod Placements
 pub mod Queried
+pub mod Readings
 pub mod RankTurns
-pub mod ViewCache
 pub mod Rounds
 pub mod RowsOnce
 pub mod SecondPlacements

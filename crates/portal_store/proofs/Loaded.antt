@@ -1,36 +1,10 @@
 -- From what was read to the world.
-use Rattle.std.proofs.Common.{◌≡◌, ℕ, pos, Bool, true, false, cond, Ok, Err, Result, Option, Some, None, option_map, List, [], ◌∷◌, map, refl, sym, ap, subst, ◌∙◌}
-use Rattle.std.specs.Result.{IsErrAnd}
-use Rattle.std.specs.Prelude.{slice_index_or}
-use Rattle.std.specs.List.{AllByRecursion, filter_map, cons_option}
-use Rattle.std.proofs.lemmas.List.Sorted.{IsPermutation-sym}
-use Rattle.sqlite.specs.Order.{Row, column, bytes}
-use Rattle.sqlite.specs.Tree.{Trees}
-use Rattle.sqlite_trees.specs.Objects.{number_in}
-use Rattle.sqlite_trees.proofs.ListLemmas.{map-map, all_of}
-use Rattle.portal_core.specs.declared.phase.Phase.{Phase}
-use Rattle.portal_core.specs.declared.phase.Round.{Round}
-use Rattle.portal_core.specs.declared.phase.Round.TheVariants.{First, Second}
-use Rattle.portal_core.specs.Words.{Key, put_all}
-use Rattle.portal_core.specs.World.{World, Lecturer, Student, pairs_with, is_second, alone, alone_lecturer, alone_student, lecturer_key, project_key, student_key}
-use Rattle.portal_core.proofs.AllLaws.{all_weaker, all_map}
-use Rattle.portal_core.proofs.Keys.{all_unmap}
-use Rattle.portal_list.specs.Rows.{RowsOfWorld, world_rows, choices_in, rankings_with}
-use Rattle.portal_tables.specs.Tables.{portal_tree, lecturer_tree, project_tree, student_tree, second_tree, version}
-use Rattle.portal_tables.specs.Rows.{portal_row, second_row}
-use Rattle.portal_tables.specs.ListTables.{tree_of}
-use Rattle.portal_tables.specs.Office.{number_of_phase}
-use Rattle.portal_tables.specs.Rolls.{row_key}
-use Rattle.portal_tables.specs.inner.Rolls.{by_key, lecturers_shown, projects_shown, students_shown, lecturer_columns, roll_columns}
-use Rattle.portal_store.specs.World.{round_in, world_in, phase_numbered, second_phase, choice_table, ranking_table, is_ranked, lecturer_stored, student_stored, project_row}
-use Rattle.portal_tables.specs.Lists.{of_key, chosen, IsWhole}
-use Rattle.portal_store.specs.Kept.{Whole}
-use Rattle.portal_store.specs.inner.Loads.{Loads, LoadsIn, after_first}
-use Rattle.portal_tables.specs.inner.Shown.{shown_lecturer, shown_project, shown_student}
-use Rattle.portal_tables.specs.inner.Placements.{pair_shown}
-use Rattle.portal_tables.specs.inner.Owners.{entry, has_list, IsRead}
-use Rattle.portal_views.specs.inner.Contents.{AllRows, AreRead, rows_from}
-use Rattle.portal_tables.proofs.Sorted.{all_permuted, map_alike, permutes, put_all_map}
+use Rattle.portal_store.proofs.Base.{◌≡◌, ℕ, pos, Bool, true, false, cond, Option, Some, None, option_map, List, [], ◌∷◌, map, refl, sym, ap, subst, ◌∙◌, slice_index_or, AllByRecursion, filter_map, cons_option, IsPermutation-sym, Row, column, bytes, Trees, number_in, map-map, all_of, Phase, Round, First, Second, Key, put_all, World, Lecturer, Student, pairs_with, is_second, alone, alone_student, lecturer_key, project_key, student_key, all_weaker, all_map, all_unmap, RowsOfWorld, world_rows, portal_tree, lecturer_tree, project_tree, student_tree, second_tree, version, portal_row, second_row, row_key, tree_of, number_of_phase, by_key, lecturers_shown, projects_shown, students_shown, lecturer_columns, roll_columns, round_in, world_in, phase_numbered, choice_table, ranking_table, is_ranked, lecturer_stored, student_stored, project_row, of_key, chosen, IsWhole, Whole, LoadsIn, shown_lecturer, shown_project, shown_student, pair_shown, has_list, AllRows, AreRead, rows_from, all_permuted, map_alike, permutes, put_all_map}
+use Rattle.portal_core.specs.World.{alone_lecturer}
+use Rattle.portal_list.specs.Rows.{choices_in, rankings_with}
+use Rattle.portal_store.specs.World.{second_phase}
+use Rattle.portal_store.specs.inner.Loads.{Loads, after_first}
+use Rattle.portal_tables.specs.inner.Owners.{entry, IsRead}
 use Rattle.portal_store.proofs.Rounds.{phase_back}
 use Rattle.portal_store.proofs.RowsOnce.{HasNothingBefore, nothing_before}
 
@@ -279,11 +253,6 @@ module _ (db : Trees) where
     whole = (loads.whole, whole_is Second db read.1);
     rows_are = ap (after_first first phase) read.0 ∙ after_rows first phase loads.rows_are row;
   }
-
--- an error that is handed on is the one that was answered
-pub same_error : {V U E : Type 0} (r : Result V E) (e want : E) → IsErrAnd r (λ f. f ≡ e) → r ≡ Err want → ◌≡◌ {A = Result U E} (Err e) (Err want)
-same_error (Ok v) e want is damaged = absurd (cc)
-same_error (Err f) e want is damaged = cc
 
 -- in the first round nothing was before
 pub nothing_earlier : (round : Round) (db : Trees) → is_second (world_in round db).round ≡ false → HasNothingBefore (world_in round db)

@@ -1,35 +1,13 @@
 -- What the office sees, of what queries show.
-use Rattle.std.proofs.Common.{◌≡◌, Bool, true, false, ◌&&◌, cond, Option, Some, None, option_map, List, [], ◌∷◌, map, filter, refl, sym, ap, ◌∙◌}
-use Rattle.std.specs.Prelude.{if◌then◌else◌, is_none}
-use Rattle.std.specs.List.{list_any, filter_map, cons_option}
-use Rattle.sqlite.specs.Order.{Row}
-use Rattle.sqlite.specs.Tree.{Trees}
-use Rattle.sqlite.specs.Effect.{Database}
-use Rattle.sqlite_trees.proofs.ListLemmas.{filter-map, map-map}
-use Rattle.portal_core.specs.declared.phase.Phase.{Phase}
-use Rattle.portal_core.specs.declared.rows.Listing.{Listing}
-use Rattle.portal_core.specs.declared.rows.ProjectRow.{ProjectRow}
-use Rattle.portal_core.specs.Words.{Key, equals, has, is_empty}
-use Rattle.portal_core.specs.World.{Lecturer, Student, students_in, is_left, is_still_to_rank, is_from_ranking, pairs_of, shown_placement}
-use Rattle.portal_core.specs.View.{catalogue, office_sees}
-use Rattle.portal_core.proofs.AllLaws.{all_weaker, any_map}
-use Rattle.portal_core.specs.declared.phase.Round.{Round}
-use Rattle.portal_core.specs.declared.phase.Round.TheVariants.{First, Second}
+use Rattle.portal_store.proofs.Base.{◌≡◌, Bool, true, false, ◌&&◌, cond, Option, Some, None, option_map, List, [], ◌∷◌, map, filter, refl, sym, ap, ◌∙◌, if◌then◌else◌, is_none, list_any, filter_map, cons_option, Row, Trees, Database, filter-map, map-map, Phase, Listing, ProjectRow, Key, equals, has, is_empty, Lecturer, Student, students_in, is_left, is_still_to_rank, is_from_ranking, shown_placement, catalogue, all_weaker, Round, First, Second, ranking_table, tree_of, has_list, choice_shown, lecturer_tree, student_tree, row_key, by_key, lecturers_shown, projects_shown, students_shown, lecturer_columns, roll_columns, chosen, first_cell, shown_project, pair_shown, office_shown, IsConsistentIn, Whole, world_in, is_ranked, lecturer_stored, student_stored, student_from}
+use Rattle.portal_core.specs.World.{pairs_of}
+use Rattle.portal_core.specs.View.{office_sees}
+use Rattle.portal_core.proofs.AllLaws.{any_map}
 use Rattle.portal_list.specs.inner.Shown.{is_wanted, is_waiting}
 use Rattle.portal_list.proofs.Waiting.{waiting_lecturers}
-use Rattle.portal_tables.specs.ListTables.{ranking_table, tree_of}
-use Rattle.portal_tables.specs.inner.Owners.{has_list, choice_shown}
-use Rattle.portal_tables.specs.Tables.{lecturer_tree, student_tree}
-use Rattle.portal_tables.specs.Rolls.{row_key}
-use Rattle.portal_tables.specs.inner.Rolls.{by_key, lecturers_shown, projects_shown, students_shown, lecturer_columns, roll_columns}
-use Rattle.portal_tables.specs.Lists.{chosen}
-use Rattle.portal_tables.specs.inner.Shown.{first_cell, shown_project}
-use Rattle.portal_tables.specs.inner.Placements.{pair_shown}
 use Rattle.portal_tables.proofs.OneFound.{filter_alike}
-use Rattle.portal_views.specs.inner.Office.{HasWholeLists, is_chosen_shown, is_wanted_shown, waiting_key, waiting_keys, unlisted, office_shown}
-use Rattle.portal_store.specs.Kept.{IsConsistentIn, AreWhole, Whole}
-use Rattle.portal_store.specs.World.{world_in, is_ranked, lecturer_stored, student_stored}
-use Rattle.portal_store.specs.inner.Queried.{student_from}
+use Rattle.portal_views.specs.inner.Office.{HasWholeLists, is_chosen_shown, is_wanted_shown, waiting_key, waiting_keys, unlisted}
+use Rattle.portal_store.specs.Kept.{AreWhole}
 use Rattle.portal_store.proofs.Holding.{has_tables}
 use Rattle.portal_store.proofs.Loaded.{none_earlier, lecturers_by_key, students_by_key, round_rows, has_ranked, each_found, some_mapped}
 use Rattle.portal_store.proofs.Queried.{student_is}

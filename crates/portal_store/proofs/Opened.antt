@@ -1,32 +1,9 @@
 -- The second round opens by one UPDATE of one row.
-use Rattle.std.proofs.Common.{◌≡◌, Result, ℕ, pos, true, false, not, ◌&&◌, eqb, List, [], ◌∷◌, map, slice_index_or, refl, sym, ap, subst, ◌∙◌}
-use Rattle.std.specs.List.{AllByRecursion, list_any}
-use Rattle.sqlite.specs.Order.{Row, column, bytes}
-use Rattle.sqlite.specs.Effect.{Database}
-use Rattle.sqlite.specs.State.{State}
-use Rattle.sqlite_trees.specs.Objects.{number_in}
-use Rattle.portal_core.specs.declared.phase.Phase.{Phase}
-use Rattle.portal_core.specs.declared.phase.Phase.TheVariants.{Setup, Choosing, Ranking, Published}
-use Rattle.portal_core.specs.declared.phase.Round.{Round}
-use Rattle.portal_core.specs.declared.phase.Round.TheVariants.{First, Second}
-use Rattle.portal_core.specs.Words.{put_all}
-use Rattle.portal_core.specs.World.{World, is_published, is_second, lecturer_key, project_key, student_key}
-use Rattle.portal_core.specs.Change.{Change, Choices, Ranks, Lecturers, Projects, Students, To, Placements, Fill, SecondRound, opened, ranked_before, placed_before}
-use Rattle.portal_tables.specs.Schema.{HasFirstSchema, IsCurrentSchema}
+use Rattle.portal_store.proofs.Base.{◌≡◌, Result, ℕ, pos, true, false, not, ◌&&◌, eqb, List, [], ◌∷◌, map, slice_index_or, refl, sym, ap, subst, ◌∙◌, AllByRecursion, list_any, Row, column, bytes, Database, State, number_in, Phase, Setup, Choosing, Ranking, Published, Round, First, Second, put_all, World, is_published, is_second, lecturer_key, project_key, student_key, Change, Choices, Ranks, Lecturers, Projects, Students, To, Placements, Fill, SecondRound, HasFirstSchema, IsCurrentSchema, of_key, IsWhole, HasOffice, row_key, second_row, MovesSecond, portal_tree, lecturer_tree, project_tree, student_tree, choice_tree, ranking_tree, second_tree, choice2_tree, ranked2_tree, ranking2_tree, assigned2_tree, own_trees, version, apart_one, put_all_map, map_alike, map_twice, phase_numbered, phase_in, lecturer_stored, project_row, student_stored, world_in, IsConsistentIn, Whole, IsTransitionFrom, IsTransitionIn, OpensSecondRound, CommitsChange}
+use Rattle.portal_core.specs.Change.{opened, ranked_before, placed_before}
 use Rattle.portal_tables.specs.inner.Changes.{Becomes}
-use Rattle.portal_tables.specs.Lists.{of_key, IsWhole}
-use Rattle.portal_tables.specs.Office.{HasOffice}
-use Rattle.portal_tables.specs.Rolls.{row_key}
-use Rattle.portal_tables.specs.Rows.{second_row}
-use Rattle.portal_tables.specs.inner.Rows.{MovesSecond}
-use Rattle.portal_tables.specs.Tables.{portal_tree, lecturer_tree, project_tree, student_tree, choice_tree, ranking_tree, second_tree, choice2_tree, ranked2_tree, ranking2_tree, assigned2_tree, own_trees, version}
-use Rattle.portal_tables.proofs.Keeping.{apart_one}
-use Rattle.portal_tables.proofs.Sorted.{put_all_map, map_alike, map_twice}
-use Rattle.portal_store.specs.World.{phase_numbered, phase_in, lecturer_stored, project_row, student_stored, world_in}
-use Rattle.portal_store.specs.Kept.{IsConsistentIn, Whole}
-use Rattle.portal_store.specs.inner.Kept.{HasChangedFrom, IsTransitionFrom, IsTransitionIn}
-use Rattle.portal_store.specs.inner.Opening.{OpensSecondRound, is_opening}
-use Rattle.portal_store.specs.inner.Ending.{CommitsChange}
+use Rattle.portal_store.specs.inner.Kept.{HasChangedFrom}
+use Rattle.portal_store.specs.inner.Opening.{is_opening}
 use Rattle.portal_store.proofs.Ended.{ends_more}
 use Rattle.portal_store.proofs.Rounds.{from_in, world_told}
 use Rattle.portal_store.proofs.SecondRows.{lecturer_after, student_after}

@@ -1,41 +1,12 @@
 -- What the UPDATEs of the students' places are to the world.
-use Rattle.std.proofs.Common.{◌≡◌, inl, inr, true, ◌||◌, cond, Option, Some, None, List, [], ◌∷◌, map, filter, refl, sym, ap, subst, subst₂, ◌∙◌}
-use Rattle.std.proofs.lemmas.Bool.{cases_Bool}
-use Rattle.std.specs.List.{AllByRecursion}
-use Rattle.std.specs.List.Sorted.{IsPermutation}
-use Rattle.std.proofs.lemmas.List.Sorted.{IsPermutation-sym, IsPermutation-map}
+use Rattle.portal_store.proofs.Base.{◌≡◌, inl, inr, true, ◌||◌, cond, Option, Some, None, List, [], ◌∷◌, map, filter, refl, sym, ap, subst, subst₂, ◌∙◌, cases_Bool, AllByRecursion, IsPermutation, IsPermutation-sym, IsPermutation-map, Row, column, Database, State, Made, GoesOn, Published, First, Key, equals, has, Rise, put_all, World, Student, student_key, placement_in, with_place, Good, is_same, all_unmap, map_same, all_map, place_row, student_tree, choice_tree, has_text, row_key, text_or_none, columns, every, MovesTo, Assigns, IsConsistentIn, of_key, IsWhole, first_cell, world_in, assigned_of, ShowsRoll, TurnsShown, filter_all, all_permuted, put_same, put_all_map, map_twice, map_alike, map_alike_on, at, IsStudentRow, student_rows_formed, goes_then}
 use Rattle.sqlite.specs.declared.types.Value.{Value}
-use Rattle.sqlite.specs.Order.{Row, column}
-use Rattle.sqlite.specs.Effect.{Database}
-use Rattle.sqlite.specs.State.{State}
-use Rattle.portal_tables.specs.inner.Steps.{Made, GoesOn}
-use Rattle.portal_core.specs.declared.phase.Phase.TheVariants.{Published}
-use Rattle.portal_core.specs.declared.phase.Round.TheVariants.{First}
-use Rattle.portal_core.specs.Words.{Key, equals, has, Rise, put_all}
-use Rattle.portal_core.specs.World.{World, Student, student_key}
-use Rattle.portal_core.specs.Change.{placement_in, with_place}
-use Rattle.portal_core.specs.Good.{Good}
-use Rattle.portal_core.proofs.Keys.{is_same, all_unmap}
-use Rattle.portal_core.proofs.AllLaws.{map_same, all_map}
-use Rattle.portal_core.proofs.Kept.{place_row}
-use Rattle.portal_tables.specs.Tables.{student_tree, choice_tree}
-use Rattle.portal_tables.specs.Changes.{has_text}
-use Rattle.portal_tables.specs.inner.Changes.{columns, every}
-use Rattle.portal_tables.specs.inner.Rows.{MovesTo, Assigns, assigned_by, with_assigned, student_columns, text_cell}
-use Rattle.portal_store.specs.Kept.{IsConsistentIn}
-use Rattle.portal_tables.specs.Lists.{of_key, IsWhole}
-use Rattle.portal_tables.specs.Rolls.{row_key}
-use Rattle.portal_tables.specs.Shown.{text_or_none}
-use Rattle.portal_tables.specs.inner.Shown.{first_cell}
+use Rattle.portal_tables.specs.inner.Rows.{assigned_by, with_assigned, student_columns, text_cell}
 use Rattle.portal_store.proofs.Still.{holds_after, world_after}
-use Rattle.portal_store.specs.World.{world_in}
 use Rattle.portal_store.proofs.FirstRows.{student_of}
-use Rattle.portal_store.specs.inner.Placing.{assigned_of, ShowsRoll, TurnsShown}
-use Rattle.portal_tables.proofs.Lists.{filter_all}
-use Rattle.portal_tables.proofs.Sorted.{all_permuted, put_same, put_all_map, map_twice, map_alike, map_alike_on, at, all_has, has_of}
-use Rattle.portal_tables.proofs.Shapes.{IsStudentRow, student_rows_formed, student_test}
+use Rattle.portal_tables.proofs.Sorted.{all_has, has_of}
+use Rattle.portal_tables.proofs.Shapes.{student_test}
 use Rattle.portal_store.proofs.Holding.{phase_turned}
-use Rattle.portal_tables.proofs.Runs.{goes_then}
 
 text_back : (o : Option Key) → text_or_none (text_cell o) ≡ o
 text_back None = refl

@@ -1,29 +1,9 @@
 -- From what queries show of one caller to what the world says.
-use Rattle.std.proofs.Common.{◌≡◌, Option, option_map, List, [], ◌∷◌, refl, sym, ap, ◌∙◌}
-use Rattle.std.specs.List.{find}
-use Rattle.sqlite.specs.Order.{Row, column, bytes}
-use Rattle.sqlite.specs.Tree.{Trees}
-use Rattle.sqlite.specs.Effect.{Database}
-use Rattle.portal_core.specs.declared.rows.Listing.{Listing}
-use Rattle.portal_core.specs.Words.{Key, equals}
-use Rattle.portal_core.specs.World.{World, Lecturer, Student}
-use Rattle.portal_core.specs.declared.phase.Phase.{Phase}
-use Rattle.portal_core.specs.View.{catalogue, student_sees, lecturer_with, student_with}
-use Rattle.portal_core.proofs.AllLaws.{all_weaker}
-use Rattle.portal_core.specs.declared.phase.Round.{Round}
-use Rattle.portal_core.specs.declared.phase.Round.TheVariants.{First, Second}
-use Rattle.portal_tables.specs.Tables.{lecturer_tree, student_tree}
-use Rattle.portal_tables.specs.Changes.{has_text}
-use Rattle.portal_tables.specs.inner.Changes.{ListsBy, columns}
-use Rattle.portal_store.specs.Kept.{IsConsistentIn}
-use Rattle.portal_tables.specs.inner.Rolls.{lecturer_columns, roll_columns}
-use Rattle.portal_store.specs.World.{world_in, lecturer_stored, student_stored}
+use Rattle.portal_store.proofs.Base.{◌≡◌, Option, option_map, List, [], ◌∷◌, refl, sym, ap, ◌∙◌, find, Row, column, bytes, Trees, Database, Listing, Key, equals, Lecturer, Student, Phase, catalogue, lecturer_with, student_with, all_weaker, Round, First, Second, lecturer_tree, student_tree, has_text, ListsBy, columns, IsConsistentIn, lecturer_columns, roll_columns, world_in, lecturer_stored, student_stored, student_shown, lecturer_from, student_from, IsLecturerRow, IsStudentRow, has_text_of, lecturer_rows_formed, student_rows_formed}
+use Rattle.portal_core.specs.View.{student_sees}
 use Rattle.portal_tables.specs.inner.Shown.{as_list}
-use Rattle.portal_views.specs.inner.Callers.{student_shown}
-use Rattle.portal_store.specs.inner.Queried.{lecturer_from, student_from}
 use Rattle.portal_tables.proofs.OneFound.{found}
 use Rattle.portal_store.proofs.Loaded.{lecturers_by_key, students_by_key}
-use Rattle.portal_tables.proofs.Shapes.{IsLecturerRow, IsStudentRow, has_text_of, lecturer_rows_formed, student_rows_formed}
 
 -- a row of a roll, and as it is shown, stand for one lecturer or student
 pub lecturer_is : (round : Round) (db : Trees) (r : Row) → lecturer_from round db (lecturer_columns r) ≡ lecturer_stored round db r

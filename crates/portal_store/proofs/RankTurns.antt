@@ -1,43 +1,12 @@
 -- Putting a lecturer's ranking turns the tables to the world with that ranking.
-use Rattle.std.proofs.Common.{◌≡◌, inl, inr, ℕ, ℤ, pos, Bool, true, false, not, ◌||◌, cond, Some, None, List, [], ◌∷◌, ◌++◌, map, filter, refl, sym, ap, subst, ◌∙◌}
-use Rattle.std.proofs.lemmas.Bool.{cases_Bool}
-use Rattle.std.specs.List.{AllByRecursion, IsDistinct}
-use Rattle.std.specs.List.Sorted.{IsPermutation}
-use Rattle.std.proofs.lemmas.List.Sorted.{IsPermutation-refl, IsPermutation-trans, IsPermutation-sym, IsPermutation-cons, IsPermutation-middle, IsPermutation-map}
-use Rattle.sqlite.specs.declared.types.Value.TheVariants.{Int}
-use Rattle.sqlite.specs.Order.{Row, column}
-use Rattle.sqlite.specs.Tree.{Trees}
-use Rattle.sqlite.specs.Effect.{Database}
-use Rattle.sqlite.specs.State.{State}
-use Rattle.portal_core.specs.declared.phase.Round.TheVariants.{First}
-use Rattle.portal_core.specs.Words.{Key, equals, has, put_all, Rise}
-use Rattle.portal_core.specs.World.{Lecturer, lecturer_key}
-use Rattle.portal_core.specs.Change.{changed, Ranks, with_ranking}
-use Rattle.portal_core.proofs.Keys.{is_same, is_own}
-use Rattle.portal_core.proofs.AllLaws.{all_weaker, is_sym, map_same}
-use Rattle.portal_list.proofs.Replaced.{ranking_here, ranking_elsewhere}
-use Rattle.portal_tables.specs.Schema.{HasFirstSchema, IsCurrentSchema}
-use Rattle.portal_tables.specs.Tables.{lecturer_tree, ranking_tree, own_trees, version}
-use Rattle.portal_tables.specs.Changes.{RowNumbersDiffer, has_text}
+use Rattle.portal_store.proofs.Base.{◌≡◌, inl, inr, ℕ, pos, Bool, true, false, not, ◌||◌, cond, Some, None, List, [], ◌∷◌, ◌++◌, map, filter, refl, sym, ap, subst, ◌∙◌, cases_Bool, AllByRecursion, IsDistinct, IsPermutation, IsPermutation-refl, IsPermutation-trans, IsPermutation-sym, IsPermutation-cons, IsPermutation-middle, IsPermutation-map, Int, Row, column, Trees, Database, State, First, Key, equals, has, put_all, Rise, Lecturer, lecturer_key, changed, Ranks, with_ranking, is_same, is_own, all_weaker, is_sym, map_same, ranking_here, ranking_elsewhere, HasFirstSchema, IsCurrentSchema, lecturer_tree, ranking_tree, own_trees, version, RowNumbersDiffer, has_text, row_key, Made, GoesOn, put_splits, goes_then, of_key, chosen, IsWhole, world_in, lecturer_row, HasOffice, Whole, IsConsistentIn, HasPut, PutsList, TurnsThere, all_map_on, put_all_map, put_same, distinct_if_rise, map_twice, all_permuted, all_two, IsLecturerRow, lecturer_rows_formed, has_text_of}
+use Rattle.std.proofs.Common.{ℤ}
 use Rattle.portal_tables.specs.inner.Changes.{Sets}
 use Rattle.portal_tables.specs.inner.Rows as rows
 use Rattle.portal_tables.specs.inner.Rows.{lecturer_cells}
-use Rattle.portal_tables.specs.inner.Steps.{Made, GoesOn}
-use Rattle.portal_tables.proofs.Lists.{put_splits}
 use Rattle.portal_tables.proofs.Keeping.{sets_apart}
-use Rattle.portal_tables.proofs.Runs.{goes_then}
-use Rattle.portal_tables.specs.Lists.{of_key, chosen, IsWhole}
 use Rattle.portal_store.proofs.Still.{but_two, two_changed, world_same, whole_same, kept_at, apart_kept, second_kept}
-use Rattle.portal_store.specs.World.{world_in, lecturer_row}
 use Rattle.portal_store.proofs.FirstRows.{lecturer_of, has_ranking}
-use Rattle.portal_tables.specs.Rolls.{row_key}
-use Rattle.portal_tables.specs.Office.{HasOffice}
-use Rattle.portal_store.specs.Kept.{Whole, IsConsistentIn}
-use Rattle.portal_tables.specs.inner.Putting.{HasPut, PutsList}
-use Rattle.portal_store.specs.inner.Putting.{TurnsThere}
-use Rattle.portal_tables.proofs.Listed.{all_map_on}
-use Rattle.portal_tables.proofs.Sorted.{put_all_map, put_same, distinct_if_rise, map_twice, all_permuted, all_two}
-use Rattle.portal_tables.proofs.Shapes.{IsLecturerRow, lecturer_rows_formed, has_text_of}
 use Rattle.portal_store.proofs.ChoiceTurns.{chosen_is, whole_at}
 
 -- a row among others

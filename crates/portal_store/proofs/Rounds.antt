@@ -1,28 +1,8 @@
 -- The round of the tables, and the world that they stand for in it.
-use Rattle.std.proofs.Common.{◌≡◌, pos, true, false, [], ◌∷◌, slice_index_or, refl, sym, ap, subst, ◌∙◌, List, map}
-use Rattle.sqlite.specs.Order.{column, bytes, Row}
-use Rattle.sqlite.specs.Tree.{Trees}
-use Rattle.sqlite.specs.Effect.{Database}
-use Rattle.sqlite_trees.specs.Objects.{number_in}
-use Rattle.portal_core.specs.declared.phase.Phase.{Phase}
-use Rattle.portal_core.specs.declared.phase.Phase.TheVariants.{Setup, Choosing, Ranking, Published}
-use Rattle.portal_core.specs.declared.phase.Round.{Round}
-use Rattle.portal_core.specs.declared.phase.Round.TheVariants.{First, Second}
-use Rattle.portal_core.specs.World.{is_setup, lecturer_key}
-use Rattle.portal_core.specs.Change.{Change, changed}
-use Rattle.portal_core.specs.Good.{Good}
-use Rattle.portal_core.specs.Words.{Key}
-use Rattle.portal_tables.specs.Tables.{portal_tree, second_tree, version}
-use Rattle.portal_tables.specs.Office.{number_of_phase}
-use Rattle.portal_tables.specs.declared.office.Office.{Office}
-use Rattle.portal_store.specs.inner.Reading.{IsNow}
-use Rattle.portal_tables.specs.Rows.{portal_row, second_row}
-use Rattle.portal_store.specs.World.{world_in, world_of, phase_numbered, phase_in, round_by, round_in, lecturer_stored}
+use Rattle.portal_store.proofs.Base.{◌≡◌, pos, true, false, [], ◌∷◌, slice_index_or, refl, sym, ap, subst, ◌∙◌, List, map, column, bytes, Row, Trees, Database, number_in, Phase, Setup, Choosing, Ranking, Published, Round, First, Second, is_setup, lecturer_key, Change, changed, Good, Key, portal_tree, second_tree, version, number_of_phase, Office, IsNow, portal_row, second_row, row_key, world_in, world_of, phase_numbered, phase_in, round_in, lecturer_stored, HasSecond, IsConsistent, IsConsistentIn, HasGoodWorld, HasGoodWorldIn, HasChanged, IsTransitionFrom, IsTransitionIn, map_alike, map_twice}
+use Rattle.portal_store.specs.World.{round_by}
 use Rattle.portal_store.specs.inner.Asked.{IsJudged}
-use Rattle.portal_store.specs.Kept.{AreEmpty, HasSecond, IsConsistent, IsConsistentIn, HasGoodWorld, HasGoodWorldIn, HasChanged}
-use Rattle.portal_store.specs.inner.Kept.{IsTransitionFrom, IsTransitionIn}
-use Rattle.portal_tables.specs.Rolls.{row_key}
-use Rattle.portal_tables.proofs.Sorted.{map_alike, map_twice}
+use Rattle.portal_store.specs.Kept.{AreEmpty}
 
 -- a phase other than setup is that of a second round
 by_phase : (p : Phase) → is_setup p ≡ false → round_by (number_in (column (slice_index_or (second_row (pos (number_of_phase p)) ∷ []) 0 []) 2)) ≡ Second

@@ -1,18 +1,8 @@
 -- The rows of a sound world are those of no other world; of the first round, of none that has nothing earlier.
-use Rattle.std.proofs.Common.{◌≡◌, false, map, refl, sym, ◌∙◌, ap, subst}
-use Rattle.std.specs.Prelude.{Some, None, []}
-use Rattle.std.specs.List.{AllByRecursion}
-use Rattle.portal_core.specs.declared.rows.LecturerRow.{LecturerRow}
-use Rattle.portal_core.specs.declared.rows.StudentRow.{StudentRow}
-use Rattle.portal_core.specs.Words.{Rise}
-use Rattle.portal_core.specs.World.{World, Lecturer, Student, alone, alone_student, is_second}
-use Rattle.portal_core.specs.Good.{Sound}
-use Rattle.portal_core.proofs.AllLaws.{all_map}
+use Rattle.portal_store.proofs.Base.{◌≡◌, false, map, refl, sym, ◌∙◌, ap, subst, Some, None, [], AllByRecursion, LecturerRow, StudentRow, Rise, World, Lecturer, Student, alone, alone_student, is_second, Sound, all_map, RowsOfWorld, world_rows, map-map}
 use Rattle.portal_core.proofs.Capacities.{each_one}
-use Rattle.portal_list.specs.Rows.{RowsOfWorld, world_rows}
 use Rattle.portal_list.specs.inner.Fit.{lecturers_fitting, students_fitting}
 use Rattle.portal_list.proofs.Fitting.{lecturers_back, students_back}
-use Rattle.sqlite_trees.proofs.ListLemmas.{map-map}
 
 same_some : {X : Type 0} (x y : X) → Some x ≡ Some y → x ≡ y
 same_some x y e = cc

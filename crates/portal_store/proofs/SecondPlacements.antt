@@ -1,46 +1,15 @@
 -- What the rows of the second round's result are to the world.
-use Rattle.std.proofs.Common.{◌≡◌, inl, inr, ℕ, pos, ◌+ℤ◌, ◌+◌, ◌<◌, Bool, true, false, ◌||◌, cond, if◌then◌else◌, Option, Some, None, option_map, List, [], ◌∷◌, ◌++◌, map, append_assoc, append-nil, refl, sym, ap, subst, ◌∙◌, arith, Less}
-use Rattle.std.specs.Prelude.{is_none}
-use Rattle.std.proofs.lemmas.Bool.{cases_Bool}
-use Rattle.std.proofs.lemmas.Bool.Decides.{nat_tests}
-use Rattle.std.proofs.lemmas.List.{map-append}
+use Rattle.portal_store.proofs.Base.{◌≡◌, inl, inr, ℕ, pos, ◌+◌, ◌<◌, Bool, true, false, ◌||◌, cond, if◌then◌else◌, Option, Some, None, option_map, List, [], ◌∷◌, ◌++◌, map, refl, sym, ap, subst, ◌∙◌, arith, is_none, cases_Bool, nat_tests, map-append, AllByRecursion, IsDistinct, find, filter_map, cons_option, IsPermutation, IsPermutation-sym, Null, Int, Row, column, bytes, next_rowid, Trees, put_row, Database, State, Has, Published, Second, Key, equals, has, put_all, Student, is_left, student_key, placement_in, with_place, Good, is_same, is_own, all_unmap, all_map, all_append, all_weaker, is_sym, place_row, columns, every, with_rows, row_key, text_or_none, MovesSecond, Made, GoesOn, first_cell, student_tree, assigned2_tree, filter_all, goes_then, all_permuted, at, distinct_if_rise, map_alike_on, map_twice, permutes, put_all_map, world_in, student_stored, IsConsistentIn, pair_left, ShowsRoll, TurnsLeft}
+use Rattle.std.proofs.Common.{◌+ℤ◌, append_assoc, append-nil, Less}
 use Rattle.std.proofs.lemmas.Int.{ints}
-use Rattle.std.specs.List.{AllByRecursion, IsDistinct, find, filter_map, cons_option}
-use Rattle.std.specs.List.Sorted.{IsPermutation}
-use Rattle.std.proofs.lemmas.List.Sorted.{IsPermutation-sym}
-use Rattle.sqlite.specs.declared.types.Value.TheVariants.{Null, Int}
-use Rattle.sqlite.specs.Order.{Row, column, bytes, value_cmp}
-use Rattle.sqlite.specs.Edit.{next_rowid}
-use Rattle.sqlite.specs.Tree.{Trees, put_row, rowid}
-use Rattle.sqlite.specs.Effect.{Database}
-use Rattle.sqlite.specs.State.{State}
+use Rattle.sqlite.specs.Order.{value_cmp}
+use Rattle.sqlite.specs.Tree.{rowid}
 use Rattle.sqlite_rules.proofs.TableLemmas.{next_after}
 use Rattle.sqlite_value.proofs.OrderLemmas.{value_cmp-Int}
-use Rattle.sqlite_rules.specs.Lists.{Has}
-use Rattle.portal_core.specs.declared.phase.Phase.TheVariants.{Published}
-use Rattle.portal_core.specs.declared.phase.Round.TheVariants.{Second}
-use Rattle.portal_core.specs.Words.{Key, equals, has, put_all}
-use Rattle.portal_core.specs.World.{Student, is_left, student_key}
-use Rattle.portal_core.specs.Change.{placement_in, with_place}
-use Rattle.portal_core.specs.Good.{Good}
-use Rattle.portal_core.proofs.Keys.{is_same, is_own, find_map, all_unmap}
-use Rattle.portal_core.proofs.AllLaws.{all_map, all_append, all_weaker, is_sym}
-use Rattle.portal_core.proofs.Kept.{place_row}
-use Rattle.portal_tables.specs.inner.Changes.{columns, every, with_rows}
-use Rattle.portal_tables.specs.Rolls.{row_key}
+use Rattle.portal_core.proofs.Keys.{find_map}
 use Rattle.portal_tables.specs.inner.Putting.{HasPlacements, PutsPlacements}
-use Rattle.portal_tables.specs.inner.Rows.{MovesSecond, pair_new}
-use Rattle.portal_tables.specs.inner.Steps.{Made, GoesOn}
-use Rattle.portal_tables.specs.Shown.{text_or_none}
-use Rattle.portal_tables.specs.inner.Shown.{first_cell}
-use Rattle.portal_tables.specs.Tables.{student_tree, assigned2_tree}
-use Rattle.portal_tables.proofs.Lists.{filter_all}
+use Rattle.portal_tables.specs.inner.Rows.{pair_new}
 use Rattle.portal_tables.proofs.Listed.{permuted}
-use Rattle.portal_tables.proofs.Runs.{goes_then}
-use Rattle.portal_tables.proofs.Sorted.{all_permuted, at, distinct_if_rise, map_alike_on, map_twice, permutes, put_all_map}
-use Rattle.portal_store.specs.World.{world_in, student_stored}
-use Rattle.portal_store.specs.Kept.{IsConsistentIn}
-use Rattle.portal_store.specs.inner.Placing.{pair_left, ShowsRoll, TurnsLeft}
 use Rattle.portal_store.proofs.Holding.{second_turned}
 use Rattle.portal_store.proofs.Placements.{now_published, shown_known}
 use Rattle.portal_store.proofs.Still.{but_one, opened_kept, holds_there, world_after}

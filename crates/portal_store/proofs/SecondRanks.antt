@@ -1,28 +1,6 @@
 -- Putting a lecturer's ranking of the second round turns the tables to the world with that ranking.
-use Rattle.std.proofs.Common.{◌≡◌, inl, inr, true, false, ◌||◌, cond, Some, None, List, [], map, refl, sym, ap, subst, ◌∙◌}
-use Rattle.std.proofs.lemmas.Bool.{cases_Bool}
-use Rattle.std.specs.List.{AllByRecursion}
-use Rattle.sqlite.specs.Order.{Row}
-use Rattle.sqlite.specs.Tree.{Trees}
-use Rattle.sqlite.specs.Effect.{Database}
-use Rattle.sqlite.specs.State.{State}
-use Rattle.portal_core.specs.declared.phase.Round.TheVariants.{Second}
-use Rattle.portal_core.specs.Words.{Key, equals, has, put_all}
-use Rattle.portal_core.specs.World.{Lecturer, lecturer_key}
-use Rattle.portal_core.specs.Change.{changed, Ranks, with_ranking}
-use Rattle.portal_core.proofs.AllLaws.{all_weaker}
-use Rattle.portal_tables.specs.Schema.{IsCurrentSchema}
-use Rattle.portal_tables.specs.Changes.{RowNumbersDiffer}
-use Rattle.portal_tables.specs.Lists.{of_key, chosen}
-use Rattle.portal_tables.specs.inner.Putting.{HasPut, PutsList, HasRanked, RanksSecond}
-use Rattle.portal_tables.specs.Rolls.{row_key}
-use Rattle.portal_tables.specs.inner.Steps.{Made, GoesOn}
-use Rattle.portal_tables.specs.Tables.{ranked2_tree, ranking2_tree, own_trees}
-use Rattle.portal_tables.proofs.Runs.{goes_then}
-use Rattle.portal_tables.proofs.Sorted.{put_all_map, map_alike, map_twice}
-use Rattle.portal_store.specs.World.{world_in, lecturer_stored, is_ranked}
-use Rattle.portal_store.specs.Kept.{Whole, IsConsistentIn}
-use Rattle.portal_store.specs.inner.Putting.{TurnsThere}
+use Rattle.portal_store.proofs.Base.{◌≡◌, inl, inr, true, false, ◌||◌, cond, Some, None, List, [], map, refl, sym, ap, subst, ◌∙◌, cases_Bool, AllByRecursion, Row, Trees, Database, State, Second, Key, equals, has, put_all, Lecturer, lecturer_key, changed, Ranks, with_ranking, all_weaker, IsCurrentSchema, RowNumbersDiffer, row_key, of_key, chosen, HasPut, PutsList, RanksSecond, Made, GoesOn, ranked2_tree, ranking2_tree, own_trees, goes_then, put_all_map, map_alike, map_twice, world_in, lecturer_stored, is_ranked, Whole, IsConsistentIn, TurnsThere}
+use Rattle.portal_tables.specs.inner.Putting.{HasRanked}
 use Rattle.portal_store.proofs.ChoiceTurns.{chosen_is, whole_at}
 use Rattle.portal_store.proofs.RankTurns.{same_key}
 use Rattle.portal_store.proofs.Still.{but_two, two_changed, world_same, whole_same, kept_at, apart_kept, first_kept, first_then, opened_kept, holds_second}

@@ -1,13 +1,5 @@
 -- What the rows of the rolls stand for in the second round, by the rows of the lists and places of both.
-use Rattle.std.specs.Prelude.{if◌then◌else◌, List, map, Some, None, option_map}
-use Rattle.std.specs.List.{find}
-use Rattle.sqlite.specs.Order.{Row, column, bytes}
-use Rattle.portal_core.specs.Words.{equals, has}
-use Rattle.portal_core.specs.World.{Lecturer, Student}
-use Rattle.portal_tables.specs.Lists.{chosen}
-use Rattle.portal_tables.specs.Rolls.{row_key}
-use Rattle.portal_tables.specs.Shown.{text_or_none}
-use Rattle.portal_store.specs.World.{lecturer_row, student_row}
+use Rattle.portal_store.proofs.Base.{if◌then◌else◌, List, map, Some, None, option_map, find, Row, column, bytes, equals, has, Lecturer, Student, chosen, row_key, text_or_none, lecturer_row, student_row}
 use Rattle.portal_store.proofs.FirstRows.{has_ranking}
 
 -- of those with a ranking of the second round, the rankings of it, and those of the first

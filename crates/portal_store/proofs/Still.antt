@@ -1,28 +1,10 @@
 -- What stays where one or two tables have changed.
-use Rattle.std.proofs.Common.{◌≡◌, ◌≢◌, inl, inr, ℕ, Bool, true, false, not, ◌||◌, cond, eqb, if◌then◌else◌, List, [], ◌∷◌, slice_index_or, refl, sym, ap, subst, ◌∙◌}
-use Rattle.std.specs.List.{AllByRecursion, list_all, list_any}
+use Rattle.portal_store.proofs.Base.{◌≡◌, ◌≢◌, inl, inr, ℕ, Bool, true, false, not, ◌||◌, cond, eqb, if◌then◌else◌, List, [], ◌∷◌, slice_index_or, refl, sym, ap, subst, ◌∙◌, AllByRecursion, list_all, list_any, column, Database, IsDatabase, number_in, with_tree, Round, First, Second, all_weaker, HasFirstSchema, IsCurrentSchema, RowNumbersDiffer, row_key, Keeps, HasOffice, tree_of, of_key, IsWhole, portal_tree, lecturer_tree, student_tree, second_tree, first_trees, own_trees, version, others_are, parts_of, all_two, choice_table, ranking_table, is_ranked, phase_numbered, world_in, AllNumbersDiffer, IsUnopened, IsConsistentIn, Whole}
 use Rattle.std.proofs.lemmas.Bool.{eqb-false}
 use Rattle.std.proofs.lemmas.Bool.Decides.{eqb_tells}
-use Rattle.sqlite.specs.Order.{column}
-use Rattle.sqlite.specs.Effect.{Database, IsDatabase}
-use Rattle.sqlite_trees.specs.Objects.{number_in}
-use Rattle.sqlite_trees.specs.Tree.{Trees, with_tree}
-use Rattle.portal_core.specs.declared.phase.Round.{Round}
-use Rattle.portal_core.specs.declared.phase.Round.TheVariants.{First, Second}
-use Rattle.portal_core.proofs.AllLaws.{all_weaker}
-use Rattle.portal_tables.specs.Schema.{HasFirstSchema, IsCurrentSchema}
-use Rattle.portal_tables.specs.Changes.{RowNumbersDiffer}
-use Rattle.portal_tables.specs.inner.Changes.{Keeps}
-use Rattle.portal_tables.specs.Office.{HasOffice}
-use Rattle.portal_tables.specs.ListTables.{tree_of}
-use Rattle.portal_tables.specs.Lists.{of_key, IsWhole}
-use Rattle.portal_tables.specs.Rolls.{row_key}
-use Rattle.portal_tables.specs.Tables.{portal_tree, lecturer_tree, student_tree, second_tree, first_trees, second_trees, own_trees, version}
-use Rattle.portal_tables.proofs.Keeping.{others_are}
-use Rattle.portal_tables.proofs.Making.{parts_of}
-use Rattle.portal_tables.proofs.Sorted.{all_two}
-use Rattle.portal_store.specs.World.{choice_table, ranking_table, is_ranked, phase_numbered, world_in}
-use Rattle.portal_store.specs.Kept.{AllNumbersDiffer, IsUnopened, IsOpened, IsConsistentIn, Whole}
+use Rattle.sqlite_trees.specs.Tree.{Trees}
+use Rattle.portal_tables.specs.Tables.{second_trees}
+use Rattle.portal_store.specs.Kept.{IsOpened}
 
 -- numbers of rows differ, where they do in the one table that has changed
 pub apart_among : (trees : List ℕ) (tree : ℕ) (old new : Trees) → AllByRecursion (λ t. t ≢ tree → new t ≡ old t) trees → RowNumbersDiffer (new tree) → AllNumbersDiffer trees old → AllNumbersDiffer trees new

@@ -1,32 +1,15 @@
 -- Tables of version 1 that were upgraded stand for the world that they stood for.
-use Rattle.std.proofs.Common.{◌≡◌, pos, Bool, false, ◌||◌, IsTrue, List, [], ◌∷◌, slice_index_or, refl, sym, ap, subst, ◌∙◌}
-use Rattle.std.specs.List.{AllByRecursion, AllZip, list_any}
-use Rattle.sqlite.specs.Order.{column, bytes}
-use Rattle.sqlite.specs.Effect.{Database}
-use Rattle.sqlite.specs.Store.{Ghosts}
-use Rattle.sqlite.specs.Held.{Held, state}
-use Rattle.sqlite_trees.specs.Objects.{number_in}
-use Rattle.sqlite_trees.specs.Tree.{Trees, with_tree}
+use Rattle.portal_store.proofs.Base.{◌≡◌, pos, Bool, false, ◌||◌, IsTrue, List, [], ◌∷◌, slice_index_or, refl, sym, ap, subst, ◌∙◌, AllByRecursion, list_any, column, bytes, Database, Ghosts, Held, state, number_in, with_tree, First, Good, portal_tree, first_trees, version, first_version, IsFirstSchema, Upgrades, has_names, OfSecond, HasOffice, number_of_phase, portal_row, Commits, apart_one, current_own, world_in, world_of, phase_numbered, IsConsistentIn, IsUnopened, HasGoodWorld, HasGoodFirst, IsKept, AdmitsAs}
+use Rattle.std.specs.List.{AllZip}
+use Rattle.sqlite_trees.specs.Tree.{Trees}
 use Rattle.sqlite.specs.Table.{Table}
 use Rattle.sqlite.specs.Schema.{Schema}
 use Rattle.sqlite_tied.specs.Compute.{everything}
-use Rattle.portal_core.specs.declared.phase.Round.TheVariants.{First}
-use Rattle.portal_core.specs.Good.{Good}
-use Rattle.portal_tables.specs.Tables.{portal_tree, first_trees, version, first_version, first_schema}
-use Rattle.portal_tables.specs.Schema.{IsFirstSchema, SameTable}
-use Rattle.portal_tables.specs.Making.{Upgraded, Upgrades}
-use Rattle.portal_tables.specs.Names.{has_name, has_names, is_named_table, is_named_view}
+use Rattle.portal_tables.specs.Tables.{first_schema}
+use Rattle.portal_tables.specs.Schema.{SameTable}
+use Rattle.portal_tables.specs.Making.{Upgraded}
+use Rattle.portal_tables.specs.Names.{has_name, is_named_table, is_named_view}
 use Rattle.portal_tables.specs.declared.names.Names.{Names}
-use Rattle.portal_tables.specs.declared.names.Names.TheVariants.{OfSecond}
-use Rattle.portal_tables.specs.Office.{HasOffice, number_of_phase}
-use Rattle.portal_tables.specs.Rows.{portal_row}
-use Rattle.portal_tables.specs.Steps.{Commits}
-use Rattle.portal_tables.proofs.Keeping.{apart_one}
-use Rattle.portal_tables.proofs.Owned.{current_own}
-use Rattle.portal_store.specs.World.{world_in, world_of, phase_numbered}
-use Rattle.portal_store.specs.Kept.{IsConsistentIn, IsUnopened, HasGoodWorld, HasGoodFirst}
-use Rattle.portal_store.specs.inner.Kept.{IsKept}
-use Rattle.portal_store.specs.inner.Asked.{AdmitsAs}
 use Rattle.portal_store.proofs.Asked.{apart_all}
 use Rattle.portal_store.proofs.Rounds.{world_told}
 use Rattle.portal_store.proofs.Still.{apart_among, one_among, whole_first, world_first}

@@ -20,8 +20,8 @@ pub record HasOther (of : ℕ) (db : Trees) : Type 0 where
   pub there : db portal_tree ≢ []
   pub other : (row : Row) → db portal_tree ≡ row ∷ [] → column row 2 ≢ Int (pos of)
 
--- what a refusal says of tables that should be of this version and be so: there is no row of the office; it is of another version; it is of this one,
--- and they are not so
+-- what a refusal says of tables that should be of this version and be so: there is no row of the
+-- office; it is of another version; it is of this one, and they are not so
 abbrev pub RefusalSays : OpenFault → ℕ → Type 0 → Trees → Type 0
 RefusalSays opening.NotPortal of so db = db portal_tree ≡ []
 RefusalSays opening.OtherVersion of so db = HasOther of db
@@ -33,7 +33,8 @@ RefusalSays opening.Memory of so db = Unit {0}
 abbrev pub Refutes : OpenFault → Trees → Type 0
 Refutes fault db = RefusalSays fault version (HasGoodWorld db) db
 
--- What a refusal to upgrade says: the same by the rules of version 1. That one of the names is there is not said of tables of version 1 alone.
+-- What a refusal to upgrade says: the same by the rules of version 1. That one of the names is
+-- there is not said of tables of version 1 alone.
 abbrev pub Bars : UpgradeFault → Trees → Type 0
 Bars upgrading.NotPortal db = db portal_tree ≡ []
 Bars upgrading.OtherVersion db = HasOther first_version db

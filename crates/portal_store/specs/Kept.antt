@@ -19,11 +19,9 @@ use Rattle.portal_core.specs.Good.{Good}
 use Rattle.portal_tables.specs.ListTables.{tree_of}
 use Rattle.portal_tables.specs.Tables.{portal_tree, lecturer_tree, student_tree, second_tree, choice2_tree, ranked2_tree, ranking2_tree, assigned2_tree, own_trees, version}
 use Rattle.portal_tables.specs.Schema.{HasFirstSchema, IsCurrentSchema}
-use Rattle.portal_tables.specs.Changes.{RowNumbersDiffer}
+use Rattle.portal_tables.specs.Rows.{RowNumbersDiffer, row_key, second_row}
 use Rattle.portal_tables.specs.Lists.{of_key, IsWhole}
 use Rattle.portal_tables.specs.Office.{HasOffice, number_of_phase}
-use Rattle.portal_tables.specs.Rolls.{row_key}
-use Rattle.portal_tables.specs.Rows.{second_row}
 use Rattle.portal_store.specs.World.{world_in, world_of, choice_table, ranking_table, is_ranked, phase_in}
 
 -- of a round: no list has a gap, and who has no ranking has no row of one
@@ -100,11 +98,13 @@ pub record HasChanged (change : Change) (old new : Database) : Type 0 where
   pub holds : IsConsistent new
   pub world : world_of new.trees ≡ changed (world_of old.trees) change
 
--- the change that is made of the tables, where they stand for a good world and the changed one is good
+-- the change that is made of the tables, where they stand for a good world and the changed one is
+-- good
 abbrev pub IsTransition : Change → Database → Database → Type 0
 IsTransition change old new = IsConsistent old → Good (world_of old.trees) → Good (changed (world_of old.trees) change) → HasChanged change old new
 
--- what can be seen of a store: its connection, whether the tables are those that the portal makes, and how many calls were answered with its fault
+-- what can be seen of a store: its connection, whether the tables are those that the portal makes,
+-- and how many calls were answered with its fault
 pub record Seen (S : Type 0) : Type 0 where
   pub conn : Held S
   pub own : Bool

@@ -14,11 +14,10 @@ use Rattle.portal_core.specs.World.{World, Lecturer, Student, lecturer_key, proj
 pub use Rattle.portal_tables.specs.ListTables.{choice_table, ranking_table}
 pub use Rattle.portal_tables.specs.Office.{phase_numbered}
 use Rattle.portal_tables.specs.ListTables.{tree_of}
-use Rattle.portal_tables.specs.Placements.{second_placement}
+use Rattle.portal_tables.specs.Lists.{second_placement, chosen}
 use Rattle.portal_tables.specs.Tables.{portal_tree, lecturer_tree, project_tree, student_tree, second_tree, ranked2_tree}
-use Rattle.portal_tables.specs.Lists.{chosen}
-use Rattle.portal_tables.specs.Rolls.{row_key}
-use Rattle.portal_tables.specs.Shown.{text_or_none}
+use Rattle.portal_tables.specs.Rows.{row_key, text_or_none}
+use Rattle.portal_core.specs.declared.phase.Phase.TheVariants.{Setup}
 
 abbrev pub lecturer_row : Row → LecturerRow
 lecturer_row r = record { key = row_key r; name = bytes (column r 2); code = bytes (column r 3); capacity = number_in (column r 4) }
@@ -106,3 +105,7 @@ world_in round db =
 
 unfoldable pub world_of : Trees → World
 world_of db = world_in (round_in db) db
+
+-- the world that `create` makes: the empty one in setup
+abbrev pub first_world : Key → World
+first_world office = record { round = First; phase = Setup; office = office; lecturers = []; projects = []; students = [] }

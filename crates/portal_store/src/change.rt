@@ -20,6 +20,7 @@ use crate::phase::set_phase;
 use crate::placing::publish;
 use crate::rolls::{NewRows, add_rows};
 use crate::round::round_in;
+use crate::settled::settled;
 use portal_core::{Change, KeepFault, Round};
 use portal_list::Entries;
 use portal_tables::{TableFault, commit};
@@ -28,7 +29,7 @@ use std::alloc::Global;
 
 /// Takes the step of the change in a round and commits it, or leaves all as it was; the entries
 /// stay those of the world before. `Damaged` where rows that are read are those of no good world.
-fn take_in<S: Alter>(
+fn take_step<S: Alter>(
     alloc: Global,
     conn: &mut Connection<S>,
     entries: &mut Option<Entries>,
@@ -36,7 +37,6 @@ fn take_in<S: Alter>(
     change: &Change,
 ) -> Result<(), TableFault>
     requires idle { conn.old.in_transaction ≡ false }
-    ensures idle { conn.new.in_transaction ≡ false }
     ensures ends { is_opening (change_model change.now) ≡ false
         → CommitsChange (IsTransitionIn round (change_model change.now)) result
         (state S.Store conn.old)
@@ -79,15 +79,14 @@ fn take<S: Alter>(
     change: &Change,
 ) -> Result<(), TableFault>
     requires idle { conn.old.in_transaction ≡ false }
-    ensures idle { conn.new.in_transaction ≡ false }
-    ensures ends { CommitsChange (IsTransition (change_model change.now)) result (state S.Store conn.old)
-        (state S.Store conn.new) }
+    ensures ends { CommitsChange (IsTransition (change_model change.now)) result
+        (state S.Store conn.old) (state S.Store conn.new) }
     ensures entries { IsCurrentSchema conn.old.schema
         → KeepsEntries entries.old entries.new (state S.Store conn.old) (state S.Store conn.new) }
 {
-    let _idle = conn.is_autocommit();
+    settled(conn);
     let round = round_in(alloc, conn)?;
-    take_in(alloc, conn, entries, round, change)
+    take_step(alloc, conn, entries, round, change)
 }
 
 /// Makes the change and commits it, or leaves all as it was; the entries stay those of the world
@@ -101,9 +100,8 @@ pub(crate) fn make<S: Alter>(
     change: &Change,
 ) -> Result<(), KeepFault>
     requires idle { conn.old.in_transaction ≡ false }
-    ensures idle { conn.new.in_transaction ≡ false }
-    ensures ends { CommitsChange (IsTransition (change_model change.now)) result (state S.Store conn.old)
-        (state S.Store conn.new) }
+    ensures ends { CommitsChange (IsTransition (change_model change.now)) result
+        (state S.Store conn.old) (state S.Store conn.new) }
     ensures entries { IsCurrentSchema conn.old.schema
         → KeepsEntries entries.old entries.new (state S.Store conn.old) (state S.Store conn.new) }
     ensures counts { CountsFaults result faults.old faults.new }

@@ -11,7 +11,7 @@ ghost use Rattle.portal_tables.specs.Names.{has_names};
 ghost use Rattle.portal_tables.specs.declared.names.Names.TheVariants.{All};
 ghost use Rattle.portal_tables.specs.Steps.{Commits, IsAfter, LeavesOnly, Stays};
 ghost use Rattle.portal_store.specs.Kept.{IsCleanStore, kept_world};
-ghost use Rattle.portal_store.specs.Made.{first_world};
+ghost use Rattle.portal_store.specs.World.{first_world};
 
 use crate::fault::create_fault_of;
 use crate::store::{CreateFault, NotOpened, Store};

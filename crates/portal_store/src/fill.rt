@@ -12,6 +12,7 @@ ghost use Rattle.portal_store.specs.inner.Reading.{KeepsEntries};
 
 use crate::lists::PutRanking;
 use crate::load::load_entries;
+use crate::settled::settled;
 use portal_core::Round;
 use portal_list::Entries;
 use portal_tables::{Step, TableFault, commit};
@@ -31,7 +32,7 @@ impl Step for PutRankings<'_> {
 
     fn take<S: Alter>(self, alloc: Global, tx: &mut Transaction<'_, S>) -> Result<(), Error> {
         let PutRankings { round, rankings } = self;
-        'rows: for ranking in rankings {
+        for ranking in rankings {
             let put = PutRanking {
                 round,
                 lecturer: &ranking.0,
@@ -53,13 +54,12 @@ pub(crate) fn fill_rankings<S: Alter>(
     round: Round,
 ) -> Result<(), TableFault>
     requires idle { conn.old.in_transaction ≡ false }
-    ensures idle { conn.new.in_transaction ≡ false }
     ensures ends { CommitsChange (IsTransitionIn round Fill) result (state S.Store conn.old)
         (state S.Store conn.new) }
     ensures entries { IsCurrentSchema conn.old.schema
         → KeepsEntries entries.old entries.new (state S.Store conn.old) (state S.Store conn.new) }
 {
-    let _idle = conn.is_autocommit();
+    settled(conn);
     let read = load_entries(alloc, conn)?;
     let rankings = read.fills(alloc)?;
     *entries = Some(read);

@@ -1,17 +1,15 @@
 //! The instance of the world that the tables stand for.
 
-ghost use Rattle.std.specs.Prelude.{◌≡◌, false, IfOk};
-ghost use Rattle.sqlite.specs.Held.{state};
+ghost use Rattle.std.specs.Prelude.{◌≡◌, IfOk};
+ghost use Rattle.sqlite.specs.Effect.{IsDatabase};
 ghost use Rattle.portal_core.specs.World.{World};
 ghost use Rattle.portal_core.specs.Counting.{CountsFaults};
 ghost use Rattle.portal_core.specs.Good.{Sound};
 ghost use Rattle.portal_core.specs.declared.phase.Round.TheVariants.{Second};
 ghost use Rattle.portal_core.specs.Instance as meant_by;
 ghost use Rattle.portal_list.specs.Entries.{HasEntries};
-ghost use Rattle.portal_tables.specs.Reading.{RunsQueryIn};
+ghost use Rattle.portal_tables.specs.Reads.{Reads, Gives};
 ghost use Rattle.portal_store.specs.World.{world_of};
-ghost use Rattle.portal_store.specs.Reading.{shown};
-ghost use Rattle.portal_tables.specs.inner.Reading.{OverSound};
 
 use crate::fault::{rows_fault_of, told};
 use crate::load::load_entries;
@@ -45,12 +43,9 @@ pub(crate) fn instance_in<S: Alter>(
     conn: &mut Connection<S>,
     faults: &mut u64,
 ) -> Result<Instance, KeepFault>
-    requires idle { conn.old.in_transaction ≡ false }
-    ensures idle { conn.new.in_transaction ≡ false }
-    ensures instance { OverSound Second S.Store conn.old conn.new
-        (IfOk result (λ i. Sound (world_of (shown S.Store conn.old))
-        → i ≡ meant_by.instance (world_of (shown S.Store conn.old)))) }
-    ensures asks { RunsQueryIn Second result (state S.Store conn.old) (state S.Store conn.new) }
+    ensures reads { Reads Second S.Store IsDatabase
+        (Gives (λ db i. Sound (world_of db) → i ≡ meant_by.instance (world_of db)))
+        result conn.old conn.new }
     ensures counts { CountsFaults result faults.old faults.new }
 {
     match load_entries(alloc, conn) {

@@ -20,8 +20,8 @@ use crate::change::make;
 use crate::fault::told;
 use crate::follow::follow;
 use crate::instance::{instance_in, instance_of};
-use crate::office::office_of;
-use crate::queries::view_with;
+use crate::office::office_code;
+use crate::queries::counted_view;
 use crate::store::Store;
 use portal_core::{Change, Code, KeepFault, Keeper, View};
 use portal_tables::TableFault;
@@ -56,7 +56,7 @@ impl<S: Alter> Store<S> {
         if let Err(fault) = self.check_own() {
             return Err(told(&mut self.faults, fault));
         }
-        office_of(alloc, &mut self.conn, &mut self.faults)
+        office_code(alloc, &mut self.conn, &mut self.faults)
     }
 }
 
@@ -85,7 +85,7 @@ impl<S: Alter> Keeper for Store<S> {
         if let Err(fault) = self.check_own() {
             return Err(told(&mut self.faults, fault));
         }
-        view_with(
+        counted_view(
             alloc,
             &mut self.conn,
             &mut self.cache,

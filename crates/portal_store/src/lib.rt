@@ -20,6 +20,7 @@ pub mod queries;
 mod rolls;
 mod round;
 mod seeing;
+mod settled;
 mod sound;
 mod store;
 mod upgrade;

@@ -6,8 +6,8 @@ ghost use Rattle.portal_core.specs.Change.{Choices, Ranks};
 ghost use Rattle.portal_store.specs.inner.Kept.{IsTransitionIn};
 ghost use Rattle.portal_store.specs.inner.Ending.{CommitsChange};
 ghost use Rattle.portal_store.specs.inner.Putting.{TurnsThere};
-ghost use Rattle.portal_store.specs.World as world;
 
+use crate::settled::settled;
 use portal_core::Round;
 use portal_tables::list_table::Lists;
 use portal_tables::select::{Query, read};
@@ -16,26 +16,6 @@ use portal_tables::{Step, TableFault, commit, put_list, rank_second};
 use spa_rows::Key;
 use sqlite::{Alter, Connection, Error, Transaction};
 use std::alloc::Global;
-
-/// The table of the students' lists of a round.
-fn choices_of(round: Round) -> Lists
-    ensures { result ≡ world.choice_table round }
-{
-    match round {
-        Round::First => Lists::Choices,
-        Round::Second => Lists::SecondChoices,
-    }
-}
-
-/// The table of the rankings of a round.
-fn rankings_of(round: Round) -> Lists
-    ensures { result ≡ world.ranking_table round }
-{
-    match round {
-        Round::First => Lists::Rankings,
-        Round::Second => Lists::SecondRankings,
-    }
-}
 
 /// The student's list becomes these projects, best first. A list that is longer than any may be is
 /// refused as too big.
@@ -54,7 +34,7 @@ impl Step for PutChoices<'_> {
             student,
             projects,
         } = self;
-        put_list(alloc, tx, choices_of(round), student, projects)
+        put_list(alloc, tx, Lists::choices_of(round), student, projects)
     }
 }
 
@@ -76,7 +56,7 @@ impl Step for PutRanking<'_> {
             lecturer,
             students,
         } = self;
-        put_list(alloc, tx, rankings_of(round), lecturer, students)?;
+        put_list(alloc, tx, Lists::rankings_of(round), lecturer, students)?;
         match round {
             Round::First => set_ranked(tx, lecturer.as_bytes()),
             Round::Second => rank_second(tx, lecturer.as_bytes()),
@@ -93,11 +73,10 @@ pub(crate) fn replace_ranking<S: Alter>(
     students: &[Key],
 ) -> Result<(), TableFault>
     requires idle { conn.old.in_transaction ≡ false }
-    ensures idle { conn.new.in_transaction ≡ false }
-    ensures ends { CommitsChange (IsTransitionIn round (Ranks lecturer.now students.now)) result
+    ensures { CommitsChange (IsTransitionIn round (Ranks lecturer.now students.now)) result
         (state S.Store conn.old) (state S.Store conn.new) }
 {
-    let _idle = conn.is_autocommit();
+    settled(conn);
     let there = read(conn, Query::LecturerByKey(lecturer.as_bytes()))?;
     if there.is_empty() {
         return Ok(());

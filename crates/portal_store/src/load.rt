@@ -1,19 +1,17 @@
 //! Loads the world that the tables stand for: its rows, in lists or as entries.
 
-ghost use Rattle.std.specs.Prelude.{◌≡◌, false, Err, IfOk};
-ghost use Rattle.sqlite.specs.Held.{state};
+ghost use Rattle.std.specs.Prelude.{◌≡◌};
+ghost use Rattle.sqlite.specs.Effect.{IsDatabase};
 ghost use Rattle.portal_core.specs.Good.{Sound};
 ghost use Rattle.portal_core.specs.declared.phase.Round.TheVariants.{Second, First};
 ghost use Rattle.portal_list.specs.Entries.{HasEntries};
 ghost use Rattle.portal_views.specs.inner.Contents.{rows_held};
-ghost use Rattle.portal_tables.specs.Reading.{RunsQueryIn};
-ghost use Rattle.portal_tables.specs.inner.Reading.{RunsQuery, OverSound};
-ghost use Rattle.portal_store.specs.inner.Asked.{NumbersDiffer};
+ghost use Rattle.portal_tables.specs.Reads.{Reads, Answers, Gives};
+ghost use Rattle.portal_store.specs.inner.Asked.{Blames, NumbersDiffer};
 ghost use Rattle.portal_store.specs.Kept.{HasGoodWorld, HasGoodFirst, HasGoodWorldIn};
 ghost use Rattle.portal_store.specs.inner.Loads as meant_by;
 ghost use Rattle.portal_store.specs.inner.Loads.{Loads, LoadsIn};
 ghost use Rattle.portal_store.specs.World.{round_in, world_of};
-ghost use Rattle.portal_store.specs.Reading.{shown};
 
 use crate::fault::rows_fault_of;
 use crate::round::round_in;
@@ -30,13 +28,9 @@ pub(crate) fn load_first<S: Alter>(
     conn: &mut Connection<S>,
     version: u32,
 ) -> Result<WorldRows, TableFault>
-    requires idle { conn.old.in_transaction ≡ false }
-    ensures idle { conn.new.in_transaction ≡ false }
-    ensures rows { OverSound First S.Store conn.old conn.new
-        (IfOk result (λ rows. Loads version (shown S.Store conn.old) rows)) }
-    ensures damaged { OverSound First S.Store conn.old conn.new
-        (result ≡ Err TableFault.Damaged → HasGoodFirst version (shown S.Store conn.old) → ⊥) }
-    ensures asks { RunsQuery result (state S.Store conn.old) (state S.Store conn.new) }
+    ensures { Reads First S.Store IsDatabase
+        (Answers (Loads version) (λ db fault. Blames fault (HasGoodFirst version db)))
+        result conn.old conn.new }
 {
     let office = office_in(alloc, conn, version)?;
     let contents = contents_in(alloc, conn, Round::First)?;
@@ -78,14 +72,10 @@ fn after_first(first: WorldRows, phase: Phase, contents: Contents) -> WorldRows
 
 /// The rows of the world of the second round that the tables stand for.
 fn load_second<S: Alter>(alloc: Global, conn: &mut Connection<S>) -> Result<WorldRows, TableFault>
-    requires idle { conn.old.in_transaction ≡ false }
-    ensures idle { conn.new.in_transaction ≡ false }
-    ensures rows { OverSound Second S.Store conn.old conn.new
-        (IfOk result (λ rows. LoadsIn Second (shown S.Store conn.old) rows)) }
-    ensures damaged { OverSound Second S.Store conn.old conn.new
-        (result ≡ Err TableFault.Damaged → NumbersDiffer (shown S.Store conn.old)
-        → HasGoodWorldIn Second (shown S.Store conn.old) → ⊥) }
-    ensures asks { RunsQueryIn Second result (state S.Store conn.old) (state S.Store conn.new) }
+    ensures { Reads Second S.Store IsDatabase
+        (Answers (LoadsIn Second)
+        (λ db fault. NumbersDiffer db → Blames fault (HasGoodWorldIn Second db)))
+        result conn.old conn.new }
 {
     let phase = second_in(alloc, conn)?;
     let first = load_first(alloc, conn, VERSION)?;
@@ -98,15 +88,10 @@ pub(crate) fn load<S: Alter>(
     alloc: Global,
     conn: &mut Connection<S>,
 ) -> Result<WorldRows, TableFault>
-    requires idle { conn.old.in_transaction ≡ false }
-    ensures idle { conn.new.in_transaction ≡ false }
-    ensures rows { OverSound Second S.Store conn.old conn.new
-        (IfOk result (λ rows. LoadsIn (round_in (shown S.Store conn.old))
-        (shown S.Store conn.old) rows)) }
-    ensures damaged { OverSound Second S.Store conn.old conn.new
-        (result ≡ Err TableFault.Damaged → NumbersDiffer (shown S.Store conn.old)
-        → HasGoodWorld (shown S.Store conn.old) → ⊥) }
-    ensures asks { RunsQueryIn Second result (state S.Store conn.old) (state S.Store conn.new) }
+    ensures { Reads Second S.Store IsDatabase
+        (Answers (λ db. LoadsIn (round_in db) db)
+        (λ db fault. NumbersDiffer db → Blames fault (HasGoodWorld db)))
+        result conn.old conn.new }
 {
     match round_in(alloc, conn)? {
         Round::First => load_first(alloc, conn, VERSION),
@@ -120,12 +105,9 @@ pub(crate) fn load_entries<S: Alter>(
     alloc: Global,
     conn: &mut Connection<S>,
 ) -> Result<Entries, TableFault>
-    requires idle { conn.old.in_transaction ≡ false }
-    ensures idle { conn.new.in_transaction ≡ false }
-    ensures entries { OverSound Second S.Store conn.old conn.new
-        (IfOk result (λ e. Sound (world_of (shown S.Store conn.old))
-        → HasEntries e (world_of (shown S.Store conn.old)))) }
-    ensures asks { RunsQueryIn Second result (state S.Store conn.old) (state S.Store conn.new) }
+    ensures { Reads Second S.Store IsDatabase
+        (Gives (λ db e. Sound (world_of db) → HasEntries e (world_of db)))
+        result conn.old conn.new }
 {
     let rows = load(alloc, conn)?;
     match Entries::from_rows(alloc, rows) {

@@ -1,16 +1,15 @@
 //! Opens a store over tables that are there, once they are seen to be those of a good world.
 
-ghost use Rattle.std.specs.Prelude.{◌≡◌, ◌≢◌, ◌↔◌, false, [], Err, IfOk, IfErr, OnOk, IsTrue, ◌∷◌};
+ghost use Rattle.std.specs.Prelude.{◌≡◌, ◌≢◌, ◌↔◌, false, [], Err, IfOk, IfErr, IsTrue};
+ghost use Rattle.sqlite.specs.Effect.{IsDatabase};
 ghost use Rattle.sqlite.specs.State.{HasCleanDisk, IsUnchanged, Survives};
 ghost use Rattle.sqlite.specs.Held.{state};
 ghost use Rattle.portal_core.specs.Good.{Good};
-ghost use Rattle.portal_core.specs.World.{is_setup};
 ghost use Rattle.portal_core.specs.declared.phase.Round.TheVariants.{First, Second};
 ghost use Rattle.portal_core.specs.declared.phase.Phase.TheVariants.{Published};
-ghost use Rattle.portal_tables.specs.Schema.{HasRound, IsCurrentSchema};
+ghost use Rattle.portal_tables.specs.Schema.{IsCurrentSchema};
 ghost use Rattle.portal_tables.specs.inner.Queries.{round_asked};
-ghost use Rattle.portal_tables.specs.Reading.{RunsQueryIn};
-ghost use Rattle.portal_tables.specs.inner.Reading.{RunsQuery, OverSound};
+ghost use Rattle.portal_tables.specs.Reads.{Reads, Always, Answers, Gives};
 ghost use Rattle.portal_tables.specs.Steps.{Stays};
 ghost use Rattle.portal_list.specs.Entries.{HasEntries};
 ghost use Rattle.portal_store.specs.Kept.{AllNumbersDiffer, AreEmpty, HasSecond, HasGoodWorld};
@@ -19,27 +18,27 @@ ghost use Rattle.portal_store.specs.World.{phase_in, round_in, world_of};
 ghost use Rattle.portal_store.specs.Asked.{Refutes};
 ghost use Rattle.portal_store.specs.inner.Asked.{NumbersDiffer, Denies, IsJudged, SaysNothing};
 ghost use Rattle.portal_store.specs.inner.Asked.{Admits};
-ghost use Rattle.portal_store.specs.Reading.{shown};
-ghost use Rattle.portal_store.specs.inner.Reading.{ReadsAll, OverLive, queried_rows};
+ghost use Rattle.portal_store.specs.inner.Reading.{ReadsAll, IsSoundIfOpen, queried_rows};
 
 use crate::fault::{load_open_fault_of, open_fault_of};
 use crate::round::first_phase;
-use crate::seeing::{judge_numbers, judge_world, see_first, see_first_numbers, seen};
+use crate::seeing::{judge_world, see_first, see_first_numbers, see_row_numbers, see_table};
+use crate::settled::settled;
 use crate::sound::load_keeper;
 use crate::store::{NotOpened, OpenFault, Store};
 use portal_core::{Phase, ViewCache};
 use portal_list::Entries;
 use portal_tables::list_table::Lists;
-use portal_tables::select::{Query, Table, finds_any, read};
-use portal_tables::{PortalSchema, VERSION, row_numbers_differ, second_in};
+use portal_tables::select::{Query, Table, finds_any};
+use portal_tables::{PortalSchema, VERSION, second_in};
 use sqlite::{Alter, Connection};
 use std::alloc::Global;
 
 /// Whether each of the second round's tables can be queried. Those that are the portal's own can,
 /// and are not asked.
 fn see_second_tables<S: Alter>(conn: &mut Connection<S>, own: bool) -> Result<(), OpenFault>
-    requires idle { conn.old.in_transaction ≡ false }
-    ensures idle { conn.new.in_transaction ≡ false }
+    ensures idle { conn.old.in_transaction ≡ false → conn.new.in_transaction ≡ false }
+    ensures disk { HasCleanDisk (state S.Store conn.new) → HasCleanDisk (state S.Store conn.old) }
     ensures same { IsTrue own → conn.new ≡ conn.old }
     ensures none { IsTrue own → IfErr result (λ _. ⊥) }
     ensures damaged { result ≢ Err OpenFault.Damaged }
@@ -48,26 +47,19 @@ fn see_second_tables<S: Alter>(conn: &mut Connection<S>, own: bool) -> Result<()
     if own {
         return Ok(());
     }
-    seen(read(conn, Query::Second))?;
-    seen(read(conn, Query::AllLists(Lists::SecondChoices)))?;
-    seen(read(conn, Query::SecondRanked))?;
-    seen(read(conn, Query::AllLists(Lists::SecondRankings)))?;
-    seen(read(conn, Query::SecondPlacements))
+    see_table(conn, Query::Second)?;
+    see_table(conn, Query::AllLists(Lists::SecondChoices))?;
+    see_table(conn, Query::SecondRanked)?;
+    see_table(conn, Query::AllLists(Lists::SecondRankings))?;
+    see_table(conn, Query::SecondPlacements)
 }
 
 /// Whether a query of a whole table shows no row.
 fn see_none<S: Alter>(conn: &mut Connection<S>, query: Query<'_>) -> Result<(), OpenFault>
-    requires idle { conn.old.in_transaction ≡ false }
-    ensures idle { conn.new.in_transaction ≡ false }
-    ensures asks { RunsQueryIn (round_asked query.entry) result (state S.Store conn.old)
-        (state S.Store conn.new) }
-    ensures refused { HasRound (round_asked query.entry) conn.old.schema
-        → HasCleanDisk (state S.Store conn.new) → ReadsAll query.entry
-        → IfErr result (λ fault. Denies fault
-        (queried_rows query.entry (shown S.Store conn.old) ≡ [])) }
-    ensures none { HasRound (round_asked query.entry) conn.old.schema
-        → HasCleanDisk (state S.Store conn.new) → ReadsAll query.entry
-        → OnOk result (queried_rows query.entry (shown S.Store conn.old) ≡ []) }
+    ensures { Reads (round_asked query.entry) S.Store (λ _. ReadsAll query.entry)
+        (Answers (λ db _. queried_rows query.entry db ≡ [])
+        (λ db fault. Denies fault (queried_rows query.entry db ≡ [])))
+        result conn.old conn.new }
 {
     match finds_any(conn, query) {
         Ok(false) => Ok(()),
@@ -78,13 +70,9 @@ fn see_none<S: Alter>(conn: &mut Connection<S>, query: Query<'_>) -> Result<(), 
 
 /// Whether nothing of a second round is there.
 fn see_nothing<S: Alter>(conn: &mut Connection<S>) -> Result<(), OpenFault>
-    requires idle { conn.old.in_transaction ≡ false }
-    ensures idle { conn.new.in_transaction ≡ false }
-    ensures asks { RunsQueryIn Second result (state S.Store conn.old) (state S.Store conn.new) }
-    ensures refused { IsCurrentSchema conn.old.schema → HasCleanDisk (state S.Store conn.new)
-        → IfErr result (λ fault. Denies fault (AreEmpty (shown S.Store conn.old))) }
-    ensures none { IsCurrentSchema conn.old.schema → HasCleanDisk (state S.Store conn.new)
-        → OnOk result (AreEmpty (shown S.Store conn.old)) }
+    ensures { Reads Second S.Store Always
+        (Answers (λ db _. AreEmpty db) (λ db fault. Denies fault (AreEmpty db)))
+        result conn.old conn.new }
 {
     see_none(conn, Query::AllLists(Lists::SecondChoices))?;
     see_none(conn, Query::SecondRanked)?;
@@ -94,13 +82,10 @@ fn see_nothing<S: Alter>(conn: &mut Connection<S>) -> Result<(), OpenFault>
 
 /// Whether the first round is published.
 fn see_published<S: Alter>(alloc: Global, conn: &mut Connection<S>) -> Result<(), OpenFault>
-    requires idle { conn.old.in_transaction ≡ false }
-    ensures idle { conn.new.in_transaction ≡ false }
-    ensures asks { RunsQuery result (state S.Store conn.old) (state S.Store conn.new) }
-    ensures refused { OverSound First S.Store conn.old conn.new
-        (IfErr result (λ fault. Denies fault (HasGoodWorldIn Second (shown S.Store conn.old)))) }
-    ensures published { OverSound First S.Store conn.old conn.new
-        (OnOk result (phase_in First (shown S.Store conn.old) ≡ Published)) }
+    ensures { Reads First S.Store IsDatabase
+        (Answers (λ db _. phase_in First db ≡ Published)
+        (λ db fault. Denies fault (HasGoodWorldIn Second db)))
+        result conn.old conn.new }
 {
     match first_phase(alloc, conn) {
         Ok(Phase::Published) => Ok(()),
@@ -112,13 +97,10 @@ fn see_published<S: Alter>(alloc: Global, conn: &mut Connection<S>) -> Result<()
 /// Whether what `second` tells is so: of no second round nothing is there, and the first is
 /// published before it.
 fn see_second<S: Alter>(alloc: Global, conn: &mut Connection<S>) -> Result<(), OpenFault>
-    requires idle { conn.old.in_transaction ≡ false }
-    ensures idle { conn.new.in_transaction ≡ false }
-    ensures asks { RunsQueryIn Second result (state S.Store conn.old) (state S.Store conn.new) }
-    ensures refused { OverSound Second S.Store conn.old conn.new
-        (IfErr result (λ fault. Denies fault (HasGoodWorld (shown S.Store conn.old)))) }
-    ensures second { OverSound Second S.Store conn.old conn.new
-        (OnOk result (HasSecond (round_in (shown S.Store conn.old)) (shown S.Store conn.old))) }
+    ensures { Reads Second S.Store IsDatabase
+        (Answers (λ db _. HasSecond (round_in db) db)
+        (λ db fault. Denies fault (HasGoodWorld db)))
+        result conn.old conn.new }
 {
     let phase = match second_in(alloc, conn) {
         Ok(phase) => phase,
@@ -133,27 +115,21 @@ fn see_second<S: Alter>(alloc: Global, conn: &mut Connection<S>) -> Result<(), O
 
 /// Whether the rows of the second round have numbers of their own.
 fn see_second_numbers<S: Alter>(conn: &mut Connection<S>) -> Result<(), OpenFault>
-    requires idle { conn.old.in_transaction ≡ false }
-    ensures idle { conn.new.in_transaction ≡ false }
-    ensures asks { RunsQueryIn Second result (state S.Store conn.old) (state S.Store conn.new) }
     ensures refused { IfErr result SaysNothing }
-    ensures apart { IsCurrentSchema conn.old.schema → HasCleanDisk (state S.Store conn.new)
-        → OnOk result (AllNumbersDiffer later_trees (shown S.Store conn.old)) }
+    ensures reads { Reads Second S.Store Always
+        (Gives (λ db _. AllNumbersDiffer later_trees db)) result conn.old conn.new }
 {
-    judge_numbers(row_numbers_differ(conn, Table::OfLists(Lists::SecondChoices)))?;
-    judge_numbers(row_numbers_differ(conn, Table::OfRanked))?;
-    judge_numbers(row_numbers_differ(conn, Table::OfLists(Lists::SecondRankings)))?;
-    judge_numbers(row_numbers_differ(conn, Table::OfPlaces))
+    see_row_numbers(conn, Table::OfLists(Lists::SecondChoices))?;
+    see_row_numbers(conn, Table::OfRanked)?;
+    see_row_numbers(conn, Table::OfLists(Lists::SecondRankings))?;
+    see_row_numbers(conn, Table::OfPlaces)
 }
 
 /// Whether the rows of all tables have numbers of their own.
 fn see_numbers<S: Alter>(conn: &mut Connection<S>) -> Result<(), OpenFault>
-    requires idle { conn.old.in_transaction ≡ false }
-    ensures idle { conn.new.in_transaction ≡ false }
-    ensures asks { RunsQueryIn Second result (state S.Store conn.old) (state S.Store conn.new) }
     ensures refused { IfErr result SaysNothing }
-    ensures apart { IsCurrentSchema conn.old.schema → HasCleanDisk (state S.Store conn.new)
-        → OnOk result (NumbersDiffer (shown S.Store conn.old)) }
+    ensures reads { Reads Second S.Store Always (Gives (λ db _. NumbersDiffer db))
+        result conn.old conn.new }
 {
     see_first_numbers(conn)?;
     see_second_numbers(conn)
@@ -161,16 +137,10 @@ fn see_numbers<S: Alter>(conn: &mut Connection<S>) -> Result<(), OpenFault>
 
 /// The entries of the world that the rows stand for, where it is good.
 fn see_world<S: Alter>(alloc: Global, conn: &mut Connection<S>) -> Result<Entries, OpenFault>
-    requires idle { conn.old.in_transaction ≡ false }
-    ensures idle { conn.new.in_transaction ≡ false }
-    ensures asks { RunsQueryIn Second result (state S.Store conn.old) (state S.Store conn.new) }
-    ensures refused { OverSound Second S.Store conn.old conn.new
-        (NumbersDiffer (shown S.Store conn.old)
-        → IfErr result (λ fault. Denies fault (HasGoodWorld (shown S.Store conn.old)))) }
-    ensures judged { OverSound Second S.Store conn.old conn.new
-        (OnOk result (IsJudged (shown S.Store conn.old))) }
-    ensures entries { OverSound Second S.Store conn.old conn.new
-        (IfOk result (λ e. HasEntries e (world_of (shown S.Store conn.old)))) }
+    ensures { Reads Second S.Store IsDatabase
+        (Answers (λ db e. IsJudged db × HasEntries e (world_of db))
+        (λ db fault. NumbersDiffer db → Denies fault (HasGoodWorld db)))
+        result conn.old conn.new }
 {
     match load_keeper(alloc, conn) {
         Ok(keeper) => {
@@ -184,15 +154,10 @@ fn see_world<S: Alter>(alloc: Global, conn: &mut Connection<S>) -> Result<Entrie
 /// What is tested of the tables of both rounds, in this order: the numbers of rows, what `second`
 /// tells, and the world, whose entries come.
 fn judge_both<S: Alter>(alloc: Global, conn: &mut Connection<S>) -> Result<Entries, OpenFault>
-    requires idle { conn.old.in_transaction ≡ false }
-    ensures idle { conn.new.in_transaction ≡ false }
-    ensures asks { RunsQueryIn Second result (state S.Store conn.old) (state S.Store conn.new) }
-    ensures refused { OverLive Second S.Store conn.old conn.new
-        (IfErr result (λ fault. Denies fault (HasGoodWorld (shown S.Store conn.old)))) }
-    ensures admits { OverLive Second S.Store conn.old conn.new
-        (OnOk result (Admits (shown S.Store conn.old))) }
-    ensures entries { OverLive Second S.Store conn.old conn.new
-        (IfOk result (λ e. HasEntries e (world_of (shown S.Store conn.old)))) }
+    ensures { Reads Second S.Store (IsSoundIfOpen S.Store conn.old)
+        (Answers (λ db e. Admits db × HasEntries e (world_of db))
+        (λ db fault. Denies fault (HasGoodWorld db)))
+        result conn.old conn.new }
 {
     see_numbers(conn)?;
     see_second(alloc, conn)?;
@@ -207,16 +172,11 @@ fn examine<S: Alter>(
     conn: &mut Connection<S>,
     own: bool,
 ) -> Result<Entries, OpenFault>
-    requires idle { conn.old.in_transaction ≡ false }
-    ensures idle { conn.new.in_transaction ≡ false }
-    ensures asks { IsTrue own
-        → RunsQueryIn Second result (state S.Store conn.old) (state S.Store conn.new) }
-    ensures refused { IsTrue own → OverLive Second S.Store conn.old conn.new
-        (IfErr result (λ fault. Refutes fault (shown S.Store conn.old))) }
-    ensures admits { IsTrue own → OverLive Second S.Store conn.old conn.new
-        (OnOk result (Admits (shown S.Store conn.old))) }
-    ensures entries { IsTrue own → OverLive Second S.Store conn.old conn.new
-        (IfOk result (λ e. HasEntries e (world_of (shown S.Store conn.old)))) }
+    ensures idle { conn.old.in_transaction ≡ false → conn.new.in_transaction ≡ false }
+    ensures disk { HasCleanDisk (state S.Store conn.new) → HasCleanDisk (state S.Store conn.old) }
+    ensures reads { IsTrue own → Reads Second S.Store (IsSoundIfOpen S.Store conn.old)
+        (Answers (λ db e. Admits db × HasEntries e (world_of db)) (λ db fault. Refutes fault db))
+        result conn.old conn.new }
 {
     see_first(conn, own, VERSION)?;
     see_second_tables(conn, own)?;
@@ -248,14 +208,15 @@ impl<S: Alter> Store<S> {
             → HasCleanDisk (state S.Store e.connection)
             → IsTrue (state S.Store e.connection).is_open
             → Stays (state S.Store conn) (state S.Store e.connection)) }
+        ensures disk { IfOk result (λ s. HasCleanDisk (state S.Store s.conn)
+            → HasCleanDisk (state S.Store conn)) }
         ensures idle { IfErr result (λ e. e.connection.in_transaction ≡ false) }
         ensures crash_ok { IfOk result (λ s. IsCurrentSchema conn.schema
             → Survives (state S.Store conn) (state S.Store s.conn) (λ _. ⊥)) }
         ensures crash_err { IfErr result (λ e. IsCurrentSchema conn.schema
             → Survives (state S.Store conn) (state S.Store e.connection) (λ _. ⊥)) }
     {
-        let _idle = conn.is_autocommit();
-        let _live = conn.schema();
+        settled(&conn);
         let pattern = match PortalSchema::new(alloc) {
             Ok(pattern) => pattern,
             Err(error) => {

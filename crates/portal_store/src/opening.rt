@@ -9,6 +9,7 @@ ghost use Rattle.portal_store.specs.inner.Ending.{CommitsChange};
 ghost use Rattle.portal_store.specs.inner.Opening.{OpensSecondRound};
 
 use crate::round::first_phase;
+use crate::settled::settled;
 use portal_core::{Phase, Round};
 use portal_tables::{Step, TableFault, commit, set_second};
 use sqlite::{Alter, Connection, Error, Transaction};
@@ -43,11 +44,10 @@ pub(crate) fn open_second<S: Alter>(
     round: Round,
 ) -> Result<(), TableFault>
     requires idle { conn.old.in_transaction ≡ false }
-    ensures idle { conn.new.in_transaction ≡ false }
-    ensures ends { CommitsChange (IsTransitionFrom round SecondRound) result (state S.Store conn.old)
+    ensures { CommitsChange (IsTransitionFrom round SecondRound) result (state S.Store conn.old)
         (state S.Store conn.new) }
 {
-    let _idle = conn.is_autocommit();
+    settled(conn);
     let phase = first_phase(alloc, conn)?;
     if opens_from(round, phase) {
         commit(alloc, conn, OpenSecond)

@@ -9,6 +9,7 @@ ghost use Rattle.portal_store.specs.inner.Ending.{CommitsChange};
 ghost use Rattle.portal_store.specs.inner.Reading.{KeepsEntries};
 
 use crate::load::load_entries;
+use crate::settled::settled;
 use portal_core::{Phase, Round};
 use portal_list::Entries;
 use portal_tables::update::set_phase as set_phase_number;
@@ -44,13 +45,12 @@ pub(crate) fn set_phase<S: Alter>(
     phase: Phase,
 ) -> Result<(), TableFault>
     requires idle { conn.old.in_transaction ≡ false }
-    ensures idle { conn.new.in_transaction ≡ false }
     ensures ends { CommitsChange (IsTransitionIn round (To phase)) result (state S.Store conn.old)
         (state S.Store conn.new) }
     ensures entries { IsCurrentSchema conn.old.schema
         → KeepsEntries entries.old entries.new (state S.Store conn.old) (state S.Store conn.new) }
 {
-    let _idle = conn.is_autocommit();
+    settled(conn);
     if entries.is_some() {
         return commit(alloc, conn, SetPhase { round, phase });
     }

@@ -8,9 +8,10 @@ ghost use Rattle.portal_store.specs.inner.Kept.{IsTransitionIn};
 ghost use Rattle.portal_store.specs.inner.Ending.{CommitsChange};
 ghost use Rattle.portal_store.specs.inner.Placing.{TurnsShown, TurnsLeft, assigned_of, pair_left};
 ghost use Rattle.sqlite.specs.Order.{column};
-ghost use Rattle.portal_tables.specs.Shown.{text_or_none};
+ghost use Rattle.portal_tables.specs.Rows.{text_or_none};
 ghost use Rattle.portal_core.specs.declared.phase.Round.TheVariants.{First};
 
+use crate::settled::settled;
 use portal_core::{Pairs, Round};
 use portal_tables::cells::{bytes_at, key_at};
 use portal_tables::select::{Query, Roll, read};
@@ -23,7 +24,7 @@ use sqlite::{Alter, Connection, Error, Row, Transaction};
 use std::alloc::{AllocError, Global};
 
 /// The project that the pairs give to the student with this key.
-fn project_in<'a>(pairs: &Pairs<'a>, student: &[u8]) -> Option<&'a [u8]>
+fn project_bytes<'a>(pairs: &Pairs<'a>, student: &[u8]) -> Option<&'a [u8]>
     ensures { option_map (λ p. p.now) result ≡ placement_in pairs.now student.now }
 {
     let project = pairs.project_of(student)?;
@@ -43,7 +44,7 @@ fn assignments<'a>(
         let student = bytes_at(row, 0);
         all.push(Assignment {
             student,
-            project: project_in(pairs, student),
+            project: project_bytes(pairs, student),
         })?;
     }
     Ok(all)
@@ -136,11 +137,10 @@ pub(crate) fn publish<S: Alter>(
     pairs: &[(Key, Key)],
 ) -> Result<(), TableFault>
     requires idle { conn.old.in_transaction ≡ false }
-    ensures idle { conn.new.in_transaction ≡ false }
-    ensures ends { CommitsChange (IsTransitionIn round (Placements pairs.now)) result (state S.Store conn.old)
-        (state S.Store conn.new) }
+    ensures { CommitsChange (IsTransitionIn round (Placements pairs.now)) result
+        (state S.Store conn.old) (state S.Store conn.new) }
 {
-    let _idle = conn.is_autocommit();
+    settled(conn);
     let rows = read(conn, Query::Whole(Roll::Students))?;
     match round {
         Round::First => commit(alloc, conn, PutResult { rows: &rows, pairs }),

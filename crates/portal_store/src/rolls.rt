@@ -6,6 +6,7 @@ ghost use Rattle.portal_store.specs.inner.Adding.{with_rows_added};
 ghost use Rattle.portal_store.specs.inner.Ending.{CommitsChange};
 ghost use Rattle.portal_store.specs.inner.Kept.{IsTransitionIn};
 
+use crate::settled::settled;
 use portal_core::{LecturerRow, ProjectRow, Round, StudentRow};
 use portal_tables::insert::{Lecturers, Projects, Students, add_all};
 use portal_tables::{Step, TableFault, commit};
@@ -50,10 +51,9 @@ pub(crate) fn add_rows<S: Alter>(
     rows: NewRows<'_>,
 ) -> Result<(), TableFault>
     requires idle { conn.old.in_transaction ≡ false }
-    ensures idle { conn.new.in_transaction ≡ false }
-    ensures ends { CommitsChange (IsTransitionIn round (with_rows_added rows.entry)) result (state S.Store conn.old)
-        (state S.Store conn.new) }
+    ensures { CommitsChange (IsTransitionIn round (with_rows_added rows.entry)) result
+        (state S.Store conn.old) (state S.Store conn.new) }
 {
-    let _idle = conn.is_autocommit();
+    settled(conn);
     commit(alloc, conn, AddRows { round, rows })
 }

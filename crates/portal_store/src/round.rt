@@ -1,14 +1,13 @@
 //! Reads which round the tables are in, and its phase.
 
-ghost use Rattle.std.specs.Prelude.{◌≡◌, true, false, Err, IfOk};
-ghost use Rattle.sqlite.specs.Held.{state};
+ghost use Rattle.std.specs.Prelude.{◌≡◌, true, false};
+ghost use Rattle.sqlite.specs.Effect.{IsDatabase};
 ghost use Rattle.portal_core.specs.declared.phase.Round.{Round as ThatRound};
 ghost use Rattle.portal_core.specs.declared.phase.Round.TheVariants.{First, Second};
 ghost use Rattle.portal_core.specs.World.{is_setup};
-ghost use Rattle.portal_tables.specs.Reading.{RunsQueryIn};
-ghost use Rattle.portal_tables.specs.inner.Reading.{RunsQuery, OverSound};
+ghost use Rattle.portal_tables.specs.Reads.{Reads, Answers, Gives};
 ghost use Rattle.portal_store.specs.World as meant_by;
-ghost use Rattle.portal_store.specs.Reading.{shown};
+ghost use Rattle.portal_store.specs.inner.Asked.{Blames};
 ghost use Rattle.portal_store.specs.inner.Reading.{IsNow};
 ghost use Rattle.portal_store.specs.Kept.{HasSecond, HasGoodWorldIn};
 
@@ -22,18 +21,15 @@ pub(crate) fn round_in<S: Alter>(
     alloc: Global,
     conn: &mut Connection<S>,
 ) -> Result<Round, TableFault>
-    requires idle { conn.old.in_transaction ≡ false }
-    ensures idle { conn.new.in_transaction ≡ false }
-    ensures round { OverSound Second S.Store conn.old conn.new
-        (IfOk result (λ round. meant_by.round_in (shown S.Store conn.old) ≡ round)) }
-    ensures damaged { OverSound Second S.Store conn.old conn.new
-        (result ≡ Err TableFault.Damaged → (round : ThatRound)
-        → HasSecond round (shown S.Store conn.old) → ⊥) }
-    ensures asks { RunsQueryIn Second result (state S.Store conn.old) (state S.Store conn.new) }
+    ensures { Reads Second S.Store IsDatabase
+        (Answers (λ db round. meant_by.round_in db ≡ round)
+        (λ db fault. (round : ThatRound) → Blames fault (HasSecond round db)))
+        result conn.old conn.new }
 {
-    match second_in(alloc, conn)? {
-        Phase::Setup => Ok(Round::First),
-        Phase::Choosing | Phase::Ranking | Phase::Published => Ok(Round::Second),
+    if second_in(alloc, conn)?.is_setup() {
+        Ok(Round::First)
+    } else {
+        Ok(Round::Second)
     }
 }
 
@@ -56,15 +52,12 @@ fn now_of(second: Phase, office: Office) -> (Round, Office)
 }
 
 /// The round, with its phase and the code of the office.
-pub(crate) fn round_now<S: Alter>(
+pub(crate) fn current_round<S: Alter>(
     alloc: Global,
     conn: &mut Connection<S>,
 ) -> Result<(Round, Office), TableFault>
-    requires idle { conn.old.in_transaction ≡ false }
-    ensures idle { conn.new.in_transaction ≡ false }
-    ensures now { OverSound Second S.Store conn.old conn.new
-        (IfOk result (λ now. IsNow (meant_by.world_of (shown S.Store conn.old)) now.0 now.1)) }
-    ensures asks { RunsQueryIn Second result (state S.Store conn.old) (state S.Store conn.new) }
+    ensures { Reads Second S.Store IsDatabase
+        (Gives (λ db now. IsNow (meant_by.world_of db) now.0 now.1)) result conn.old conn.new }
 {
     let second = second_in(alloc, conn)?;
     let office = office_in(alloc, conn, VERSION)?;
@@ -76,14 +69,10 @@ pub(crate) fn first_phase<S: Alter>(
     alloc: Global,
     conn: &mut Connection<S>,
 ) -> Result<Phase, TableFault>
-    requires idle { conn.old.in_transaction ≡ false }
-    ensures idle { conn.new.in_transaction ≡ false }
-    ensures phase { OverSound First S.Store conn.old conn.new
-        (IfOk result (λ phase. meant_by.phase_in First (shown S.Store conn.old) ≡ phase)) }
-    ensures damaged { OverSound First S.Store conn.old conn.new
-        (result ≡ Err TableFault.Damaged → (round : ThatRound)
-        → HasGoodWorldIn round (shown S.Store conn.old) → ⊥) }
-    ensures asks { RunsQuery result (state S.Store conn.old) (state S.Store conn.new) }
+    ensures { Reads First S.Store IsDatabase
+        (Answers (λ db phase. meant_by.phase_in First db ≡ phase)
+        (λ db fault. (round : ThatRound) → Blames fault (HasGoodWorldIn round db)))
+        result conn.old conn.new }
 {
     let office = office_in(alloc, conn, VERSION)?;
     Ok(office.phase)

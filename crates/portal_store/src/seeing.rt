@@ -1,44 +1,49 @@
 //! Looks at tables before a store is opened over them: that each can be queried, the version, the
 //! numbers of rows, and the world.
 
-ghost use Rattle.std.specs.Prelude.{◌≡◌, ◌≢◌, ◌↔◌, ◌⊎◌, false, true, [], ◌∷◌, pos, Ok, Err, List};
-ghost use Rattle.std.specs.Prelude.{IfOk, IfErr, OnOk, IsTrue};
+ghost use Rattle.std.specs.Prelude.{◌≡◌, ◌≢◌, ◌↔◌, ◌⊎◌, false, [], ◌∷◌, pos, Err, List};
+ghost use Rattle.std.specs.Prelude.{IfErr, OnOk, IsTrue};
 ghost use Rattle.sqlite.specs.declared.types.Value.TheVariants.{Int};
 ghost use Rattle.sqlite.specs.Order.{Row as Cells, column};
+ghost use Rattle.sqlite.specs.Effect.{IsDatabase};
 ghost use Rattle.sqlite.specs.State.{HasCleanDisk};
 ghost use Rattle.sqlite.specs.Held.{state};
 ghost use Rattle.portal_core.specs.Good.{Good, Sound};
 ghost use Rattle.portal_core.specs.declared.phase.Round.TheVariants.{First};
 ghost use Rattle.portal_tables.specs.Tables.{lecturer_tree, project_tree, student_tree};
 ghost use Rattle.portal_tables.specs.Tables.{choice_tree, ranking_tree};
-ghost use Rattle.portal_tables.specs.Schema.{HasFirstSchema};
-ghost use Rattle.portal_tables.specs.inner.Reading.{RunsQuery, OverSound};
+ghost use Rattle.portal_tables.specs.Rows.{RowNumbersDiffer};
+ghost use Rattle.portal_tables.specs.inner.Queries.{table_tree, table_round};
+ghost use Rattle.portal_tables.specs.Reads.{Reads, Always, Answers, Gives};
 ghost use Rattle.portal_list.specs.Entries.{HasEntries};
 ghost use Rattle.portal_store.specs.Kept.{AllNumbersDiffer, HasGoodFirst};
 ghost use Rattle.portal_store.specs.inner.Kept.{early_trees};
 ghost use Rattle.portal_store.specs.World.{world_in};
 ghost use Rattle.portal_store.specs.Asked.{HasVersion, RefusalSays};
 ghost use Rattle.portal_store.specs.inner.Asked.{Denies, SaysNothing, AdmitsAs};
-ghost use Rattle.portal_store.specs.Reading.{shown};
-ghost use Rattle.portal_store.specs.inner.Reading.{OverLive};
+ghost use Rattle.portal_store.specs.inner.Reading.{IsSoundIfOpen};
 
 use crate::fault::{load_open_fault_of, open_fault_of, table_fault_of};
 use crate::sound::first_keeper;
 use crate::store::OpenFault;
 use portal_list::{Entries, ListKeeper};
 use portal_tables::list_table::Lists;
-use portal_tables::row_numbers_differ;
 use portal_tables::select::{Query, Roll, Table, read};
-use sqlite::types::ValueRef;
-use sqlite::{Alter, Connection, Error, Row};
+use portal_tables::{is_number, row_numbers_differ};
+use sqlite::{Alter, Connection, Row};
 use std::alloc::Global;
 
-/// Whether a table could be queried.
-pub(crate) fn seen(answer: Result<Vec<Row>, Error>) -> Result<(), OpenFault>
+/// Whether a table can be queried.
+pub(crate) fn see_table<S: Alter>(
+    conn: &mut Connection<S>,
+    query: Query<'_>,
+) -> Result<(), OpenFault>
+    ensures idle { conn.old.in_transaction ≡ false → conn.new.in_transaction ≡ false }
+    ensures disk { HasCleanDisk (state S.Store conn.new) → HasCleanDisk (state S.Store conn.old) }
     ensures damaged { result ≢ Err OpenFault.Damaged }
     ensures version { result ≢ Err OpenFault.OtherVersion }
 {
-    match answer {
+    match read(conn, query) {
         Ok(_) => Ok(()),
         Err(error) => Err(table_fault_of(error)),
     }
@@ -47,8 +52,8 @@ pub(crate) fn seen(answer: Result<Vec<Row>, Error>) -> Result<(), OpenFault>
 /// Whether each of the first round's tables can be queried. Those that are the portal's own can,
 /// and are not asked.
 fn see_tables<S: Alter>(conn: &mut Connection<S>, own: bool) -> Result<(), OpenFault>
-    requires idle { conn.old.in_transaction ≡ false }
-    ensures idle { conn.new.in_transaction ≡ false }
+    ensures idle { conn.old.in_transaction ≡ false → conn.new.in_transaction ≡ false }
+    ensures disk { HasCleanDisk (state S.Store conn.new) → HasCleanDisk (state S.Store conn.old) }
     ensures same { IsTrue own → conn.new ≡ conn.old }
     ensures none { IsTrue own → IfErr result (λ _. ⊥) }
     ensures damaged { result ≢ Err OpenFault.Damaged }
@@ -57,22 +62,12 @@ fn see_tables<S: Alter>(conn: &mut Connection<S>, own: bool) -> Result<(), OpenF
     if own {
         return Ok(());
     }
-    seen(read(conn, Query::Office))?;
-    seen(read(conn, Query::Whole(Roll::Lecturers)))?;
-    seen(read(conn, Query::Whole(Roll::Projects)))?;
-    seen(read(conn, Query::Whole(Roll::Students)))?;
-    seen(read(conn, Query::AllLists(Lists::Choices)))?;
-    seen(read(conn, Query::AllLists(Lists::Rankings)))
-}
-
-/// Whether the row of the office is of this version.
-fn is_of(row: &Row, version: u32) -> bool
-    ensures { IsTrue result ↔ (column row.now 1 ≡ Int (pos version)) }
-{
-    match row.get_ref(1) {
-        Ok(ValueRef::Int(found)) => found == i64::from(version),
-        _ => false,
-    }
+    see_table(conn, Query::Office)?;
+    see_table(conn, Query::Whole(Roll::Lecturers))?;
+    see_table(conn, Query::Whole(Roll::Projects))?;
+    see_table(conn, Query::Whole(Roll::Students))?;
+    see_table(conn, Query::AllLists(Lists::Choices))?;
+    see_table(conn, Query::AllLists(Lists::Rankings))
 }
 
 /// Whether there is a row of the office, of this version.
@@ -88,7 +83,7 @@ fn judge_office(rows: &[Row], version: u32) -> Result<(), OpenFault>
     match rows {
         [] => Err(OpenFault::NotPortal),
         [row, ..] => {
-            if is_of(row, version) {
+            if is_number(row, 1, version) {
                 Ok(())
             } else {
                 Err(OpenFault::OtherVersion)
@@ -99,13 +94,10 @@ fn judge_office(rows: &[Row], version: u32) -> Result<(), OpenFault>
 
 /// Whether `portal` has a row, of this version.
 fn see_office<S: Alter>(conn: &mut Connection<S>, version: u32) -> Result<(), OpenFault>
-    requires idle { conn.old.in_transaction ≡ false }
-    ensures idle { conn.new.in_transaction ≡ false }
-    ensures asks { RunsQuery result (state S.Store conn.old) (state S.Store conn.new) }
-    ensures refused { HasFirstSchema conn.old.schema → HasCleanDisk (state S.Store conn.new)
-        → IfErr result (λ fault. RefusalSays fault version (Unit {0}) (shown S.Store conn.old)) }
-    ensures version { HasFirstSchema conn.old.schema → HasCleanDisk (state S.Store conn.new)
-        → OnOk result (HasVersion version (shown S.Store conn.old)) }
+    ensures { Reads First S.Store Always
+        (Answers (λ db _. HasVersion version db)
+        (λ db fault. RefusalSays fault version (Unit {0}) db))
+        result conn.old conn.new }
 {
     match read(conn, Query::Office) {
         Ok(rows) => judge_office(&rows, version),
@@ -120,27 +112,28 @@ pub(crate) fn see_first<S: Alter>(
     own: bool,
     version: u32,
 ) -> Result<(), OpenFault>
-    requires idle { conn.old.in_transaction ≡ false }
-    ensures idle { conn.new.in_transaction ≡ false }
-    ensures asks { IsTrue own → RunsQuery result (state S.Store conn.old) (state S.Store conn.new) }
-    ensures refused { IsTrue own → HasFirstSchema conn.old.schema
-        → HasCleanDisk (state S.Store conn.new)
-        → IfErr result (λ fault. RefusalSays fault version (Unit {0}) (shown S.Store conn.old)) }
-    ensures version { IsTrue own → HasFirstSchema conn.old.schema
-        → HasCleanDisk (state S.Store conn.new)
-        → OnOk result (HasVersion version (shown S.Store conn.old)) }
+    ensures idle { conn.old.in_transaction ≡ false → conn.new.in_transaction ≡ false }
+    ensures disk { HasCleanDisk (state S.Store conn.new) → HasCleanDisk (state S.Store conn.old) }
+    ensures reads { IsTrue own → Reads First S.Store Always
+        (Answers (λ db _. HasVersion version db)
+        (λ db fault. RefusalSays fault version (Unit {0}) db))
+        result conn.old conn.new }
 {
     see_tables(conn, own)?;
     see_office(conn, version)
 }
 
-/// What the answer on the numbers of rows means: those of a sound store differ, so that all else is
-/// a fault of the store.
-pub(crate) fn judge_numbers(answer: Result<bool, Error>) -> Result<(), OpenFault>
-    ensures ok { OnOk result (answer ≡ Ok true) }
+/// Whether the rows of a table have numbers of their own. Those of a sound store have, so that all
+/// else is a fault of the store.
+pub(crate) fn see_row_numbers<S: Alter>(
+    conn: &mut Connection<S>,
+    table: Table,
+) -> Result<(), OpenFault>
     ensures refused { IfErr result SaysNothing }
+    ensures reads { Reads (table_round table) S.Store Always
+        (Gives (λ db _. RowNumbersDiffer (db (table_tree table)))) result conn.old conn.new }
 {
-    match answer {
+    match row_numbers_differ(conn, table) {
         Ok(true) => Ok(()),
         Ok(false) => Err(OpenFault::Store),
         Err(error) => Err(open_fault_of(error)),
@@ -149,31 +142,25 @@ pub(crate) fn judge_numbers(answer: Result<bool, Error>) -> Result<(), OpenFault
 
 /// Whether the rows of the three rolls have numbers of their own.
 fn see_rolls_numbers<S: Alter>(conn: &mut Connection<S>) -> Result<(), OpenFault>
-    requires idle { conn.old.in_transaction ≡ false }
-    ensures idle { conn.new.in_transaction ≡ false }
-    ensures asks { RunsQuery result (state S.Store conn.old) (state S.Store conn.new) }
     ensures refused { IfErr result SaysNothing }
-    ensures apart { HasFirstSchema conn.old.schema → HasCleanDisk (state S.Store conn.new)
-        → OnOk result (AllNumbersDiffer (lecturer_tree ∷ project_tree ∷ student_tree ∷ [])
-        (shown S.Store conn.old)) }
+    ensures reads { Reads First S.Store Always
+        (Gives (λ db _. AllNumbersDiffer (lecturer_tree ∷ project_tree ∷ student_tree ∷ []) db))
+        result conn.old conn.new }
 {
-    judge_numbers(row_numbers_differ(conn, Table::OfRoll(Roll::Lecturers)))?;
-    judge_numbers(row_numbers_differ(conn, Table::OfRoll(Roll::Projects)))?;
-    judge_numbers(row_numbers_differ(conn, Table::OfRoll(Roll::Students)))
+    see_row_numbers(conn, Table::OfRoll(Roll::Lecturers))?;
+    see_row_numbers(conn, Table::OfRoll(Roll::Projects))?;
+    see_row_numbers(conn, Table::OfRoll(Roll::Students))
 }
 
 /// Whether the rows of the lists of the first round have numbers of their own.
 fn see_lists_numbers<S: Alter>(conn: &mut Connection<S>) -> Result<(), OpenFault>
-    requires idle { conn.old.in_transaction ≡ false }
-    ensures idle { conn.new.in_transaction ≡ false }
-    ensures asks { RunsQuery result (state S.Store conn.old) (state S.Store conn.new) }
     ensures refused { IfErr result SaysNothing }
-    ensures apart { HasFirstSchema conn.old.schema → HasCleanDisk (state S.Store conn.new)
-        → OnOk result (AllNumbersDiffer (choice_tree ∷ ranking_tree ∷ [])
-        (shown S.Store conn.old)) }
+    ensures reads { Reads First S.Store Always
+        (Gives (λ db _. AllNumbersDiffer (choice_tree ∷ ranking_tree ∷ []) db))
+        result conn.old conn.new }
 {
-    judge_numbers(row_numbers_differ(conn, Table::OfLists(Lists::Choices)))?;
-    judge_numbers(row_numbers_differ(conn, Table::OfLists(Lists::Rankings)))
+    see_row_numbers(conn, Table::OfLists(Lists::Choices))?;
+    see_row_numbers(conn, Table::OfLists(Lists::Rankings))
 }
 
 /// Whether the keeper's world is good.
@@ -192,20 +179,15 @@ pub(crate) fn judge_world(alloc: Global, keeper: &ListKeeper) -> Result<(), Open
 }
 
 /// The entries of the world that the rows stand for, where it is good.
-fn see_world<S: Alter>(
+fn see_first_world<S: Alter>(
     alloc: Global,
     conn: &mut Connection<S>,
     version: u32,
 ) -> Result<Entries, OpenFault>
-    requires idle { conn.old.in_transaction ≡ false }
-    ensures idle { conn.new.in_transaction ≡ false }
-    ensures asks { RunsQuery result (state S.Store conn.old) (state S.Store conn.new) }
-    ensures refused { OverSound First S.Store conn.old conn.new
-        (IfErr result (λ fault. Denies fault (HasGoodFirst version (shown S.Store conn.old)))) }
-    ensures stands { OverSound First S.Store conn.old conn.new
-        (OnOk result (HasGoodFirst version (shown S.Store conn.old))) }
-    ensures entries { OverSound First S.Store conn.old conn.new
-        (IfOk result (λ e. HasEntries e (world_in First (shown S.Store conn.old)))) }
+    ensures { Reads First S.Store IsDatabase
+        (Answers (λ db e. HasGoodFirst version db × HasEntries e (world_in First db))
+        (λ db fault. Denies fault (HasGoodFirst version db)))
+        result conn.old conn.new }
 {
     match first_keeper(alloc, conn, version) {
         Ok(keeper) => {
@@ -218,12 +200,9 @@ fn see_world<S: Alter>(
 
 /// Whether the rows of the first round have numbers of their own.
 pub(crate) fn see_first_numbers<S: Alter>(conn: &mut Connection<S>) -> Result<(), OpenFault>
-    requires idle { conn.old.in_transaction ≡ false }
-    ensures idle { conn.new.in_transaction ≡ false }
-    ensures asks { RunsQuery result (state S.Store conn.old) (state S.Store conn.new) }
     ensures refused { IfErr result SaysNothing }
-    ensures apart { HasFirstSchema conn.old.schema → HasCleanDisk (state S.Store conn.new)
-        → OnOk result (AllNumbersDiffer early_trees (shown S.Store conn.old)) }
+    ensures reads { Reads First S.Store Always
+        (Gives (λ db _. AllNumbersDiffer early_trees db)) result conn.old conn.new }
 {
     see_rolls_numbers(conn)?;
     see_lists_numbers(conn)
@@ -236,16 +215,11 @@ pub(crate) fn judge_first<S: Alter>(
     conn: &mut Connection<S>,
     version: u32,
 ) -> Result<Entries, OpenFault>
-    requires idle { conn.old.in_transaction ≡ false }
-    ensures idle { conn.new.in_transaction ≡ false }
-    ensures asks { RunsQuery result (state S.Store conn.old) (state S.Store conn.new) }
-    ensures refused { OverLive First S.Store conn.old conn.new
-        (IfErr result (λ fault. Denies fault (HasGoodFirst version (shown S.Store conn.old)))) }
-    ensures admits { OverLive First S.Store conn.old conn.new
-        (OnOk result (AdmitsAs version (shown S.Store conn.old))) }
-    ensures entries { OverLive First S.Store conn.old conn.new
-        (IfOk result (λ e. HasEntries e (world_in First (shown S.Store conn.old)))) }
+    ensures { Reads First S.Store (IsSoundIfOpen S.Store conn.old)
+        (Answers (λ db e. AdmitsAs version db × HasEntries e (world_in First db))
+        (λ db fault. Denies fault (HasGoodFirst version db)))
+        result conn.old conn.new }
 {
     see_first_numbers(conn)?;
-    see_world(alloc, conn, version)
+    see_first_world(alloc, conn, version)
 }

@@ -1,16 +1,14 @@
 //! Loads the world of the tables into a keeper in lists.
 
-ghost use Rattle.std.specs.Prelude.{◌≡◌, false, Err, IfOk};
-ghost use Rattle.sqlite.specs.Held.{state};
+ghost use Rattle.std.specs.Prelude.{IfOk};
+ghost use Rattle.sqlite.specs.Effect.{IsDatabase};
 ghost use Rattle.portal_core.specs.Good.{Sound};
 ghost use Rattle.portal_core.specs.declared.phase.Round.TheVariants.{Second, First};
-ghost use Rattle.portal_tables.specs.Reading.{RunsQueryIn};
-ghost use Rattle.portal_tables.specs.inner.Reading.{RunsQuery, OverSound};
-ghost use Rattle.portal_store.specs.inner.Asked.{NumbersDiffer};
+ghost use Rattle.portal_tables.specs.Reads.{Reads, Answers};
+ghost use Rattle.portal_store.specs.inner.Asked.{Blames, NumbersDiffer};
 ghost use Rattle.portal_store.specs.Kept.{HasGoodWorld, HasGoodFirst};
 ghost use Rattle.portal_store.specs.World.{round_in};
 ghost use Rattle.portal_store.specs.inner.Found.{ShowsWorld, FindsIn};
-ghost use Rattle.portal_store.specs.Reading.{shown};
 
 use crate::fault::rows_fault_of;
 use crate::load::{load, load_first};
@@ -26,14 +24,11 @@ pub(crate) fn first_keeper<S: Alter>(
     conn: &mut Connection<S>,
     version: u32,
 ) -> Result<ListKeeper, TableFault>
-    requires idle { conn.old.in_transaction ≡ false }
-    ensures idle { conn.new.in_transaction ≡ false }
     ensures sound { IfOk result (λ keeper. Sound keeper) }
-    ensures found { OverSound First S.Store conn.old conn.new
-        (IfOk result (λ keeper. ShowsWorld version (shown S.Store conn.old) keeper)) }
-    ensures damaged { OverSound First S.Store conn.old conn.new
-        (result ≡ Err TableFault.Damaged → HasGoodFirst version (shown S.Store conn.old) → ⊥) }
-    ensures asks { RunsQuery result (state S.Store conn.old) (state S.Store conn.new) }
+    ensures reads { Reads First S.Store IsDatabase
+        (Answers (λ db keeper. ShowsWorld version db keeper)
+        (λ db fault. Blames fault (HasGoodFirst version db)))
+        result conn.old conn.new }
 {
     let rows = load_first(alloc, conn, version)?;
     match ListKeeper::from_rows(alloc, rows) {
@@ -47,16 +42,11 @@ pub(crate) fn load_keeper<S: Alter>(
     alloc: Global,
     conn: &mut Connection<S>,
 ) -> Result<ListKeeper, TableFault>
-    requires idle { conn.old.in_transaction ≡ false }
-    ensures idle { conn.new.in_transaction ≡ false }
     ensures sound { IfOk result (λ keeper. Sound keeper) }
-    ensures found { OverSound Second S.Store conn.old conn.new
-        (IfOk result (λ keeper. FindsIn (round_in (shown S.Store conn.old))
-        (shown S.Store conn.old) keeper)) }
-    ensures damaged { OverSound Second S.Store conn.old conn.new
-        (result ≡ Err TableFault.Damaged → NumbersDiffer (shown S.Store conn.old)
-        → HasGoodWorld (shown S.Store conn.old) → ⊥) }
-    ensures asks { RunsQueryIn Second result (state S.Store conn.old) (state S.Store conn.new) }
+    ensures reads { Reads Second S.Store IsDatabase
+        (Answers (λ db keeper. FindsIn (round_in db) db keeper)
+        (λ db fault. NumbersDiffer db → Blames fault (HasGoodWorld db)))
+        result conn.old conn.new }
 {
     let rows = load(alloc, conn)?;
     match ListKeeper::from_rows(alloc, rows) {

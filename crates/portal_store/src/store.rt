@@ -109,9 +109,10 @@ impl<S: Alter> Store<S> {
     }
 
     /// The store, closed and opened again over its connection. Where its disk returns what was
-    /// written, a clean store is clean again and has the same world. The refusals are those of
-    /// `open`.
+    /// written, it did so before, and a clean store is clean again and has the same world. The
+    /// refusals are those of `open`.
     pub fn reopen(self, alloc: Global) -> Result<Store<S>, NotOpened<OpenFault, S>>
+        ensures disk { IfOk result (λ s. HasDisk S.Store s → HasDisk S.Store self) }
         ensures lasts { IfOk result (λ s. HasDisk S.Store s → IsCleanStore S.Store self
             → IsCleanStore S.Store s) }
         ensures same { IfOk result (λ s. HasDisk S.Store s → IsCleanStore S.Store self

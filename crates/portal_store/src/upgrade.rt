@@ -10,18 +10,18 @@ ghost use Rattle.portal_tables.specs.Schema.{IsFirstSchema, HasFirstSchema};
 ghost use Rattle.portal_tables.specs.Making.{Upgrades};
 ghost use Rattle.portal_tables.specs.Names.{has_names};
 ghost use Rattle.portal_tables.specs.declared.names.Names.TheVariants.{OfSecond};
-ghost use Rattle.portal_tables.specs.inner.Reading.{RunsQuery};
+ghost use Rattle.portal_tables.specs.Reads.{Reads, Answers};
 ghost use Rattle.portal_tables.specs.Steps.{Commits, IsAfter, LeavesOnly, Stays};
 ghost use Rattle.portal_list.specs.Entries.{HasEntries};
 ghost use Rattle.portal_store.specs.Kept.{HasGoodFirst, IsCleanStore, kept_world};
 ghost use Rattle.portal_store.specs.World.{world_in};
 ghost use Rattle.portal_store.specs.Asked.{RefusalSays, Bars};
 ghost use Rattle.portal_store.specs.inner.Asked.{AdmitsAs};
-ghost use Rattle.portal_store.specs.Reading.{shown};
-ghost use Rattle.portal_store.specs.inner.Reading.{OverLive};
+ghost use Rattle.portal_store.specs.inner.Reading.{IsSoundIfOpen, OverLive};
 
 use crate::fault::{open_fault_of, upgrade_fault_of, upgrading_fault_of};
 use crate::seeing::{judge_first, see_first};
+use crate::settled::settled;
 use crate::store::{NotOpened, OpenFault, Store, UpgradeFault};
 use portal_core::ViewCache;
 use portal_list::Entries;
@@ -38,16 +38,11 @@ fn examine_first<S: Alter>(
     conn: &mut Connection<S>,
     own: bool,
 ) -> Result<Entries, OpenFault>
-    requires idle { conn.old.in_transaction ≡ false }
-    ensures idle { conn.new.in_transaction ≡ false }
-    ensures asks { IsTrue own → RunsQuery result (state S.Store conn.old) (state S.Store conn.new) }
-    ensures refused { IsTrue own → OverLive First S.Store conn.old conn.new
-        (IfErr result (λ fault. RefusalSays fault first_version
-        (HasGoodFirst first_version (shown S.Store conn.old)) (shown S.Store conn.old))) }
-    ensures admits { IsTrue own → OverLive First S.Store conn.old conn.new
-        (OnOk result (AdmitsAs first_version (shown S.Store conn.old))) }
-    ensures entries { IsTrue own → OverLive First S.Store conn.old conn.new
-        (IfOk result (λ e. HasEntries e (world_in First (shown S.Store conn.old)))) }
+    ensures idle { conn.old.in_transaction ≡ false → conn.new.in_transaction ≡ false }
+    ensures reads { IsTrue own → Reads First S.Store (IsSoundIfOpen S.Store conn.old)
+        (Answers (λ db e. AdmitsAs first_version db × HasEntries e (world_in First db))
+        (λ db fault. RefusalSays fault first_version (HasGoodFirst first_version db) db))
+        result conn.old conn.new }
 {
     see_first(conn, own, FIRST_VERSION)?;
     judge_first(alloc, conn, FIRST_VERSION)
@@ -66,13 +61,12 @@ fn upgraded<S: Alter>(
     ensures made { IsTrue own → HasFirstSchema conn.old.schema
         → HasCleanDisk (state S.Store conn.new)
         → OnOk result (Commits Upgrades (state S.Store conn.old) (state S.Store conn.new)) }
-    ensures admits { IsTrue own → OverLive First S.Store conn.old conn.new
-        (OnOk result (AdmitsAs first_version (shown S.Store conn.old))) }
-    ensures entries { IsTrue own → OverLive First S.Store conn.old conn.new
-        (IfOk result (λ e. HasEntries e (world_in First (shown S.Store conn.old)))) }
+    ensures stands { IsTrue own → OverLive First S.Store conn.old conn.new
+        (IfOk result (λ e. AdmitsAs first_version (state S.Store conn.old).now.trees
+        × HasEntries e (world_in First (state S.Store conn.old).now.trees))) }
     ensures refused { IsTrue own → OverLive First S.Store conn.old conn.new
         (IfErr result (λ fault. (fault ≡ UpgradeFault.Exists)
-        ⊎ Bars fault (shown S.Store conn.old))) }
+        ⊎ Bars fault (state S.Store conn.old).now.trees)) }
     ensures exists { result ≡ Err UpgradeFault.Exists → IsTrue is_taken }
     ensures free { OnOk result (is_taken ≡ false) }
     ensures err { IsTrue own → HasFirstSchema conn.old.schema
@@ -85,7 +79,7 @@ fn upgraded<S: Alter>(
         → Survives (state S.Store conn.old) (state S.Store conn.new)
         (IsAfter Upgrades (state S.Store conn.old)) }
 {
-    let _idle = conn.is_autocommit();
+    settled(conn);
     let entries = match examine_first(alloc, conn, own) {
         Ok(entries) => entries,
         Err(fault) => return Err(upgrade_fault_of(fault)),
@@ -143,8 +137,7 @@ impl<S: Alter> Store<S> {
             → Survives (state S.Store conn) (state S.Store e.connection)
             (IsAfter Upgrades (state S.Store conn))) }
     {
-        let _idle = conn.is_autocommit();
-        let _live = conn.schema();
+        settled(&conn);
         let pattern = match PortalSchema::new(alloc) {
             Ok(pattern) => pattern,
             Err(error) => {

@@ -1,7 +1,5 @@
 -- A query before a change: what the change is, begun where the query began.
-use Rattle.std.specs.Prelude.{◌≡◌}
-use Rattle.portal_tables.proofs.Base.{IsTrue, sym, subst, ◌∙◌, Database, State, HasCleanDisk, IsUnchanged, Survives, survives_then, Commits, IsAfter}
-use Rattle.std.proofs.Common.{arith}
+use Rattle.portal_tables.proofs.Base.{◌≡◌, arith, IsTrue, sym, subst, ◌∙◌, Database, State, HasCleanDisk, IsUnchanged, Survives, survives_then, Commits, IsAfter}
 
 -- all was committed
 abbrev pub IsSettled : State → Type 0

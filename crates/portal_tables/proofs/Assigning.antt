@@ -1,6 +1,5 @@
 -- The UPDATEs of the projects of students.
-use Rattle.std.specs.Prelude.{◌≡◌, ◌+◌, ◌∷◌, ◌++◌, ◌<◌, ◌==◌}
-use Rattle.portal_tables.proofs.Base.{ℕ, ℤ, Bool, true, false, not, cond, List, [], map, filter, length, take, get_or, codes, Option, Some, None, refl, sym, ap, ap₂, subst, subst₂, ◌∙◌, AllByRecursion, flat_map, filter_map, IsPermutation, map-append, take_more, IsPermutation-refl, IsPermutation-trans, IsPermutation-map, IsPermutation-filter_both, Value, Int, Text, Row, column, cast_row, Table, Term, col, State, Database, everything, understood, works, work_by, deed_for, pairs, parent_key, Enforced, bound_value, all-filter, all_map, all_weaker, student_schema, student_tree, has_text, Second, IsCurrentSchema, Assigned, text_cell, student_columns, assigned_by, with_assigned, Assigns, Ran, Made}
+use Rattle.portal_tables.proofs.Base.{◌≡◌, ◌+◌, ◌∷◌, ◌++◌, ◌<◌, ◌==◌, ℕ, ℤ, Bool, true, false, not, cond, List, [], map, filter, length, take, get_or, codes, Option, Some, None, refl, sym, ap, ap₂, subst, subst₂, ◌∙◌, AllByRecursion, flat_map, filter_map, IsPermutation, map-append, take_more, IsPermutation-refl, IsPermutation-trans, IsPermutation-map, IsPermutation-filter_both, Value, Int, Text, Row, column, cast_row, Table, Term, col, State, Database, everything, understood, works, work_by, deed_for, pairs, parent_key, Enforced, bound_value, all-filter, all_map, all_weaker, student_schema, student_tree, has_text, Second, IsCurrentSchema, Assigned, text_cell, student_columns, assigned_by, with_assigned, Assigns, Ran, Made}
 use Rattle.portal_tables.proofs.Keeping.{keeps_then, keeps_all}
 use Rattle.portal_tables.proofs.Listed.{all_map_on}
 use Rattle.portal_tables.proofs.Lists.{not_true}

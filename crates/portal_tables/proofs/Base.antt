@@ -5,30 +5,26 @@ pub use Rattle.portal_core.proofs.AllLaws.{all_append, all_map, all_weaker, any_
 pub use Rattle.portal_core.proofs.Fills.{before_other}
 pub use Rattle.portal_core.proofs.Keys.{all_unmap, is_own, is_same, not_before_itself}
 pub use Rattle.portal_core.proofs.Puts.{after_other, before_trans}
-pub use Rattle.portal_tables.specs.Changes.{RowNumbersDiffer, has_text}
+pub use Rattle.portal_tables.specs.Rows.{RowNumbersDiffer, has_text, row_key, Assigned, portal_cells, portal_row, second_cells, second_row}
 pub use Rattle.portal_tables.specs.inner.Changes.{AreNew, Becomes, Drops, ListsBy, InsertsRows, Sets, columns, every, has_number, with_rows}
 pub use Rattle.portal_tables.specs.inner.Decoding.{FindsAny, ShowsAs}
 pub use Rattle.portal_tables.specs.ListTables.{add_eight_text, add_text, clear_text, names, place_among, round_of, tree_of}
-pub use Rattle.portal_tables.specs.Lists.{CountUp, IsWhole, by_place, chosen, list_in_order, named_by, of_key, place_key, place_of}
+pub use Rattle.portal_tables.specs.Lists.{CountUp, IsWhole, by_place, chosen, list_in_order, named_by, of_key, place_key, place_of, placed_project, second_placement}
 pub use Rattle.portal_tables.specs.Making.{Creates, IsFresh, Upgrades}
 pub use Rattle.portal_tables.specs.inner.Making.{Grown, Grows, Makes, MakesFirst, MakesSecond, with_second}
 pub use Rattle.portal_tables.specs.Names.{is_named_table, is_named_view}
 pub use Rattle.portal_tables.specs.Office.{HasOffice, IsOffice, IsSecond, number_of_phase}
 pub use Rattle.portal_tables.specs.Schema.{HasRound, IsCurrentSchema, IsFirstSchema, HasFirstSchema, SameTable}
 pub use Rattle.portal_tables.specs.inner.Owners.{IsRead, choice_shown, entry, has_list, with_list}
-pub use Rattle.portal_tables.specs.Placements.{placed_project, second_placement}
 pub use Rattle.portal_tables.specs.inner.Placements.{pair_shown, placement_asked, placement_shown, result_shown}
 pub use Rattle.portal_tables.specs.inner.Putting.{PutsList, PutsPlacements, RanksSecond, list_cells, numbered, placed}
 pub use Rattle.portal_tables.specs.inner.Queries.{columns_of, given, roll_tree, round_asked, selection, table_round, table_tree, query_text}
-pub use Rattle.portal_tables.specs.Reading.{RunsQueryIn}
+pub use Rattle.portal_tables.specs.Steps.{RunsQueryIn, Commits, IsAfter, IsUnchangedOrUndone, Stays}
 pub use Rattle.portal_tables.specs.inner.Reading.{RunsQueries, RunsQueriesIn}
 pub use Rattle.portal_tables.specs.inner.Rising.{is_above, rises}
-pub use Rattle.portal_tables.specs.Rolls.{row_key}
 pub use Rattle.portal_tables.specs.inner.Rolls.{by_key}
-pub use Rattle.portal_tables.specs.Rows.{Assigned, portal_cells, portal_row, second_cells, second_row}
 pub use Rattle.portal_tables.specs.inner.Rows.{Adds, AddsBy, Assigns, Clears, IsOfVersion, MovesSecond, MovesTo, Ranks, assigned_by, lecturer_cells, lecturer_new, lecturer_values, pair_new, place_cells, place_new, project_new, student_new, student_columns, student_values, text_cell, with_assigned}
 pub use Rattle.portal_tables.specs.inner.Shown.{as_list, first_cell, shown_name, shown_rank}
-pub use Rattle.portal_tables.specs.Steps.{Commits, IsAfter, IsUnchangedOrUndone, Stays}
 pub use Rattle.portal_tables.specs.inner.Steps.{Does, GoesOn, Made, Ran}
 pub use Rattle.portal_tables.specs.Tables.{assigned2, assigned2_tree, choice, choice2, choice2_names, choice2_tree, choice_names, choice_tree, column_of, first_schema, first_trees, first_version, lecturer_schema, lecturer_tree, list_table, no_schema, own_trees, portal, portal_schema, portal_tree, project_schema, project_tree, ranked2, ranked2_tree, ranking, ranking2, ranking2_names, ranking2_tree, ranking_names, ranking_tree, second, second_tree, second_trees, student_schema, student_tree, schema_of, version}
 pub use Rattle.portal_tables.specs.inner.Tables.{assigned2_text, lecturer_text, list_table_text, portal_text, project_text, ranked2_text, second_text, student_text}
@@ -116,3 +112,9 @@ pub use Rattle.std.specs.Result.{IsErr}
 pub use Rattle.std.specs.declared.cmp.Ordering.{Ordering}
 pub use Rattle.std.specs.declared.cmp.Ordering.TheVariants.{Equal, Greater, Less}
 pub use lib.Dec.{lt→ltb}
+pub use Rattle.portal_tables.specs.declared.fault.TableFault.TheVariants.{Damaged}
+pub use Rattle.portal_tables.specs.inner.Decoding.{Refuses}
+pub use Rattle.portal_tables.specs.inner.Placements.{pair_told}
+pub use Rattle.std.proofs.Common.{arith, rules, ◌/◌}
+pub use Rattle.std.proofs.lemmas.Grind.{common_steps}
+pub use Rattle.std.specs.Prelude.{◌&&◌, ◌++◌, ◌+◌, ◌<◌, ◌==◌, ◌||◌, ◌∷◌, ◌≡◌, ◌≢◌, ◌≤◌, ◌⊎◌}

@@ -1,7 +1,5 @@
 -- Rows that are decoded one at a time, as they are read.
-use Rattle.std.specs.Prelude.{◌≡◌, ◌∷◌, ◌++◌}
-use Rattle.portal_tables.proofs.Base.{ℕ, Bool, true, false, refl, List, [], None, Some, Option, sym, ap, subst, ◌∙◌, map-append, map-id, timed, Error, EndsIn, begins_shown, Compiled, Database, HasGiven, Advances, Held, state, understood, reads_listing, IsSourceOf, Row, State, Begins, Shown, ShowsRows, IsUnchanged, Ok, Err, Result, IfOk, OnOk, OnErr, option_copied, Bor, ShowsAs, FindsAny}
-use Rattle.sqlite.specs.Given.{IsPlain}
+use Rattle.portal_tables.proofs.Base.{◌≡◌, ◌∷◌, ◌++◌, IsPlain, Refuses, ℕ, Bool, true, false, refl, List, [], None, Some, Option, sym, ap, subst, ◌∙◌, map-append, map-id, timed, Error, EndsIn, begins_shown, Compiled, Database, HasGiven, Advances, Held, state, understood, reads_listing, IsSourceOf, Row, State, Begins, Shown, ShowsRows, IsUnchanged, Ok, Err, Result, IfOk, OnOk, OnErr, option_copied, Bor, AllByRecursion, ShowsAs, FindsAny}
 use Rattle.sqlite_trees.specs.declared.store.Store.{Ghosts}
 use Rattle.portal_tables.proofs.InTurn.{unchanged_then, unchanged_self}
 
@@ -69,3 +67,17 @@ found_any IsShown sql params old new plain known ends (Ok true) same none some =
     let all = begins_shown sql params new new (one.0 ∷ []) one.1 (unchanged_self new same.0.is_open) (λ c db it source. ends c (back c it.is) db (timed params c.formats it.now)) in
     record { rows = one.0 ∷ all.0; shown = known (one.0 ∷ all.0) (shown_before sql params old new new (one.0 ∷ all.0) plain same all.1); told = refl }
 found_any IsShown sql params old new plain known ends (Err e) same none some = tt
+
+-- a row that was refused is one of those that are shown
+one_of : (P : Row → Type 0) (before : List Row) (row : Row) (more : List Row) → AllByRecursion P ((before ++ row ∷ []) ++ more) → P row
+one_of P [] row more all = all.0
+one_of P (r ∷ before) row more all = one_of P before row more all.1
+
+pub none_refused : (is_fine : Row → Type 0) (IsShown : List Row → Type 0) (sql : List ℕ) (params : Row) (old new : State) → IsPlain (understood old.now.schema sql) → ((rows : List Row) → Shown sql params old new rows → IsShown rows)
+    → ((c : Compiled) → understood old.now.schema sql ≡ Ok c → (db : Database) (full : Row) → EndsIn c.command db full)
+    → Refuses is_fine sql params old new → ((rows : List Row) → IsShown rows → AllByRecursion is_fine rows) → ⊥
+none_refused is_fine IsShown sql params old new plain known ends h fine =
+    let first : List Row = h.before ++ h.row ∷ [] in
+    let back : (c : Compiled) → understood new.now.schema sql ≡ Ok c → understood old.now.schema sql ≡ Ok c = λ c. subst (λ (d : Database). understood d.schema sql ≡ Ok c) h.same.0.now_is in
+    let all = begins_shown sql params new new first h.begins (unchanged_self new h.same.0.is_open) (λ c db it source. ends c (back c it.is) db (timed params c.formats it.now)) in
+    h.refused (one_of is_fine h.before h.row all.0 (fine (first ++ all.0) (known (first ++ all.0) (shown_before sql params old new new (first ++ all.0) plain h.same all.1))))

@@ -1,8 +1,6 @@
 -- Several readings in turn.
-use Rattle.std.specs.Prelude.{◌≡◌}
-use Rattle.portal_tables.proofs.Base.{IsErr, List, Lists, subst₂, IfOk, inl, inr, IsTrue, Ok, Err, Result, OnOk, refl, sym, subst, ◌∙◌, Database, State, HasCleanDisk, IsUnchanged, Survives, survives_then, survives_weaker, Round, HasFirstSchema, HasRound, IsUnchangedOrUndone, on_ok_weaker, on_err_weaker, RunsQueryIn, RunsQueries, RunsQueriesIn}
+use Rattle.portal_tables.proofs.Base.{◌≡◌, arith, IsErr, List, Lists, subst₂, IfOk, inl, inr, IsTrue, Ok, Err, Result, OnOk, refl, sym, subst, ◌∙◌, Database, State, HasCleanDisk, IsUnchanged, Survives, survives_then, survives_weaker, Round, HasFirstSchema, HasRound, IsUnchangedOrUndone, on_ok_weaker, on_err_weaker, RunsQueryIn, RunsQueries, RunsQueriesIn}
 use Rattle.portal_tables.proofs.Owned.{round_own}
-use Rattle.std.proofs.Common.{arith}
 
 pub unchanged_then : (a b c : State) → IsUnchanged a b → IsUnchanged b c → IsUnchanged a c
 unchanged_then a b c p q = (

@@ -1,6 +1,5 @@
 -- Lists of rows.
-use Rattle.std.specs.Prelude.{◌≡◌, ◌∷◌, ◌++◌, ◌&&◌, ◌||◌}
-use Rattle.portal_tables.proofs.Base.{inl, inr, ℤ, List, [], map, filter, Bool, true, false, not, cond, refl, sym, ap, ap₂, subst, ◌∙◌, AllByRecursion, list_any, flat_map, is_eq, ordering_reverse, match_ordering, Ordering, Less, Equal, Greater, or_parts, Value, Int, Row, value_cmp, put_row, rowid, has_rowid, without_rowid, id_in, is_taken, without_all, Has, all_has, all-filter, value_cmp_total, RowNumbersDiffer}
+use Rattle.portal_tables.proofs.Base.{◌≡◌, ◌∷◌, ◌++◌, ◌&&◌, ◌||◌, inl, inr, ℤ, List, [], map, filter, Bool, true, false, not, cond, refl, sym, ap, ap₂, subst, ◌∙◌, AllByRecursion, list_any, flat_map, is_eq, ordering_reverse, match_ordering, Ordering, Less, Equal, Greater, or_parts, Value, Int, Row, value_cmp, put_row, rowid, has_rowid, without_rowid, id_in, is_taken, without_all, Has, all_has, all-filter, value_cmp_total, RowNumbersDiffer}
 
 -- a loop that shows each element which passes
 pub looped : {X Y : Type 0} (p : X → Bool) (f : X → Y) (xs : List X) → flat_map (λ x. cond (p x) (f x ∷ []) []) xs ≡ map f (filter p xs)

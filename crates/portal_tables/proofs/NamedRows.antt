@@ -1,7 +1,6 @@
 -- A key that is looked for among rows whose keys rise.
-use Rattle.std.specs.Prelude.{◌≡◌, ◌<◌, ◌≤◌, ◌||◌, ◌∷◌}
-use Rattle.portal_tables.proofs.Base.{inl, inr, zero, suc, ℕ, true, false, List, [], map, length, get_or, refl, sym, subst, ◌∙◌, ap, nat_cmp, slice_cmp, or-true, cases_Bool, cases_lt, nat_list_cmp_total, tied_itself, exact_bytes, Row, Key, equals, has, is_same, is_own, first_cell}
-use Rattle.std.proofs.Common.{Less, Equal, Greater, arith}
+use Rattle.portal_tables.proofs.Base.{◌≡◌, ◌<◌, ◌≤◌, ◌||◌, ◌∷◌, arith, inl, inr, zero, suc, ℕ, true, false, List, [], map, length, get_or, refl, sym, subst, ◌∙◌, ap, nat_cmp, slice_cmp, or-true, cases_Bool, cases_lt, nat_list_cmp_total, tied_itself, exact_bytes, Row, Key, equals, has, is_same, is_own, first_cell}
+use Rattle.std.proofs.Common.{Less, Equal, Greater}
 
 -- a key that is found at a place is there
 there : (rows : List Row) (k : Key) (n : ℕ) (d : Row) → n < length rows → slice_cmp nat_cmp (first_cell (get_or rows n d)) k ≡ Equal → has (map first_cell rows) k ≡ true

@@ -1,7 +1,5 @@
 -- The rows of the office and of the second round, as their queries show them.
-use Rattle.std.specs.Prelude.{◌≡◌, ◌&&◌, ◌∷◌}
-use Rattle.portal_tables.proofs.Base.{ℕ, ℤ, pos, true, false, drop, Some, List, [], map, refl, sym, ap, subst, ◌∙◌, AllByRecursion, IsPermutation, length_permutation, and_parts, Value, Null, Int, Real, Blob, Words, Row, column, Database, IsDatabase, Datatype, are_typed, is_of, Integer, is_null, Phase, Key, First, Second, portal_tree, portal, second_tree, second, HasFirstSchema, IsCurrentSchema, portal_row, second_row, ListsBy, every, columns, number_of_phase, HasOffice, IsOffice, IsSecond}
-use Rattle.std.proofs.Common.{arith}
+use Rattle.portal_tables.proofs.Base.{◌≡◌, ◌&&◌, ◌∷◌, arith, ℕ, ℤ, pos, true, false, drop, Some, List, [], map, refl, sym, ap, subst, ◌∙◌, AllByRecursion, IsPermutation, length_permutation, and_parts, Value, Null, Int, Real, Blob, Words, Row, column, Database, IsDatabase, Datatype, are_typed, is_of, Integer, is_null, Phase, Key, First, Second, portal_tree, portal, second_tree, second, HasFirstSchema, IsCurrentSchema, portal_row, second_row, ListsBy, every, columns, number_of_phase, HasOffice, IsOffice, IsSecond}
 use Rattle.sqlite.specs.Kind.TheVariants.{Text}
 use Rattle.portal_tables.proofs.Lists.{filter_all}
 use Rattle.portal_tables.proofs.Weak.{own_is}

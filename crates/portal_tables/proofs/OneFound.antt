@@ -1,6 +1,5 @@
 -- The only row that a query shows is what a search of the roll finds.
-use Rattle.std.specs.Prelude.{◌≡◌, ◌∷◌}
-use Rattle.portal_tables.proofs.Base.{ℕ, Bool, true, false, cond, Option, Some, None, option_map, List, [], map, filter, refl, sym, ap, ap₂, subst, subst₂, ◌∙◌, AllByRecursion, find, IsPermutation, IsPermutation-map, IsPermutation-sym, IsPermutation-trans, length_permutation, Row, one_permutation, IsPermutation-filter, filter-map, ListsBy, row_key, by_key, as_list}
+use Rattle.portal_tables.proofs.Base.{◌≡◌, ◌∷◌, ℕ, Bool, true, false, cond, Option, Some, None, option_map, List, [], map, filter, refl, sym, ap, ap₂, subst, subst₂, ◌∙◌, AllByRecursion, find, IsPermutation, IsPermutation-map, IsPermutation-sym, IsPermutation-trans, length_permutation, Row, one_permutation, IsPermutation-filter, filter-map, ListsBy, row_key, by_key, as_list}
 use Rattle.portal_tables.proofs.Listed.{permuted}
 use Rattle.portal_tables.proofs.Sorted.{permutes, map_alike, map_twice}
 

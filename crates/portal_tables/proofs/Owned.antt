@@ -1,6 +1,5 @@
 -- Which schema is the portal's own: those of the tables as they are made, and any over the same trees.
-use Rattle.std.specs.Prelude.{◌≡◌, ◌∷◌, ◌++◌}
-use Rattle.portal_tables.proofs.Base.{List, [], take, length, subst, sym, refl, AllZip, Database, IsDatabase, Trees, Schema, Table, IsSound, lists_once, zip_itself, Round, First, Second, first_schema, portal_schema, SameTable, HasFirstSchema, IsCurrentSchema, IsFirstSchema, HasRound}
+use Rattle.portal_tables.proofs.Base.{◌≡◌, ◌∷◌, ◌++◌, List, [], take, length, subst, sym, refl, AllZip, Database, IsDatabase, Trees, Schema, Table, IsSound, lists_once, zip_itself, Round, First, Second, first_schema, portal_schema, SameTable, HasFirstSchema, IsCurrentSchema, IsFirstSchema, HasRound}
 
 same_table : (t : Table) → SameTable t t
 same_table t = record {

@@ -1,7 +1,5 @@
 -- A list that is put, whole, in place of another.
-use Rattle.std.specs.Prelude.{◌≡◌, ◌+◌, ◌<◌, ◌∷◌, ◌++◌, ◌&&◌}
-use Rattle.portal_tables.proofs.Base.{ℕ, pos, List, [], Bool, true, false, not, cond, map, filter, length, refl, sym, ap, ap₂, subst, ◌∙◌, get_or, take, suc, zero-add, AllByRecursion, IsPermutation, map-append, append-nil, append_assoc, length_push, take_more, length-take-le, State, Made, GoesOn, and-false, filter-append, IsPermutation-refl, IsPermutation-trans, IsPermutation-sym, IsPermutation-cons, IsPermutation-middle, IsPermutation-to_front, is_eq, Ordering, Less, Equal, Greater, Value, Int, Words, Row, value_cmp, column, next_rowid, is_taken, put_row, Database, value_cmp_total, Key, equals, is_before, Rise, is_sym, IsCurrentSchema, has_text, with_rows, AreNew, Adds, Clears, place_cells, of_key, place_key, by_place, list_in_order, CountUp, IsWhole, numbered, placed, list_cells, PutsList}
-use Rattle.std.proofs.Common.{arith}
+use Rattle.portal_tables.proofs.Base.{◌≡◌, ◌+◌, ◌<◌, ◌∷◌, ◌++◌, ◌&&◌, arith, ℕ, pos, List, [], Bool, true, false, not, cond, map, filter, length, refl, sym, ap, ap₂, subst, ◌∙◌, get_or, take, suc, zero-add, AllByRecursion, IsPermutation, map-append, append-nil, append_assoc, length_push, take_more, length-take-le, State, Made, GoesOn, and-false, filter-append, IsPermutation-refl, IsPermutation-trans, IsPermutation-sym, IsPermutation-cons, IsPermutation-middle, IsPermutation-to_front, is_eq, Ordering, Less, Equal, Greater, Value, Int, Words, Row, value_cmp, column, next_rowid, is_taken, put_row, Database, value_cmp_total, Key, equals, is_before, Rise, is_sym, IsCurrentSchema, has_text, with_rows, AreNew, Adds, Clears, place_cells, of_key, place_key, by_place, list_in_order, CountUp, IsWhole, numbered, placed, list_cells, PutsList}
 use Rattle.portal_tables.proofs.Runs.{made_goes, goes_both}
 use Rattle.portal_tables.proofs.Keeping.{puts_apart, drops_apart, keeps_then}
 use Rattle.portal_tables.proofs.Lists.{filter_same, filter-filter, put_splits, eq_self}

@@ -1,6 +1,5 @@
 -- What a query of one table shows, in the order of a column.
-use Rattle.std.specs.Prelude.{◌≡◌, ◌∷◌}
-use Rattle.portal_tables.proofs.Base.{inl, inr, Ok, Err, Result, IfOk, IfErr, OnOk, OnErr, ℕ, List, [], map, filter, refl, ap, subst, ◌∙◌, IsPermutation, IsSorted, Null, Binary, ascending, Row, column, Term, col, eval_all, Trees, Query, IsAnswer, output, Output, IsProgramAnswer, answer_alone, State, Shown, ShowsRows, IsUnchanged, FailsToQuery, FailsToShow, IsNotRun, Error, IsUnchangedOrUndone, timed, understood, IsPlain, ListsBy, columns, key_cmp, map-map}
+use Rattle.portal_tables.proofs.Base.{◌≡◌, ◌∷◌, inl, inr, Ok, Err, Result, IfOk, IfErr, OnOk, OnErr, ℕ, List, [], map, filter, refl, ap, subst, ◌∙◌, IsPermutation, IsSorted, Null, Binary, ascending, Row, column, Term, col, eval_all, Trees, Query, IsAnswer, output, Output, IsProgramAnswer, answer_alone, State, Shown, ShowsRows, IsUnchanged, FailsToQuery, FailsToShow, IsNotRun, Error, IsUnchangedOrUndone, timed, understood, IsPlain, ListsBy, columns, key_cmp, map-map}
 use Rattle.sqlite_value.specs.declared.keys.Key.{Key}
 use Rattle.portal_tables.proofs.Query.{one_table, passes, shown_as}
 use Rattle.portal_tables.proofs.Lists.{looped}

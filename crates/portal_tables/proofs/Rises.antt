@@ -1,6 +1,5 @@
 -- Rows whose numbers rise in some order have numbers of their own.
-use Rattle.std.specs.Prelude.{◌≡◌, ◌∷◌, ◌||◌}
-use Rattle.portal_tables.proofs.Base.{ℤ, List, [], map, filter, Bool, true, false, Option, Some, None, int_cmp, refl, sym, ap, subst, subst₂, ◌∙◌, Ordering, Less, Equal, Greater, is_lt, is_eq, AllByRecursion, IsDistinct, list_any, IsPermutation, IsPermutation-map, IsPermutation-sym, list_any-IsPermutation, IsDistinct-IsPermutation, and_parts, or_parts, Value, Null, Int, Real, Blob, Text, Row, column, value_cmp, id_in, rowid, value_cmp_total, value_cmp-Int, RowNumbersDiffer, ListsBy, every, columns, is_above, rises, map-map}
+use Rattle.portal_tables.proofs.Base.{◌≡◌, ◌∷◌, ◌||◌, ℤ, List, [], map, filter, Bool, true, false, Option, Some, None, int_cmp, refl, sym, ap, subst, subst₂, ◌∙◌, Ordering, Less, Equal, Greater, is_lt, is_eq, AllByRecursion, IsDistinct, list_any, IsPermutation, IsPermutation-map, IsPermutation-sym, list_any-IsPermutation, IsDistinct-IsPermutation, and_parts, or_parts, Value, Null, Int, Real, Blob, Text, Row, column, value_cmp, id_in, rowid, value_cmp_total, value_cmp-Int, RowNumbersDiffer, ListsBy, every, columns, is_above, rises, map-map}
 use Rattle.portal_tables.proofs.Lists.{eq_flips}
 
 abbrev same : Value → Value → Bool

@@ -1,7 +1,5 @@
 -- Steps of a transaction in turn, whatever the change.
-use Rattle.std.specs.Prelude.{◌≡◌}
-use Rattle.portal_tables.proofs.Base.{inl, inr, Bool, true, false, IsTrue, Result, Ok, refl, sym, ap, subst, ◌∙◌, on_ok_weaker, Error, Transaction, cases_Bool, Database, State, HasCleanDisk, Survives, KeepsCommit, Shows, IsRolledBack, FailsToCommit, Ghosts, Held, state, doubt, no_doubt, survives_then, survives_begin, Made, GoesOn, Does, Commits, IsAfter, Stays}
-use Rattle.std.proofs.Common.{arith}
+use Rattle.portal_tables.proofs.Base.{◌≡◌, arith, inl, inr, Bool, true, false, IsTrue, Result, Ok, refl, sym, ap, subst, ◌∙◌, on_ok_weaker, Error, Transaction, cases_Bool, Database, State, HasCleanDisk, Survives, KeepsCommit, Shows, IsRolledBack, FailsToCommit, Ghosts, Held, state, doubt, no_doubt, survives_then, survives_begin, Made, GoesOn, Does, Commits, IsAfter, Stays}
 
 -- a step after another
 pub made_then : (A B C : Database → Database → Type 0) (old mid new : State) → Made A old mid → Made B mid new → (A old.now mid.now → B mid.now new.now → C old.now new.now) → Made C old new

@@ -1,6 +1,5 @@
 -- The tables of the second round's rankings and result.
-use Rattle.std.specs.Prelude.{◌≡◌, ◌||◌, ◌∷◌}
-use Rattle.portal_tables.proofs.Base.{inl, inr, Bool, false, not, cond, List, [], map, filter, refl, sym, ap, subst, ◌∙◌, list_any, cases_Bool, list_any-IsPermutation, Int, Words, Row, bytes, next_rowid, put_row, Database, Key, equals, has, any_map, ranked2_tree, assigned2_tree, IsCurrentSchema, RowNumbersDiffer, Drops, every, has_text, with_rows, PutsPlacements, RanksSecond, row_key, Adds, Clears, pair_new}
+use Rattle.portal_tables.proofs.Base.{◌≡◌, ◌||◌, ◌∷◌, inl, inr, Bool, false, not, cond, List, [], map, filter, refl, sym, ap, subst, ◌∙◌, list_any, cases_Bool, list_any-IsPermutation, Int, Words, Row, bytes, next_rowid, put_row, Database, Key, equals, has, any_map, ranked2_tree, assigned2_tree, IsCurrentSchema, RowNumbersDiffer, Drops, every, has_text, with_rows, PutsPlacements, RanksSecond, row_key, Adds, Clears, pair_new}
 use Rattle.portal_tables.proofs.Keeping.{drops_apart, keeps_then, put_permutes, puts_apart}
 use Rattle.portal_tables.proofs.Parents.{text_there}
 

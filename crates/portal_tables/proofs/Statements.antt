@@ -1,7 +1,5 @@
 -- The texts that write, and what each does to its table, whatever the checks are.
-use Rattle.std.specs.Prelude.{◌≡◌, ◌+◌, ◌∷◌, ◌++◌, ◌==◌}
-use Rattle.std.proofs.Common.{◌/◌}
-use Rattle.portal_tables.proofs.Base.{ℕ, pos, Option, Some, slice_get, List, [], map, filter, codes, length, true, false, not, refl, sym, ap, subst, subst₂, ◌∙◌, ⊤, AllByRecursion, flat_map, filter_map, is_eq, Null, Int, Text, Binary, Row, column, value_cmp, Table, put_row, rowid, id_in, value_rows, cast_row, Term, lit, col, op2, Compare, Eq, State, Ghosts, state, Insert, Delete, Update, Values, everything, understood, IsPlain, command_of, works, work_by, deed_for, pairs, parent_key, Enforced, Column, Reference, Order, LecturerRow, ProjectRow, StudentRow, Lists, Second, Choices, Rankings, SecondChoices, SecondRankings, NewPlace, schema_of, list_table, lecturer_schema, project_schema, student_schema, portal_tree, second_tree, ranked2_tree, assigned2_tree, lecturer_tree, project_tree, student_tree, names, place_among, tree_of, clear_text, add_text, add_eight_text, RowNumbersDiffer, Drops, Sets, Becomes, every, IsCurrentSchema, Ran, Made, portal_cells, lecturer_cells, lecturer_new, lecturer_values, project_new, student_new, student_values, place_new, pair_new, AddsBy, Clears, MovesTo, IsOfVersion, MovesSecond, Ranks, portal_row, second_cells, second_row}
+use Rattle.portal_tables.proofs.Base.{◌≡◌, ◌+◌, ◌∷◌, ◌++◌, ◌==◌, ◌/◌, ℕ, pos, Option, Some, slice_get, List, [], map, filter, codes, length, true, false, not, refl, sym, ap, subst, subst₂, ◌∙◌, ⊤, AllByRecursion, flat_map, filter_map, is_eq, Null, Int, Text, Binary, Row, column, value_cmp, Table, put_row, rowid, id_in, value_rows, cast_row, Term, lit, col, op2, Compare, Eq, State, Ghosts, state, Insert, Delete, Update, Values, everything, understood, IsPlain, command_of, works, work_by, deed_for, pairs, parent_key, Enforced, Column, Reference, Order, LecturerRow, ProjectRow, StudentRow, Lists, Second, Choices, Rankings, SecondChoices, SecondRankings, NewPlace, schema_of, list_table, lecturer_schema, project_schema, student_schema, portal_tree, second_tree, ranked2_tree, assigned2_tree, lecturer_tree, project_tree, student_tree, names, place_among, tree_of, clear_text, add_text, add_eight_text, RowNumbersDiffer, Drops, Sets, Becomes, every, IsCurrentSchema, Ran, Made, portal_cells, lecturer_cells, lecturer_new, lecturer_values, project_new, student_new, student_values, place_new, pair_new, AddsBy, Clears, MovesTo, IsOfVersion, MovesSecond, Ranks, portal_row, second_cells, second_row}
 use Rattle.portal_tables.proofs.Weak.{portal_with, with_checks, own_is}
 use Rattle.portal_tables.proofs.Query.{one_table, passes, shown_as}
 use Rattle.portal_tables.proofs.Tests.{param, has_key, same_key, equals_int}

@@ -1,6 +1,5 @@
 -- What the tests of the texts mean.
-use Rattle.std.specs.Prelude.{◌≡◌, ◌∷◌, ◌&&◌}
-use Rattle.portal_tables.proofs.Base.{ℕ, ℤ, pos, List, [], true, Some, refl, is_eq, Ordering, Less, Equal, Greater, Value, Null, Int, Real, Blob, Text, Binary, Row, value_cmp, column, binary, is_true, from_truth, Term, col, lit, op2, Compare, Eq, has_text, has_number}
+use Rattle.portal_tables.proofs.Base.{◌≡◌, ◌∷◌, ◌&&◌, ℕ, ℤ, pos, List, [], true, Some, refl, is_eq, Ordering, Less, Equal, Greater, Value, Null, Int, Real, Blob, Text, Binary, Row, value_cmp, column, binary, is_true, from_truth, Term, col, lit, op2, Compare, Eq, has_text, has_number}
 use Rattle.portal_tables.proofs.Query.{passes}
 
 abbrev pub param : ℕ → Term

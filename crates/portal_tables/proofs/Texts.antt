@@ -1,6 +1,5 @@
 -- The key that a row begins with is a text: that of a roll, and the owner's in a row of a list or of the second round.
-use Rattle.std.specs.Prelude.{◌≡◌, ◌&&◌, ◌∷◌}
-use Rattle.portal_tables.proofs.Base.{lecturer_schema, project_schema, student_schema, true, false, drop, codes, None, List, [], ℕ, AllByRecursion, and_parts, Row, column, Database, IsDatabase, Column, Datatype, NotNull, are_typed, are_present, is_of, Integer, column_of, lecturer_tree, project_tree, student_tree, ranked2_tree, assigned2_tree, names, tree_of, table_round, table_tree, HasRound, OfRoll, OfLists, OfRanked, OfPlaces, Lecturers, Projects, Students}
+use Rattle.portal_tables.proofs.Base.{◌≡◌, ◌&&◌, ◌∷◌, lecturer_schema, project_schema, student_schema, true, false, drop, codes, None, List, [], ℕ, AllByRecursion, and_parts, Row, column, Database, IsDatabase, Column, Datatype, NotNull, are_typed, are_present, is_of, Integer, column_of, lecturer_tree, project_tree, student_tree, ranked2_tree, assigned2_tree, names, tree_of, table_round, table_tree, HasRound, OfRoll, OfLists, OfRanked, OfPlaces, Lecturers, Projects, Students}
 use Rattle.sqlite.specs.Kind.TheVariants.{Text}
 use Rattle.portal_tables.specs.declared.select.Table.{Table as Named}
 use Rattle.portal_tables.proofs.Weak.{Open, own_is}

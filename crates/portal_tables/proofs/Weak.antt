@@ -1,6 +1,5 @@
 -- Schemas that are the portal's own but for their checks and the terms of their defaults.
-use Rattle.std.specs.Prelude.{◌≡◌, ◌&&◌, ◌∷◌, ◌++◌}
-use Rattle.portal_tables.proofs.Base.{ℕ, Bool, true, false, not, cond, eqb, take, drop, List, [], map, refl, sym, ap, ap₂, ◌∙◌, AllZip, list_all, and_parts, eq-eqb, take-append-drop, Term, Table, Schema, Index, Round, First, Second, first_schema, portal_schema, SameTable, IsFirstSchema, HasRound}
+use Rattle.portal_tables.proofs.Base.{◌≡◌, ◌&&◌, ◌∷◌, ◌++◌, ℕ, Bool, true, false, not, cond, eqb, take, drop, List, [], map, refl, sym, ap, ap₂, ◌∙◌, AllZip, list_all, and_parts, eq-eqb, take-append-drop, Term, Table, Schema, Index, Round, First, Second, first_schema, portal_schema, SameTable, IsFirstSchema, HasRound}
 
 abbrev with_terms : List Term → List Term → Table → Table
 with_terms checks terms t = record t { checks = checks; stamps = record t.stamps { terms = terms } }

@@ -1,7 +1,5 @@
 -- What a statement on one table does to its rows.
-use Rattle.std.specs.Prelude.{◌≡◌, ◌⊎◌, ◌∷◌, ◌++◌, ◌&&◌, ◌≢◌, ◌||◌}
-use Rattle.std.proofs.Common.{◌/◌}
-use Rattle.portal_tables.proofs.Base.{inl, inr, ℕ, ℤ, List, [], map, slice_get, Bool, true, false, not, cond, Option, Some, None, Ok, Err, Result, refl, sym, ap, ap₂, subst, subst₂, ◌∙◌, filter, length, drop, AllByRecursion, list_any, and_parts, Null, Int, Row, Term, col, unary, Table, Schema, Values, Insert, Delete, Update, Edit, edit_of, put_all, next_rowid, is_taken, are_fresh, without_all, id_in, taken_by, cast, cast_row, Chosen, Given, Tally, Written, Edited, Trees, put_row, rowid, has_rowid, understood, Database, IsDatabase, value_rows, State, mode_of, Executes, IsPlain, command_of, statement_of, runs_as, one_step, one_permutation, works, Enforced, Column, Reference, Order, own_trees, InsertsRows, Drops, Sets, RowNumbersDiffer, with_rows, AreNew, IsPermutation, IsPermutation-map, IsPermutation-trans, IsPermutation-append_left, list_any-IsPermutation, IsProgramAnswer, IsAnswer, output, Output, answer_alone, ids_of, Program, map-map}
+use Rattle.portal_tables.proofs.Base.{◌≡◌, ◌⊎◌, ◌∷◌, ◌++◌, ◌&&◌, ◌≢◌, ◌||◌, ◌/◌, inl, inr, ℕ, ℤ, List, [], map, slice_get, Bool, true, false, not, cond, Option, Some, None, Ok, Err, Result, refl, sym, ap, ap₂, subst, subst₂, ◌∙◌, filter, length, drop, AllByRecursion, list_any, and_parts, Null, Int, Row, Term, col, unary, Table, Schema, Values, Insert, Delete, Update, Edit, edit_of, put_all, next_rowid, is_taken, are_fresh, without_all, id_in, taken_by, cast, cast_row, Chosen, Given, Tally, Written, Edited, Trees, put_row, rowid, has_rowid, understood, Database, IsDatabase, value_rows, State, mode_of, Executes, IsPlain, command_of, statement_of, runs_as, one_step, one_permutation, works, Enforced, Column, Reference, Order, own_trees, InsertsRows, Drops, Sets, RowNumbersDiffer, with_rows, AreNew, IsPermutation, IsPermutation-map, IsPermutation-trans, IsPermutation-append_left, list_any-IsPermutation, IsProgramAnswer, IsAnswer, output, Output, answer_alone, ids_of, Program, map-map}
 use Rattle.sqlite.specs.Kind.TheVariants as kind
 use Rattle.sqlite.specs.Edit.{numbered}
 use Rattle.sqlite.specs.Does.{Does}

@@ -1,7 +1,5 @@
 -- One more pair.
-use Rattle.std.specs.Prelude.{◌+◌, ◌<◌, ◌∷◌}
-use Rattle.portal_tables.proofs.Base.{ℕ, zero, suc, List, [], take, length, slice_index_or, subst, sym, add-one, AllZip}
-use Rattle.std.proofs.Common.{arith}
+use Rattle.portal_tables.proofs.Base.{◌+◌, ◌<◌, ◌∷◌, arith, ℕ, zero, suc, List, [], take, length, slice_index_or, subst, sym, add-one, AllZip}
 
 zip_suc : {X Y : Type 0} (P : X → Y → Type 0) (d : X) (e : Y) (xs : List X) (ys : List Y) (i : ℕ) → i < length xs → i < length ys → AllZip P (take i xs) (take i ys) → P (slice_index_or xs i d) (slice_index_or ys i e)
     → AllZip P (take (suc i) xs) (take (suc i) ys)

@@ -2,15 +2,11 @@ pub mod Base
 pub mod Tables
 pub mod ListTables
 pub mod Schema
-pub mod Changes
 pub mod Steps
 pub mod Making
 pub mod Rows
 pub mod Lists
 pub mod Office
-pub mod Reading
-pub mod Rolls
-pub mod Shown
-pub mod Placements
+pub mod Reads
 pub mod Names
 pub mod inner

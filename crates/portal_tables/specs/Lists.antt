@@ -1,7 +1,9 @@
--- A list in a table: the rows of its owner, by rising place.
+-- A list in a table, the rows of its owner by rising place, and the project of a student in the
+-- second round.
 use Rattle.std.specs.Prelude.{◌≡◌, ◌+◌, ◌∷◌}
-use Rattle.portal_tables.specs.Base.{ℕ, List, [], map, filter, Row, column, bytes, number_in, Key, put_all}
-use Rattle.portal_tables.specs.Changes.{has_text}
+use Rattle.portal_tables.specs.Base.{ℕ, List, [], map, filter, Row, column, bytes, number_in, Key, put_all, Option, option_map, find, Trees, equals}
+use Rattle.portal_tables.specs.Rows.{has_text, row_key}
+use Rattle.portal_tables.specs.Tables.{assigned2_tree}
 
 -- the rows of an owner
 abbrev pub of_key : Key → List Row → List Row
@@ -36,3 +38,11 @@ CountUp n (m ∷ ms) = (m ≡ n) × CountUp (n + 1) ms
 -- the places are 1 to n, each once
 abbrev pub IsWhole : List Row → Type 0
 IsWhole rows = CountUp 1 (map place_of (by_place rows))
+
+-- the project in a row of `assigned2`
+abbrev pub placed_project : Row → Key
+placed_project a = bytes (column a 2)
+
+-- the place in the second round of the student with this key
+abbrev pub second_placement : Trees → Key → Option Key
+second_placement db k = option_map placed_project (find (λ a. equals (row_key a) k) (db assigned2_tree))

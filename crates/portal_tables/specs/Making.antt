@@ -1,11 +1,12 @@
 -- How the tables come to be.
 use Rattle.std.specs.Prelude.{◌≡◌, ◌≢◌, ◌∷◌}
 use Rattle.portal_tables.specs.Base.{ℕ, ℤ, pos, List, [], AllByRecursion, Database, IsDatabase}
-use Rattle.portal_tables.specs.Tables.{no_schema, portal_schema, portal_tree, second_tree, choice2_tree, ranked2_tree, ranking2_tree, assigned2_tree, first_trees, own_trees, second, version, first_version}
+use Rattle.portal_tables.specs.Tables.{no_schema, portal_schema, portal_tree, second_tree, choice2_tree, ranked2_tree, ranking2_tree, assigned2_tree, first_trees, own_trees, version, first_version}
 use Rattle.portal_tables.specs.Schema.{IsFirstSchema, IsCurrentSchema}
 use Rattle.portal_tables.specs.Rows.{portal_row, second_row}
 
--- the portal's tables with the row of the office, the row of a second round that is not there, and nothing else: in setup
+-- the portal's tables with the row of the office, the row of a second round that is not there, and
+-- nothing else: in setup
 pub record IsFresh (office : List ℕ) (db : Database) : Type 0 where
   pub schema_is : db.schema ≡ portal_schema
   pub row : db.trees portal_tree ≡ portal_row (pos version) (pos 0) office ∷ []
@@ -17,8 +18,8 @@ pub record IsFresh (office : List ℕ) (db : Database) : Type 0 where
 abbrev pub Creates : List ℕ → Database → Database → Type 0
 Creates office old new = old.schema ≡ no_schema → IsFresh office new
 
--- beside the six tables are the five, with the one row of `second`, which tells no second round; `portal` tells the version of all tables, and
--- nothing else in the six has changed
+-- beside the six tables are the five, with the one row of `second`, which tells no second round;
+-- `portal` tells the version of all tables, and nothing else in the six has changed
 pub record Upgraded (phase : ℤ) (office : List ℕ) (old new : Database) : Type 0 where
   pub current : IsCurrentSchema new.schema
   pub portal : new.trees portal_tree ≡ portal_row (pos version) phase office ∷ []

@@ -6,7 +6,8 @@ use Rattle.sqlite_schema.specs.declared.schema.Schema.{Schema}
 use Rattle.portal_tables.specs.declared.names.Names.{Names}
 use Rattle.portal_tables.specs.declared.names.Names.TheVariants.{All, OfSecond}
 
--- one of the names of the first round's tables, and of the second's, whatever the case of its letters
+-- one of the names of the first round's tables, and of the second's, whatever the case of its
+-- letters
 abbrev pub has_first_name : List ℕ → Bool
 has_first_name n =
     same_name n (codes "portal") || (same_name n (codes "lecturer") || (same_name n (codes "project") || (same_name n (codes "student") || (same_name n (codes "choice") || same_name n (codes "ranking")))))

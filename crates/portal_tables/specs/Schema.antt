@@ -37,7 +37,8 @@ IsCurrentSchema schema = SameSchema schema portal_schema
 abbrev pub IsFirstSchema : Schema → Type 0
 IsFirstSchema schema = SameSchema schema first_schema
 
--- of either version: the first six tables are those of the first round, whatever stands behind them, and there is no view
+-- of either version: the first six tables are those of the first round, whatever stands behind
+-- them, and there is no view
 pub record HasFirstSchema (schema : Schema) : Type 0 where
   pub tables : AllZip SameTable (take 6 schema.tables) first_schema.tables
   pub no_views : schema.views ≡ []

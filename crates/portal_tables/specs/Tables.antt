@@ -1,4 +1,5 @@
--- The portal's tables: their texts, and what is understood of them. Six are those of the first round, and five behind them of the second.
+-- The portal's tables: their texts, and what is understood of them. Six are those of the first
+-- round, and five behind them of the second.
 use Rattle.std.specs.Prelude.{◌∷◌, ◌++◌}
 use Rattle.portal_tables.specs.Base.{Binary, true, false, [], Some, None, codes, List, ℕ, pos, Bool, Option, Null, Int, Table, Schema, Kind, Integer, Text, Term, lit, col, op2, Compare, And, Or, Eq, Ge, Le, Column, Index, Reference, NoAction, Order, plain}
 
@@ -63,7 +64,8 @@ student_schema tree = schema_of (codes "student") tree
     column_of (codes "assigned") Text false ∷ [])
     None (1 ∷ []) ((1 ∷ []) ∷ (3 ∷ []) ∷ []) (plain ∷ plain ∷ []) [] (refers_to 4 (codes "project") ∷ [])
 
--- A table of lists: its name, and the names of two of its columns, each that of the roll to which it refers.
+-- A table of lists: its name, and the names of two of its columns, each that of the roll to which
+-- it refers.
 pub record ListTable : Type 0 where
   pub name : List ℕ
   pub owner : List ℕ
@@ -125,8 +127,8 @@ index_of tree name table columns = record {
   is_unique = true;
 }
 
--- The tables of the first round, which are those of version 1, as they are made in this order: a table and then its indexes, each in a tree of
--- its own.
+-- The tables of the first round, which are those of version 1, as they are made in this order: a
+-- table and then its indexes, each in a tree of its own.
 abbrev pub first_schema : Schema
 first_schema = record {
   tables = portal 0 ∷ lecturer_schema 1 ∷ project_schema 4 ∷ student_schema 6 ∷ choice 9 ∷ ranking 12 ∷ [];
@@ -148,7 +150,8 @@ portal_schema = record {
   views = [];
 }
 
--- the versions of the schema that the row of `portal` tells: that of all tables, and that of the six alone
+-- the versions of the schema that the row of `portal` tells: that of all tables, and that of the
+-- six alone
 abbrev pub version : ℕ
 version = 2
 

@@ -3,7 +3,7 @@
 ghost use Rattle.std.specs.Prelude.{◌≡◌, ◌≤◌, is_none};
 ghost use Rattle.portal_tables.specs.Base.{true, false, Err, IfOk, IfSome, column, bytes};
 ghost use Rattle.portal_tables.specs.Base.{number_in, is_key, is_code, is_name};
-ghost use Rattle.portal_tables.specs.Shown.{text_or_none};
+ghost use Rattle.portal_tables.specs.Rows.{text_or_none};
 
 use crate::fault::TableFault;
 use portal_core::{Code, CodeFault, Name, NameFault};

@@ -104,6 +104,7 @@ pub fn add_all<S: Alter, R, T: Target<R>>(
         (Adds (T.tree table.now) (map T.cells rows.now))) result tx.old tx.new }
 {
     let mut rest = rows;
+    // the proof names the loop by its label
     'runs: while !rest.is_empty() {
         let (count, text) = next_text::<S, R, T>(table, rest.len());
         let (run, after) = rest.split_at(count);

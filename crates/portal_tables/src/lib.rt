@@ -32,7 +32,7 @@ pub use entries::{entries_in, entry_in, has_list_in, list_in};
 pub use fault::TableFault;
 pub use make::create_portal;
 pub use named::is_named;
-pub use office::{FIRST_VERSION, Office, VERSION, office_in, phase_number};
+pub use office::{FIRST_VERSION, Office, VERSION, is_number, office_in, phase_number};
 pub use placements::{first_pairs_in, pairs_in, result_in, second_placement_in, takes_part};
 pub use put::{clear_list, put_list};
 pub use rolls::{Rolls, parts_of, rising, roll_in, rolls_in};

@@ -33,7 +33,8 @@ pub struct Office {
     pub code: Code,
 }
 
-pub(crate) fn is_number(row: &Row, at: usize, number: u32) -> bool
+/// Whether the cell holds this number.
+pub fn is_number(row: &Row, at: usize, number: u32) -> bool
     ensures { IsTrue result ↔ (column row.now at ≡ Int (pos number)) }
 {
     match row.get_ref(at) {

@@ -10,10 +10,11 @@ ghost use Rattle.portal_tables.specs.inner.Reading.{RunsQueries, RunsQueriesIn, 
 ghost use Rattle.portal_tables.specs.inner.Reading.{YieldsSound, OverSound};
 ghost use Rattle.portal_tables.specs.inner.Shown.{as_list, first_cell, shown_name, shown_student};
 ghost use Rattle.portal_tables.specs.inner.Placements as meant;
-ghost use Rattle.portal_tables.specs.Placements.{second_placement};
+ghost use Rattle.portal_tables.specs.Lists.{second_placement};
 ghost use Rattle.portal_tables.specs.inner.Placements.{placement_shown, placement_before};
 ghost use Rattle.portal_tables.specs.inner.Placements.{result_shown, pair_shown, HasFirstPlace};
-ghost use Rattle.portal_tables.specs.inner.Placements.{HasPlacement, HasKeys, pair_told};
+ghost use Rattle.portal_tables.specs.inner.Placements.{HasPlacement, HasPlacementAsked, HasKeys};
+ghost use Rattle.portal_tables.specs.inner.Placements.{pair_told};
 ghost use Rattle.portal_tables.specs.inner.Placements.{places_shown, first_pairs};
 ghost use Rattle.portal_tables.specs.inner.Rolls.{RollRises};
 ghost use Rattle.portal_tables.specs.declared.select.Roll.TheVariants.{Students};
@@ -52,7 +53,8 @@ pub fn second_placement_in<S: Alter>(
         (λ p. is_key p ≡ true)
         → length (of_key student.now ((state S.Store conn.old).now.trees assigned2_tree)) ≤ 1
         → ⊥) }
-    ensures reads { RunsQueriesIn InSecond result (state S.Store conn.old) (state S.Store conn.new) }
+    ensures reads { RunsQueriesIn InSecond result
+        (state S.Store conn.old) (state S.Store conn.new) }
 {
     let rows = read_rows(alloc, conn, Query::SecondPlaceOf(student))?;
     only_name(alloc, &rows)
@@ -157,8 +159,8 @@ fn placement_asked<S: Alter>(
     ensures ok { YieldsSound round S.Store conn.old conn.new result
         (λ db p. p ≡ meant.placement_asked round phase db.trees row.now) }
     ensures damaged { OverSound round S.Store conn.old conn.new
-        (result ≡ Err TableFault.Damaged → phase ≡ None
-        → HasPlacement round (state S.Store conn.old).now.trees row.now → ⊥) }
+        (result ≡ Err TableFault.Damaged
+        → HasPlacementAsked round phase (state S.Store conn.old).now.trees row.now → ⊥) }
     ensures reads { RunsQueriesIn round result (state S.Store conn.old) (state S.Store conn.new) }
 {
     match phase {
@@ -193,9 +195,8 @@ fn pair_in<S: Alter>(
     ensures ok { YieldsSound round S.Store conn.old conn.new result
         (λ db o. o ≡ pair_shown round phase db.trees row.now) }
     ensures damaged { OverSound round S.Store conn.old conn.new
-        (result ≡ Err TableFault.Damaged → phase ≡ None
-        → IsStudent (shown_student row.now)
-        → HasPlacement round (state S.Store conn.old).now.trees row.now → ⊥) }
+        (result ≡ Err TableFault.Damaged → IsStudent (shown_student row.now)
+        → HasPlacementAsked round phase (state S.Store conn.old).now.trees row.now → ⊥) }
     ensures reads { RunsQueriesIn round result (state S.Store conn.old) (state S.Store conn.new) }
 {
     let place = placement_asked(alloc, conn, round, phase, row)?;
@@ -215,9 +216,10 @@ pub fn pairs_in<S: Alter>(
     ensures ok { YieldsSound round S.Store conn.old conn.new result
         (λ db v. v.items ≡ filter_map (pair_shown round phase db.trees) rows.now) }
     ensures damaged { OverSound round S.Store conn.old conn.new
-        (result ≡ Err TableFault.Damaged → phase ≡ None
+        (result ≡ Err TableFault.Damaged
         → AllByRecursion (λ c. IsStudent (shown_student c)) rows.now
-        → AllByRecursion (HasPlacement round (state S.Store conn.old).now.trees) rows.now → ⊥) }
+        → AllByRecursion (HasPlacementAsked round phase
+        (state S.Store conn.old).now.trees) rows.now → ⊥) }
     ensures reads { RunsQueriesIn round result (state S.Store conn.old) (state S.Store conn.new) }
 {
     let mut pairs = Vec::new(alloc);
@@ -241,7 +243,7 @@ fn pair_at(alloc: Global, row: &Row) -> Result<Option<(Key, Key)>, TableFault>
 }
 
 /// The pairs of the students whose keys and places these are, in their order.
-fn pairs_at(alloc: Global, rows: &[Row]) -> Result<Vec<(Key, Key)>, TableFault>
+fn pairs_from(alloc: Global, rows: &[Row]) -> Result<Vec<(Key, Key)>, TableFault>
     ensures ok { IfOk result (λ v. v.items ≡ filter_map pair_told rows.now) }
     ensures damaged { result ≡ Err TableFault.Damaged → AllByRecursion HasKeys rows.now → ⊥ }
 {
@@ -270,5 +272,5 @@ pub fn first_pairs_in<S: Alter>(
     ensures reads { RunsQueries result (state S.Store conn.old) (state S.Store conn.new) }
 {
     let rows = rising(alloc, conn, Query::FirstPlacements)?;
-    pairs_at(alloc, &rows)
+    pairs_from(alloc, &rows)
 }

@@ -38,7 +38,7 @@ fn places_of<'a>(
 {
     let mut rows = Vec::with_capacity(alloc, items.len())?;
     let mut place = 0u32;
-    'rows: for item in items {
+    for item in items {
         place += 1;
         rows.push(NewPlace {
             owner: owner.as_bytes(),

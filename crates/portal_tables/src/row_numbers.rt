@@ -3,9 +3,9 @@
 
 ghost use Rattle.std.specs.Prelude.{◌≡◌};
 ghost use Rattle.portal_tables.specs.Base.{true, IfSome, IsTrue, None, state, Int, column};
-ghost use Rattle.portal_tables.specs.Changes.{RowNumbersDiffer};
+ghost use Rattle.portal_tables.specs.Rows.{RowNumbersDiffer};
 ghost use Rattle.portal_tables.specs.inner.Queries.{table_tree, table_round};
-ghost use Rattle.portal_tables.specs.Reading.{RunsQueryIn};
+ghost use Rattle.portal_tables.specs.Steps.{RunsQueryIn};
 ghost use Rattle.portal_tables.specs.inner.Reading.{YieldsIn};
 ghost use Rattle.portal_tables.specs.inner.Rising.{rises};
 

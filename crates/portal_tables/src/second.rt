@@ -8,7 +8,7 @@ ghost use Rattle.portal_tables.specs.Tables.{second_tree, assigned2_tree};
 ghost use Rattle.portal_tables.specs.Schema.{IsCurrentSchema};
 ghost use Rattle.portal_tables.specs.Office.{number_of_phase, IsSecond};
 ghost use Rattle.portal_tables.specs.inner.Putting.{PutsPlacements, RanksSecond};
-ghost use Rattle.portal_tables.specs.Reading.{RunsQueryIn};
+ghost use Rattle.portal_tables.specs.Steps.{RunsQueryIn};
 ghost use Rattle.portal_tables.specs.inner.Reading.{OverSound};
 ghost use Rattle.portal_tables.specs.Rows.{second_row};
 ghost use Rattle.portal_tables.specs.inner.Rows.{MovesSecond, pair_new};

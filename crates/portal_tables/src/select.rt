@@ -2,10 +2,12 @@
 //! one table.
 
 ghost use Rattle.std.specs.Prelude.{◌≡◌};
-ghost use Rattle.portal_tables.specs.Base.{Err, IfOk, map, state, Cells, bound};
+ghost use Rattle.portal_tables.specs.Base.{Err, IfOk, List, map, AllByRecursion, HasCleanDisk};
+ghost use Rattle.portal_tables.specs.Base.{state, Cells, bound};
+ghost use Rattle.portal_tables.specs.Schema.{HasRound};
 ghost use Rattle.portal_tables.specs.inner.Decoding.{ShowsAs, FindsAny};
 ghost use Rattle.portal_tables.specs.inner.Queries.{Shows, round_asked, query_text, given};
-ghost use Rattle.portal_tables.specs.Reading.{RunsQueryIn};
+ghost use Rattle.portal_tables.specs.Steps.{RunsQueryIn};
 ghost use Rattle.portal_tables.specs.inner.Reading.{RunsQueriesIn, YieldsIn};
 ghost use Rattle.portal_tables.specs.inner.Shown.{as_list};
 
@@ -234,6 +236,10 @@ pub fn read_each<S: Alter, T: FromCells>(
     ensures rows { YieldsIn (round_asked query.entry) S.Store conn.old conn.new result
         (λ db v. ShowsAs T.shown (Shows query.entry db.trees) v.items) }
     ensures undamaged { result ≡ Err TableFault.Damaged → ((c : Cells) → T.is_fine c) → ⊥ }
+    ensures damaged { HasRound (round_asked query.entry) conn.old.schema
+        → HasCleanDisk (state S.Store conn.new) → result ≡ Err TableFault.Damaged
+        → ((rows : List Cells) → Shows query.entry (state S.Store conn.old).now.trees rows
+        → AllByRecursion T.is_fine rows) → ⊥ }
     ensures asks { RunsQueryIn (round_asked query.entry) result
         (state S.Store conn.old) (state S.Store conn.new) }
     ensures reads { RunsQueriesIn (round_asked query.entry) result

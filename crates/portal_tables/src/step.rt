@@ -40,6 +40,7 @@ pub fn commit<S: Alter, T: Step>(
     ensures crash { Survives (state S.Store conn.old) (state S.Store conn.new)
         (IsAfter (T.makes step) (state S.Store conn.old)) }
 {
+    // asked for what it teaches: with no transaction open, what is shown is committed
     let _idle = conn.is_autocommit();
     let mut tx = conn.transaction();
     step.take(alloc, &mut tx)?;

@@ -4,7 +4,7 @@ pub use Rattle.portal_core.proofs.AllLaws.{all_map, all_weaker, any_map, filtere
 pub use Rattle.portal_core.proofs.Fills.{before_other, rise_kept}
 pub use Rattle.portal_core.proofs.Keys.{all_unmap, is_own, is_same}
 pub use Rattle.portal_core.specs.Words.{is_before}
-pub use Rattle.portal_tables.specs.Changes.{RowNumbersDiffer, has_text}
+pub use Rattle.portal_tables.specs.Rows.{RowNumbersDiffer, has_text, row_key}
 pub use Rattle.portal_tables.specs.inner.Changes.{ListsBy, columns, every}
 pub use Rattle.portal_tables.specs.inner.Decoding.{ShowsAs}
 pub use Rattle.portal_tables.specs.ListTables.{choice_table, ranking_table, round_of, tree_of}
@@ -14,7 +14,6 @@ pub use Rattle.portal_tables.specs.inner.Owners.{AreOwned, IsFine, IsRead, entry
 pub use Rattle.portal_tables.specs.inner.Placements.{HasPlacement, pair_shown, placement_before}
 pub use Rattle.portal_tables.specs.inner.Queries.{columns_of, roll_tree}
 pub use Rattle.portal_tables.specs.inner.Reading.{RunsQueriesIn}
-pub use Rattle.portal_tables.specs.Rolls.{row_key}
 pub use Rattle.portal_tables.specs.inner.Rolls.{by_key, lecturers_shown, projects_shown, roll_columns, students_shown}
 pub use Rattle.portal_tables.specs.inner.Shown.{first_cell, shown_lecturer, shown_project}
 pub use Rattle.portal_tables.specs.Tables.{assigned2_tree, lecturer_tree, project_tree, student_tree}
@@ -58,3 +57,31 @@ pub use Rattle.std.specs.Ordering.{is_eq, is_ne}
 pub use Rattle.std.specs.Prelude.{Bool, Ok, take, true, ℕ, ℤ}
 pub use Rattle.std.specs.declared.cmp.Ordering.{Ordering}
 pub use Rattle.std.specs.declared.cmp.Ordering.TheVariants.{Equal, Greater, Less}
+pub use Rattle.portal_core.specs.Words.{put_all}
+pub use Rattle.portal_core.specs.inner.Room.{lecturer_left, project_left}
+pub use Rattle.portal_list.proofs.Steps.{none_more, some_more}
+pub use Rattle.portal_tables.proofs.InTurn.{clean_before, reads_handed, reads_in, reads_more, reads_self, reads_shifted, reads_then, shifted}
+pub use Rattle.portal_tables.proofs.Listed.{IsText, permuted}
+pub use Rattle.portal_tables.proofs.Lists.{any_alike, filter_all, not_true}
+pub use Rattle.portal_tables.proofs.OneFound.{filter_alike}
+pub use Rattle.portal_tables.proofs.Owned.{has_round}
+pub use Rattle.portal_tables.proofs.Parents.{OnRoll, owners_of}
+pub use Rattle.portal_tables.proofs.Shapes.{Follows, IsPlace, IsStudentRow, followed, has_text_of, kept, project_rows_formed, student_rows_formed, student_test}
+pub use Rattle.portal_tables.proofs.Sorted.{all_permuted, all_two, permutes, rise_put_all}
+pub use Rattle.portal_tables.proofs.Texts.{key_texts}
+pub use Rattle.portal_tables.proofs.Weak.{Open, own_is, schema_with}
+pub use Rattle.portal_tables.specs.Lists.{IsWhole}
+pub use Rattle.portal_tables.specs.declared.fault.TableFault.TheVariants.{Damaged}
+pub use Rattle.portal_tables.specs.inner.Changes.{has_number}
+pub use Rattle.portal_tables.specs.inner.Placements.{HasFirstPlace, first_pairs}
+pub use Rattle.portal_tables.specs.inner.Rolls.{RollRises}
+pub use Rattle.portal_tables.specs.inner.Shown.{shown_student}
+pub use Rattle.portal_views.specs.inner.Base.{IsLecturer, IsStudent}
+pub use Rattle.portal_views.specs.inner.Catalogue.{offered_in}
+pub use Rattle.portal_views.specs.inner.Contents.{rows_from}
+pub use Rattle.portal_views.specs.inner.Lines.{HasKey, HasStudents, IsStudentKey}
+pub use Rattle.portal_views.specs.inner.Office.{HasWholeLists, is_chosen_shown, is_wanted_shown, office_sees_with, unlisted, waiting_keys}
+pub use Rattle.spa_rows.specs.Form.{is_key}
+pub use Rattle.std.proofs.Common.{arith, pos, rules}
+pub use Rattle.std.proofs.lemmas.Grind.{common_steps}
+pub use Rattle.std.specs.Prelude.{if◌then◌else◌, is_none, ◌&&◌, ◌++◌, ◌||◌, ◌∷◌, ◌≡◌, ◌≤◌}

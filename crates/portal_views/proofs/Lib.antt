@@ -3,5 +3,7 @@ pub mod OneKey
 pub mod Owners
 pub mod Choosers
 pub mod LineRows
+pub mod RisingKeys
+pub mod ToldLines
 pub mod OwnProjects
 pub mod OfficeLists

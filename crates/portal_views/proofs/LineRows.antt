@@ -1,11 +1,9 @@
 -- The lines that are found by the keys of who names a project are those of its applicants.
-use Rattle.std.specs.Prelude.{◌≡◌, ◌||◌, ◌∷◌}
-use Rattle.portal_views.proofs.Base.{inl, inr, Bool, true, false, cond, Option, Some, None, option_map, List, [], map, filter, refl, sym, ap, subst, ◌∙◌, AllByRecursion, find, filter_map, cases_Bool, map-id, Row, Trees, Database, Round, First, Second, Students, choice_table, tree_of, Has, Key, equals, has, is_before, Rise, all_map, all_weaker, before_other, rise_kept, is_same, is_own, all_unmap, row_key, by_key, roll_columns, students_shown, student_tree, ListsBy, columns, has_text, chosen, ShowsAs, first_cell, HasTables, in_round, shown_line, told_line, applicant_at, applicant_lines, ApplicantLine, all_of}
+use Rattle.portal_views.proofs.Base.{◌≡◌, ◌||◌, ◌∷◌, IsStudentRow, student_test, student_rows_formed, inl, inr, Bool, true, false, cond, Option, Some, None, option_map, List, [], map, filter, refl, sym, ap, subst, ◌∙◌, AllByRecursion, find, filter_map, cases_Bool, map-id, Row, Trees, Database, Round, First, Second, Students, choice_table, tree_of, Has, Key, equals, has, is_before, Rise, all_map, all_weaker, before_other, rise_kept, is_same, is_own, all_unmap, row_key, by_key, roll_columns, students_shown, student_tree, ListsBy, columns, has_text, chosen, ShowsAs, first_cell, HasTables, in_round, shown_line, told_line, applicant_at, applicant_lines, ApplicantLine, all_of}
 use Rattle.portal_views.proofs.Choosers.{chooser, choosers_known}
 use Rattle.portal_views.proofs.Owners.{keys_shown}
 use Rattle.portal_tables.proofs.OneFound.{found}
 use Rattle.portal_views.proofs.OneKey.{roll_keys_rise}
-use Rattle.portal_tables.proofs.Shapes.{IsStudentRow, student_test, student_rows_formed}
 use Rattle.portal_tables.proofs.Sorted.{at, has_of, one_order, map_alike_on, map_twice}
 
 -- what is found of what is made of a list is made of what is found
@@ -20,7 +18,7 @@ only_told (c ∷ []) l e = (c, refl, cc)
 only_told (c ∷ d ∷ more) l e = absurd (cc)
 
 -- the only row of a key tells the line of its student
-first_told : (db : Database) → HasTables db → (key : Key) (lines : List ApplicantLine) → ShowsAs told_line (ListsBy (1 ∷ []) (has_text 1 key) (columns (1 ∷ 2 ∷ 4 ∷ [])) (db.trees student_tree)) lines
+pub first_told : (db : Database) → HasTables db → (key : Key) (lines : List ApplicantLine) → ShowsAs told_line (ListsBy (1 ∷ []) (has_text 1 key) (columns (1 ∷ 2 ∷ 4 ∷ [])) (db.trees student_tree)) lines
     → (l : ApplicantLine) → lines ≡ l ∷ [] → Some l ≡ applicant_at First db.trees key
 first_told db tables key lines shows l only =
     let one = only_told shows.rows l (sym shows.decoded ∙ only) in

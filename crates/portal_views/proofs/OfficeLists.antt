@@ -1,24 +1,17 @@
 -- Who has a list, and whether some list holds a project, of what queries of the lists show.
-use Rattle.std.specs.Prelude.{◌≡◌, ◌&&◌, ◌||◌, ◌∷◌, is_none}
-use Rattle.std.proofs.Common.{pos, negsuc}
+use Rattle.portal_views.proofs.Base.{◌≡◌, ◌&&◌, ◌||◌, ◌∷◌, is_none, pos, HasCleanDisk, has_number, IsWhole, any_alike, filter_alike, has_round, IsPlace, has_text_of, permutes, all_permuted, HasWholeLists, is_chosen_shown, unlisted, Bool, true, false, ℤ, List, [], map, filter, inl, inr, refl, sym, ap, subst, ◌∙◌, not, AllByRecursion, list_any, and_comm, list_any-IsPermutation, cases_Bool, Row, column, bytes, Database, value_cmp, Int, is_eq, all-filter, all_of, Key, equals, has, all_weaker, all_map, any_map, filtered_any, is_sym, student_tree, Round, choice_table, tree_of, ListsBy, columns, has_text, of_key, named_by, place_key, by_place, chosen, row_key, HasRound, students_shown, first_cell, placement_before}
+use Rattle.std.proofs.Common.{negsuc}
 use Rattle.std.proofs.Math.Bool.{or-true}
-use Rattle.sqlite.specs.State.{State, HasCleanDisk}
+use Rattle.sqlite.specs.State.{State}
 use Rattle.sqlite_trees.specs.Objects.{number_in}
 use Rattle.portal_core.specs.Words.{is_empty}
 use Rattle.portal_core.proofs.AllLaws.{any_nowhere}
 use Rattle.portal_core.proofs.Kept.{empty_map}
 use Rattle.portal_list.proofs.Members.{has_all}
-use Rattle.portal_tables.specs.inner.Changes.{has_number}
 use Rattle.portal_tables.specs.inner.Owners.{choice_shown}
-use Rattle.portal_tables.specs.Lists.{CountUp, IsWhole, place_of}
-use Rattle.portal_tables.proofs.Lists.{any_alike, eq_self}
-use Rattle.portal_tables.proofs.OneFound.{filter_alike}
-use Rattle.portal_tables.proofs.Owned.{has_round}
+use Rattle.portal_tables.specs.Lists.{CountUp, place_of}
+use Rattle.portal_tables.proofs.Lists.{eq_self}
 use Rattle.portal_tables.proofs.Parents.{none_of}
-use Rattle.portal_tables.proofs.Shapes.{IsPlace, has_text_of}
-use Rattle.portal_tables.proofs.Sorted.{permutes, all_permuted}
-use Rattle.portal_views.specs.inner.Office.{HasWholeLists, is_chosen_shown, unlisted}
-use Rattle.portal_views.proofs.Base.{Bool, true, false, ℤ, List, [], map, filter, inl, inr, refl, sym, ap, subst, ◌∙◌, not, AllByRecursion, list_any, and_comm, list_any-IsPermutation, cases_Bool, Row, column, bytes, Database, value_cmp, Int, is_eq, all-filter, all_of, Key, equals, has, all_weaker, all_map, any_map, filtered_any, is_sym, student_tree, Round, choice_table, tree_of, ListsBy, columns, has_text, of_key, named_by, place_key, by_place, chosen, row_key, HasRound, students_shown, first_cell, placement_before}
 use Rattle.portal_views.proofs.Choosers.{named_where, choices_formed, choices_parents, chooser, choosers_known}
 
 -- somebody names the project

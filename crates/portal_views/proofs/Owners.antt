@@ -1,13 +1,6 @@
 -- Each row of a list is of an owner on the roll, and each project of a lecturer on the roll; a roll shows the keys of its rows.
-use Rattle.std.specs.Prelude.{◌≡◌, ◌&&◌, ◌∷◌}
-use Rattle.portal_views.proofs.Base.{refl, Bool, true, List, [], ℕ, map, sym, ap, subst, ◌∙◌, and_parts, list_any-IsPermutation, Value, Null, Words, Database, IsDatabase, Row, column, bytes, Trees, ForeignKey, OfLists, everything, map-map, Key, equals, has, Rise, all_weaker, any_map, round_of, tree_of, Lists, Choices, Rankings, SecondChoices, SecondRankings, HasRound, Round, First, Second, choice_table, ranking_table, Students, Lecturers, columns_of, students_shown, lecturers_shown, columns, row_key, by_key, AreOwned, first_cell, AllByRecursion, RowNumbersDiffer, HasFirstSchema, OfRoll, Projects, lecturer_tree, project_tree}
-use Rattle.portal_tables.specs.inner.Rolls.{RollRises}
-use Rattle.portal_tables.proofs.Weak.{Open, own_is}
-use Rattle.portal_tables.proofs.Listed.{IsText}
-use Rattle.portal_tables.proofs.Parents.{OnRoll, Found, on_roll, owners_of}
-use Rattle.portal_tables.proofs.Shapes.{Follows, followed, project_rows_formed}
-use Rattle.portal_tables.proofs.Sorted.{all_two, permutes}
-use Rattle.portal_tables.proofs.Texts.{key_texts}
+use Rattle.portal_views.proofs.Base.{◌≡◌, ◌&&◌, ◌∷◌, RollRises, Open, own_is, IsText, OnRoll, owners_of, Follows, followed, project_rows_formed, all_two, permutes, key_texts, refl, Bool, true, List, [], ℕ, map, sym, ap, subst, ◌∙◌, and_parts, list_any-IsPermutation, Value, Null, Words, Database, IsDatabase, Row, column, bytes, Trees, ForeignKey, OfLists, everything, map-map, Key, equals, has, Rise, all_weaker, any_map, round_of, tree_of, Lists, Choices, Rankings, SecondChoices, SecondRankings, HasRound, Round, First, Second, choice_table, ranking_table, Students, Lecturers, columns_of, students_shown, lecturers_shown, columns, row_key, by_key, AreOwned, first_cell, AllByRecursion, RowNumbersDiffer, HasFirstSchema, OfRoll, Projects, lecturer_tree, project_tree}
+use Rattle.portal_tables.proofs.Parents.{Found, on_roll}
 
 -- a roll shows the keys of its rows, and whoever is on it
 pub keys_shown : (cs : List ℕ) (roll : List Row) → map first_cell (map (columns (1 ∷ cs)) (by_key roll)) ≡ map row_key (by_key roll)

@@ -5,8 +5,8 @@ ghost use Rattle.portal_views.specs.inner.Base.{[], IfOk, OnOk, map, state, is_a
 ghost use Rattle.portal_views.specs.inner.Callers.{with_persons, lines_shown, persons_at};
 ghost use Rattle.portal_views.specs.inner.Callers.{placed_among, persons_before, placed_at_shown};
 ghost use Rattle.portal_views.specs.inner.Callers.{applicants_told, placed_told};
-ghost use Rattle.portal_views.specs.inner.Lines.{HasTables};
-ghost use Rattle.portal_tables.specs.inner.Reading.{RunsQueriesIn, YieldsOf};
+ghost use Rattle.portal_views.specs.inner.Lines.{HasTables, HasStudents};
+ghost use Rattle.portal_tables.specs.inner.Reading.{RunsQueriesIn, YieldsOf, UndamagedOf};
 
 use crate::lines::{ApplicantLine, lines_to, persons_of};
 use crate::persons::put_persons;
@@ -26,6 +26,7 @@ fn lines_in<S: Alter>(
 ) -> Result<Vec<ApplicantLine>, TableFault>
     ensures told { YieldsOf HasTables S.Store conn.old conn.new result
         (λ db v. v.items ≡ lines_shown round db.trees phase project.now) }
+    ensures damaged { UndamagedOf (HasStudents round) S.Store conn.old conn.new result }
     ensures reads { RunsQueriesIn round result (state S.Store conn.old) (state S.Store conn.new) }
 {
     if phase.is_from_ranking() {
@@ -62,7 +63,7 @@ fn placed_at(
 }
 
 /// The students on the lines whom a published result places at the project.
-fn placed_in(
+fn placed_if_published(
     alloc: Global,
     phase: Phase,
     lines: &[ApplicantLine],
@@ -85,6 +86,7 @@ fn before_in<S: Alter>(
 ) -> Result<Vec<Person>, TableFault>
     ensures told { YieldsOf HasTables S.Store conn.old conn.new result
         (λ db v. v.items ≡ persons_before round db.trees project.now) }
+    ensures damaged { UndamagedOf (HasStudents round) S.Store conn.old conn.new result }
     ensures reads { RunsQueriesIn round result (state S.Store conn.old) (state S.Store conn.new) }
 {
     match round {
@@ -108,10 +110,11 @@ fn placed_with<S: Alter>(
 ) -> Result<Vec<Person>, TableFault>
     ensures told { YieldsOf HasTables S.Store conn.old conn.new result
         (λ db v. v.items ≡ placed_at_shown round db.trees phase project.now lines.now) }
+    ensures damaged { UndamagedOf (HasStudents round) S.Store conn.old conn.new result }
     ensures reads { RunsQueriesIn round result (state S.Store conn.old) (state S.Store conn.new) }
 {
     let mut placed = before_in(alloc, conn, round, project)?;
-    let more = placed_in(alloc, phase, lines, project)?;
+    let more = placed_if_published(alloc, phase, lines, project)?;
     put_persons(&mut placed, more)?;
     Ok(placed)
 }
@@ -159,6 +162,7 @@ pub(crate) fn project_students<S: Alter>(
     ensures placed { YieldsOf HasTables S.Store conn.old conn.new result
         (λ db t. map with_persons t.placed.items
         ≡ placed_told round db.trees phase projects.now) }
+    ensures damaged { UndamagedOf (HasStudents round) S.Store conn.old conn.new result }
     ensures reads { RunsQueriesIn round result (state S.Store conn.old) (state S.Store conn.new) }
 {
     let mut told = ProjectStudents {

@@ -101,7 +101,7 @@ fn listings_in<S: Alter>(
 }
 
 /// The lecturers and the projects that these rows of the rolls show.
-fn offers_of(
+fn offers_from(
     alloc: Global,
     lecturers: &[Row],
     projects: &[Row],
@@ -132,7 +132,7 @@ fn offers_in<S: Alter>(
 {
     let lecturers = roll_in(alloc, conn, Roll::Lecturers)?;
     let projects = roll_in(alloc, conn, Roll::Projects)?;
-    offers_of(alloc, &lecturers, &projects)
+    offers_from(alloc, &lecturers, &projects)
 }
 
 /// The catalogue of the tables in the round, by the projects' keys. Of students the second round's

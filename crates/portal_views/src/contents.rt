@@ -34,7 +34,7 @@ pub struct Contents {
 }
 
 /// The rows of the rolls with the lists and the result, of what was read.
-fn contents_of(
+fn contents_from(
     alloc: Global,
     rolls: &Rolls,
     choices: Vec<(Key, Vec<Key>)>,
@@ -69,7 +69,8 @@ fn rows_in<S: Alter>(
 ) -> Result<Contents, TableFault>
     ensures rows { YieldsSound round S.Store conn.old conn.new result
         (λ db rows. rows_held rows
-        ≡ rows_from round db.trees rolls.lecturers.items rolls.projects.items rolls.students.items) }
+        ≡ rows_from round db.trees
+        rolls.lecturers.items rolls.projects.items rolls.students.items) }
     ensures read { OverSound round S.Store conn.old conn.new
         (OnOk result (AreRead round
         (state S.Store conn.old).now.trees rolls.lecturers.items rolls.students.items)) }
@@ -77,14 +78,14 @@ fn rows_in<S: Alter>(
         (result ≡ Err TableFault.Damaged
         → AreOwned (choice_table round) (state S.Store conn.old).now.trees rolls.students.items
         → AreOwned (ranking_table round) (state S.Store conn.old).now.trees rolls.lecturers.items
-        → AreFine round
-        (state S.Store conn.old).now.trees rolls.lecturers.items rolls.projects.items rolls.students.items → ⊥) }
+        → AreFine round (state S.Store conn.old).now.trees
+        rolls.lecturers.items rolls.projects.items rolls.students.items → ⊥) }
     ensures reads { RunsQueriesIn round result (state S.Store conn.old) (state S.Store conn.new) }
 {
     let choices = entries_in(alloc, conn, Lists::choices_of(round), &rolls.students)?;
     let rankings = entries_in(alloc, conn, Lists::rankings_of(round), &rolls.lecturers)?;
     let pairs = pairs_in(alloc, conn, round, None, &rolls.students)?;
-    contents_of(alloc, &rolls, choices, rankings, pairs)
+    contents_from(alloc, &rolls, choices, rankings, pairs)
 }
 
 /// The rows of the rolls, and of the lists and the result of a round, by a query of each roll and

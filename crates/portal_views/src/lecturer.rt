@@ -1,14 +1,17 @@
 //! What a lecturer sees, by queries of the own ranking, the own projects and their applicants.
 
-ghost use Rattle.std.specs.Prelude.{◌≡◌};
-ghost use Rattle.portal_views.specs.inner.Base.{IfOk, option_map, map, column, bytes, state};
-ghost use Rattle.portal_views.specs.inner.Callers.{with_persons, own_keys_shown};
+ghost use Rattle.std.specs.Prelude.{◌≡◌, ◌≤◌};
+ghost use Rattle.portal_views.specs.inner.Base.{Err, IfOk, AllByRecursion, option_map, map};
+ghost use Rattle.portal_views.specs.inner.Base.{column, bytes, number_in, state};
+ghost use Rattle.portal_views.specs.inner.Callers.{with_persons, own_keys_shown, HasOwnKeys};
 ghost use Rattle.portal_views.specs.inner.Callers.{lecturer_sees_with, lecturer_shown};
-ghost use Rattle.portal_views.specs.inner.Lines.{HasTables};
+ghost use Rattle.portal_views.specs.inner.Callers.{IsReadableByLecturer};
+ghost use Rattle.portal_views.specs.inner.Lines.{HasTables, HasKey, IsNamed};
 ghost use Rattle.portal_views.specs.inner.Catalogue.{IsCatalogue, own_listed};
-ghost use Rattle.portal_tables.specs.inner.Owners.{with_list, ranking_shown};
+ghost use Rattle.portal_tables.specs.ListTables.{ranking_table};
+ghost use Rattle.portal_tables.specs.inner.Owners.{IsFine, with_list, ranking_shown};
 ghost use Rattle.portal_tables.specs.inner.Reading.{RunsQueries, RunsQueriesIn, YieldsOf};
-ghost use Rattle.portal_tables.specs.inner.Reading.{YieldsSound};
+ghost use Rattle.portal_tables.specs.inner.Reading.{YieldsSound, OverSound, UndamagedOf};
 ghost use Rattle.portal_tables.specs.inner.Shown.{first_cell};
 
 use crate::applicants::{ProjectStudents, project_students};
@@ -42,7 +45,8 @@ fn keys_listed(
 
 /// The keys with which the rows begin.
 fn keys_of(alloc: Global, rows: &[Row]) -> Result<Vec<Key>, TableFault>
-    ensures { IfOk result (λ v. v.items ≡ map first_cell rows.now) }
+    ensures ok { IfOk result (λ v. v.items ≡ map first_cell rows.now) }
+    ensures damaged { result ≡ Err TableFault.Damaged → AllByRecursion HasKey rows.now → ⊥ }
 {
     let mut keys = Vec::with_capacity(alloc, rows.len())?;
     for row in rows {
@@ -59,6 +63,7 @@ fn keys_asked<S: Alter>(
 ) -> Result<Vec<Key>, TableFault>
     ensures keys { YieldsOf HasTables S.Store conn.old conn.new result
         (λ db v. v.items ≡ own_keys_shown db.trees lecturer.now) }
+    ensures damaged { UndamagedOf (HasOwnKeys lecturer.now) S.Store conn.old conn.new result }
     ensures reads { RunsQueries result (state S.Store conn.old) (state S.Store conn.new) }
 {
     let rows = rising(alloc, conn, Query::ProjectsOf(lecturer))?;
@@ -77,6 +82,7 @@ fn own_projects<S: Alter>(
     ensures keys { YieldsOf HasTables S.Store conn.old conn.new result
         (λ db v. IsCatalogue round db.trees catalogue.now
         → v.items ≡ own_keys_shown db.trees lecturer.now) }
+    ensures damaged { UndamagedOf (HasOwnKeys lecturer.now) S.Store conn.old conn.new result }
     ensures reads { RunsQueriesIn round result (state S.Store conn.old) (state S.Store conn.new) }
 {
     match round {
@@ -104,6 +110,9 @@ fn ranking_in<S: Alter>(
 ) -> Result<Option<Vec<Key>>, TableFault>
     ensures names { YieldsSound round S.Store conn.old conn.new result
         (λ db o. option_map (λ v. v.items) o ≡ ranking_shown round db.trees row.now) }
+    ensures damaged { OverSound round S.Store conn.old conn.new
+        (result ≡ Err TableFault.Damaged
+        → IsFine (ranking_table round) (state S.Store conn.old).now.trees row.now → ⊥) }
     ensures reads { RunsQueriesIn round result (state S.Store conn.old) (state S.Store conn.new) }
 {
     let entry = entry_in(alloc, conn, Lists::rankings_of(round), row)?;
@@ -111,7 +120,7 @@ fn ranking_in<S: Alter>(
 }
 
 /// What a lecturer sees, of what was read.
-fn lecturer_view_of(
+fn lecturer_view_from(
     alloc: Global,
     round: Round,
     phase: Phase,
@@ -120,10 +129,12 @@ fn lecturer_view_of(
     ranking: Option<Vec<Key>>,
     told: ProjectStudents,
 ) -> Result<LecturerView, TableFault>
-    ensures { IfOk result (λ v. v
+    ensures ok { IfOk result (λ v. v
         ≡ lecturer_sees_with round phase row.now catalogue.value.items
         (option_map (λ r. r.items) ranking)
         (map with_persons told.applicants.items) (map with_persons told.placed.items)) }
+    ensures damaged { result ≡ Err TableFault.Damaged → IsNamed row.now
+        → 1 ≤ number_in (column row.now 3) → number_in (column row.now 3) ≤ 200 → ⊥ }
 {
     Ok(LecturerView {
         round,
@@ -152,10 +163,12 @@ pub fn lecturer_view<S: Alter>(
     ensures shows { YieldsOf HasTables S.Store conn.old conn.new result
         (λ db v. IsCatalogue round db.trees catalogue.value.items
         → v ≡ lecturer_shown round db.trees phase row.now catalogue.value.items) }
+    ensures damaged { UndamagedOf (IsReadableByLecturer round row.now)
+        S.Store conn.old conn.new result }
     ensures reads { RunsQueriesIn round result (state S.Store conn.old) (state S.Store conn.new) }
 {
     let own = own_projects(alloc, conn, round, bytes_at(row, 0), &catalogue)?;
     let ranking = ranking_in(alloc, conn, round, row)?;
     let told = project_students(alloc, conn, round, phase, &own)?;
-    lecturer_view_of(alloc, round, phase, row, catalogue, ranking, told)
+    lecturer_view_from(alloc, round, phase, row, catalogue, ranking, told)
 }

@@ -1,7 +1,9 @@
 //! The students who take part, but for those of other rows.
 
 ghost use Rattle.std.specs.Prelude.{◌≡◌, ◌&&◌, is_none};
-ghost use Rattle.portal_views.specs.inner.Base.{IfOk, not, map, filter, has, Rise};
+ghost use Rattle.portal_views.specs.inner.Base.{Err, IfOk, not, map, filter, has, Rise};
+ghost use Rattle.portal_views.specs.inner.Base.{AllByRecursion};
+ghost use Rattle.portal_views.specs.inner.Lines.{HasKey};
 ghost use Rattle.portal_tables.specs.inner.Placements.{placement_before};
 ghost use Rattle.portal_tables.specs.inner.Shown.{first_cell};
 
@@ -21,9 +23,11 @@ fn keys_but(
     others: &[Row],
 ) -> Result<Vec<Key>, TableFault>
     requires { Rise (map first_cell others.now) }
-    ensures { IfOk result (λ v. v.items
+    ensures ok { IfOk result (λ v. v.items
         ≡ map first_cell (filter (λ c. is_none (placement_before round c)
         && not (has (map first_cell others.now) (first_cell c))) students.now)) }
+    ensures damaged { result ≡ Err TableFault.Damaged
+        → AllByRecursion HasKey students.now → ⊥ }
 {
     let mut keys = Vec::new(alloc);
     for row in students {
@@ -37,15 +41,17 @@ fn keys_but(
 /// The keys of the students whose rows these are, who take part in the round, in their order, but
 /// for those that the others begin with. The fault is `Damaged` where the keys of the others do not
 /// rise or one of the rows does not begin with a key, `Memory` where there is not enough memory.
-pub(crate) fn keys_left(
+pub(crate) fn keys_not_among(
     alloc: Global,
     round: Round,
     students: &[Row],
     others: &[Row],
 ) -> Result<Vec<Key>, TableFault>
-    ensures { IfOk result (λ v. v.items
+    ensures ok { IfOk result (λ v. v.items
         ≡ map first_cell (filter (λ c. is_none (placement_before round c)
         && not (has (map first_cell others.now) (first_cell c))) students.now)) }
+    ensures damaged { result ≡ Err TableFault.Damaged → Rise (map first_cell others.now)
+        → AllByRecursion HasKey students.now → ⊥ }
 {
     if !do_rise(others) {
         return Err(TableFault::Damaged);

@@ -2,11 +2,15 @@
 //! list holds a project. Each is asked for by key.
 
 ghost use Rattle.std.specs.Prelude.{◌≡◌, ◌∷◌};
-ghost use Rattle.portal_views.specs.inner.Base.{[], Err, IfOk, Some, map, column, bytes, state};
+ghost use Rattle.portal_views.specs.inner.Base.{[], Err, IfOk, Some, AllByRecursion, map, length};
+ghost use Rattle.portal_views.specs.inner.Base.{Row as Cells, column, bytes, state};
+ghost use Rattle.portal_tables.specs.inner.Placements.{HasPlacement};
 ghost use Rattle.portal_tables.specs.inner.Reading.{RunsQueriesIn, YieldsOf, YieldsSound};
+ghost use Rattle.portal_tables.specs.inner.Reading.{OverSound, UndamagedOf};
 ghost use Rattle.portal_tables.specs.inner.Shown.{first_cell};
-ghost use Rattle.portal_views.specs.inner.Lines.{HasTables, IsNamed, told_line, in_round};
-ghost use Rattle.portal_views.specs.inner.Lines.{applicant_at, applicant_lines};
+ghost use Rattle.portal_views.specs.inner.Lines.{HasTables, HasStudents, IsNamed, IsStudentKey};
+ghost use Rattle.portal_views.specs.inner.Lines.{IsTold, told_line, in_round, applicant_at};
+ghost use Rattle.portal_views.specs.inner.Lines.{applicant_lines};
 
 use portal_core::{Person, Round};
 use portal_tables::cells::{assigned_at, bytes_at, key_at, name_at};
@@ -42,8 +46,7 @@ pub struct ApplicantLine {
 impl FromCells for ApplicantLine {
     ghost shown = { told_line };
 
-    // which rows are refused is left open
-    ghost is_fine = { λ c. ⊥ };
+    ghost is_fine = { IsTold };
 
     fn from_cells(alloc: Global, row: &Row) -> Result<ApplicantLine, TableFault> {
         Ok(ApplicantLine {
@@ -55,7 +58,8 @@ impl FromCells for ApplicantLine {
 
 /// The only line.
 fn only_line(lines: Vec<ApplicantLine>) -> Result<ApplicantLine, TableFault>
-    ensures { IfOk result (λ l. lines.items ≡ l ∷ []) }
+    ensures ok { IfOk result (λ l. lines.items ≡ l ∷ []) }
+    ensures damaged { result ≡ Err TableFault.Damaged → length lines.items ≡ 1 → ⊥ }
 {
     match at_most_one(lines)? {
         Some(line) => Ok(line),
@@ -72,6 +76,9 @@ fn line_of_round<S: Alter>(
 ) -> Result<ApplicantLine, TableFault>
     ensures told { YieldsSound round S.Store conn.old conn.new result
         (λ db l. l ≡ in_round round db.trees line) }
+    ensures damaged { OverSound round S.Store conn.old conn.new
+        (result ≡ Err TableFault.Damaged → (c : Cells) → first_cell c ≡ line.person.key
+        → HasPlacement round (state S.Store conn.old).now.trees c → ⊥) }
     ensures reads { RunsQueriesIn round result (state S.Store conn.old) (state S.Store conn.new) }
 {
     match round {
@@ -95,6 +102,8 @@ fn line_in<S: Alter>(
 ) -> Result<ApplicantLine, TableFault>
     ensures told { YieldsOf HasTables S.Store conn.old conn.new result
         (λ db l. Some l ≡ applicant_at round db.trees key.now) }
+    ensures damaged { UndamagedOf (λ db. HasStudents round db × IsStudentKey db.trees key.now)
+        S.Store conn.old conn.new result }
     ensures reads { RunsQueriesIn round result (state S.Store conn.old) (state S.Store conn.new) }
 {
     let lines = read_each(alloc, conn, Query::StudentTold(key))?;
@@ -103,7 +112,7 @@ fn line_in<S: Alter>(
 }
 
 /// The lines of the students with whose keys the rows begin.
-fn lines_from<S: Alter>(
+fn lines_each<S: Alter>(
     alloc: Global,
     conn: &mut Connection<S>,
     round: Round,
@@ -112,6 +121,9 @@ fn lines_from<S: Alter>(
     ensures told { YieldsOf HasTables S.Store conn.old conn.new result
         (λ db v. map Some v.items ≡ map (λ c. applicant_at round db.trees
         (first_cell c)) rows.now) }
+    ensures damaged { UndamagedOf (λ db. HasStudents round db
+        × AllByRecursion (λ c. IsStudentKey db.trees (first_cell c)) rows.now)
+        S.Store conn.old conn.new result }
     ensures reads { RunsQueriesIn round result (state S.Store conn.old) (state S.Store conn.new) }
 {
     let mut lines = Vec::new(alloc);
@@ -132,10 +144,11 @@ pub(crate) fn lines_to<S: Alter>(
 ) -> Result<Vec<ApplicantLine>, TableFault>
     ensures told { YieldsOf HasTables S.Store conn.old conn.new result
         (λ db v. v.items ≡ applicant_lines round db.trees project.now) }
+    ensures damaged { UndamagedOf (HasStudents round) S.Store conn.old conn.new result }
     ensures reads { RunsQueriesIn round result (state S.Store conn.old) (state S.Store conn.new) }
 {
     let rows = rising(alloc, conn, Query::Choosers(round, project.as_bytes()))?;
-    lines_from(alloc, conn, round, &rows)
+    lines_each(alloc, conn, round, &rows)
 }
 
 /// The persons of the lines, in their order. The error is want of memory.

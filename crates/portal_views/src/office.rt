@@ -2,15 +2,18 @@
 
 ghost use Rattle.std.specs.Prelude.{◌≡◌, ◌&&◌, if◌then◌else◌};
 ghost use Rattle.portal_core.specs.World.{is_from_ranking};
-ghost use Rattle.portal_views.specs.inner.Base.{[], Some, None, IfOk, map, state, equals};
+ghost use Rattle.portal_views.specs.inner.Base.{[], Some, None, Err, IfOk, AllByRecursion, map};
+ghost use Rattle.portal_views.specs.inner.Base.{state, equals, IsLecturer, IsProject, IsStudent};
 ghost use Rattle.portal_views.specs.inner.Office.{HasWholeLists, is_chosen_shown, is_wanted_shown};
 ghost use Rattle.portal_views.specs.inner.Office.{waiting_key, waiting_keys, unlisted};
-ghost use Rattle.portal_views.specs.inner.Office.{office_sees_with, office_shown};
-ghost use Rattle.portal_tables.specs.inner.Reading.{RunsQueriesIn, YieldsOf};
+ghost use Rattle.portal_views.specs.inner.Office.{office_sees_with, office_shown, AreReadable};
+ghost use Rattle.portal_views.specs.inner.Office.{IsReadableByOffice};
+ghost use Rattle.portal_views.specs.inner.Lines.{HasKey};
+ghost use Rattle.portal_tables.specs.inner.Reading.{RunsQueriesIn, YieldsOf, UndamagedOf};
 ghost use Rattle.portal_tables.specs.inner.Shown.{first_cell, shown_lecturer, shown_project};
 ghost use Rattle.portal_tables.specs.inner.Shown.{shown_student};
 
-use crate::left::keys_left;
+use crate::left::keys_not_among;
 use portal_core::{Listing, OfficeView, Phase, Round};
 use portal_tables::cells::{bytes_at, key_at};
 use portal_tables::list_table::Lists;
@@ -30,14 +33,16 @@ fn without_list<S: Alter>(
 ) -> Result<Vec<Key>, TableFault>
     ensures told { YieldsOf (HasWholeLists round) S.Store conn.old conn.new result
         (λ db v. v.items ≡ unlisted round db.trees students.now) }
+    ensures damaged { AllByRecursion HasKey students.now
+        → UndamagedOf (HasWholeLists round) S.Store conn.old conn.new result }
     ensures reads { RunsQueriesIn round result (state S.Store conn.old) (state S.Store conn.new) }
 {
     let listed = read_rows(alloc, conn, Query::Listed(round))?;
-    keys_left(alloc, round, students, &listed)
+    keys_not_among(alloc, round, students, &listed)
 }
 
 /// Whether the project is this lecturer's, and a student's list holds it.
-fn is_chosen_of<S: Alter>(
+fn is_chosen_in<S: Alter>(
     conn: &mut Connection<S>,
     round: Round,
     lecturer: &Row,
@@ -47,6 +52,7 @@ fn is_chosen_of<S: Alter>(
         (λ db yes. yes
         ≡ (equals (shown_project project.now).lecturer (first_cell lecturer.now)
         && is_chosen_shown round db.trees (shown_project project.now).key)) }
+    ensures undamaged { result ≡ Err TableFault.Damaged → ⊥ }
     ensures reads { RunsQueriesIn round result (state S.Store conn.old) (state S.Store conn.new) }
 {
     if bytes_at(project, 1) != bytes_at(lecturer, 0) {
@@ -66,10 +72,11 @@ fn has_applicant<S: Alter>(
         (λ db yes. yes
         ≡ is_wanted_shown round db.trees (map shown_project projects.now)
         (first_cell lecturer.now)) }
+    ensures undamaged { result ≡ Err TableFault.Damaged → ⊥ }
     ensures reads { RunsQueriesIn round result (state S.Store conn.old) (state S.Store conn.new) }
 {
     for project in projects {
-        if is_chosen_of(conn, round, lecturer, project)? {
+        if is_chosen_in(conn, round, lecturer, project)? {
             return Ok(true);
         }
     }
@@ -88,6 +95,7 @@ fn wanted_in<S: Alter>(
         (λ db key. key
         ≡ (if is_wanted_shown round db.trees (map shown_project projects.now)
         (first_cell lecturer.now) then Some (first_cell lecturer.now) else None)) }
+    ensures damaged { result ≡ Err TableFault.Damaged → HasKey lecturer.now → ⊥ }
     ensures reads { RunsQueriesIn round result (state S.Store conn.old) (state S.Store conn.new) }
 {
     if !has_applicant(conn, round, projects, lecturer)? {
@@ -107,6 +115,7 @@ fn waiting_in<S: Alter>(
     ensures told { YieldsOf (HasWholeLists round) S.Store conn.old conn.new result
         (λ db key. key
         ≡ waiting_key round db.trees (map shown_project projects.now) lecturer.now) }
+    ensures damaged { result ≡ Err TableFault.Damaged → HasKey lecturer.now → ⊥ }
     ensures reads { RunsQueriesIn round result (state S.Store conn.old) (state S.Store conn.new) }
 {
     if has_list_in(conn, Lists::rankings_of(round), lecturer)? {
@@ -126,6 +135,7 @@ fn all_waiting<S: Alter>(
     ensures told { YieldsOf (HasWholeLists round) S.Store conn.old conn.new result
         (λ db v. v.items
         ≡ waiting_keys round db.trees (map shown_project projects.now) lecturers.now) }
+    ensures damaged { result ≡ Err TableFault.Damaged → AllByRecursion HasKey lecturers.now → ⊥ }
     ensures reads { RunsQueriesIn round result (state S.Store conn.old) (state S.Store conn.new) }
 {
     let mut keys = Vec::new(alloc);
@@ -149,6 +159,8 @@ fn still_to_rank<S: Alter>(
         (λ db v. v.items
         ≡ (if is_from_ranking phase then waiting_keys round db.trees
         (map shown_project rolls.now.projects.items) rolls.now.lecturers.items else [])) }
+    ensures damaged { result ≡ Err TableFault.Damaged
+        → AllByRecursion HasKey rolls.now.lecturers.items → ⊥ }
     ensures reads { RunsQueriesIn round result (state S.Store conn.old) (state S.Store conn.new) }
 {
     if phase.is_from_ranking() {
@@ -158,7 +170,7 @@ fn still_to_rank<S: Alter>(
 }
 
 /// What the office sees, of what was read.
-fn office_view_of(
+fn office_view_from(
     alloc: Global,
     round: Round,
     office: Office,
@@ -168,7 +180,7 @@ fn office_view_of(
     still_to_rank: Vec<Key>,
     pairs: Vec<(Key, Key)>,
 ) -> Result<OfficeView, TableFault>
-    ensures { IfOk result (λ v. v
+    ensures ok { IfOk result (λ v. v
         ≡ record {
           round = round;
           phase = office.phase;
@@ -181,6 +193,10 @@ fn office_view_of(
           still_to_rank = still_to_rank.items;
           pairs = pairs.items;
         }) }
+    ensures damaged { result ≡ Err TableFault.Damaged
+        → AllByRecursion (λ c. IsLecturer (shown_lecturer c)) rolls.now.lecturers.items
+        → AllByRecursion (λ c. IsProject (shown_project c)) rolls.now.projects.items
+        → AllByRecursion (λ c. IsStudent (shown_student c)) rolls.now.students.items → ⊥ }
 {
     let parts = parts_of(alloc, rolls)?;
     Ok(OfficeView {
@@ -211,12 +227,14 @@ fn view_of_rolls<S: Alter>(
         ≡ office_sees_with round db.trees office.phase office.code
         catalogue.value.items rolls.now.lecturers.items rolls.now.projects.items
         rolls.now.students.items) }
+    ensures damaged { UndamagedOf (AreReadable round rolls.now.lecturers.items
+        rolls.now.projects.items rolls.now.students.items) S.Store conn.old conn.new result }
     ensures reads { RunsQueriesIn round result (state S.Store conn.old) (state S.Store conn.new) }
 {
     let unlisted = without_list(alloc, conn, round, &rolls.students)?;
     let waiting = still_to_rank(alloc, conn, round, office.phase, rolls)?;
     let pairs = pairs_in(alloc, conn, round, Some(office.phase), &rolls.students)?;
-    office_view_of(
+    office_view_from(
         alloc, round, office, catalogue, rolls, unlisted, waiting, pairs,
     )
 }
@@ -234,6 +252,7 @@ pub fn office_view<S: Alter>(
     ensures shows { YieldsOf (HasWholeLists round) S.Store conn.old conn.new result
         (λ db v. v
         ≡ office_shown round db.trees office.phase office.code catalogue.value.items) }
+    ensures damaged { UndamagedOf (IsReadableByOffice round) S.Store conn.old conn.new result }
     ensures reads { RunsQueriesIn round result (state S.Store conn.old) (state S.Store conn.new) }
 {
     let rolls = rolls_in(alloc, conn)?;

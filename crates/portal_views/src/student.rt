@@ -17,7 +17,7 @@ use std::alloc::Global;
 use std::rc::Rc;
 
 /// What a student sees, of what was read.
-fn student_view_of(
+fn student_view_from(
     alloc: Global,
     round: Round,
     phase: Phase,
@@ -62,5 +62,5 @@ pub fn student_view<S: Alter>(
     let student = key_at(alloc, row, 0)?;
     let choices = list_in(alloc, conn, Lists::choices_of(round), &student)?;
     let place = result_in(alloc, conn, round, phase, row)?;
-    student_view_of(alloc, round, phase, row, catalogue, choices, place)
+    student_view_from(alloc, round, phase, row, catalogue, choices, place)
 }

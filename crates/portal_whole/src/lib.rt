@@ -2,7 +2,7 @@
 #![tactic(auto)]
 
 ghost use Rattle.std.specs.Prelude.{IfSome, map};
-ghost use Rattle.portal_store.specs.Made.{first_world};
+ghost use Rattle.portal_store.specs.World.{first_world};
 ghost use Rattle.portal_whole.specs.Whole.{KeepsPromise};
 
 use portal_core::Code;

@@ -1,3 +1,4 @@
+pub mod Base
 pub mod Words
 pub mod Literal
 pub mod Once

@@ -1,15 +1,14 @@
 -- A router without parameters is a table of texts.
-use Rattle.std.proofs.Common.{◌≡◌, ℕ, zero, suc, ◌-◌, Bool, true, false, List, [], ◌∷◌, length, map, refl, ap, ◌∙◌, cond, subst, ◌<◌, ◌≤◌, arith}
-use Rattle.std.specs.Prelude.{Option, Some, None, option_map, if◌then◌else◌, ◌==◌, ◌&&◌, nat_lt, IsUtf8, slice_index}
+use Rattle.portal_wire.proofs.Base.{◌≡◌, ℕ, zero, suc, ◌-◌, Bool, true, false, List, [], ◌∷◌, length, map, refl, ap, ◌∙◌, subst, ◌<◌, ◌≤◌, arith, Option, Some, None, option_map, if◌then◌else◌, IsUtf8, bytes_eq, is_utf8, ne_eqb, IsUtf8-from_is_utf8, is_utf8-from_IsUtf8, RowsOf, Route, the_paths, route_at, the_rows}
+use Rattle.std.proofs.Common.{cond}
+use Rattle.std.specs.Prelude.{◌==◌, ◌&&◌, nat_lt, slice_index}
 use Rattle.std.specs.List.{list_all}
-use Rattle.std.specs.Str.{bytes_eq, is_utf8}
-use Rattle.std.proofs.lemmas.Bool.{and_parts, ltb-true, ne_eqb, eqb-true}
-use Rattle.std.proofs.lemmas.Str.{IsUtf8-from_is_utf8, IsUtf8-from_ascii, is_utf8-from_IsUtf8}
-use Rattle.matchit.specs.Rows.{RowsOf, param_token, catch_all_token}
+use Rattle.std.proofs.lemmas.Bool.{and_parts, ltb-true, eqb-true}
+use Rattle.std.proofs.lemmas.Str.{IsUtf8-from_ascii}
+use Rattle.matchit.specs.Rows.{param_token, catch_all_token}
 use Rattle.matchit.specs.Seek.{seek, step, own, or_else, param_step, has_slash}
-use Rattle.portal_wire.specs.declared.routes.Route.{Route}
-use Rattle.portal_wire.specs.Routes.{the_paths, look_up, route_at}
-use Rattle.portal_wire.specs.inner.Routes.{row_of, the_rows}
+use Rattle.portal_wire.specs.Routes.{look_up}
+use Rattle.portal_wire.specs.inner.Routes.{row_of}
 
 module _ {K : Type 0} where
   -- the first row with this pattern

@@ -1,11 +1,7 @@
 -- A stream has one list of requests and one ending.
-use Rattle.std.proofs.Common.{◌≡◌, ℕ, ◌-◌, Bool, true, false, List, [], ◌∷◌, refl, sym, ap, ◌∙◌, subst}
-use Rattle.std.specs.Bool.{MatchBool}
-use Rattle.portal_core.specs.Run.{Request}
-use Rattle.portal_frame.specs.Stream.{Asked, Refuses, whole, fault, over, Opens}
-use Rattle.portal_wire.specs.Refusals.{answer_to}
-use Rattle.portal_wire.specs.Text.{reply_text}
-use Rattle.portal_wire.specs.Conversation.{request_of, closes_at, Rest, more, shut, Leads, Ends, Last, End, Closed, Refused, Limit}
+use Rattle.portal_wire.proofs.Base.{◌≡◌, ℕ, ◌-◌, Bool, true, false, List, [], ◌∷◌, refl, sym, ap, ◌∙◌, subst, MatchBool, Request, Asked, whole, fault, over, Opens, answer_to, reply_text, request_of, closes_at, Rest, more, shut, Leads, Ends, Last, End, Refused}
+use Rattle.portal_frame.specs.Stream.{Refuses}
+use Rattle.portal_wire.specs.Conversation.{Closed, Limit}
 use Rattle.portal_frame.proofs.Unique.{Opens-unique}
 
 -- what two accounts of one stream share

@@ -1,9 +1,7 @@
 -- Bytes that are no token are none of the methods that some route has.
-use Rattle.std.proofs.Common.{◌≡◌, ℕ, Bool, true, false, List, refl, sym, subst, arith}
-use Rattle.std.specs.Prelude.{codes, IsTrue}
-use Rattle.std.specs.Str.{bytes_eq}
+use Rattle.portal_wire.proofs.Base.{◌≡◌, ℕ, Bool, true, false, List, refl, sym, subst, arith, codes, bytes_eq, bytes_decides}
+use Rattle.std.specs.Prelude.{IsTrue}
 use Rattle.std.proofs.lemmas.List.Elements.{All-from_recursion}
-use lib.Pointwise.{bytes_decides}
 use Rattle.http_header.specs.Token.{IsToken, is_token_byte}
 use Rattle.portal_wire.specs.declared.methods.Method.TheVariants.{Other}
 use Rattle.portal_wire.specs.Method.{method_of}

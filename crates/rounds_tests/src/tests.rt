@@ -2,13 +2,10 @@
 //! replies.
 
 mod failed_reads;
-mod second;
 mod second_damages;
 mod second_lists;
-mod second_runs;
 mod second_stops;
 mod steps;
 mod stops;
 mod trial;
-mod version1;
-mod wide;
+mod years;

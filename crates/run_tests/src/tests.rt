@@ -8,6 +8,7 @@ mod refusals;
 mod solves;
 mod words;
 
+use portal_fixtures::{cut, unescaped};
 use portal_run::run;
 use std::alloc::AllocError;
 
@@ -29,3 +30,33 @@ fn told(
 
 /// The header line of an instance file.
 const HEADER: &[u8] = b"kind,key,value,list\n";
+
+/// The rows to which a command does not give what they say, each with what it gives: the status, the
+/// output, and the records of the row, behind these ones.
+fn wrong(rt: &HostRuntime, command: &str, before: &str, rows: &str) -> Result<String, AllocError> {
+    let alloc = rt.alloc();
+    let mut wrong = String::new(alloc);
+    for row in rows.lines().skip(1) {
+        let (_, rest) = cut(row, "  ");
+        let (_, own) = cut(rest, "  ");
+        let own = unescaped(alloc, own.trim_start())?;
+        let records = [before, own.as_str()].concat(alloc)?;
+        let (status, got) = told(rt, command, HEADER, records.as_bytes())?;
+        let got = str::from_utf8(&got).unwrap_or("no text");
+        let got = got.replace(alloc, "\n", "\\n")?;
+        let found = format!(in alloc; "{status}  {got}")?;
+        if !begins_with(row, found.as_str()) {
+            let told = format!(in alloc; "{row}\nfound {found}\n")?;
+            wrong.push_str(told.as_str())?;
+        }
+    }
+    Ok(wrong)
+}
+
+/// Whether the text begins with this one, and a gap or nothing comes behind it.
+fn begins_with(text: &str, found: &str) -> bool {
+    match text.strip_prefix(found) {
+        Some(rest) => rest.is_empty() || rest.starts_with("  "),
+        None => false,
+    }
+}

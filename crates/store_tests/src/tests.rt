@@ -3,15 +3,10 @@
 
 mod crowds;
 mod damages;
-mod fills;
 mod halls;
 mod keeping;
 mod long;
-mod rolls;
-mod runs;
 mod steps;
 mod streams;
 mod upgrades;
-mod version1;
-mod watched;
 mod years;

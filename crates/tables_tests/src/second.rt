@@ -1,10 +1,12 @@
 //! The tables of the second round, and the upgrade of a file that has them not.
 
-use crate::tests::{change, code, creates, department, key, put_key, shows, tells};
+use crate::tests::{
+    CHOICES, STUDENTS, change, code, creates, department, key, put_key, reads, reads_rows, tells,
+};
 use portal_core::{LecturerView, Person, Phase, Round};
 use portal_tables::list_table::Lists;
 use portal_tables::names::{Names, is_there};
-use portal_tables::select::{Query, Roll, Table, read, read_rows};
+use portal_tables::select::{Query, Table, read};
 use portal_tables::{
     FIRST_VERSION, Office, PortalSchema, TableFault, VERSION, office_in, put_list, put_placements,
     rank_second, result_in, row_numbers_differ, second_in, set_second, upgrade_tables,
@@ -40,21 +42,11 @@ fn is_upgraded(rt: &(impl Abort + AllocGlobal), conn: &mut Connection<MemStore>)
     assert!(rt; upgrade_tables(rt.alloc(), conn).is_ok());
     assert!(rt; office_in(rt.alloc(), conn, FIRST_VERSION).is_err());
     assert!(rt; office_in(rt.alloc(), conn, VERSION).is_ok());
-    shows(rt, read(conn, Query::Office), 4, "1 2 2 office-code-1 /");
-    shows(rt, read(conn, Query::Second), 2, "1 0 /");
-    shows(
-        rt,
-        read(conn, Query::Whole(Roll::Students)),
-        4,
-        "S1 Ann ann-code-1 - /",
-    );
-    shows(
-        rt,
-        read(conn, Query::AllLists(Lists::Choices)),
-        3,
-        "S1 1 P1 /",
-    );
-    shows(rt, read(conn, Query::AllLists(Lists::SecondChoices)), 3, "");
+    reads(rt, conn, Query::Office, "1 2 2 office-code-1 /");
+    reads(rt, conn, Query::Second, "1 0 /");
+    reads(rt, conn, STUDENTS, "S1 Ann ann-code-1 - /");
+    reads(rt, conn, CHOICES, "S1 1 P1 /");
+    reads(rt, conn, Query::AllLists(Lists::SecondChoices), "");
 }
 
 #[test]
@@ -129,20 +121,10 @@ fn write_second(
 fn the_second_round_is_written(rt: HostRuntime) {
     let mut conn = department(&rt);
     write_second(&rt, &mut conn).expect(&rt, "rows");
-    shows(
-        &rt,
-        read(&mut conn, Query::AllLists(Lists::Choices)),
-        3,
-        "S2 1 P1 /S1 1 P2 /S1 2 P1 /",
-    );
-    let students = read(&mut conn, Query::Whole(Roll::Students));
-    tells(
-        &rt,
-        &mut conn,
-        Lists::SecondChoices,
-        students,
-        "S1 P1 /S2 /",
-    );
+    reads(&rt, &mut conn, CHOICES, "S2 1 P1 /S1 1 P2 /S1 2 P1 /");
+    let students = read(&mut conn, STUDENTS);
+    let wanted = "S1 P1 /S2 /";
+    tells(&rt, &mut conn, Lists::SecondChoices, students, wanted);
     let ranked = read(&mut conn, Query::SecondRanked);
     tells(&rt, &mut conn, Lists::SecondRankings, ranked, "L1 S2 S1 /");
     let phase = second_in(rt.alloc(), &mut conn);
@@ -191,21 +173,11 @@ fn the_second_result_is_put(rt: HostRuntime) {
         (key(&rt, b"S2"), key(&rt, b"P2")),
     ];
     write_places(&mut conn, rt.alloc(), &both).expect(&rt, "rows");
-    shows(
-        &rt,
-        read(&mut conn, Query::SecondPlacements),
-        2,
-        "S1 P1 /S2 P2 /",
-    );
+    reads(&rt, &mut conn, Query::SecondPlacements, "S1 P1 /S2 P2 /");
     let one = [(key(&rt, b"S2"), key(&rt, b"P2"))];
     write_places(&mut conn, rt.alloc(), &one).expect(&rt, "rows");
-    shows(
-        &rt,
-        read_rows(rt.alloc(), &mut conn, Query::SecondPlaceOf(b"S1")),
-        2,
-        "",
-    );
-    shows(&rt, read(&mut conn, Query::SecondPlacements), 2, "S2 P2 /");
+    reads_rows(&rt, &mut conn, Query::SecondPlaceOf(b"S1"), "");
+    reads(&rt, &mut conn, Query::SecondPlacements, "S2 P2 /");
 }
 
 /// What Lee sees in the round, published, with the catalogue of the tables.
@@ -249,19 +221,9 @@ fn the_second_round_is_seen(rt: HostRuntime) {
     write_second(&rt, &mut conn).expect(&rt, "rows");
     let one = [(key(&rt, b"S1"), key(&rt, b"P1"))];
     write_places(&mut conn, rt.alloc(), &one).expect(&rt, "rows");
-    shows(
-        &rt,
-        read(&mut conn, Query::ProjectsOf(b"L1")),
-        1,
-        "P1 /P2 /",
-    );
-    shows(&rt, read(&mut conn, Query::ProjectsOf(b"S1")), 1, "");
-    shows(
-        &rt,
-        read(&mut conn, Query::Listed(Round::Second)),
-        1,
-        "S1 /",
-    );
+    reads(&rt, &mut conn, Query::ProjectsOf(b"L1"), "P1 /P2 /");
+    reads(&rt, &mut conn, Query::ProjectsOf(b"S1"), "");
+    reads(&rt, &mut conn, Query::Listed(Round::Second), "S1 /");
     let view = seen_by_lee(&rt, &mut conn, Round::Second);
     are_at(&rt, &view.applicants, "P1 S1 /P2 /");
     are_at(&rt, &view.placed, "P1 S1 S2 /P2 /");
@@ -322,36 +284,21 @@ fn the_office_sees_the_first_round(rt: HostRuntime) {
     is_seen_by_office(&rt, &mut conn, Round::First, Phase::Choosing, "//");
     is_seen_by_office(&rt, &mut conn, Round::First, Phase::Ranking, "/L1 /");
     change(&mut conn).expect(&rt, "the first result");
-    is_seen_by_office(
-        &rt,
-        &mut conn,
-        Round::First,
-        Phase::Published,
-        "S1 //S2 P1 ",
-    );
+    let (phase, wanted) = (Phase::Published, "S1 //S2 P1 ");
+    is_seen_by_office(&rt, &mut conn, Round::First, phase, wanted);
 }
 
 #[test]
 fn the_office_sees_the_second_round(rt: HostRuntime) {
     let mut conn = department(&rt);
     change(&mut conn).expect(&rt, "the first result");
-    is_seen_by_office(
-        &rt,
-        &mut conn,
-        Round::Second,
-        Phase::Choosing,
-        "S1 //S2 P1 ",
-    );
+    let (phase, wanted) = (Phase::Choosing, "S1 //S2 P1 ");
+    is_seen_by_office(&rt, &mut conn, Round::Second, phase, wanted);
     write_second(&rt, &mut conn).expect(&rt, "rows");
     let one = [(key(&rt, b"S1"), key(&rt, b"P1"))];
     write_places(&mut conn, rt.alloc(), &one).expect(&rt, "rows");
-    is_seen_by_office(
-        &rt,
-        &mut conn,
-        Round::Second,
-        Phase::Published,
-        "//S1 P1 S2 P1 ",
-    );
+    let (phase, wanted) = (Phase::Published, "//S1 P1 S2 P1 ");
+    is_seen_by_office(&rt, &mut conn, Round::Second, phase, wanted);
 }
 
 #[test]
@@ -360,7 +307,7 @@ fn the_place_shown_is_the_first(rt: HostRuntime) {
     change(&mut conn).expect(&rt, "the first result");
     let one = [(key(&rt, b"S1"), key(&rt, b"P2"))];
     write_places(&mut conn, rt.alloc(), &one).expect(&rt, "rows");
-    let rows = read(&mut conn, Query::Whole(Roll::Students)).expect(&rt, "rows");
+    let rows = read(&mut conn, STUDENTS).expect(&rt, "rows");
     for (phase, wanted) in [(Phase::Ranking, "- P1 "), (Phase::Published, "P2 P1 ")] {
         let mut text = String::new(rt.alloc());
         for row in &rows {

@@ -29,13 +29,11 @@ fn put_value(rt: &(impl Abort + AllocGlobal), text: &mut String, row: &Row, at: 
     text.push_str(value.as_str()).expect(rt, "memory");
 }
 
-/// The rows are these, so many columns each, with a stroke behind each row.
-pub(crate) fn shows<E: Drop>(
-    rt: &(impl Abort + AllocGlobal),
-    rows: Result<Vec<Row>, E>,
-    columns: usize,
-    wanted: &str,
-) {
+/// The rows are these, with a stroke behind each row. As many columns are looked at as the first row
+/// has blanks.
+fn shows<E: Drop>(rt: &(impl Abort + AllocGlobal), rows: Result<Vec<Row>, E>, wanted: &str) {
+    let first = wanted.split_once('/').unwrap_or((wanted, "")).0;
+    let columns = first.bytes().filter(|byte| *byte == b' ').count();
     let Ok(rows) = rows else {
         panic!(rt; "no rows");
     };
@@ -49,12 +47,48 @@ pub(crate) fn shows<E: Drop>(
     assert_eq!(rt; text.as_str(), wanted);
 }
 
-/// These students are told of, each by key, name and assigned project, with a stroke behind each.
-fn are_told(
+/// The query, read as a whole, shows these rows.
+pub(crate) fn reads(
     rt: &(impl Abort + AllocGlobal),
-    lines: Result<Vec<ApplicantLine>, TableFault>,
+    conn: &mut Connection<MemStore>,
+    query: Query<'_>,
     wanted: &str,
 ) {
+    shows(rt, read(conn, query), wanted);
+}
+
+/// The query, read row by row, shows these rows.
+pub(crate) fn reads_rows(
+    rt: &(impl Abort + AllocGlobal),
+    conn: &mut Connection<MemStore>,
+    query: Query<'_>,
+    wanted: &str,
+) {
+    shows(rt, read_rows(rt.alloc(), conn, query), wanted);
+}
+
+pub(crate) const LECTURERS: Query<'static> = Query::Whole(Roll::Lecturers);
+
+pub(crate) const PROJECTS: Query<'static> = Query::Whole(Roll::Projects);
+
+pub(crate) const STUDENTS: Query<'static> = Query::Whole(Roll::Students);
+
+pub(crate) const CHOICES: Query<'static> = Query::AllLists(Lists::Choices);
+
+pub(crate) const RANKINGS: Query<'static> = Query::AllLists(Lists::Rankings);
+
+/// Of the student with this key this is told: key, name and assigned project, with a stroke behind.
+fn are_told(
+    rt: &(impl Abort + AllocGlobal),
+    conn: &mut Connection<MemStore>,
+    key: &[u8],
+    wanted: &str,
+) {
+    let lines: Result<Vec<ApplicantLine>, TableFault> = read_each(
+        rt.alloc(),
+        conn,
+        Query::StudentTold(key),
+    );
     let Ok(lines) = lines else {
         panic!(rt; "no lines");
     };
@@ -348,36 +382,20 @@ fn rows_come_by_the_eight(rt: HostRuntime) -> Result<(), Fail> {
     let mut conn = Connection::open_in_memory(rt.alloc())?;
     assert!(rt; creates(&rt, &mut conn));
     fill_nine(&rt, &mut conn)?;
-    shows(
-        &rt,
-        read(&mut conn, Query::Whole(Roll::Lecturers)),
-        5,
-        "K1 K1 code-of-K1 1 0 /K2 K2 code-of-K2 1 0 /K3 K3 code-of-K3 1 0 /K4 K4 code-of-K4 1 0 /K5 K5 code-of-K5 1 0 /K6 K6 code-of-K6 1 0 /K7 K7 code-of-K7 1 0 /K8 K8 code-of-K8 1 0 /K9 K9 code-of-K9 1 0 /",
-    );
-    shows(
-        &rt,
-        read(&mut conn, Query::Whole(Roll::Projects)),
-        4,
-        "K1 K1 K1 1 /K2 K1 K2 1 /K3 K1 K3 1 /K4 K1 K4 1 /K5 K1 K5 1 /K6 K1 K6 1 /K7 K1 K7 1 /K8 K1 K8 1 /K9 K1 K9 1 /",
-    );
-    shows(
-        &rt,
-        read(&mut conn, Query::Whole(Roll::Students)),
-        4,
-        "K1 K1 code-of-K1 - /K2 K2 code-of-K2 - /K3 K3 code-of-K3 - /K4 K4 code-of-K4 - /K5 K5 code-of-K5 - /K6 K6 code-of-K6 - /K7 K7 code-of-K7 - /K8 K8 code-of-K8 - /K9 K9 code-of-K9 - /",
-    );
-    shows(
-        &rt,
-        read_rows(rt.alloc(), &mut conn, Query::ListOf(Lists::Choices, b"K1")),
-        2,
-        "1 K1 /2 K2 /3 K3 /4 K4 /5 K5 /6 K6 /7 K7 /8 K8 /9 K9 /",
-    );
-    shows(
-        &rt,
-        read_rows(rt.alloc(), &mut conn, Query::ListOf(Lists::Rankings, b"K1")),
-        2,
-        "1 K1 /2 K2 /3 K3 /4 K4 /5 K5 /6 K6 /7 K7 /8 K8 /9 K9 /",
-    );
+    let wanted =
+        "K1 K1 code-of-K1 1 0 /K2 K2 code-of-K2 1 0 /K3 K3 code-of-K3 1 0 /K4 K4 code-of-K4 1 0 /K5 K5 code-of-K5 1 0 /K6 K6 code-of-K6 1 0 /K7 K7 code-of-K7 1 0 /K8 K8 code-of-K8 1 0 /K9 K9 code-of-K9 1 0 /";
+    reads(&rt, &mut conn, LECTURERS, wanted);
+    let wanted =
+        "K1 K1 K1 1 /K2 K1 K2 1 /K3 K1 K3 1 /K4 K1 K4 1 /K5 K1 K5 1 /K6 K1 K6 1 /K7 K1 K7 1 /K8 K1 K8 1 /K9 K1 K9 1 /";
+    reads(&rt, &mut conn, PROJECTS, wanted);
+    let wanted =
+        "K1 K1 code-of-K1 - /K2 K2 code-of-K2 - /K3 K3 code-of-K3 - /K4 K4 code-of-K4 - /K5 K5 code-of-K5 - /K6 K6 code-of-K6 - /K7 K7 code-of-K7 - /K8 K8 code-of-K8 - /K9 K9 code-of-K9 - /";
+    reads(&rt, &mut conn, STUDENTS, wanted);
+    let wanted = "1 K1 /2 K2 /3 K3 /4 K4 /5 K5 /6 K6 /7 K7 /8 K8 /9 K9 /";
+    reads_rows(&rt, &mut conn, Query::ListOf(Lists::Choices, b"K1"), wanted);
+    let query = Query::ListOf(Lists::Rankings, b"K1");
+    let wanted = "1 K1 /2 K2 /3 K3 /4 K4 /5 K5 /6 K6 /7 K7 /8 K8 /9 K9 /";
+    reads_rows(&rt, &mut conn, query, wanted);
     have_numbers(&rt, &mut conn);
     Ok(())
 }
@@ -411,12 +429,9 @@ fn students_are_assigned(rt: HostRuntime) -> Result<(), Fail> {
     assert!(rt; creates(&rt, &mut conn));
     fill_nine(&rt, &mut conn)?;
     assign_nine(&rt, &mut conn)?;
-    shows(
-        &rt,
-        read(&mut conn, Query::Whole(Roll::Students)),
-        4,
-        "K1 K1 code-of-K1 K1 /K2 K2 code-of-K2 K2 /K3 K3 code-of-K3 K3 /K4 K4 code-of-K4 K4 /K5 K5 code-of-K5 - /K6 K6 code-of-K6 K6 /K7 K7 code-of-K7 K7 /K8 K8 code-of-K8 K8 /K9 K9 code-of-K9 K9 /",
-    );
+    let wanted =
+        "K1 K1 code-of-K1 K1 /K2 K2 code-of-K2 K2 /K3 K3 code-of-K3 K3 /K4 K4 code-of-K4 K4 /K5 K5 code-of-K5 - /K6 K6 code-of-K6 K6 /K7 K7 code-of-K7 K7 /K8 K8 code-of-K8 K8 /K9 K9 code-of-K9 K9 /";
+    reads(&rt, &mut conn, STUDENTS, wanted);
     have_numbers(&rt, &mut conn);
     Ok(())
 }
@@ -443,72 +458,30 @@ fn rows_are_there_once(rt: HostRuntime) {
 #[test]
 fn rolls_are_shown(rt: HostRuntime) {
     let mut conn = department(&rt);
-    shows(
-        &rt,
-        read(&mut conn, Query::Office),
-        4,
-        "1 2 0 office-code-1 /",
-    );
-    shows(
-        &rt,
-        read(&mut conn, Query::Whole(Roll::Lecturers)),
-        5,
-        "L1 Lee lee-code-1 2 0 /",
-    );
-    shows(
-        &rt,
-        read(&mut conn, Query::Whole(Roll::Projects)),
-        4,
-        "P1 L1 Tides 1 /P2 L1 Kites 200 /",
-    );
-    shows(
-        &rt,
-        read(&mut conn, Query::Whole(Roll::Students)),
-        4,
-        "S1 Ann ann-code-1 - /S2 Bea bea-code-1 - /",
-    );
+    reads(&rt, &mut conn, Query::Office, "1 2 0 office-code-1 /");
+    reads(&rt, &mut conn, LECTURERS, "L1 Lee lee-code-1 2 0 /");
+    reads(&rt, &mut conn, PROJECTS, "P1 L1 Tides 1 /P2 L1 Kites 200 /");
+    let wanted = "S1 Ann ann-code-1 - /S2 Bea bea-code-1 - /";
+    reads(&rt, &mut conn, STUDENTS, wanted);
 }
 
 #[test]
 fn lists_are_shown(rt: HostRuntime) {
     let mut conn = department(&rt);
-    shows(
-        &rt,
-        read(&mut conn, Query::AllLists(Lists::Choices)),
-        3,
-        "S2 1 P1 /S1 1 P2 /S1 2 P1 /",
-    );
-    shows(
-        &rt,
-        read(&mut conn, Query::AllLists(Lists::Rankings)),
-        3,
-        "L1 1 S2 /L1 2 S1 /",
-    );
-    shows(
-        &rt,
-        read_rows(rt.alloc(), &mut conn, Query::ListOf(Lists::Choices, b"S1")),
-        2,
-        "1 P2 /2 P1 /",
-    );
-    shows(
-        &rt,
-        read_rows(rt.alloc(), &mut conn, Query::ListOf(Lists::Rankings, b"L1")),
-        2,
-        "1 S2 /2 S1 /",
-    );
+    reads(&rt, &mut conn, CHOICES, "S2 1 P1 /S1 1 P2 /S1 2 P1 /");
+    reads(&rt, &mut conn, RANKINGS, "L1 1 S2 /L1 2 S1 /");
+    let query = Query::ListOf(Lists::Choices, b"S1");
+    reads_rows(&rt, &mut conn, query, "1 P2 /2 P1 /");
+    let query = Query::ListOf(Lists::Rankings, b"L1");
+    reads_rows(&rt, &mut conn, query, "1 S2 /2 S1 /");
 }
 
 #[test]
 fn lists_are_told(rt: HostRuntime) {
     let mut conn = department(&rt);
-    let students = read(&mut conn, Query::Whole(Roll::Students));
-    tells(
-        &rt,
-        &mut conn,
-        Lists::Choices,
-        students,
-        "S1 P2 P1 /S2 P1 /",
-    );
+    let students = read(&mut conn, STUDENTS);
+    let wanted = "S1 P2 P1 /S2 P1 /";
+    tells(&rt, &mut conn, Lists::Choices, students, wanted);
 }
 
 #[test]
@@ -516,15 +489,10 @@ fn lists_are_told_of_rows_in_any_order(rt: HostRuntime) -> Result<(), Fail> {
     let mut conn = Connection::open_in_memory(rt.alloc())?;
     assert!(rt; creates(&rt, &mut conn));
     fill_mixed(&rt, &mut conn)?;
-    let students = read(&mut conn, Query::Whole(Roll::Students));
-    tells(
-        &rt,
-        &mut conn,
-        Lists::Choices,
-        students,
-        "S1 P2 P1 /S2 P1 /",
-    );
-    let lecturers = read(&mut conn, Query::Whole(Roll::Lecturers));
+    let students = read(&mut conn, STUDENTS);
+    let wanted = "S1 P2 P1 /S2 P1 /";
+    tells(&rt, &mut conn, Lists::Choices, students, wanted);
+    let lecturers = read(&mut conn, LECTURERS);
     tells(&rt, &mut conn, Lists::Rankings, lecturers, "L1 S2 S1 /");
     Ok(())
 }
@@ -543,46 +511,16 @@ fn rows_of_nobody_are_damage(rt: HostRuntime) {
 #[test]
 fn rows_are_found(rt: HostRuntime) {
     let mut conn = department(&rt);
-    shows(
-        &rt,
-        read_rows(rt.alloc(), &mut conn, Query::Choosers(Round::First, b"P1")),
-        1,
-        "S1 /S2 /",
-    );
-    shows(
-        &rt,
-        read_rows(rt.alloc(), &mut conn, Query::Listed(Round::First)),
-        1,
-        "S1 /S2 /",
-    );
-    shows(
-        &rt,
-        read_rows(rt.alloc(), &mut conn, Query::LecturerByCode(b"lee-code-1")),
-        2,
-        "L1 Lee /",
-    );
-    shows(
-        &rt,
-        read_rows(rt.alloc(), &mut conn, Query::StudentByCode(b"bea-code-1")),
-        2,
-        "S2 Bea /",
-    );
-    shows(
-        &rt,
-        read_rows(rt.alloc(), &mut conn, Query::StudentByCode(b"lee-code-1")),
-        2,
-        "",
-    );
-    are_told(
-        &rt,
-        read_each(rt.alloc(), &mut conn, Query::StudentTold(b"S2")),
-        "S2 Bea - /",
-    );
-    are_told(
-        &rt,
-        read_each(rt.alloc(), &mut conn, Query::StudentTold(b"L1")),
-        "",
-    );
+    let query = Query::Choosers(Round::First, b"P1");
+    reads_rows(&rt, &mut conn, query, "S1 /S2 /");
+    reads_rows(&rt, &mut conn, Query::Listed(Round::First), "S1 /S2 /");
+    let query = Query::LecturerByCode(b"lee-code-1");
+    reads_rows(&rt, &mut conn, query, "L1 Lee /");
+    let query = Query::StudentByCode(b"bea-code-1");
+    reads_rows(&rt, &mut conn, query, "S2 Bea /");
+    reads_rows(&rt, &mut conn, Query::StudentByCode(b"lee-code-1"), "");
+    are_told(&rt, &mut conn, b"S2", "S2 Bea - /");
+    are_told(&rt, &mut conn, b"L1", "");
     assert_eq!(rt;
         finds_any(&mut conn, Query::Choosers(Round::First, b"P1")).expect(&rt, "an answer"),
         true
@@ -597,40 +535,12 @@ fn rows_are_found(rt: HostRuntime) {
 fn changes_are_shown(rt: HostRuntime) {
     let mut conn = department(&rt);
     change(&mut conn).expect(&rt, "a change");
-    shows(
-        &rt,
-        read(&mut conn, Query::Office),
-        4,
-        "1 2 3 office-code-1 /",
-    );
-    shows(
-        &rt,
-        read(&mut conn, Query::Whole(Roll::Lecturers)),
-        5,
-        "L1 Lee lee-code-1 2 1 /",
-    );
-    shows(
-        &rt,
-        read(&mut conn, Query::Whole(Roll::Students)),
-        4,
-        "S1 Ann ann-code-1 - /S2 Bea bea-code-1 P1 /",
-    );
-    shows(
-        &rt,
-        read(&mut conn, Query::AllLists(Lists::Choices)),
-        3,
-        "S2 1 P1 /",
-    );
-    shows(
-        &rt,
-        read_rows(rt.alloc(), &mut conn, Query::Listed(Round::First)),
-        1,
-        "S2 /",
-    );
-    are_told(
-        &rt,
-        read_each(rt.alloc(), &mut conn, Query::StudentTold(b"S2")),
-        "S2 Bea P1 /",
-    );
+    reads(&rt, &mut conn, Query::Office, "1 2 3 office-code-1 /");
+    reads(&rt, &mut conn, LECTURERS, "L1 Lee lee-code-1 2 1 /");
+    let wanted = "S1 Ann ann-code-1 - /S2 Bea bea-code-1 P1 /";
+    reads(&rt, &mut conn, STUDENTS, wanted);
+    reads(&rt, &mut conn, CHOICES, "S2 1 P1 /");
+    reads_rows(&rt, &mut conn, Query::Listed(Round::First), "S2 /");
+    are_told(&rt, &mut conn, b"S2", "S2 Bea P1 /");
     have_numbers(&rt, &mut conn);
 }

@@ -1,18 +1,18 @@
 //! Streams that are served one after another over one desk.
 
-use crate::tests::portal::{LEE, NO_CALLER, OFFICE, fresh, reply, request};
+use crate::tests::portal::{NO_CALLER, fresh, reply, request};
 use portal_desk::serve_each;
 
 /// The lecturer whom the second stream enrols is nobody in the first, and is known in the third.
 #[test]
 fn each_stream_finds_what_the_one_before_left(rt: HostRuntime) {
     let mut desk = fresh(&rt);
-    let roll = "id,name,code,capacity\nL1,Lee,lee-code-01,2\n";
-    let asks = request(&rt, "GET", "/me", LEE, "");
-    let enrols = request(&rt, "POST", "/rolls/lecturers", OFFICE, roll);
-    let added = reply(&rt, "200 OK", r#"{"added":1,"same":0}"#);
-    let lee = r#"{"capacity":2,"key":"L1","name":"Lee","phase":"setup","role":"lecturer"}"#;
-    let known = reply(&rt, "200 OK", lee);
+    let me =
+        r#"lee  GET /me  200 {"capacity":2,"key":"L1","name":"Lee","phase":"setup","role":"lecturer"}"#;
+    let roll =
+        r#"office  POST /rolls/lecturers id,name,code,capacity\nL1,Lee,lee-code-01,2\n  200 {"added":1,"same":0}"#;
+    let (asks, enrols) = (request(&rt, me), request(&rt, roll));
+    let (known, added) = (reply(&rt, me), reply(&rt, roll));
     let streams = [asks.as_bytes(), enrols.as_bytes(), asks.as_bytes()];
     let texts = serve_each(rt.alloc(), &mut desk, streams.as_slice()).expect(&rt, "served");
     assert_eq!(rt; texts.len(), 3);

@@ -4,8 +4,7 @@ ghost use Rattle.std.specs.Prelude.{length};
 ghost use Rattle.portal_core.specs.Counting.{CountsFaults};
 
 use crate::tests::portal::{
-    CYR, MOE, NO_CALLER, OFFICE, OPENING, fresh_keeper, published, ranked_again, ranking_again,
-    reopened, request,
+    NO_CALLER, fresh_keeper, published, ranked_again, ranking_again, reopened, request,
 };
 use portal_core::{Change, KeepFault, Keeper, View};
 use portal_desk::{Cause, Counted, Desk};
@@ -112,15 +111,8 @@ fn the_desk_has_failed_from_then_on(rt: HostRuntime) {
 }
 
 /// A change is refused by the store, and from then on the desk has failed.
-fn is_lost(
-    rt: &(impl Abort + AllocGlobal),
-    desk: Desk<ListKeeper>,
-    line: (&str, &str),
-    code: &str,
-    body: &str,
-) {
-    let (method, path) = line;
-    let asked = request(rt, method, path, code, body);
+fn is_lost(rt: &(impl Abort + AllocGlobal), desk: Desk<ListKeeper>, line: &str) {
+    let asked = request(rt, line);
     let mut failing = Desk::new(Failing::new(rt, desk.into_keeper(), u32::MAX));
     fails(rt, &mut failing, asked.as_str(), 1, LOST.as_bytes());
     fails(rt, &mut failing, TWO, 1, LOST.as_bytes());
@@ -128,38 +120,18 @@ fn is_lost(
 
 #[test]
 fn each_change_of_the_second_round_is_lost(rt: HostRuntime) {
-    is_lost(&rt, published(&rt), ("POST", "/phase"), OFFICE, OPENING);
-    is_lost(
-        &rt,
-        reopened(&rt),
-        ("PUT", "/choices"),
-        CYR,
-        r#"{"projects":["P3"]}"#,
-    );
-    is_lost(
-        &rt,
-        ranking_again(&rt),
-        ("PUT", "/ranking"),
-        MOE,
-        r#"{"students":["S3"]}"#,
-    );
-    is_lost(
-        &rt,
-        ranking_again(&rt),
-        ("POST", "/ranking/fill"),
-        OFFICE,
-        "{}",
-    );
+    let opening = r#"office  POST /phase {"phase":"choosing","round":2}"#;
+    is_lost(&rt, published(&rt), opening);
+    let list = r#"cyr  PUT /choices {"projects":["P3"]}"#;
+    is_lost(&rt, reopened(&rt), list);
+    let ranking = r#"moe  PUT /ranking {"students":["S3"]}"#;
+    is_lost(&rt, ranking_again(&rt), ranking);
+    is_lost(&rt, ranking_again(&rt), "office  POST /ranking/fill {}");
 }
 
 /// The publication finds no instance.
 #[test]
 fn the_second_publication_is_lost(rt: HostRuntime) {
-    is_lost(
-        &rt,
-        ranked_again(&rt),
-        ("POST", "/phase"),
-        OFFICE,
-        r#"{"phase":"published"}"#,
-    );
+    let publication = r#"office  POST /phase {"phase":"published"}"#;
+    is_lost(&rt, ranked_again(&rt), publication);
 }

@@ -1,5 +1,6 @@
 //! Framing, by examples.
 
+use portal_fixtures::{cut, unescaped};
 use portal_frame::{Frame, frame};
 use std::process::Abort;
 
@@ -32,95 +33,49 @@ pub(crate) fn is(rt: &(impl Abort + AllocGlobal), bytes: &str, ended: bool, want
     assert_eq!(rt; text.as_str(), wanted);
 }
 
+/// Whether the input has ended, what the bytes are, and the bytes.
+const REQUESTS: &str = r#"
+open   request 3 3 false 0 49  GET /me?a HTTP/1.1\r\nHost: h\r\nPortal-Code: abc\r\n\r\nGET
+open   request 3 0 true 0 53   GET /me HTTP/1.1\r\nHost: h\r\nConnection: a ,\tClose \r\n\r\n
+open   request 3 0 true 0 18   GET /me HTTP/1.0\n\n
+open   request 3 0 false 2 82  PUT /me HTTP/1.1\r\nhost: h\r\ncontent-length: 2\r\nportal-code: a\r\nportal-code: b\r\n\r\nabc
+open   need                    PUT /me HTTP/1.1\r\nhost: h\r\ncontent-length: 4\r\n\r\nabc
+open   need                    GET /me HTTP/1.1\r\nHost: h\r\n
+ended  end                     \r\n\n\r
+ended  end
+open   need
+"#;
+
+const REFUSALS: &str = r#"
+ended  400 bad_head false      GET /me HTTP/1.1\r\nHost: h\r\n
+open   400 bad_head false      GET /me HTTP/1.2\r\n
+open   400 bad_host true       HEAD /me HTTP/1.1\r\n\r\n
+open   400 bad_host false      GET /me HTTP/1.0\r\nHost: a\r\nhost: b\r\n\r\n
+open   501 coded_body false    GET /me HTTP/1.1\r\nHost: a\r\nTransfer-Encoding: chunked\r\n\r\n
+open   413 too_large false     PUT /me HTTP/1.1\r\nHost: a\r\ncontent-length: 1048577\r\n\r\n
+open   400 bad_length false    PUT /me HTTP/1.1\r\nHost: a\r\ncontent-length: +1\r\n\r\n
+open   400 bad_length false    PUT /me HTTP/1.1\r\nHost: a\r\ncontent-length: 1\r\ncontent-length: 1\r\n\r\n
+ended  400 bad_length false    PUT /me HTTP/1.1\r\nHost: a\r\ncontent-length: 10\r\n\r\nabcd
+open   need                    GET /me HTTP/1.1\na:\na:\na:\na:\na:\na:\na:\na:\na:\na:\na:\na:\na:\na:\na:\na:\na:\na:\na:\na:\na:\na:\na:\na:\na:\na:\na:\na:\na:\na:\na:\na:\na:
+open   400 bad_head false      GET /me HTTP/1.1\na:\na:\na:\na:\na:\na:\na:\na:\na:\na:\na:\na:\na:\na:\na:\na:\na:\na:\na:\na:\na:\na:\na:\na:\na:\na:\na:\na:\na:\na:\na:\na:\na:\n
+"#;
+
+/// The bytes of each row are what it says.
+fn are(rt: &(impl Abort + AllocGlobal), rows: &str) {
+    for row in rows.lines().skip(1) {
+        let (input, rest) = cut(row, "  ");
+        let (wanted, bytes) = cut(rest.trim_start(), "  ");
+        let bytes = unescaped(rt.alloc(), bytes.trim_start()).expect(rt, "memory");
+        is(rt, bytes.as_str(), input == "ended", wanted);
+    }
+}
+
 #[test]
 fn requests(rt: HostRuntime) {
-    is(
-        &rt,
-        "GET /me?a HTTP/1.1\r\nHost: h\r\nPortal-Code: abc\r\n\r\nGET",
-        false,
-        "request 3 3 false 0 49",
-    );
-    is(
-        &rt,
-        "GET /me HTTP/1.1\r\nHost: h\r\nConnection: a ,\tClose \r\n\r\n",
-        false,
-        "request 3 0 true 0 53",
-    );
-    is(&rt, "GET /me HTTP/1.0\n\n", false, "request 3 0 true 0 18");
-    is(
-        &rt,
-        "PUT /me HTTP/1.1\r\nhost: h\r\ncontent-length: 2\r\nportal-code: a\r\nportal-code: b\r\n\r\nabc",
-        false,
-        "request 3 0 false 2 82",
-    );
-    is(
-        &rt,
-        "PUT /me HTTP/1.1\r\nhost: h\r\ncontent-length: 4\r\n\r\nabc",
-        false,
-        "need",
-    );
-    is(&rt, "GET /me HTTP/1.1\r\nHost: h\r\n", false, "need");
-    is(&rt, "\r\n\n\r", true, "end");
-    is(&rt, "", true, "end");
-    is(&rt, "", false, "need");
+    are(&rt, REQUESTS);
 }
 
 #[test]
 fn refusals(rt: HostRuntime) {
-    is(
-        &rt,
-        "GET /me HTTP/1.1\r\nHost: h\r\n",
-        true,
-        "400 bad_head false",
-    );
-    is(&rt, "GET /me HTTP/1.2\r\n", false, "400 bad_head false");
-    is(&rt, "HEAD /me HTTP/1.1\r\n\r\n", false, "400 bad_host true");
-    is(
-        &rt,
-        "GET /me HTTP/1.0\r\nHost: a\r\nhost: b\r\n\r\n",
-        false,
-        "400 bad_host false",
-    );
-    is(
-        &rt,
-        "GET /me HTTP/1.1\r\nHost: a\r\nTransfer-Encoding: chunked\r\n\r\n",
-        false,
-        "501 coded_body false",
-    );
-    is(
-        &rt,
-        "PUT /me HTTP/1.1\r\nHost: a\r\ncontent-length: 1048577\r\n\r\n",
-        false,
-        "413 too_large false",
-    );
-    is(
-        &rt,
-        "PUT /me HTTP/1.1\r\nHost: a\r\ncontent-length: +1\r\n\r\n",
-        false,
-        "400 bad_length false",
-    );
-    is(
-        &rt,
-        "PUT /me HTTP/1.1\r\nHost: a\r\ncontent-length: 1\r\ncontent-length: 1\r\n\r\n",
-        false,
-        "400 bad_length false",
-    );
-    is(
-        &rt,
-        "PUT /me HTTP/1.1\r\nHost: a\r\ncontent-length: 10\r\n\r\nabcd",
-        true,
-        "400 bad_length false",
-    );
-    is(
-        &rt,
-        "GET /me HTTP/1.1\na:\na:\na:\na:\na:\na:\na:\na:\na:\na:\na:\na:\na:\na:\na:\na:\na:\na:\na:\na:\na:\na:\na:\na:\na:\na:\na:\na:\na:\na:\na:\na:\na:",
-        false,
-        "need",
-    );
-    is(
-        &rt,
-        "GET /me HTTP/1.1\na:\na:\na:\na:\na:\na:\na:\na:\na:\na:\na:\na:\na:\na:\na:\na:\na:\na:\na:\na:\na:\na:\na:\na:\na:\na:\na:\na:\na:\na:\na:\na:\na:\n",
-        false,
-        "400 bad_head false",
-    );
+    are(&rt, REFUSALS);
 }

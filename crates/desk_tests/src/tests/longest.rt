@@ -1,7 +1,7 @@
 //! The longest body, on devices that fail.
 
 use crate::tests::devices::{Basin, Feeder};
-use crate::tests::portal::{ANN, choosing, gets, reopened, takes, written};
+use crate::tests::portal::{choosing, plays, reopened, written};
 use portal_desk::{Cause, Counted, Desk, Ending, Sink, Source};
 use portal_list::ListKeeper;
 use std::process::Abort;
@@ -11,7 +11,13 @@ const HEAD: &str =
 
 const EMPTY: &str = r#"{"projects":[]}"#;
 
-const OLD: &str = r#"{"projects":["P1","P2"]}"#;
+/// A student is shown no list, or the one that was there, which is put.
+const SHOWS_NONE: &str = r#"ann  GET /choices  200 {"projects":[]}"#;
+
+const SHOWS_OLD: &str = r#"ann  GET /choices  200 {"projects":["P1","P2"]}"#;
+
+const PUTS_OLD: &str =
+    r#"ann  PUT /choices {"projects":["P1","P2"]}  200 {"projects":["P1","P2"]}"#;
 
 const REPLY: &str =
     "HTTP/1.1 200 OK\r\ncontent-type: application/json\r\ncontent-length: 15\r\n\r\n{\"projects\":[]}";
@@ -40,7 +46,7 @@ fn is_taken(rt: HostRuntime) {
     let bytes = longest(&rt);
     let output = written(&rt, &mut desk, bytes.as_slice(), Ending::End, 1);
     assert_eq!(rt; output.as_slice(), REPLY.as_bytes());
-    gets(&rt, &mut desk, "/choices", ANN, "200 OK", EMPTY);
+    plays(&rt, &mut desk, SHOWS_NONE);
 }
 
 /// In the second round a student who has a project may send it, and it is refused as the shortest
@@ -51,7 +57,7 @@ fn is_read_before_it_is_refused(rt: HostRuntime) {
     let bytes = longest(&rt);
     let output = written(&rt, &mut desk, bytes.as_slice(), Ending::End, 1);
     assert_eq!(rt; output.as_slice(), HAS_ONE.as_bytes());
-    gets(&rt, &mut desk, "/choices", ANN, "200 OK", EMPTY);
+    plays(&rt, &mut desk, SHOWS_NONE);
 }
 
 /// A reader fails before the last byte: nothing has acted.
@@ -73,7 +79,7 @@ fn fails_reading(
         }
     }
     assert!(rt; sink.into_inner().is_empty());
-    gets(rt, desk, "/choices", ANN, "200 OK", OLD);
+    plays(rt, desk, SHOWS_OLD);
 }
 
 #[test]
@@ -109,7 +115,7 @@ fn a_reader_fails_behind_it(rt: HostRuntime) {
         }
     }
     assert_eq!(rt; sink.into_inner().as_slice(), REPLY.as_bytes());
-    gets(&rt, &mut desk, "/choices", ANN, "200 OK", EMPTY);
+    plays(&rt, &mut desk, SHOWS_NONE);
 }
 
 /// A writer fails after so many bytes: the request has acted.
@@ -120,7 +126,7 @@ fn fails_writing(
     step: usize,
     many: usize,
 ) {
-    takes(rt, desk, "/choices", ANN, OLD);
+    plays(rt, desk, PUTS_OLD);
     let mut source = Feeder::new(bytes, 4_096);
     let mut sink = Basin::new(rt.alloc(), step, many);
     match desk.serve(rt.alloc(), &mut source, &mut sink) {
@@ -132,7 +138,7 @@ fn fails_writing(
         }
     }
     assert_eq!(rt; sink.held(), &REPLY.as_bytes()[..many.min(REPLY.len())]);
-    gets(rt, desk, "/choices", ANN, "200 OK", EMPTY);
+    plays(rt, desk, SHOWS_NONE);
 }
 
 #[test]

@@ -2,7 +2,7 @@
 //! fail.
 
 use crate::tests::conversation::{Asked, Stream};
-use crate::tests::portal::{CYR, gets, published, ranked_again};
+use crate::tests::portal::{plays, published, ranked_again};
 use crate::tests::trials::{ended_at, reader_fails_at, served_cut, writer_fails_at};
 use portal_desk::{Counted, Desk, Ending};
 use portal_list::ListKeeper;
@@ -111,7 +111,7 @@ fn goes_on(rt: &(impl Abort + AllocGlobal), desk: &mut Desk<ListKeeper>, acted: 
         sink.into_inner().as_slice(),
         ROUND.replies_behind(rt, acted).as_slice()
     );
-    gets(rt, desk, "/result", CYR, "200 OK", r#"{"project":"P3"}"#);
+    plays(rt, desk, r#"cyr  GET /result  200 {"project":"P3"}"#);
 }
 
 #[test]

@@ -1,6 +1,8 @@
 //! Requests as the wire brings them, the calls that they make, and the bytes of replies.
 
-use portal_core::{Body, Call, Phase, Reply, Round};
+use crate::tests::portal::{BAD_HEAD, reply};
+use portal_core::{Body, Call, Reply, Round, StudentRow};
+use portal_fixtures::{Line, lines, unescaped};
 use portal_wire::{Frame, Refusal, Request, call_of, frame, reply_bytes, reply_of};
 use serde_json::{Value, json};
 use std::process::Abort;
@@ -31,38 +33,37 @@ fn is_refused(rt: &impl Abort, refusal: &Refusal, status: u16, word: &str) {
     assert_eq!(rt; refusal.word, word);
 }
 
-/// A request by its parts.
-fn asked(rt: &(impl Abort + AllocGlobal), method: &str, path: &str, body: &[u8]) -> Request {
+/// The request of a line, by its parts.
+fn asked(rt: &(impl Abort + AllocGlobal), line: &Line) -> Request {
     let alloc = rt.alloc();
+    let body = unescaped(alloc, line.body).expect(rt, "memory");
     Request {
-        method: Vec::from_slice(alloc, method.as_bytes()).expect(rt, "memory"),
-        path: Vec::from_slice(alloc, path.as_bytes()).expect(rt, "memory"),
-        code: Vec::from_slice(alloc, b"ann-code-1").expect(rt, "memory"),
+        method: Vec::from_slice(alloc, line.method.as_bytes()).expect(rt, "memory"),
+        path: Vec::from_slice(alloc, line.path.as_bytes()).expect(rt, "memory"),
+        code: Vec::from_slice(alloc, line.code.as_bytes()).expect(rt, "memory"),
         close: false,
-        body: Vec::from_slice(alloc, body).expect(rt, "memory"),
+        body: Vec::from_slice(alloc, body.as_bytes()).expect(rt, "memory"),
     }
 }
 
-/// The call that a request makes.
-fn call(rt: &(impl Abort + AllocGlobal), method: &str, path: &str, body: &[u8]) -> Call {
-    let request = asked(rt, method, path, body);
-    match call_of(rt.alloc(), &request) {
+/// The call that the request of a line makes.
+fn call(rt: &(impl Abort + AllocGlobal), line: &Line) -> Call {
+    match call_of(rt.alloc(), &asked(rt, line)) {
         Ok((_, call)) => call,
         Err(_) => panic!(rt; "no call"),
     }
 }
 
-/// The refusal of a request that makes no call.
-fn no_call(rt: &(impl Abort + AllocGlobal), method: &str, path: &str, body: &[u8]) -> Refusal {
-    let request = asked(rt, method, path, body);
-    match call_of(rt.alloc(), &request) {
+/// The refusal of a line's request, which makes no call.
+fn no_call(rt: &(impl Abort + AllocGlobal), line: &str) -> Refusal {
+    match call_of(rt.alloc(), &asked(rt, &Line::new(line))) {
         Ok(_) => panic!(rt; "a call"),
         Err(refusal) => refusal,
     }
 }
 
 /// A reply with a JSON body.
-fn reply(status: u16, body: Value) -> Reply {
+fn json_reply(status: u16, body: Value) -> Reply {
     Reply {
         status,
         allow: "",
@@ -76,14 +77,14 @@ fn writes(
     reply: &Reply,
     head_only: bool,
     close: bool,
-    text: &[u8],
+    text: &str,
 ) {
     let bytes = reply_bytes(rt.alloc(), reply, head_only, close).expect(rt, "memory");
-    assert!(rt; bytes.as_slice() == text);
+    assert_eq!(rt; bytes.as_slice(), text.as_bytes());
 }
 
 /// That the bytes of the reply to a refusal are these.
-fn refuses(rt: &(impl Abort + AllocGlobal), refusal: &Refusal, close: bool, text: &[u8]) {
+fn refuses(rt: &(impl Abort + AllocGlobal), refusal: &Refusal, close: bool, text: &str) {
     let reply = reply_of(rt.alloc(), refusal).expect(rt, "memory");
     writes(rt, &reply, false, close, text);
 }
@@ -116,15 +117,11 @@ fn the_end_of_the_input(rt: HostRuntime) {
 fn what_a_head_says(rt: HostRuntime) {
     let (query, _) = request(&rt, b"GET /me?x=1 HTTP/1.1\r\nHost: h\r\n\r\n");
     assert!(rt; query.path.as_slice() == b"/me".as_slice());
-    let (closing, _) = request(
-        &rt,
-        b"GET /me HTTP/1.1\r\nHost: h\r\nConnection: keep-alive, Close\r\n\r\n",
-    );
+    let closes = b"GET /me HTTP/1.1\r\nHost: h\r\nConnection: keep-alive, Close\r\n\r\n";
+    let (closing, _) = request(&rt, closes);
     assert!(rt; closing.close);
-    let (coded, _) = request(
-        &rt,
-        b"GET /me HTTP/1.1\r\nHost: h\r\nPortal-Code: ann-code-1\r\n\r\n",
-    );
+    let by_ann = b"GET /me HTTP/1.1\r\nHost: h\r\nPortal-Code: ann-code-1\r\n\r\n";
+    let (coded, _) = request(&rt, by_ann);
     assert!(rt; coded.code.as_slice() == b"ann-code-1".as_slice());
 }
 
@@ -145,23 +142,12 @@ fn faults_of_framing(rt: HostRuntime) {
 #[test]
 fn closing_refusals(rt: HostRuntime) {
     let bad_head = refusal(&rt, b"GET /me HTTP/1.1\r\nHost: h\r\n", true);
-    refuses(
-        &rt,
-        &bad_head,
-        true,
-        b"HTTP/1.1 400 Bad Request\r\ncontent-type: application/json\r\ncontent-length: 20\r\nconnection: close\r\n\r\n{\"error\":\"bad_head\"}",
-    );
-    let too_large = refusal(
-        &rt,
-        b"PUT /choices HTTP/1.1\r\nHost: h\r\nContent-Length: 1048577\r\n\r\n",
-        false,
-    );
-    refuses(
-        &rt,
-        &too_large,
-        true,
-        b"HTTP/1.1 413 Content Too Large\r\ncontent-type: application/json\r\ncontent-length: 21\r\nconnection: close\r\n\r\n{\"error\":\"too_large\"}",
-    );
+    refuses(&rt, &bad_head, true, BAD_HEAD);
+    let long = b"PUT /choices HTTP/1.1\r\nHost: h\r\nContent-Length: 1048577\r\n\r\n";
+    let too_large = refusal(&rt, long, false);
+    let wanted =
+        "HTTP/1.1 413 Content Too Large\r\ncontent-type: application/json\r\ncontent-length: 21\r\nconnection: close\r\n\r\n{\"error\":\"too_large\"}";
+    refuses(&rt, &too_large, true, wanted);
 }
 
 #[test]
@@ -185,259 +171,214 @@ fn the_longest_body(rt: HostRuntime) -> Result<(), Fail> {
     Ok(())
 }
 
+/// The word for a call.
+fn word_of(call: &Call) -> &'static str {
+    match call {
+        Call::Me => "me",
+        Call::Catalogue => "catalogue",
+        Call::ShowChoices => "show choices",
+        Call::SetChoices(_) => "set choices",
+        Call::Applicants => "applicants",
+        Call::ShowRanking => "show ranking",
+        Call::SetRanking(_) => "set ranking",
+        Call::Result => "result",
+        Call::AddLecturers(_) => "add lecturers",
+        Call::AddProjects(_) => "add projects",
+        Call::AddStudents(_) => "add students",
+        Call::Move { phase, .. } => phase.word(),
+        Call::Status => "status",
+        Call::Allocation => "allocation",
+        Call::AllocationCsv => "allocation as csv",
+        Call::Report => "report",
+        Call::FillRankings => "fill rankings",
+    }
+}
+
+/// Keys of a list, with a blank before each.
+fn put_keys(rt: &(impl Abort + AllocGlobal), text: &mut String, list: &[Vec<u8>]) {
+    for key in list {
+        let key = str::from_utf8(key.as_slice()).expect(rt, "a text");
+        text.push(' ').expect(rt, "memory");
+        text.push_str(key).expect(rt, "memory");
+    }
+}
+
+/// Names of students, with a blank before each.
+fn put_names(rt: &(impl Abort + AllocGlobal), text: &mut String, rows: &[StudentRow]) {
+    for row in rows {
+        text.push(' ').expect(rt, "memory");
+        text.push_str(row.name.as_str()).expect(rt, "memory");
+    }
+}
+
+/// A call as a text.
+fn told(rt: &(impl Abort + AllocGlobal), call: &Call) -> String {
+    let mut text = word_of(call).to_string(rt.alloc()).expect(rt, "memory");
+    match call {
+        Call::SetChoices(list) => put_keys(rt, &mut text, list.as_slice()),
+        Call::SetRanking(list) => put_keys(rt, &mut text, list.as_slice()),
+        Call::AddStudents(rows) => put_names(rt, &mut text, rows.as_slice()),
+        Call::Move { round, .. } => match round {
+            Some(Round::First) => text.push_str(" of 1").expect(rt, "memory"),
+            Some(Round::Second) => text.push_str(" of 2").expect(rt, "memory"),
+            None => {}
+        },
+        _ => {}
+    }
+    text
+}
+
+/// Requests, and behind `200` the calls that they make.
+const CALLS: &str = r#"
+ann  GET /me                          200 me
+ann  HEAD /catalogue not looked at    200 catalogue
+ann  GET /choices                     200 show choices
+ann  GET /applicants                  200 applicants
+ann  GET /ranking                     200 show ranking
+ann  GET /result                      200 result
+ann  GET /status                      200 status
+ann  GET /allocation                  200 allocation
+ann  GET /allocation.csv              200 allocation as csv
+ann  GET /report                      200 report
+"#;
+
+const CALLS_WITH_BODIES: &str = r#"
+ann  PUT /choices {"projects":["P2","P1"]}       200 set choices P2 P1
+ann  POST /phase {"phase":"choosing"}            200 choosing
+ann  POST /phase {"phase":"choosing","round":2}  200 choosing of 2
+ann  POST /phase {"round":1,"phase":"ranking"}   200 ranking of 1
+ann  POST /ranking/fill {}                       200 fill rankings
+ann  POST /rolls/students id,name,code\nS1,Ann,ann-code-1\n  200 add students Ann
+"#;
+
+/// The requests of these lines make these calls.
+fn make_calls(rt: &(impl Abort + AllocGlobal), rows: &str) {
+    for row in lines(rt.alloc(), rows).expect(rt, "memory") {
+        let found = told(rt, &call(rt, &row));
+        assert_eq!(rt; found.as_str(), row.answer);
+    }
+}
+
 #[test]
 fn calls_that_show(rt: HostRuntime) {
-    assert!(rt; matches!(call(&rt, "GET", "/me", b""), Call::Me));
-    assert!(rt;
-        matches!(
-            call(&rt, "HEAD", "/catalogue", b"not looked at"),
-            Call::Catalogue
-        )
-    );
-    assert!(rt; matches!(call(&rt, "GET", "/choices", b""), Call::ShowChoices));
-    assert!(rt; matches!(call(&rt, "GET", "/applicants", b""), Call::Applicants));
-    assert!(rt; matches!(call(&rt, "GET", "/ranking", b""), Call::ShowRanking));
-    assert!(rt; matches!(call(&rt, "GET", "/result", b""), Call::Result));
-    assert!(rt; matches!(call(&rt, "GET", "/status", b""), Call::Status));
-    assert!(rt; matches!(call(&rt, "GET", "/allocation", b""), Call::Allocation));
-    assert!(rt;
-        matches!(
-            call(&rt, "GET", "/allocation.csv", b""),
-            Call::AllocationCsv
-        )
-    );
-    assert!(rt; matches!(call(&rt, "GET", "/report", b""), Call::Report));
+    make_calls(&rt, CALLS);
 }
 
 #[test]
 fn calls_with_bodies(rt: HostRuntime) {
-    match call(&rt, "PUT", "/choices", b"{\"projects\":[\"P2\",\"P1\"]}") {
-        Call::SetChoices(list) => {
-            assert!(rt; list.len() == 2);
-            assert!(rt; list[0].as_slice() == b"P2".as_slice());
-        }
-        _ => panic!(rt; "another call"),
-    }
-    match call(&rt, "PUT", "/ranking", b" { \"students\" : [] } ") {
-        Call::SetRanking(list) => assert!(rt; list.is_empty()),
-        _ => panic!(rt; "another call"),
-    }
-    assert!(rt;
-        matches!(
-            call(&rt, "POST", "/phase", b"{\"phase\":\"choosing\"}"),
-            Call::Move {
-                phase: Phase::Choosing,
-                round: None
-            }
-        )
-    );
-    assert!(rt;
-        matches!(
-            call(
-                &rt,
-                "POST",
-                "/phase",
-                b"{\"phase\":\"choosing\",\"round\":2}"
-            ),
-            Call::Move {
-                phase: Phase::Choosing,
-                round: Some(Round::Second)
-            }
-        )
-    );
-    assert!(rt;
-        matches!(
-            call(
-                &rt,
-                "POST",
-                "/phase",
-                b"{\"round\":1,\"phase\":\"ranking\"}"
-            ),
-            Call::Move {
-                phase: Phase::Ranking,
-                round: Some(Round::First)
-            }
-        )
-    );
-    assert!(rt;
-        matches!(
-            call(&rt, "POST", "/ranking/fill", b"{}"),
-            Call::FillRankings
-        )
-    );
-    match call(
-        &rt,
-        "POST",
-        "/rolls/students",
-        b"id,name,code\nS1,Ann,ann-code-1\n",
-    ) {
-        Call::AddStudents(rows) => {
-            assert!(rt; rows.len() == 1);
-            assert_eq!(rt; rows[0].name.as_str(), "Ann");
-        }
-        _ => panic!(rt; "another call"),
-    }
+    make_calls(&rt, CALLS_WITH_BODIES);
+    let mut blanks = Line::new("ann  PUT /ranking");
+    blanks.body = r#" { "students" : [] } "#;
+    assert_eq!(rt; told(&rt, &call(&rt, &blanks)).as_str(), "set ranking");
 }
 
 #[test]
 fn the_code_goes_with_the_call(rt: HostRuntime) {
-    let request = asked(&rt, "GET", "/me", b"");
+    let request = asked(&rt, &Line::new("ann  GET /me"));
     match call_of(rt.alloc(), &request) {
         Ok((code, _)) => assert!(rt; code.as_slice() == b"ann-code-1".as_slice()),
         Err(_) => panic!(rt; "no call"),
     }
 }
 
+/// Requests that are refused with 400 `bad_body`.
+const BAD_BODIES: &str = r#"
+ann  PUT /choices {"projects":[],"x":1}
+ann  PUT /choices {"projects":[1]}
+ann  PUT /ranking {"projects":[]}
+ann  POST /phase {"phase":"closed"}
+ann  POST /ranking/fill
+ann  POST /ranking/fill {"x":1}
+ann  POST /rolls/students
+ann  POST /rolls/students id,name\n
+"#;
+
+/// Moves that are.
+const BAD_MOVES: &str = r#"
+ann  POST /phase {"phase":"choosing","round":0}
+ann  POST /phase {"phase":"choosing","round":3}
+ann  POST /phase {"phase":"choosing","round":-1}
+ann  POST /phase {"phase":"choosing","round":2.0}
+ann  POST /phase {"phase":"choosing","round":"2"}
+ann  POST /phase {"phase":"choosing","round":null}
+ann  POST /phase {"phase":"choosing","round":2,"x":1}
+ann  POST /phase {"phase":"choosing","x":2}
+ann  POST /phase {"phase":"closed","round":2}
+ann  POST /phase {"phase":1}
+ann  POST /phase {"round":2}
+ann  POST /phase {}
+"#;
+
+/// The bodies of these lines' requests are refused.
+fn are_bad_bodies(rt: &(impl Abort + AllocGlobal), rows: &str) {
+    for row in lines(rt.alloc(), rows).expect(rt, "memory") {
+        is_refused(rt, &no_call(rt, row.text), 400, "bad_body");
+    }
+}
+
 #[test]
 fn bodies_that_are_refused(rt: HostRuntime) {
-    is_refused(
-        &rt,
-        &no_call(&rt, "PUT", "/choices", b"{\"projects\":[],\"x\":1}"),
-        400,
-        "bad_body",
-    );
-    is_refused(
-        &rt,
-        &no_call(&rt, "PUT", "/choices", b"{\"projects\":[1]}"),
-        400,
-        "bad_body",
-    );
-    is_refused(
-        &rt,
-        &no_call(&rt, "PUT", "/ranking", b"{\"projects\":[]}"),
-        400,
-        "bad_body",
-    );
-    is_refused(
-        &rt,
-        &no_call(&rt, "POST", "/phase", b"{\"phase\":\"closed\"}"),
-        400,
-        "bad_body",
-    );
-    is_refused(
-        &rt,
-        &no_call(&rt, "POST", "/ranking/fill", b""),
-        400,
-        "bad_body",
-    );
-    is_refused(
-        &rt,
-        &no_call(&rt, "POST", "/ranking/fill", b"{\"x\":1}"),
-        400,
-        "bad_body",
-    );
-    is_refused(
-        &rt,
-        &no_call(&rt, "POST", "/rolls/students", b""),
-        400,
-        "bad_body",
-    );
-    is_refused(
-        &rt,
-        &no_call(&rt, "POST", "/rolls/students", b"id,name\n"),
-        400,
-        "bad_body",
-    );
+    are_bad_bodies(&rt, BAD_BODIES);
 }
 
 #[test]
 fn moves_that_are_refused(rt: HostRuntime) {
-    for body in [
-        b"{\"phase\":\"choosing\",\"round\":0}".as_slice(),
-        b"{\"phase\":\"choosing\",\"round\":3}".as_slice(),
-        b"{\"phase\":\"choosing\",\"round\":-1}".as_slice(),
-        b"{\"phase\":\"choosing\",\"round\":2.0}".as_slice(),
-        b"{\"phase\":\"choosing\",\"round\":\"2\"}".as_slice(),
-        b"{\"phase\":\"choosing\",\"round\":null}".as_slice(),
-        b"{\"phase\":\"choosing\",\"round\":2,\"x\":1}".as_slice(),
-        b"{\"phase\":\"choosing\",\"x\":2}".as_slice(),
-        b"{\"phase\":\"closed\",\"round\":2}".as_slice(),
-        b"{\"phase\":1}".as_slice(),
-        b"{\"round\":2}".as_slice(),
-        b"{}".as_slice(),
-    ] {
-        is_refused(&rt, &no_call(&rt, "POST", "/phase", body), 400, "bad_body");
-    }
+    are_bad_bodies(&rt, BAD_MOVES);
 }
 
 #[test]
 fn rolls_that_are_refused(rt: HostRuntime) {
-    let bad_row = no_call(
-        &rt,
-        "POST",
-        "/rolls/students",
-        b"id,name,code\nS1,Ann,short\n",
-    );
+    let short =
+        r#"ann  POST /rolls/students id,name,code\nS1,Ann,short\n  422 {"error":"bad_row","row":1}"#;
+    let bad_row = no_call(&rt, short);
     is_refused(&rt, &bad_row, 422, "bad_row");
-    refuses(
-        &rt,
-        &bad_row,
-        false,
-        b"HTTP/1.1 422 Unprocessable Content\r\ncontent-type: application/json\r\ncontent-length: 27\r\n\r\n{\"error\":\"bad_row\",\"row\":1}",
-    );
-    let count = no_call(
-        &rt,
-        "POST",
-        "/rolls/students",
-        b"id,name,code\nS1,Ann,ann-code-1\nS2,Bea\n",
-    );
-    assert!(rt; count.row == Some(2));
+    refuses(&rt, &bad_row, false, reply(&rt, short).as_str());
+    let two = r"ann  POST /rolls/students id,name,code\nS1,Ann,ann-code-1\nS2,Bea\n";
+    assert!(rt; no_call(&rt, two).row == Some(2));
 }
 
 #[test]
 fn a_roll_too_long(rt: HostRuntime) -> Result<(), Fail> {
-    let mut text = Vec::from_slice(rt.alloc(), b"id,name,code\n")?;
-    for _ in 0..2001 {
-        text.extend_from_slice(b"S1,Ann,ann-code-1\n")?;
-    }
-    let full = no_call(&rt, "POST", "/rolls/students", text.as_slice());
-    is_refused(&rt, &full, 422, "roll_full");
+    let rows = r"S1,Ann,ann-code-1\n".repeat(rt.alloc(), 2001)?;
+    let line = format!(in rt.alloc(); "ann  POST /rolls/students id,name,code\\n{rows}")?;
+    is_refused(&rt, &no_call(&rt, line.as_str()), 422, "roll_full");
     Ok(())
 }
 
 #[test]
 fn routes_and_methods(rt: HostRuntime) {
-    let nowhere = no_call(&rt, "GET", "/nowhere", b"");
+    let nowhere = r#"ann  GET /nowhere  404 {"error":"no_route"}"#;
     refuses(
         &rt,
-        &nowhere,
+        &no_call(&rt, nowhere),
         false,
-        b"HTTP/1.1 404 Not Found\r\ncontent-type: application/json\r\ncontent-length: 20\r\n\r\n{\"error\":\"no_route\"}",
+        reply(&rt, nowhere).as_str(),
     );
-    is_refused(&rt, &no_call(&rt, "GET", "/ranking/", b""), 404, "no_route");
-    let deleted = no_call(&rt, "DELETE", "/catalogue", b"");
-    refuses(
-        &rt,
-        &deleted,
-        false,
-        b"HTTP/1.1 405 Method Not Allowed\r\ncontent-type: application/json\r\ncontent-length: 22\r\nallow: GET, HEAD\r\n\r\n{\"error\":\"bad_method\"}",
-    );
-    assert_eq!(rt;
-        no_call(&rt, "POST", "/choices", b"").allow,
-        "GET, HEAD, PUT"
-    );
-    assert_eq!(rt; no_call(&rt, "GET", "/ranking/fill", b"").allow, "POST");
+    is_refused(&rt, &no_call(&rt, "ann  GET /ranking/"), 404, "no_route");
+    let deleted = no_call(&rt, "ann  DELETE /catalogue");
+    let wanted =
+        "HTTP/1.1 405 Method Not Allowed\r\ncontent-type: application/json\r\ncontent-length: 22\r\nallow: GET, HEAD\r\n\r\n{\"error\":\"bad_method\"}";
+    refuses(&rt, &deleted, false, wanted);
+    assert_eq!(rt; no_call(&rt, "ann  POST /choices").allow, "GET, HEAD, PUT");
+    assert_eq!(rt; no_call(&rt, "ann  GET /ranking/fill").allow, "POST");
 }
 
 #[test]
 fn replies_of_the_wire(rt: HostRuntime) -> Result<(), Fail> {
     let alloc = rt.alloc();
     let ann = json!(in alloc; {"key": "S1", "name": "Ann", "phase": "setup", "role": "student"})?;
+    let line = r#"ann  GET /me  200 {"key":"S1","name":"Ann","phase":"setup","role":"student"}"#;
     writes(
         &rt,
-        &reply(200, ann),
+        &json_reply(200, ann),
         false,
         false,
-        b"HTTP/1.1 200 OK\r\ncontent-type: application/json\r\ncontent-length: 58\r\n\r\n{\"key\":\"S1\",\"name\":\"Ann\",\"phase\":\"setup\",\"role\":\"student\"}",
+        reply(&rt, line).as_str(),
     );
     let nobody = json!(in alloc; {"error": "no_caller"})?;
-    writes(
-        &rt,
-        &reply(403, nobody),
-        false,
-        true,
-        b"HTTP/1.1 403 Forbidden\r\ncontent-type: application/json\r\ncontent-length: 21\r\nconnection: close\r\n\r\n{\"error\":\"no_caller\"}",
-    );
+    let wanted =
+        "HTTP/1.1 403 Forbidden\r\ncontent-type: application/json\r\ncontent-length: 21\r\nconnection: close\r\n\r\n{\"error\":\"no_caller\"}";
+    writes(&rt, &json_reply(403, nobody), false, true, wanted);
     Ok(())
 }
 
@@ -446,13 +387,8 @@ fn a_reply_to_head(rt: HostRuntime) -> Result<(), Fail> {
     let alloc = rt.alloc();
     let none = Value::Array(Vec::new(alloc));
     let catalogue = json!(in alloc; {"projects": none})?;
-    writes(
-        &rt,
-        &reply(200, catalogue),
-        true,
-        false,
-        b"HTTP/1.1 200 OK\r\ncontent-type: application/json\r\ncontent-length: 15\r\n\r\n",
-    );
+    let wanted = "HTTP/1.1 200 OK\r\ncontent-type: application/json\r\ncontent-length: 15\r\n\r\n";
+    writes(&rt, &json_reply(200, catalogue), true, false, wanted);
     Ok(())
 }
 
@@ -463,31 +399,17 @@ fn sheets_and_want_of_memory(rt: HostRuntime) -> Result<(), Fail> {
         allow: "",
         body: Body::Csv(Vec::from_slice(rt.alloc(), b"student,name\n")?),
     };
-    writes(
-        &rt,
-        &csv,
-        false,
-        false,
-        b"HTTP/1.1 200 OK\r\ncontent-type: text/csv; charset=utf-8\r\ncontent-length: 13\r\n\r\nstudent,name\n",
-    );
+    let line = r"office  GET /allocation.csv  200 student,name\n";
+    writes(&rt, &csv, false, false, reply(&rt, line).as_str());
     let plain = Reply {
         status: 200,
         allow: "",
         body: Body::Plain(Vec::from_slice(rt.alloc(), b"assigned 2 of 3\n")?),
     };
-    writes(
-        &rt,
-        &plain,
-        false,
-        false,
-        b"HTTP/1.1 200 OK\r\ncontent-type: text/plain; charset=utf-8\r\ncontent-length: 16\r\n\r\nassigned 2 of 3\n",
-    );
-    writes(
-        &rt,
-        &Reply::unavailable(),
-        false,
-        false,
-        b"HTTP/1.1 503 Service Unavailable\r\ncontent-type: application/json\r\ncontent-length: 23\r\n\r\n{\"error\":\"unavailable\"}",
-    );
+    let line = r"office  GET /report  200 assigned 2 of 3\n";
+    writes(&rt, &plain, false, false, reply(&rt, line).as_str());
+    let wanted =
+        "HTTP/1.1 503 Service Unavailable\r\ncontent-type: application/json\r\ncontent-length: 23\r\n\r\n{\"error\":\"unavailable\"}";
+    writes(&rt, &Reply::unavailable(), false, false, wanted);
     Ok(())
 }

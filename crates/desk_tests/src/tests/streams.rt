@@ -1,9 +1,7 @@
 //! One short request, over and over, on devices that end or fail after each number of bytes.
 
 use crate::tests::devices::{Basin, Feeder, served_by};
-use crate::tests::portal::{
-    BAD_HEAD, NO_CALLER, OFFICE, OPENING, fresh, gets, published, reply, request, written,
-};
+use crate::tests::portal::{BAD_HEAD, NO_CALLER, fresh, plays, published, reply, request, written};
 use portal_desk::{Cause, Counted, Desk, Ending, Sink, Source};
 use portal_list::ListKeeper;
 use std::process::Abort;
@@ -17,14 +15,9 @@ const LAST_OPENING: &str =
     "HTTP/1.1 200 OK\r\ncontent-type: application/json\r\ncontent-length: 30\r\nconnection: close\r\n\r\n{\"phase\":\"choosing\",\"round\":2}";
 
 /// A text over and over.
-fn repeated(rt: &(impl Abort + AllocGlobal), text: &str, times: u32) -> Vec<u8> {
-    let mut bytes = Vec::new(rt.alloc());
-    for _ in 0..times {
-        bytes
-            .extend_from_slice(text.as_bytes())
-            .expect(rt, "memory");
-    }
-    bytes
+fn repeated(rt: &(impl Abort + AllocGlobal), text: &str, times: usize) -> Vec<u8> {
+    let text = text.repeat(rt.alloc(), times).expect(rt, "memory");
+    text.into_bytes()
 }
 
 /// One request more than a connection has.
@@ -56,22 +49,17 @@ fn no_more_than_256_requests(rt: HostRuntime) {
 #[test]
 fn no_more_than_256_openings(rt: HostRuntime) {
     let mut desk = published(&rt);
-    let opening = request(&rt, "POST", "/phase", OFFICE, OPENING);
-    let bytes = repeated(&rt, opening.as_str(), 257);
+    let opening =
+        r#"office  POST /phase {"phase":"choosing","round":2}  200 {"phase":"choosing","round":2}"#;
+    let bytes = repeated(&rt, request(&rt, opening).as_str(), 257);
     let output = written(&rt, &mut desk, bytes.as_slice(), Ending::Limit, 256);
-    let mut wanted = repeated(&rt, reply(&rt, "200 OK", OPENING).as_str(), 255);
+    let mut wanted = repeated(&rt, reply(&rt, opening).as_str(), 255);
     wanted
         .extend_from_slice(LAST_OPENING.as_bytes())
         .expect(&rt, "memory");
     assert!(rt; output.as_slice() == wanted.as_slice());
-    gets(
-        &rt,
-        &mut desk,
-        "/me",
-        OFFICE,
-        "200 OK",
-        r#"{"phase":"choosing","role":"office","round":2}"#,
-    );
+    let me = r#"office  GET /me  200 {"phase":"choosing","role":"office","round":2}"#;
+    plays(&rt, &mut desk, me);
 }
 
 /// A reader fails after so many of the bytes: so many requests stand whole before them.

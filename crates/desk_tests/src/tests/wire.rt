@@ -1,6 +1,6 @@
 //! Connections, to the byte.
 
-use crate::tests::portal::{OFFICE, fresh, gets, gives};
+use crate::tests::portal::{fresh, gives, plays};
 use portal_desk::Ending;
 
 #[test]
@@ -29,17 +29,14 @@ fn what_asks_to_close_closes(rt: HostRuntime) {
     );
 }
 
+const NO_LIST: &str = r#"
+office  GET /choices     403 {"error":"not_yours"}
+office  GET /ranking     403 {"error":"not_yours"}
+office  GET /applicants  403 {"error":"not_yours"}
+"#;
+
 #[test]
 fn the_office_has_no_list(rt: HostRuntime) {
     let mut desk = fresh(&rt);
-    for path in ["/choices", "/ranking", "/applicants"] {
-        gets(
-            &rt,
-            &mut desk,
-            path,
-            OFFICE,
-            "403 Forbidden",
-            r#"{"error":"not_yours"}"#,
-        );
-    }
+    plays(&rt, &mut desk, NO_LIST);
 }

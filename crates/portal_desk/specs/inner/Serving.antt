@@ -8,7 +8,7 @@ use Rattle.portal_desk.specs.declared.served.Cause.{Cause}
 use Rattle.portal_desk.specs.declared.served.Cause.TheVariants as cause
 use Rattle.portal_wire.specs.Text.{reply_text}
 use Rattle.portal_wire.specs.Conversation.{more, Exchange, text}
-use Rattle.portal_desk.specs.Keeping.{KeeperState}
+use Rattle.portal_desk.specs.Kept.{KeeperState}
 use Rattle.portal_desk.specs.Serving.{Deals}
 
 -- so far, with the bytes that are left

@@ -1,8 +1,7 @@
-use Rattle.std.proofs.Common.{rules, inl, inr, take, drop, subst, refl}
-use Rattle.std.proofs.lemmas.List.{take-append-drop}
+use Rattle.portal_frame.proofs.Base.{rules, inl, inr, take, drop, subst, refl, take-append-drop, HasNoRequest, RequestOverflows}
 use Rattle.portal_frame.proofs.Heads.{as_told, overflows_all, none_now, none_ever, head_of, none_so_far, none_later, opens_never, front_is, front_all, length_front}
-use Rattle.httparse.specs.Grammar.{HasNoRequest, MayBecomeRequest, NeverHasRequest}
-use Rattle.httparse.specs.Spans.{RequestOverflows, RequestExceeds}
+use Rattle.httparse.specs.Grammar.{MayBecomeRequest, NeverHasRequest}
+use Rattle.httparse.specs.Spans.{RequestExceeds}
 use Rattle.portal_frame.proofs.frame.Goals as goal
 
 pub frame_head-requires : goal.frame_head-requires

@@ -1,9 +1,7 @@
-use Rattle.std.proofs.Common.{◌≡◌, ◌+◌, ◌≤◌, ◌++◌, length, map, take, drop, sym, ap, ◌∙◌, subst, arith, Ok}
-use Rattle.std.specs.Prelude.{codes}
-use Rattle.portal_frame.specs.Heads.{only, values_of, path_of}
-use Rattle.portal_frame.specs.Stream.{body_length, Opens, whole, closes_after, Asked, asked_of, fields_of}
+use Rattle.portal_frame.proofs.Base.{◌≡◌, ◌+◌, ◌≤◌, ◌++◌, length, map, take, drop, sym, ap, ◌∙◌, subst, arith, Ok, codes, values_of, path_of, body_length, Opens, whole, Asked, asked_of, fields_of, header_bytes}
+use Rattle.portal_frame.specs.Heads.{only}
+use Rattle.portal_frame.specs.Stream.{closes_after}
 use Rattle.portal_frame.proofs.Heads.{after_whole, lines_same, same_asked}
-use Rattle.httparse.specs.Spans.{header_bytes}
 use Rattle.portal_frame.proofs.Limits.{whole-within}
 use Rattle.portal_frame.proofs.frame_head.Goals as goal
 

@@ -1,4 +1,4 @@
-use Rattle.std.proofs.Common.{◌∙◌, sym}
+use Rattle.portal_frame.proofs.Base.{◌∙◌, sym}
 use Rattle.portal_frame.proofs.Heads.{opens_full, as_told}
 use Rattle.portal_frame.proofs.Overlong.{opens_overlong}
 use Rattle.portal_frame.proofs.frame_open.Goals as goal

@@ -1,5 +1,4 @@
-use Rattle.std.proofs.Common.{◌≡◌, length}
-use Rattle.portal_frame.specs.Stream.{is_blank}
+use Rattle.portal_frame.proofs.Base.{◌≡◌, length, is_blank}
 use Rattle.portal_frame.proofs.is_all_blank.Given as goal
 
 abbrev pub invariant-loop-rest : goal.invariant-loop-rest

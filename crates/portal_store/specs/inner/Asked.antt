@@ -1,14 +1,20 @@
 -- What a refusal to open or to upgrade says of the tables.
-use Rattle.std.specs.Prelude.{ℕ, ◌++◌}
+use Rattle.std.specs.Prelude.{◌≡◌, ℕ, ◌++◌}
 use Rattle.sqlite.specs.Tree.{Trees}
 use Rattle.portal_core.specs.Good.{Good}
 use Rattle.portal_tables.specs.Tables.{portal_tree, first_trees, own_trees, version}
 use Rattle.portal_tables.specs.Office.{HasOffice}
+use Rattle.portal_tables.specs.declared.fault.TableFault.{TableFault}
+use Rattle.portal_tables.specs.declared.fault.TableFault.TheVariants as told
 use Rattle.portal_store.specs.World.{round_in, world_of}
 use Rattle.portal_store.specs.Kept.{AllNumbersDiffer, AreWhole, HasGoodWorld, HasGoodFirst, later_trees}
 use Rattle.portal_store.specs.inner.Kept.{early_trees}
 use Rattle.portal_store.specs.declared.store.OpenFault.{OpenFault}
 use Rattle.portal_store.specs.declared.store.OpenFault.TheVariants as opening
+
+-- a fault that blames the rows says that this is not so
+abbrev pub Blames : TableFault → Type 0 → Type 0
+Blames fault so = fault ≡ told.Damaged → so → ⊥
 
 -- a refusal is for the store or for want of memory, or it says that this is not so
 abbrev pub Denies : OpenFault → Type 0 → Type 0
@@ -32,7 +38,8 @@ pub record IsJudged (db : Trees) : Type 0 where
   pub whole : AreWhole (round_in db) db
   pub good : Good (world_of db)
 
--- row numbers of the first round's tables differ, and as tables of this version they stand for a good world
+-- row numbers of the first round's tables differ, and as tables of this version they stand for a
+-- good world
 pub record AdmitsAs (of : ℕ) (db : Trees) : Type 0 where
   pub apart : AllNumbersDiffer first_trees db
   pub stands : HasGoodFirst of db

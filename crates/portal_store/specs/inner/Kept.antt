@@ -16,7 +16,8 @@ use Rattle.portal_tables.specs.Tables.{lecturer_tree, project_tree, student_tree
 use Rattle.portal_store.specs.World.{world_in, world_of}
 use Rattle.portal_store.specs.Kept.{IsConsistentIn, IsConsistent, Seen}
 
--- the tables of many rows: the rolls and the lists of the first round, and the lists and places of the second
+-- the tables of many rows: the rolls and the lists of the first round, and the lists and places of
+-- the second
 abbrev pub early_trees : List ℕ
 early_trees = lecturer_tree ∷ project_tree ∷ student_tree ∷ choice_tree ∷ ranking_tree ∷ []
 

@@ -6,8 +6,7 @@ use Rattle.portal_core.specs.Words.{Key}
 use Rattle.portal_core.specs.Change.{Placements, placement_in}
 use Rattle.portal_tables.specs.Tables.{student_tree}
 use Rattle.portal_tables.specs.inner.Changes.{ListsBy, every, columns}
-use Rattle.portal_tables.specs.Rows.{Assigned}
-use Rattle.portal_tables.specs.Shown.{text_or_none}
+use Rattle.portal_tables.specs.Rows.{Assigned, text_or_none}
 use Rattle.portal_tables.specs.inner.Shown.{first_cell}
 use Rattle.std.specs.List.{filter_map}
 use Rattle.portal_core.specs.declared.phase.Round.{Round}

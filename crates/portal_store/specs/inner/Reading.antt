@@ -1,6 +1,7 @@
 -- What is known of the tables while they are read, and what is remembered.
-use Rattle.std.specs.Prelude.{◌≡◌, List, Option, IsTrue}
+use Rattle.std.specs.Prelude.{◌≡◌, List, Option, Result, IfOk, IsTrue}
 use Rattle.sqlite.specs.Order.{Row}
+use Rattle.sqlite.specs.Effect.{Database, IsDatabase}
 use Rattle.sqlite.specs.Held.{Held, state}
 use Rattle.sqlite.specs.State.{State, HasCleanDisk, IsLive}
 use Rattle.sqlite.specs.Store.{Ghosts}
@@ -27,13 +28,14 @@ ReadsAll query = (selection query).passes ≡ every
 abbrev pub queried_rows : Query → Trees → List Row
 queried_rows query db = db (selection query).tree
 
--- this holds where the tables of a round are the portal's own, the database is sound if it is open, and the disk is clean
+-- this holds where the tables of a round are the portal's own, the database is sound if it is open,
+-- and the disk is clean
 abbrev pub OverLive : Round → {S : Type 0} → Ghosts S → Held S → Held S → Type 0 → Type 0
 OverLive round g old new So = HasRound round old.schema → IsLive (state g old) → HasCleanDisk (state g new) → So
 
--- this holds where the tables of a round are what a store keeps, and the disk is clean
-abbrev pub OverRound : Round → {S : Type 0} → Ghosts S → Held S → Held S → Type 0 → Type 0
-OverRound round g old new So = IsConsistentIn round (state g old).now → HasCleanDisk (state g new) → So
+-- the database is sound if the connection is open
+abbrev pub IsSoundIfOpen : {S : Type 0} → Ghosts S → Held S → Database → Type 0
+IsSoundIfOpen g conn db = IsTrue (state g conn).is_open → IsDatabase db
 
 -- the round, its phase and the code of the office are the world's
 pub record IsNow (w : World) (round : Round) (office : Office) : Type 0 where
@@ -41,14 +43,20 @@ pub record IsNow (w : World) (round : Round) (office : Office) : Type 0 where
   pub phase_is : w.phase ≡ office.phase
   pub code_is : w.office ≡ office.code
 
--- what was remembered before was right, so what is remembered after is
-abbrev pub KeepsCache : ViewCache → ViewCache → State → State → Type 0
-KeepsCache before after old new = IsConsistent old.now → HasCleanDisk new → IsTrue old.is_open → IsCacheOf before (world_of old.now.trees) → IsCacheOf after (world_of old.now.trees)
+-- the tables are what a store keeps, and what is remembered is right
+abbrev pub Remembers : ViewCache → Database → Type 0
+Remembers cache db = IsConsistent db × IsCacheOf cache (world_of db.trees)
+
+-- what is remembered is right, and the answer is this of the world
+abbrev pub Shows : {V E : Type 0} → ViewCache → (World → V → Type 0) → Trees → Result V E → Type 0
+Shows cache Answer db result = IsCacheOf cache (world_of db) × IfOk result (Answer (world_of db))
 
 -- the same of tables of a round
-abbrev pub KeepsCacheIn : Round → ViewCache → ViewCache → State → State → Type 0
-KeepsCacheIn round before after old new =
-    IsConsistentIn round old.now → HasCleanDisk new → IsCacheOf before (world_in round old.now.trees) → IsCacheOf after (world_in round old.now.trees)
+abbrev pub RemembersIn : Round → ViewCache → Database → Type 0
+RemembersIn round cache db = IsConsistentIn round db × IsCacheOf cache (world_in round db.trees)
+
+abbrev pub ShowsIn : {V E : Type 0} → Round → ViewCache → (World → V → Type 0) → Trees → Result V E → Type 0
+ShowsIn round cache Answer db result = IsCacheOf cache (world_in round db) × IfOk result (Answer (world_in round db))
 
 -- the entries before were those of the world, so those after are
 abbrev pub KeepsEntries : Option AllEntries → Option AllEntries → State → State → Type 0

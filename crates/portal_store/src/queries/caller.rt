@@ -1,13 +1,11 @@
 //! Whom a code names, by the rolls' columns of codes.
 
-ghost use Rattle.std.specs.Prelude.{◌≡◌, IfOk, option_map};
-ghost use Rattle.sqlite.specs.Held.{state};
+ghost use Rattle.std.specs.Prelude.{◌≡◌, option_map};
 ghost use Rattle.portal_core.specs.View.{lecturer_with, student_with};
 ghost use Rattle.portal_core.specs.declared.phase.Round.{Round as ThatRound};
+ghost use Rattle.portal_tables.specs.Reads.{Reads, Gives};
 ghost use Rattle.portal_store.specs.World.{world_in};
-ghost use Rattle.portal_tables.specs.inner.Reading.{RunsQueries};
-ghost use Rattle.portal_store.specs.Reading.{shown};
-ghost use Rattle.portal_store.specs.inner.Reading.{OverRound};
+ghost use Rattle.portal_store.specs.Kept.{IsConsistentIn};
 ghost use Rattle.portal_store.specs.inner.Queried.{lecturer_from, student_from};
 
 use portal_tables::TableFault;
@@ -17,30 +15,30 @@ use sqlite::{Alter, Connection, Row};
 use std::alloc::Global;
 
 /// The row of the lecturer with the code.
-pub(super) fn lecturer_in<S: Alter>(
+pub(super) fn lecturer_by_code<S: Alter>(
     alloc: Global,
     conn: &mut Connection<S>,
     code: &[u8],
 ) -> Result<Option<Row>, TableFault>
-    ensures found { (round : ThatRound) → OverRound round S.Store conn.old conn.new
-        (IfOk result (λ row. option_map (lecturer_from round (shown S.Store conn.old)) row
-        ≡ lecturer_with (world_in round (shown S.Store conn.old)) code.now)) }
-    ensures reads { RunsQueries result (state S.Store conn.old) (state S.Store conn.new) }
+    ensures { (round : ThatRound) → Reads round S.Store (IsConsistentIn round)
+        (Gives (λ db row. option_map (lecturer_from round db) row
+        ≡ lecturer_with (world_in round db) code.now))
+        result conn.old conn.new }
 {
     let rows = read_rows(alloc, conn, Query::LecturerByCode(code))?;
     at_most_one(rows)
 }
 
 /// The row of the student with the code.
-pub(super) fn student_in<S: Alter>(
+pub(super) fn student_by_code<S: Alter>(
     alloc: Global,
     conn: &mut Connection<S>,
     code: &[u8],
 ) -> Result<Option<Row>, TableFault>
-    ensures found { (round : ThatRound) → OverRound round S.Store conn.old conn.new
-        (IfOk result (λ row. option_map (student_from round (shown S.Store conn.old)) row
-        ≡ student_with (world_in round (shown S.Store conn.old)) code.now)) }
-    ensures reads { RunsQueries result (state S.Store conn.old) (state S.Store conn.new) }
+    ensures { (round : ThatRound) → Reads round S.Store (IsConsistentIn round)
+        (Gives (λ db row. option_map (student_from round db) row
+        ≡ student_with (world_in round db) code.now))
+        result conn.old conn.new }
 {
     let rows = read_rows(alloc, conn, Query::StudentByCode(code))?;
     at_most_one(rows)

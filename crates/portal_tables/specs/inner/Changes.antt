@@ -2,13 +2,14 @@
 use Rattle.std.specs.Prelude.{◌≡◌, ◌≢◌, ◌∷◌}
 use Rattle.portal_tables.specs.Base.{ℕ, pos, Bool, true, false, not, List, [], map, filter, ⊤, AllByRecursion, IsPermutation, IsSorted, is_eq, Int, Binary, ascending, key_cmp, Row, value_cmp, column, next_rowid, is_taken, put_row, Database, IsDatabase}
 use Rattle.portal_tables.specs.Tables.{own_trees}
-use Rattle.portal_tables.specs.Changes.{RowNumbersDiffer}
+use Rattle.portal_tables.specs.Rows.{RowNumbersDiffer}
 
 -- the other tables are as they were
 abbrev pub Keeps : ℕ → Database → Database → Type 0
 Keeps tree old new = AllByRecursion (λ t. t ≢ tree → new.trees t ≡ old.trees t) own_trees
 
--- the table once rows with these cells have come, one after the other, each with the number after the last
+-- the table once rows with these cells have come, one after the other, each with the number after
+-- the last
 abbrev pub with_rows : List Row → List Row → List Row
 with_rows table [] = table
 with_rows table (c ∷ cells) = with_rows (put_row (Int (next_rowid table) ∷ c) table) cells
@@ -18,7 +19,8 @@ abbrev pub AreNew : List Row → List Row → Type 0
 AreNew table [] = ⊤
 AreNew table (c ∷ cells) = (is_taken table (Int (next_rowid table) ∷ c) ≡ false) × AreNew (put_row (Int (next_rowid table) ∷ c) table) cells
 
--- more rows, with these cells after their numbers, and nothing else; a row that came leaves a sound database, and none leaves it as it was
+-- more rows, with these cells after their numbers, and nothing else; a row that came leaves a sound
+-- database, and none leaves it as it was
 pub record InsertsRows (tree : ℕ) (cells : List Row) (old new : Database) : Type 0 where
   pub schema_is : new.schema ≡ old.schema
   pub free : AreNew (old.trees tree) cells
@@ -41,7 +43,8 @@ pub record Sets (tree : ℕ) (p : Row → Bool) (row : Row) (old new : Database)
   pub others : Keeps tree old new
   pub sound : IsDatabase new
 
--- each row of the table shows what is made of a row that was there, one for one, and nothing else has changed
+-- each row of the table shows what is made of a row that was there, one for one, and nothing else
+-- has changed
 pub record Alters (tree : ℕ) (show made : Row → Row) (old new : Database) : Type 0 where
   pub schema_is : new.schema ≡ old.schema
   pub apart : RowNumbersDiffer (new.trees tree)
@@ -67,7 +70,8 @@ every r = true
 abbrev pub columns : List ℕ → Row → Row
 columns places r = map (λ at. column r at) places
 
--- the rows that pass, as they are shown, by rising values of some columns: these values stand beside each of them
+-- the rows that pass, as they are shown, by rising values of some columns: these values stand
+-- beside each of them
 pub record ListsBy (keys : List ℕ) (p : Row → Bool) (show : Row → Row) (table shown : List Row) : Type 0 where
   pub keyed : List (Row × Row)
   pub same : IsPermutation (map (λ r. (columns keys r, show r)) (filter p table)) keyed

@@ -4,13 +4,14 @@ use Rattle.portal_tables.specs.Base.{Vec, true, false, Bool, List, [], Option, S
 pub use Rattle.portal_tables.specs.ListTables.{tree_of}
 use Rattle.portal_tables.specs.ListTables.{choice_table, ranking_table}
 use Rattle.portal_tables.specs.Tables.{ranked2_tree}
-use Rattle.portal_tables.specs.Rolls.{row_key}
+use Rattle.portal_tables.specs.Rows.{row_key}
 use Rattle.portal_tables.specs.inner.Shown.{first_cell}
 use Rattle.portal_tables.specs.declared.list_table.Lists.{Lists}
 use Rattle.portal_tables.specs.declared.list_table.Lists.TheVariants.{Choices, Rankings, SecondChoices, SecondRankings}
 use Rattle.portal_tables.specs.Lists.{IsWhole, chosen, of_key}
 
--- Each student has a list. A lecturer has one where a ranking is there: in the first round the own row says so, in the second a row of `ranked2`.
+-- Each student has a list. A lecturer has one where a ranking is there: in the first round the own
+-- row says so, in the second a row of `ranked2`.
 abbrev pub has_list : Lists → Trees → Row → Bool
 has_list Choices db c = true
 has_list Rankings db c = number_in (column c 4) == 1
@@ -21,7 +22,8 @@ has_list SecondRankings db c = has (map row_key (db ranked2_tree)) (first_cell c
 abbrev pub entry : Lists → Trees → Row → Option (Key × List Key)
 entry lists db c = if has_list lists db c then Some (first_cell c, chosen (db (tree_of lists)) (first_cell c)) else None
 
--- the list of a round of the student whose row is shown, and the ranking of the lecturer, if one is there
+-- the list of a round of the student whose row is shown, and the ranking of the lecturer, if one is
+-- there
 abbrev pub choice_shown : Round → Trees → Row → List Key
 choice_shown round db c = chosen (db (tree_of (choice_table round))) (first_cell c)
 

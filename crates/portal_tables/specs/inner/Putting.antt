@@ -1,11 +1,11 @@
--- What putting a list into its table does: the rows of its owner are the places from 1, and no other row is touched.
+-- What putting a list into its table does: the rows of its owner are the places from 1, and no
+-- other row is touched.
 use Rattle.std.specs.Prelude.{◌≡◌, ◌+◌, ◌||◌, ◌∷◌}
 use Rattle.portal_tables.specs.Base.{ℕ, pos, false, List, [], map, IsPermutation, Row, Database, IsDatabase, Key, equals, has}
 use Rattle.portal_tables.specs.Schema.{IsCurrentSchema}
-use Rattle.portal_tables.specs.Changes.{RowNumbersDiffer}
+use Rattle.portal_tables.specs.Rows.{RowNumbersDiffer, row_key}
 use Rattle.portal_tables.specs.inner.Changes.{Keeps, with_rows}
 use Rattle.portal_tables.specs.Tables.{ranked2_tree, assigned2_tree}
-use Rattle.portal_tables.specs.Rolls.{row_key}
 use Rattle.portal_tables.specs.inner.Rows.{place_cells, pair_new}
 use Rattle.portal_tables.specs.Lists.{of_key, place_of, named_by}
 
@@ -44,7 +44,8 @@ pub record HasPlacements (pairs : List (Key × Key)) (old new : Database) : Type
 abbrev pub PutsPlacements : List (Key × Key) → Database → Database → Type 0
 PutsPlacements pairs old new = IsCurrentSchema old.schema → RowNumbersDiffer (old.trees assigned2_tree) → HasPlacements pairs old new
 
--- the lecturer is one of those with a ranking in the second round, and who else is one has not changed
+-- the lecturer is one of those with a ranking in the second round, and who else is one has not
+-- changed
 pub record HasRanked (lecturer : Key) (old new : Database) : Type 0 where
   pub schema_is : new.schema ≡ old.schema
   pub sound : IsDatabase new

@@ -7,7 +7,7 @@ use Rattle.portal_tables.specs.declared.select.Roll.{Roll}
 use Rattle.portal_tables.specs.declared.select.Roll.TheVariants.{Lecturers, Projects, Students}
 use Rattle.portal_tables.specs.declared.select.Table.{Table}
 use Rattle.portal_tables.specs.declared.select.Table.TheVariants.{OfRoll, OfLists, OfRanked, OfPlaces}
-use Rattle.portal_tables.specs.Changes.{has_text}
+use Rattle.portal_tables.specs.Rows.{has_text}
 use Rattle.portal_tables.specs.inner.Changes.{ListsBy, every, columns, has_number}
 use Rattle.portal_tables.specs.ListTables.{round_of, names, tree_of, choice_table}
 use Rattle.portal_tables.specs.Tables.{portal_tree, lecturer_tree, project_tree, student_tree, second_tree, ranked2_tree, assigned2_tree}
@@ -49,7 +49,8 @@ round_asked SecondPlacements = InSecond
 round_asked (SecondPlaceOf student) = InSecond
 round_asked _ = First
 
--- of the table with this tree the rows that pass, by rising values of some columns, each shown by some columns
+-- of the table with this tree the rows that pass, by rising values of some columns, each shown by
+-- some columns
 pub record Selection : Type 0 where
   pub tree : ℕ
   pub passes : Row → Bool

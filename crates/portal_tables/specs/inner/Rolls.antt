@@ -5,7 +5,7 @@ use Rattle.portal_tables.specs.declared.select.Roll.{Roll}
 use Rattle.portal_tables.specs.declared.select.Roll.TheVariants.{Lecturers, Projects, Students}
 use Rattle.portal_tables.specs.inner.Queries.{roll_tree, columns_of}
 use Rattle.portal_tables.specs.inner.Changes.{columns}
-use Rattle.portal_tables.specs.Rolls.{row_key}
+use Rattle.portal_tables.specs.Rows.{row_key}
 
 -- the rows of a table by rising key
 abbrev pub by_key : List Row → List Row

@@ -5,9 +5,8 @@ use Rattle.portal_tables.specs.declared.insert.lists.NewPlace.{NewPlace}
 use Rattle.portal_tables.specs.Tables.{portal_tree, lecturer_tree, student_tree, second_tree}
 use Rattle.portal_tables.specs.Schema.{IsCurrentSchema}
 use Rattle.portal_tables.specs.inner.Steps.{Ran, Made}
-use Rattle.portal_tables.specs.Changes.{RowNumbersDiffer, has_text}
+use Rattle.portal_tables.specs.Rows.{RowNumbersDiffer, has_text, portal_row, second_row, Assigned}
 use Rattle.portal_tables.specs.inner.Changes.{InsertsRows, Drops, Sets, Alters, Becomes, columns}
-use Rattle.portal_tables.specs.Rows.{portal_row, second_row, Assigned}
 
 abbrev pub lecturer_cells : List ℕ → List ℕ → List ℕ → ℤ → ℤ → Row
 lecturer_cells key name code capacity ranked = Words key ∷ Words name ∷ Words code ∷ Int capacity ∷ Int ranked ∷ []
@@ -21,8 +20,9 @@ student_cells key name code assigned = Words key ∷ Words name ∷ Words code �
 abbrev pub place_cells : List ℕ → ℤ → List ℕ → Row
 place_cells owner place item = Words owner ∷ Int place ∷ Words item ∷ []
 
--- The cells of rows to come, and the values that their texts are given where those are fewer: a lecturer of whom no ranking is there yet, a
--- project, a student who is assigned to none, and a place of a list.
+-- The cells of rows to come, and the values that their texts are given where those are fewer: a
+-- lecturer of whom no ranking is there yet, a project, a student who is assigned to none, and a
+-- place of a list.
 abbrev pub lecturer_new : LecturerRow → Row
 lecturer_new r = lecturer_cells r.key r.name r.code (pos r.capacity) (pos 0)
 
@@ -49,7 +49,8 @@ pair_new p = Words p.0 ∷ Words p.1 ∷ []
 abbrev pub Adds : ℕ → List Row → Database → Database → Type 0
 Adds tree cells old new = IsCurrentSchema old.schema → InsertsRows tree cells old new
 
--- a text that adds so many rows to the table, where it is run with the values of one after the other
+-- a text that adds so many rows to the table, where it is run with the values of one after the
+-- other
 abbrev pub AddsBy : {S R : Type 0} → Ghosts S → List ℕ → ℕ → ℕ → (R → Row) → (R → Row) → Type 0
 AddsBy {S} {R} g text count tree values cells = (rows : List R) → length rows ≡ count → (old new : Held S) → Ran text (flat_map values rows) (state g old) (state g new)
     → Made (Adds tree (map cells rows)) (state g old) (state g new)
@@ -95,6 +96,7 @@ assigned_by (a ∷ all) key value = assigned_by all key (if is_eq (value_cmp key
 abbrev pub with_assigned : List Assigned → Row → Row
 with_assigned all r = column r 0 ∷ column r 1 ∷ column r 2 ∷ column r 3 ∷ assigned_by all (column r 1) (column r 4) ∷ []
 
--- each of these students is assigned to the project or to none, one after another, and no other student's row has changed
+-- each of these students is assigned to the project or to none, one after another, and no other
+-- student's row has changed
 abbrev pub Assigns : List Assigned → Database → Database → Type 0
 Assigns all old new = IsCurrentSchema old.schema → IsDatabase old → RowNumbersDiffer (old.trees student_tree) → Alters student_tree student_columns (with_assigned all) old new

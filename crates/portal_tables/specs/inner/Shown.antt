@@ -1,4 +1,5 @@
--- What the rows that a query shows are decoded to: the cells of a roll or of a list, without the number of the row.
+-- What the rows that a query shows are decoded to: the cells of a roll or of a list, without the
+-- number of the row.
 use Rattle.std.specs.Prelude.{◌∷◌}
 use Rattle.portal_tables.specs.Base.{ℕ, List, [], Option, Some, None, Row, column, bytes, number_in, Key, LecturerRow, ProjectRow, StudentRow}
 

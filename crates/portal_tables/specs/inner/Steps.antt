@@ -8,7 +8,8 @@ pub record Ran (sql : List ℕ) (params : Row) (old new : State) : Type 0 where
   pub count : ℕ
   pub runs : ExecutesIn false sql params old new (Ok count)
 
--- the transaction goes on, and made this of the database; what a change asks of the database before it stands in the change
+-- the transaction goes on, and made this of the database; what a change asks of the database before
+-- it stands in the change
 pub record Made (Change : Database → Database → Type 0) (old new : State) : Type 0 where
   pub shown : Shows old new new.now old.committed true
   pub changed : Change old.now new.now
@@ -18,8 +19,9 @@ pub record GoesOn (Change : Database → Database → Type 0) (old new : State) 
   pub mode : old.in_transaction ≡ true → new.in_transaction ≡ true
   pub changed : Change old.now new.now
 
--- What a call leaves that works in a transaction: after Ok it took this step; whatever it answered, the transaction is of the same
--- connection, nothing is committed, and a crash leaves what it left before.
+-- What a call leaves that works in a transaction: after Ok it took this step; whatever it answered,
+-- the transaction is of the same connection, nothing is committed, and a crash leaves what it left
+-- before.
 pub record Does {S A : Type 0} (g : Ghosts S) (Step : State → State → Type 0) (result : Result A Error) (old new : Transaction S) : Type 0 where
   pub same_reference : new.conn.ghost_name ≡ old.conn.ghost_name
   pub done : HasCleanDisk (state g new.conn.now) → OnOk result (Step (state g old.conn.now) (state g new.conn.now))

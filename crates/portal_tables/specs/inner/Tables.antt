@@ -1,7 +1,8 @@
--- The portal's tables: their texts, and what is understood of them. Six are those of the first round, and five behind them of the second.
+-- The portal's tables: their texts, and what is understood of them. Six are those of the first
+-- round, and five behind them of the second.
 use Rattle.std.specs.Prelude.{◌++◌}
 use Rattle.portal_tables.specs.Base.{codes, List, ℕ}
-use Rattle.portal_tables.specs.Tables.{portal, lecturer_schema, project_schema, student_schema, ListTable, second, ranked2, assigned2, version}
+use Rattle.portal_tables.specs.Tables.{ListTable}
 
 abbrev pub portal_text : List ℕ
 portal_text = codes "CREATE TABLE portal (id INTEGER NOT NULL PRIMARY KEY CHECK (id = 1), version INTEGER NOT NULL, "

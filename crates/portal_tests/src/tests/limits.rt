@@ -95,6 +95,11 @@ fn taken(rt: &(impl Abort + AllocGlobal), portal: &mut Portal, code: &str, call:
     assert_eq!(rt; portal.status(rt, code, call), 200);
 }
 
+/// The office moves to this phase.
+fn moves(rt: &(impl Abort + AllocGlobal), portal: &mut Portal, phase: Phase) {
+    taken(rt, portal, OFFICE, &Call::Move { phase, round: None });
+}
+
 fn choose(rt: &(impl Abort + AllocGlobal), portal: &mut Portal) {
     for s in 0..STUDENTS {
         let code = format!(in rt.alloc(); "stud-code-{s}").expect(rt, "memory");
@@ -112,52 +117,16 @@ fn rank(rt: &(impl Abort + AllocGlobal), portal: &mut Portal) {
 #[test]
 fn a_department_at_every_limit(rt: HostRuntime) {
     let mut portal = Portal::new(&rt);
-    portal.adds_lecturers(
-        &rt,
-        lecturers(&rt).as_bytes(),
-        200,
-        r#"{"added":300,"same":0}"#,
-    );
-    portal.adds_projects(
-        &rt,
-        projects(&rt).as_bytes(),
-        200,
-        r#"{"added":1000,"same":0}"#,
-    );
-    portal.adds_students(
-        &rt,
-        students(&rt).as_bytes(),
-        200,
-        r#"{"added":2000,"same":0}"#,
-    );
-    taken(
-        &rt,
-        &mut portal,
-        OFFICE,
-        &Call::Move {
-            phase: Phase::Choosing,
-            round: None,
-        },
-    );
+    let text = lecturers(&rt);
+    portal.adds_lecturers(&rt, text.as_bytes(), 200, r#"{"added":300,"same":0}"#);
+    let text = projects(&rt);
+    portal.adds_projects(&rt, text.as_bytes(), 200, r#"{"added":1000,"same":0}"#);
+    let text = students(&rt);
+    portal.adds_students(&rt, text.as_bytes(), 200, r#"{"added":2000,"same":0}"#);
+    moves(&rt, &mut portal, Phase::Choosing);
     choose(&rt, &mut portal);
-    taken(
-        &rt,
-        &mut portal,
-        OFFICE,
-        &Call::Move {
-            phase: Phase::Ranking,
-            round: None,
-        },
-    );
+    moves(&rt, &mut portal, Phase::Ranking);
     rank(&rt, &mut portal);
-    taken(
-        &rt,
-        &mut portal,
-        OFFICE,
-        &Call::Move {
-            phase: Phase::Published,
-            round: None,
-        },
-    );
+    moves(&rt, &mut portal, Phase::Published);
     taken(&rt, &mut portal, OFFICE, &Call::Status);
 }

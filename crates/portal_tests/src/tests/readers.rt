@@ -59,53 +59,25 @@ fn headers(rt: HostRuntime) {
 #[test]
 fn counts_and_texts(rt: HostRuntime) {
     let alloc = rt.alloc();
-    students(
-        &rt,
-        alloc,
-        b"id,name,code\nS1,Ann\n",
-        RollFault::FieldCount(1),
-    );
-    students(
-        &rt,
-        alloc,
-        b"id,name,code\nS1,\xff\n",
-        RollFault::FieldCount(1),
-    );
-    students(
-        &rt,
-        alloc,
-        b"id,name,code\nS1,\xff,ann-code-1\n",
-        RollFault::NotText(1),
-    );
-    students(
-        &rt,
-        alloc,
-        b"id,name,code\nS1,Ann,ann-code-1\nS 2,\xff,x\n",
-        RollFault::NotText(2),
-    );
+    let text = b"id,name,code\nS1,Ann\n";
+    students(&rt, alloc, text, RollFault::FieldCount(1));
+    let text = b"id,name,code\nS1,\xff\n";
+    students(&rt, alloc, text, RollFault::FieldCount(1));
+    let text = b"id,name,code\nS1,\xff,ann-code-1\n";
+    students(&rt, alloc, text, RollFault::NotText(1));
+    let text = b"id,name,code\nS1,Ann,ann-code-1\nS 2,\xff,x\n";
+    students(&rt, alloc, text, RollFault::NotText(2));
 }
 
 #[test]
 fn columns(rt: HostRuntime) {
     let alloc = rt.alloc();
-    students(
-        &rt,
-        alloc,
-        b"id,name,code\nS1,Ann,short\n",
-        RollFault::BadField(1, 3),
-    );
-    students(
-        &rt,
-        alloc,
-        b"id,name,code\nS 1,Ann,short\n",
-        RollFault::BadField(1, 1),
-    );
-    students(
-        &rt,
-        alloc,
-        b"id,name,code\nS1,\"A\nB\",short\n",
-        RollFault::BadField(1, 2),
-    );
+    let text = b"id,name,code\nS1,Ann,short\n";
+    students(&rt, alloc, text, RollFault::BadField(1, 3));
+    let text = b"id,name,code\nS 1,Ann,short\n";
+    students(&rt, alloc, text, RollFault::BadField(1, 1));
+    let text = b"id,name,code\nS1,\"A\nB\",short\n";
+    students(&rt, alloc, text, RollFault::BadField(1, 2));
 }
 
 #[test]

@@ -1,7 +1,7 @@
 //! The second round of a small department, which the office opens, or from the rows of a file.
 
 use crate::tests::portal::{OFFICE, Portal};
-use crate::tests::rows::{Sketch, after_first, fault_of, opened, rows_of};
+use crate::tests::rows::{Sketch, after_first, fault_of, in_choosing, in_ranking, opened, rows_of};
 use portal_core::{Call, Phase, Round};
 use portal_list::{ListKeeper, RowsFault};
 use std::alloc::Global;
@@ -15,6 +15,23 @@ const S3: &str = "cyr-code-3";
 const L1: &str = "lee-code-01";
 
 const L2: &str = "moe-code-02";
+
+/// What the first round left, who asks in the second, and its status at first.
+const LEFT: &str =
+    "{\"projects\":[{\"capacity\":1,\"id\":\"P3\",\"lecturer\":\"L2\",\"lecturer_name\":\"Moe\",\"title\":\"Bells\"}]}";
+
+const S3_ME: &str =
+    "{\"key\":\"S3\",\"name\":\"Cyr\",\"phase\":\"choosing\",\"role\":\"student\",\"round\":2}";
+
+const L1_ME: &str =
+    "{\"capacity\":2,\"key\":\"L1\",\"name\":\"Lee\",\"phase\":\"choosing\",\"role\":\"lecturer\",\"round\":2}";
+
+const OPENED: &str =
+    "{\"assigned\":2,\"lecturers\":2,\"phase\":\"choosing\",\"projects\":3,\"round\":2,\"still_to_rank\":[],\"students\":3,\"unassigned\":[\"S3\"],\"without_list\":[\"S3\"]}";
+
+/// What the first result gives to the first lecturer.
+const L1_RESULT: &str =
+    "{\"projects\":[{\"id\":\"P1\",\"students\":[{\"key\":\"S2\",\"name\":\"Roe, Bea\"}]},{\"id\":\"P2\",\"students\":[{\"key\":\"S1\",\"name\":\"Ann\"}]}]}";
 
 /// The portal with the rows.
 fn portal(rt: &(impl Abort + AllocGlobal), sketch: Sketch) -> Result<Portal, Fail> {
@@ -63,45 +80,15 @@ fn opens(rt: &(impl Abort + AllocGlobal), portal: &mut Portal) {
 /// What everybody is told where the second round begins.
 fn is_offered(rt: &(impl Abort + AllocGlobal), portal: &mut Portal) {
     for code in [OFFICE, L1, S1, S3] {
-        portal.answers(
-            rt,
-            code,
-            &Call::Catalogue,
-            200,
-            "{\"projects\":[{\"capacity\":1,\"id\":\"P3\",\"lecturer\":\"L2\",\"lecturer_name\":\"Moe\",\"title\":\"Bells\"}]}",
-        );
+        portal.answers(rt, code, &Call::Catalogue, 200, LEFT);
     }
-    portal.answers(
-        rt,
-        S3,
-        &Call::Me,
-        200,
-        "{\"key\":\"S3\",\"name\":\"Cyr\",\"phase\":\"choosing\",\"role\":\"student\",\"round\":2}",
-    );
+    portal.answers(rt, S3, &Call::Me, 200, S3_ME);
     portal.answers(rt, S1, &Call::Result, 200, "{\"project\":\"P2\"}");
     portal.answers(rt, S1, &Call::ShowChoices, 200, "{\"projects\":[]}");
     portal.answers(rt, S3, &Call::Result, 200, "{\"project\":null}");
-    portal.answers(
-        rt,
-        L1,
-        &Call::Me,
-        200,
-        "{\"capacity\":2,\"key\":\"L1\",\"name\":\"Lee\",\"phase\":\"choosing\",\"role\":\"lecturer\",\"round\":2}",
-    );
-    portal.answers(
-        rt,
-        L1,
-        &Call::Result,
-        200,
-        "{\"projects\":[{\"id\":\"P1\",\"students\":[{\"key\":\"S2\",\"name\":\"Roe, Bea\"}]},{\"id\":\"P2\",\"students\":[{\"key\":\"S1\",\"name\":\"Ann\"}]}]}",
-    );
-    portal.answers(
-        rt,
-        OFFICE,
-        &Call::Status,
-        200,
-        "{\"assigned\":2,\"lecturers\":2,\"phase\":\"choosing\",\"projects\":3,\"round\":2,\"still_to_rank\":[],\"students\":3,\"unassigned\":[\"S3\"],\"without_list\":[\"S3\"]}",
-    );
+    portal.answers(rt, L1, &Call::Me, 200, L1_ME);
+    portal.answers(rt, L1, &Call::Result, 200, L1_RESULT);
+    portal.answers(rt, OFFICE, &Call::Status, 200, OPENED);
 }
 
 #[test]
@@ -123,6 +110,15 @@ fn the_office_opens_the_second_round(rt: HostRuntime) -> Result<(), Fail> {
     is_refused(&rt, &mut portal, Phase::Published, None);
     is_refused(&rt, &mut portal, Phase::Published, Some(Round::First));
     opens(&rt, &mut portal);
+    Ok(())
+}
+
+#[test]
+fn an_unpublished_round_is_followed_by_none(rt: HostRuntime) -> Result<(), Fail> {
+    let mut choosing = portal(&rt, in_choosing())?;
+    is_refused(&rt, &mut choosing, Phase::Ranking, Some(Round::Second));
+    let mut ranking = portal(&rt, in_ranking())?;
+    is_refused(&rt, &mut ranking, Phase::Choosing, Some(Round::Second));
     Ok(())
 }
 
@@ -153,6 +149,9 @@ fn the_second_round_is_played(rt: HostRuntime) -> Result<(), Fail> {
         200,
         "{\"phase\":\"ranking\",\"round\":2}",
     );
+    portal.answers(&rt, S1, &none, 409, "{\"error\":\"wrong_phase\"}");
+    portal.answers(&rt, S3, &Call::Result, 200, "{\"project\":null}");
+    portal.answers(&rt, L1, &Call::Result, 200, L1_RESULT);
     portal.answers(
         &rt,
         L2,

@@ -160,14 +160,16 @@ pub(crate) fn opened() -> Sketch {
     sketch
 }
 
-fn in_ranking() -> Sketch {
+/// The first round, in ranking.
+pub(crate) fn in_ranking() -> Sketch {
     let mut sketch = after_first();
     sketch.phase = Phase::Ranking;
     sketch.pairs = &[];
     sketch
 }
 
-fn in_choosing() -> Sketch {
+/// The first round, in choosing.
+pub(crate) fn in_choosing() -> Sketch {
     let mut sketch = in_ranking();
     sketch.phase = Phase::Choosing;
     sketch.rankings = &[];

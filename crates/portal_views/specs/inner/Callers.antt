@@ -1,12 +1,12 @@
 -- What a lecturer or a student sees, of the own row and of what the tables hold.
-use Rattle.std.specs.Prelude.{◌≡◌, true, if◌then◌else◌}
+use Rattle.std.specs.Prelude.{◌≡◌, ◌≤◌, true, if◌then◌else◌}
 use Rattle.spa_rows.specs.Form.{is_key}
-use Rattle.portal_tables.specs.ListTables.{choice_table, tree_of}
+use Rattle.portal_tables.specs.ListTables.{choice_table, ranking_table, tree_of}
 use Rattle.portal_tables.specs.Lists.{of_key, IsWhole}
-use Rattle.portal_views.specs.inner.Base.{AllByRecursion, Vec, List, [], map, filter, Option, Global, Row, column, bytes, Trees, number_in, Phase, Round, First, Second, Listing, Person, StudentSees, LecturerSees, Key, equals, is_at, is_from_ranking, is_published, put_all}
+use Rattle.portal_views.specs.inner.Base.{AllByRecursion, Vec, List, [], map, filter, Option, Global, Row, column, bytes, Trees, Database, number_in, Phase, Round, First, Second, Listing, Person, StudentSees, LecturerSees, Key, equals, is_at, is_from_ranking, is_published, put_all}
 use Rattle.portal_views.specs.declared.lines.ApplicantLine.{ApplicantLine}
-use Rattle.portal_views.specs.inner.Lines.{IsNamed, applicant_lines}
-use Rattle.portal_tables.specs.inner.Owners.{choice_shown, ranking_shown}
+use Rattle.portal_views.specs.inner.Lines.{HasTables, HasStudents, IsNamed, applicant_lines}
+use Rattle.portal_tables.specs.inner.Owners.{IsFine, choice_shown, ranking_shown}
 use Rattle.portal_tables.specs.inner.Placements.{result_shown, HasFirstPlace, HasPlacement}
 use Rattle.portal_tables.specs.inner.Rolls.{projects_shown}
 use Rattle.portal_tables.specs.inner.Shown.{first_cell}
@@ -39,7 +39,8 @@ abbrev pub persons_before : Round → Trees → Key → List Person
 persons_before First db k = []
 persons_before Second db k = persons_at k (applicant_lines First db k)
 
--- the persons whom the results that are shown place at the project, of the lines of its applicants, by key
+-- the persons whom the results that are shown place at the project, of the lines of its applicants,
+-- by key
 abbrev pub placed_at_shown : Round → Trees → Phase → Key → List ApplicantLine → List Person
 placed_at_shown round db phase k lines = put_all person_key (placed_among phase k lines) (persons_before round db k)
 
@@ -50,7 +51,8 @@ applicants_told round db phase keys = map (λ k. (k, map (λ l. l.person) (lines
 abbrev pub placed_told : Round → Trees → Phase → List Key → List (Key × List Person)
 placed_told round db phase keys = map (λ k. (k, placed_at_shown round db phase k (lines_shown round db phase k))) keys
 
--- what the lecturer sees whose row is shown, with the catalogue, a ranking, and what is told of the own projects
+-- what the lecturer sees whose row is shown, with the catalogue, a ranking, and what is told of the
+-- own projects
 abbrev pub lecturer_sees_with : Round → Phase → Row → List Listing → Option (List Key) → List (Key × List Person) → List (Key × List Person) → LecturerSees
 lecturer_sees_with round phase c offers ranking applicants placed =
     record {
@@ -69,6 +71,21 @@ lecturer_shown round db phase c offers =
     let own = own_keys_shown db (first_cell c) in
     lecturer_sees_with round phase c offers (ranking_shown round db c) (applicants_told round db phase own) (placed_told round db phase own)
 
+-- the keys of the lecturer's projects have their form
+pub record HasOwnKeys (lecturer : Key) (db : Database) : Type 0 where
+  pub tables : HasTables db
+  pub keys : AllByRecursion (λ k. is_key k ≡ true) (own_keys_shown db.trees lecturer)
+
+-- What the reading of a lecturer's view asks, whose row is shown: the row's cells, the ranking, the
+-- keys of the own projects, and what may be told of students have their forms.
+pub record IsReadableByLecturer (round : Round) (c : Row) (db : Database) : Type 0 where
+  pub person : IsNamed c
+  pub low : 1 ≤ number_in (column c 3)
+  pub high : number_in (column c 3) ≤ 200
+  pub ranking : IsFine (ranking_table round) db.trees c
+  pub projects : HasOwnKeys (first_cell c) db
+  pub students : HasStudents round db
+
 -- what the student sees whose row is shown, with the catalogue, a list and a place
 abbrev pub student_sees_with : Round → Phase → Row → List Listing → List Key → Option Key → StudentSees
 student_sees_with round phase c offers choices place =
@@ -84,7 +101,8 @@ student_sees_with round phase c offers choices place =
 abbrev pub student_shown : Round → Trees → Phase → Row → List Listing → StudentSees
 student_shown round db phase c offers = student_sees_with round phase c offers (choice_shown round db c) (result_shown round db phase c)
 
--- what the reading of a student's view asks: key, name and places have their forms, and the list of the round has no gap
+-- what the reading of a student's view asks: key, name and places have their forms, and the list of
+-- the round has no gap
 pub record IsReadable (round : Round) (db : Trees) (c : Row) : Type 0 where
   pub person : IsNamed c
   pub whole : IsWhole (of_key (first_cell c) (db (tree_of (choice_table round))))

@@ -8,8 +8,8 @@ use Rattle.portal_tables.specs.inner.Placements.{first_pairs, places_shown, HasK
 use Rattle.portal_tables.specs.inner.Rolls.{RollRises, lecturers_shown, projects_shown}
 use Rattle.portal_tables.specs.inner.Shown.{shown_lecturer, shown_project}
 
--- Of these rows, each project with its lecturer's name. In the second round those with room alone, each with the room that is left where the
--- first gave these pairs.
+-- Of these rows, each project with its lecturer's name. In the second round those with room alone,
+-- each with the room that is left where the first gave these pairs.
 abbrev pub offered_in : Round → List LecturerRow → List ProjectRow → List (Key × Key) → List Listing
 offered_in First ls ps pairs = offered ls ps
 offered_in Second ls ps pairs = offered (filter_map (lecturer_left ps pairs) ls) (filter_map (project_left pairs) ps)

@@ -2,15 +2,14 @@
 use Rattle.std.specs.Prelude.{◌≡◌, true}
 use Rattle.portal_core.specs.Form.{is_name}
 use Rattle.spa_rows.specs.Form.{is_key}
-use Rattle.portal_views.specs.inner.Base.{Round, First, Second, List, map, filter, Option, option_map, AllByRecursion, find, Row, column, bytes, Trees, Database, IsDatabase, Key, equals, has}
+use Rattle.portal_views.specs.inner.Base.{IfSome, Round, First, Second, List, map, filter, Option, option_map, AllByRecursion, find, Row, column, bytes, Trees, Database, IsDatabase, Key, equals, has}
 use Rattle.portal_tables.specs.Tables.{own_trees}
-use Rattle.portal_tables.specs.Placements.{second_placement}
-use Rattle.portal_tables.specs.inner.Placements.{placement_shown}
+use Rattle.portal_tables.specs.Lists.{second_placement}
+use Rattle.portal_tables.specs.inner.Placements.{placement_shown, HasFirstPlace, HasPlacement}
 use Rattle.portal_tables.specs.Schema.{HasFirstSchema, IsCurrentSchema}
-use Rattle.portal_tables.specs.Changes.{RowNumbersDiffer}
+use Rattle.portal_tables.specs.Rows.{RowNumbersDiffer, text_or_none}
 use Rattle.portal_tables.specs.inner.Owners.{choice_shown}
 use Rattle.portal_tables.specs.inner.Rolls.{students_shown}
-use Rattle.portal_tables.specs.Shown.{text_or_none}
 use Rattle.portal_tables.specs.inner.Shown.{first_cell}
 use Rattle.portal_views.specs.declared.lines.ApplicantLine.{ApplicantLine}
 
@@ -21,9 +20,29 @@ pub record HasTables (db : Database) : Type 0 where
   pub sound : IsDatabase db
   pub apart : AllByRecursion (λ t. RowNumbersDiffer (db.trees t)) own_trees
 
+-- the key that the row begins with has its form
+abbrev pub HasKey : Row → Type 0
+HasKey c = is_key (first_cell c) ≡ true
+
 -- key and name, which come first, have their forms
 abbrev pub IsNamed : Row → Type 0
 IsNamed c = (is_key (first_cell c) ≡ true) × (is_name (bytes (column c 1)) ≡ true)
+
+-- and so has the assigned project behind them, where there is one
+abbrev pub IsTold : Row → Type 0
+IsTold c = IsNamed c × IfSome (text_or_none (column c 2)) (λ p. is_key p ≡ true)
+
+-- a student on the roll has the key
+abbrev pub IsStudentKey : Trees → Key → Type 0
+IsStudentKey db k = has (map first_cell (students_shown db)) k ≡ true
+
+-- What the reading of the students' lines asks: of each on the roll, key, name and the places of
+-- both rounds have their forms.
+pub record HasStudents (round : Round) (db : Database) : Type 0 where
+  pub tables : HasTables db
+  pub persons : AllByRecursion IsNamed (students_shown db.trees)
+  pub first : AllByRecursion HasFirstPlace (students_shown db.trees)
+  pub places : AllByRecursion (HasPlacement round db.trees) (students_shown db.trees)
 
 -- what is told of the student whose row is shown, with the place in a round
 abbrev pub shown_line : Round → Trees → Row → ApplicantLine

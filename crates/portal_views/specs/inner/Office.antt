@@ -5,19 +5,33 @@ use Rattle.portal_core.specs.Sight.{OfficeSees}
 use Rattle.portal_core.specs.Words.{is_empty}
 use Rattle.portal_tables.specs.ListTables.{choice_table, ranking_table, tree_of}
 use Rattle.portal_tables.specs.Lists.{IsWhole, of_key}
-use Rattle.portal_tables.specs.Rolls.{row_key}
+use Rattle.portal_tables.specs.Rows.{row_key}
 use Rattle.portal_tables.specs.Tables.{student_tree}
 use Rattle.portal_tables.specs.inner.Owners.{has_list, choice_shown}
-use Rattle.portal_tables.specs.inner.Placements.{pair_shown, placement_before}
+use Rattle.portal_tables.specs.inner.Placements.{pair_shown, placement_before, HasFirstPlace, HasPlacement}
 use Rattle.portal_tables.specs.inner.Rolls.{lecturers_shown, projects_shown, students_shown}
 use Rattle.portal_tables.specs.inner.Shown.{first_cell, shown_lecturer, shown_project, shown_student}
-use Rattle.portal_views.specs.inner.Base.{List, [], map, filter, filter_map, Option, Some, None, AllByRecursion, Row, Trees, Database, Phase, Round, Listing, ProjectRow, Key, equals, has, is_from_ranking}
+use Rattle.portal_views.specs.inner.Base.{List, [], map, filter, filter_map, Option, Some, None, AllByRecursion, Row, Trees, Database, IsLecturer, IsProject, IsStudent, Phase, Round, Listing, ProjectRow, Key, equals, has, is_from_ranking}
 use Rattle.portal_views.specs.inner.Lines.{HasTables}
 
 -- the tables are the portal's own and sound, and no student's list of the round has a gap
 pub record HasWholeLists (round : Round) (db : Database) : Type 0 where
   pub tables : HasTables db
   pub whole : AllByRecursion (λ r. IsWhole (of_key (row_key r) (db.trees (tree_of (choice_table round))))) (db.trees student_tree)
+
+-- What the reading of the office's view asks of the rolls that are shown: each cell and each place
+-- has its form, and no list has a gap.
+pub record AreReadable (round : Round) (lecturers projects students : List Row) (db : Database) : Type 0 where
+  pub lists : HasWholeLists round db
+  pub lecturer_forms : AllByRecursion (λ c. IsLecturer (shown_lecturer c)) lecturers
+  pub project_forms : AllByRecursion (λ c. IsProject (shown_project c)) projects
+  pub student_forms : AllByRecursion (λ c. IsStudent (shown_student c)) students
+  pub first : AllByRecursion HasFirstPlace students
+  pub places : AllByRecursion (HasPlacement round db.trees) students
+
+-- the same of the rolls in the tables
+abbrev pub IsReadableByOffice : Round → Database → Type 0
+IsReadableByOffice round db = AreReadable round (lecturers_shown db.trees) (projects_shown db.trees) (students_shown db.trees) db
 
 -- some student's list holds the project
 abbrev pub is_chosen_shown : Round → Trees → Key → Bool

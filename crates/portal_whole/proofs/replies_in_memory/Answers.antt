@@ -1,7 +1,7 @@
 use Rattle.sqlite.specs.Steps.{over_memory}
 use Rattle.portal_store.specs.Kept.{HasDisk, IsCleanStore, kept_world}
-use Rattle.portal_store.specs.Made.{first_world}
-use Rattle.portal_desk.specs.Keeping.{state_of}
+use Rattle.portal_store.specs.World.{first_world}
+use Rattle.portal_desk.specs.Kept.{state_of}
 use Rattle.portal_whole.proofs.Promised.{promised, on_some}
 use Rattle.portal_whole.proofs.replies_in_memory.Goals as goal
 

@@ -1,19 +1,19 @@
 //! Databases of the wider department that were changed by others, and are opened again.
 
-use crate::tests::steps::{Deed, does_parts, fresh};
-use crate::tests::wide::{
-    CHOOSING, PUBLISHED, RANKING, ROLLS, SECOND_CHOOSING, SECOND_PUBLISHED, SECOND_RANKING,
-};
+use crate::tests::steps::{new_desk, plays};
 use portal_core::{Listing, StudentView, View};
+use portal_fixtures::wide::{
+    CHOOSING, PUBLISHED, RANKING, ROLLS, SECOND_CHOOSING, SECOND_RANKING, WIDE_YEAR,
+};
 use portal_store::queries::view;
 use portal_store::{NotOpened, OpenFault, Store};
 use sqlite::{Connection, MemStore};
 use std::process::Abort;
 
 /// The database, with the world that is played in it.
-fn database(rt: &(impl Abort + AllocGlobal), played: &[&[Deed]]) -> Connection<MemStore> {
-    let mut desk = fresh(rt);
-    does_parts(rt, &mut desk, played);
+fn database(rt: &(impl Abort + AllocGlobal), played: &[&str]) -> Connection<MemStore> {
+    let mut desk = new_desk(rt);
+    plays(rt, &mut desk, played);
     desk.into_keeper().into_connection()
 }
 
@@ -37,7 +37,7 @@ fn opened(rt: &(impl Abort + AllocGlobal), conn: Connection<MemStore>) -> Option
 /// Behind each of these texts the database is answered so.
 fn are_answered(
     rt: &(impl Abort + AllocGlobal),
-    played: &[&[Deed]],
+    played: &[&str],
     texts: &[&str],
     wanted: Option<OpenFault>,
 ) {
@@ -49,44 +49,19 @@ fn are_answered(
     }
 }
 
-/// So it is answered in the first round, published.
-fn in_the_first(rt: &(impl Abort + AllocGlobal), texts: &[&str], wanted: Option<OpenFault>) {
-    let played = [ROLLS, CHOOSING, RANKING, PUBLISHED];
-    are_answered(rt, &played, texts, wanted);
-}
+/// The year as far as the second round, and as far as its phases.
+const IN_THE_FIRST: &[&str] = &[ROLLS, CHOOSING, RANKING, PUBLISHED];
 
-/// So it is answered in the second round, in choosing.
-fn in_choosing(rt: &(impl Abort + AllocGlobal), texts: &[&str], wanted: Option<OpenFault>) {
-    let played = [ROLLS, CHOOSING, RANKING, PUBLISHED, SECOND_CHOOSING];
-    are_answered(rt, &played, texts, wanted);
-}
+const IN_CHOOSING: &[&str] = &[ROLLS, CHOOSING, RANKING, PUBLISHED, SECOND_CHOOSING];
 
-/// So it is answered in ranking.
-fn in_ranking(rt: &(impl Abort + AllocGlobal), texts: &[&str], wanted: Option<OpenFault>) {
-    let played = [
-        ROLLS,
-        CHOOSING,
-        RANKING,
-        PUBLISHED,
-        SECOND_CHOOSING,
-        SECOND_RANKING,
-    ];
-    are_answered(rt, &played, texts, wanted);
-}
-
-/// So it is answered in published.
-fn in_published(rt: &(impl Abort + AllocGlobal), texts: &[&str], wanted: Option<OpenFault>) {
-    let played = [
-        ROLLS,
-        CHOOSING,
-        RANKING,
-        PUBLISHED,
-        SECOND_CHOOSING,
-        SECOND_RANKING,
-        SECOND_PUBLISHED,
-    ];
-    are_answered(rt, &played, texts, wanted);
-}
+const IN_RANKING: &[&str] = &[
+    ROLLS,
+    CHOOSING,
+    RANKING,
+    PUBLISHED,
+    SECOND_CHOOSING,
+    SECOND_RANKING,
+];
 
 /// Rows of the second round while there is none, or no row that tells of it.
 const NO_ROUND: &[&str] = &[
@@ -245,61 +220,66 @@ const OTHER_VERSION: &[&str] = &[
 #[test]
 fn no_round_has_no_rows(rt: HostRuntime) {
     let damaged = Some(OpenFault::Damaged);
-    in_the_first(&rt, NO_ROUND, damaged);
+    are_answered(&rt, IN_THE_FIRST, NO_ROUND, damaged);
     are_answered(&rt, &[ROLLS], TOO_EARLY, damaged);
     are_answered(&rt, &[ROLLS, CHOOSING], TOO_EARLY, damaged);
     are_answered(&rt, &[ROLLS, CHOOSING, RANKING], TOO_EARLY, damaged);
-    in_the_first(&rt, &["UPDATE second SET phase = 1"], None);
+    are_answered(&rt, IN_THE_FIRST, &["UPDATE second SET phase = 1"], None);
 }
 
 #[test]
 fn the_first_round_stays(rt: HostRuntime) {
     let damaged = Some(OpenFault::Damaged);
-    in_choosing(&rt, OF_THE_FIRST, damaged);
-    in_ranking(&rt, OF_THE_FIRST, damaged);
-    in_published(&rt, OF_THE_FIRST, damaged);
+    are_answered(&rt, IN_CHOOSING, OF_THE_FIRST, damaged);
+    are_answered(&rt, IN_RANKING, OF_THE_FIRST, damaged);
+    are_answered(&rt, WIDE_YEAR, OF_THE_FIRST, damaged);
 }
 
 #[test]
 fn the_lists_are_of_what_is_left(rt: HostRuntime) {
     let damaged = Some(OpenFault::Damaged);
-    in_choosing(&rt, OF_THE_LISTS, damaged);
-    in_ranking(&rt, OF_THE_LISTS, damaged);
-    in_published(&rt, OF_THE_LISTS, damaged);
+    are_answered(&rt, IN_CHOOSING, OF_THE_LISTS, damaged);
+    are_answered(&rt, IN_RANKING, OF_THE_LISTS, damaged);
+    are_answered(&rt, WIDE_YEAR, OF_THE_LISTS, damaged);
 }
 
 #[test]
 fn forms_stay(rt: HostRuntime) {
-    in_choosing(&rt, FORMS, Some(OpenFault::Damaged));
-    in_published(&rt, FORMS, Some(OpenFault::Damaged));
+    are_answered(&rt, IN_CHOOSING, FORMS, Some(OpenFault::Damaged));
+    are_answered(&rt, WIDE_YEAR, FORMS, Some(OpenFault::Damaged));
 }
 
 #[test]
 fn a_list_has_twenty(rt: HostRuntime) {
-    in_choosing(&rt, LONGEST, None);
-    in_choosing(&rt, TOO_LONG, Some(OpenFault::Damaged));
+    are_answered(&rt, IN_CHOOSING, LONGEST, None);
+    are_answered(&rt, IN_CHOOSING, TOO_LONG, Some(OpenFault::Damaged));
 }
 
 #[test]
 fn each_damage_of_a_phase_is_told(rt: HostRuntime) {
     let damaged = Some(OpenFault::Damaged);
-    in_choosing(&rt, DAMAGED_CHOOSING, damaged);
-    in_ranking(&rt, DAMAGED_RANKING, damaged);
-    in_published(&rt, DAMAGED_PUBLISHED, damaged);
-    in_published(&rt, DAMAGED_RESULT, damaged);
+    are_answered(&rt, IN_CHOOSING, DAMAGED_CHOOSING, damaged);
+    are_answered(&rt, IN_RANKING, DAMAGED_RANKING, damaged);
+    are_answered(&rt, WIDE_YEAR, DAMAGED_PUBLISHED, damaged);
+    are_answered(&rt, WIDE_YEAR, DAMAGED_RESULT, damaged);
 }
 
 #[test]
 fn nothing_else_is_told(rt: HostRuntime) {
-    in_choosing(&rt, GOOD_CHOOSING, None);
-    in_ranking(&rt, GOOD_RANKING, None);
-    in_published(&rt, GOOD_PUBLISHED, None);
+    are_answered(&rt, IN_CHOOSING, GOOD_CHOOSING, None);
+    are_answered(&rt, IN_RANKING, GOOD_RANKING, None);
+    are_answered(&rt, WIDE_YEAR, GOOD_PUBLISHED, None);
 }
 
 #[test]
 fn other_tables_are_told(rt: HostRuntime) {
-    in_ranking(&rt, NO_PORTAL, Some(OpenFault::NotPortal));
-    in_ranking(&rt, OTHER_VERSION, Some(OpenFault::OtherVersion));
+    are_answered(&rt, IN_RANKING, NO_PORTAL, Some(OpenFault::NotPortal));
+    are_answered(
+        &rt,
+        IN_RANKING,
+        OTHER_VERSION,
+        Some(OpenFault::OtherVersion),
+    );
 }
 
 /// What another person's rows may not be: of a student, of lists and of the second result.
@@ -335,9 +315,8 @@ fn is_of_fay(rt: &(impl Abort + AllocGlobal), student: &StudentView) {
 /// A student of the second round is shown the same, whatever rows others have.
 #[test]
 fn a_view_reads_no_other_row(rt: HostRuntime) {
-    let played = [ROLLS, CHOOSING, RANKING, PUBLISHED, SECOND_CHOOSING];
     for text in OF_OTHERS {
-        let mut conn = database(&rt, &played);
+        let mut conn = database(&rt, IN_CHOOSING);
         conn.execute_batch(text).expect(&rt, "statements");
         assert!(rt; conn.is_autocommit());
         match view(rt.alloc(), &mut conn, b"stud-code-6").expect(&rt, "a view") {

@@ -1,19 +1,16 @@
 //! What each role is answered in each phase of the second round, by a database in memory and by
 //! lists alike.
 
-use crate::tests::steps::{
-    ANN, CYR, LEE, MOE, MemDesk, OFFICE, OPENING, WORKED, asked, does, fresh, fresh_lists,
-};
+use crate::tests::steps::{new_desk, new_lists, plays};
 use portal_desk::Desk;
+use portal_fixtures::worked::FIRST_ROUND;
+use portal_fixtures::{ANN, CYR, LEE, Line, MOE, MemDesk, OFFICE, ask, cut, lines};
 use portal_list::ListKeeper;
 use std::process::Abort;
 
 /// Who asks: nobody whom the rolls have, a student with a project and one without, a lecturer
 /// without room and one with, and the office.
 const CALLERS: [&str; 6] = ["nobody-here", ANN, CYR, LEE, MOE, OFFICE];
-
-/// A request, and a mark for what each caller in turn is answered: method, path, body and marks.
-type Row = (&'static str, &'static str, &'static str, &'static str);
 
 /// What a reply begins with that has this mark.
 fn status_of(mark: u8) -> &'static str {
@@ -31,18 +28,17 @@ fn is_answered(
     rt: &(impl Abort + AllocGlobal),
     desk: &mut MemDesk,
     lists: &mut Desk<ListKeeper>,
-    row: &Row,
+    row: &Line,
 ) {
-    let (method, path, body, marks) = *row;
-    assert_eq!(rt; marks.len(), CALLERS.len());
-    for (at, code) in CALLERS.iter().enumerate() {
-        let mark = marks.as_bytes().get(at).copied().unwrap_or(b' ');
-        let reply = asked(rt, desk, (method, path, code, body));
-        let other = asked(rt, lists, (method, path, code, body));
-        assert!(rt;
-            reply.starts_with(status_of(mark).as_bytes()),
-            "{method} {path} {body} {code}"
-        );
+    assert_eq!(rt; row.status.len(), CALLERS.len());
+    let (_, request) = cut(row.text, "  ");
+    for (code, mark) in CALLERS.iter().zip(row.status.as_bytes()) {
+        let text = format!(in rt.alloc(); "{code}  {request}").expect(rt, "memory");
+        let line = Line::new(text.as_str());
+        let reply = ask(rt.alloc(), desk, &line).expect(rt, "memory");
+        let other = ask(rt.alloc(), lists, &line).expect(rt, "memory");
+        let wanted = status_of(*mark);
+        assert!(rt; reply.starts_with(wanted.as_bytes()), "{text}");
         assert_eq!(rt; reply.as_slice(), other.as_slice());
     }
 }
@@ -52,139 +48,103 @@ fn are_answered(
     rt: &(impl Abort + AllocGlobal),
     desk: &mut MemDesk,
     lists: &mut Desk<ListKeeper>,
-    rows: &[Row],
+    rows: &str,
 ) {
-    for row in rows {
-        is_answered(rt, desk, lists, row);
+    for row in lines(rt.alloc(), rows).expect(rt, "memory") {
+        is_answered(rt, desk, lists, &row);
     }
 }
 
-/// What is alike in each phase: who is who, what is offered, and what the office asks for.
-const ALWAYS: &[Row] = &[
-    ("GET", "/me", "", "322222"),
-    ("GET", "/catalogue", "", "322222"),
-    ("GET", "/choices", "", "322333"),
-    ("GET", "/result", "", "322223"),
-    ("GET", "/status", "", "333332"),
-    ("GET", "/allocation", "", "333332"),
-    ("GET", "/allocation.csv", "", "333332"),
-    ("GET", "/report", "", "333332"),
-];
-
-/// What is closed in each phase: rolls, and moves to another round.
-const CLOSED: &[Row] = &[
-    ("POST", "/rolls/students", "id,name,code\n", "333339"),
-    (
-        "POST",
-        "/rolls/projects",
-        "id,lecturer,title,capacity\n",
-        "333339",
-    ),
-    (
-        "POST",
-        "/rolls/lecturers",
-        "id,name,code,capacity\n",
-        "333339",
-    ),
-    ("POST", "/phase", r#"{"phase":"setup"}"#, "333339"),
-    (
-        "POST",
-        "/phase",
-        r#"{"phase":"published","round":1}"#,
-        "333339",
-    ),
-    (
-        "POST",
-        "/phase",
-        r#"{"phase":"choosing","round":1}"#,
-        "333339",
-    ),
-];
+/// What is alike in each phase: who is who, what is offered, what the office asks for, and what is
+/// closed, rolls and moves to another round. A row is a request, and a mark for what each caller in
+/// turn is answered.
+const ALWAYS: &str = r#"
+each  GET /me                                            322222
+each  GET /catalogue                                     322222
+each  GET /choices                                       322333
+each  GET /result                                        322223
+each  GET /status                                        333332
+each  GET /allocation                                    333332
+each  GET /allocation.csv                                333332
+each  GET /report                                        333332
+each  POST /rolls/students id,name,code\n                333339
+each  POST /rolls/projects id,lecturer,title,capacity\n  333339
+each  POST /rolls/lecturers id,name,code,capacity\n      333339
+each  POST /phase {"phase":"setup"}                      333339
+each  POST /phase {"phase":"published","round":1}        333339
+each  POST /phase {"phase":"choosing","round":1}         333339
+"#;
 
 /// In choosing; the office closes the lists.
-const CHOOSING: &[Row] = &[
-    ("PUT", "/choices", r#"{"projects":["P1"]}"#, "394333"),
-    ("PUT", "/choices", r#"{"projects":["P3"]}"#, "392333"),
-    ("GET", "/applicants", "", "333993"),
-    ("GET", "/ranking", "", "333993"),
-    ("PUT", "/ranking", r#"{"students":["S3"]}"#, "333993"),
-    ("POST", "/ranking/fill", "{}", "333339"),
-    ("POST", "/phase", r#"{"phase":"published"}"#, "333339"),
-    (
-        "POST",
-        "/phase",
-        r#"{"phase":"choosing","round":2}"#,
-        "333332",
-    ),
-];
+const CHOOSING: &str = r#"
+each  PUT /choices {"projects":["P1"]}            394333
+each  PUT /choices {"projects":["P3"]}            392333
+each  GET /applicants                             333993
+each  GET /ranking                                333993
+each  PUT /ranking {"students":["S3"]}            333993
+each  POST /ranking/fill {}                       333339
+each  POST /phase {"phase":"published"}           333339
+each  POST /phase {"phase":"choosing","round":2}  333332
+"#;
 
 /// The move to ranking.
-const TO_RANKING: &[Row] = &[("POST", "/phase", r#"{"phase":"ranking"}"#, "333332")];
+const TO_RANKING: &str = r#"
+each  POST /phase {"phase":"ranking"}  333332
+"#;
 
 /// In ranking, where one lecturer has an applicant.
-const RANKING: &[Row] = &[
-    ("PUT", "/choices", r#"{"projects":["P3"]}"#, "399333"),
-    ("GET", "/applicants", "", "333223"),
-    ("GET", "/ranking", "", "333223"),
-    ("POST", "/phase", r#"{"phase":"choosing"}"#, "333339"),
-    ("POST", "/phase", r#"{"phase":"published"}"#, "333339"),
-    ("PUT", "/ranking", r#"{"students":["S2"]}"#, "333443"),
-    ("PUT", "/ranking", r#"{"students":["S3"]}"#, "333423"),
-    ("POST", "/ranking/fill", "{}", "333332"),
-];
+const RANKING: &str = r#"
+each  PUT /choices {"projects":["P3"]}   399333
+each  GET /applicants                    333223
+each  GET /ranking                       333223
+each  POST /phase {"phase":"choosing"}   333339
+each  POST /phase {"phase":"published"}  333339
+each  PUT /ranking {"students":["S2"]}   333443
+each  PUT /ranking {"students":["S3"]}   333423
+each  POST /ranking/fill {}              333332
+"#;
 
 /// The move to published.
-const TO_PUBLISHED: &[Row] = &[("POST", "/phase", r#"{"phase":"published"}"#, "333332")];
+const TO_PUBLISHED: &str = r#"
+each  POST /phase {"phase":"published"}  333332
+"#;
 
 /// In published, from where no move leads on.
-const PUBLISHED: &[Row] = &[
-    ("PUT", "/choices", r#"{"projects":["P3"]}"#, "399333"),
-    ("GET", "/applicants", "", "333223"),
-    ("GET", "/ranking", "", "333223"),
-    ("PUT", "/ranking", r#"{"students":["S3"]}"#, "333993"),
-    ("POST", "/ranking/fill", "{}", "333339"),
-    (
-        "POST",
-        "/phase",
-        r#"{"phase":"choosing","round":2}"#,
-        "333339",
-    ),
-    ("POST", "/phase", r#"{"phase":"ranking"}"#, "333339"),
-    (
-        "POST",
-        "/phase",
-        r#"{"phase":"published","round":2}"#,
-        "333332",
-    ),
-];
+const PUBLISHED: &str = r#"
+each  PUT /choices {"projects":["P3"]}             399333
+each  GET /applicants                              333223
+each  GET /ranking                                 333223
+each  PUT /ranking {"students":["S3"]}             333993
+each  POST /ranking/fill {}                        333339
+each  POST /phase {"phase":"choosing","round":2}   333339
+each  POST /phase {"phase":"ranking"}              333339
+each  POST /phase {"phase":"published","round":2}  333332
+"#;
 
-/// What is alike in each phase.
-fn is_a_phase(rt: &(impl Abort + AllocGlobal), desk: &mut MemDesk, lists: &mut Desk<ListKeeper>) {
-    are_answered(rt, desk, lists, ALWAYS);
-    are_answered(rt, desk, lists, CLOSED);
-}
+/// The phases in turn, and what is alike in each before and behind what is its own.
+const PHASES: &[&str] = &[
+    ALWAYS,
+    CHOOSING,
+    ALWAYS,
+    TO_RANKING,
+    ALWAYS,
+    RANKING,
+    ALWAYS,
+    TO_PUBLISHED,
+    ALWAYS,
+    PUBLISHED,
+    ALWAYS,
+];
 
 #[test]
 fn each_role_in_each_phase(rt: HostRuntime) {
-    let mut desk = fresh(&rt);
-    let mut lists = fresh_lists(&rt);
-    does(&rt, &mut desk, WORKED);
-    does(&rt, &mut lists, WORKED);
-    is_answered(
-        &rt,
-        &mut desk,
-        &mut lists,
-        &("POST", "/phase", OPENING, "333332"),
-    );
-    is_a_phase(&rt, &mut desk, &mut lists);
-    are_answered(&rt, &mut desk, &mut lists, CHOOSING);
-    is_a_phase(&rt, &mut desk, &mut lists);
-    are_answered(&rt, &mut desk, &mut lists, TO_RANKING);
-    is_a_phase(&rt, &mut desk, &mut lists);
-    are_answered(&rt, &mut desk, &mut lists, RANKING);
-    is_a_phase(&rt, &mut desk, &mut lists);
-    are_answered(&rt, &mut desk, &mut lists, TO_PUBLISHED);
-    is_a_phase(&rt, &mut desk, &mut lists);
-    are_answered(&rt, &mut desk, &mut lists, PUBLISHED);
-    is_a_phase(&rt, &mut desk, &mut lists);
+    let mut desk = new_desk(&rt);
+    let mut lists = new_lists(&rt);
+    plays(&rt, &mut desk, FIRST_ROUND);
+    plays(&rt, &mut lists, FIRST_ROUND);
+    let opening = r#"each  POST /phase {"phase":"choosing","round":2}  333332"#;
+    are_answered(&rt, &mut desk, &mut lists, opening);
+    for rows in PHASES {
+        are_answered(&rt, &mut desk, &mut lists, rows);
+    }
 }

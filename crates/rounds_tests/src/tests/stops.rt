@@ -1,11 +1,13 @@
 //! Databases whose disk stops at a write, or fails once at a write or a read, and that are opened
 //! again.
 
-use crate::tests::steps::{ANN, BEA, LEE, OFFICE, SEEN, asked, office_code, request, seen};
+use crate::tests::steps::new_office_code;
 use crate::tests::trial::{Fault, Plan, Trial};
-use crate::tests::version1;
 use portal_core::Keeper;
 use portal_desk::{Cause, Counted, Desk};
+use portal_fixtures::changes::{CHOOSING, PUBLICATION, RANKING, SETUP};
+use portal_fixtures::version1::{IN_PUBLISHED, run_all};
+use portal_fixtures::{Line, SEEN, ask, lines, seen};
 use portal_store::{NotOpened, OpenFault, Store, UpgradeFault};
 use sqlite::{Connection, FileStore, Files, Options};
 use sqlite_disk::{Crash, Disk, Memory};
@@ -136,7 +138,7 @@ fn shown_upgraded(rt: &(impl Abort + AllocGlobal), conn: TrialConnection<'_>) ->
     match Store::upgrade(rt.alloc(), conn) {
         Ok(store) => {
             let mut desk = Desk::new(store);
-            let text = seen(rt, &mut desk);
+            let text = seen(rt.alloc(), &mut desk).expect(rt, "memory");
             let _left = left_of(rt, desk.into_keeper().into_connection());
             text
         }
@@ -157,7 +159,7 @@ fn shown(rt: &(impl Abort + AllocGlobal), image: &Image) -> Sight {
     match Store::open(rt.alloc(), conn) {
         Ok(store) => {
             let mut desk = Desk::new(store);
-            let text = Some(seen(rt, &mut desk));
+            let text = Some(seen(rt.alloc(), &mut desk).expect(rt, "memory"));
             let _left = left_of(rt, desk.into_keeper().into_connection());
             Sight {
                 is_current: true,
@@ -186,7 +188,7 @@ fn makes<'a>(
     conn: TrialConnection<'a>,
 ) -> (bool, TrialConnection<'a>) {
     assert!(rt; conn.is_autocommit());
-    match Store::create(rt.alloc(), conn, office_code(rt)) {
+    match Store::create(rt.alloc(), conn, new_office_code(rt)) {
         Ok(store) => (true, store.into_connection()),
         Err(
             NotOpened {
@@ -229,22 +231,18 @@ pub(crate) fn desk_over<'a>(
     }
 }
 
-/// A change of what the files hold.
-#[derive(Clone, Copy)]
-pub(crate) enum Ask {
-    /// The portal is made.
-    Making,
-    /// Tables of version 1 are upgraded.
-    Upgrade,
-    /// A request: method, path, code and body.
-    Request(&'static str, &'static str, &'static str, &'static str),
-}
+/// The portal is made.
+pub(crate) const INIT: &str = "office  init";
+
+/// Tables of version 1 are upgraded.
+const UPGRADE: &str = "office  upgrade";
 
 /// A change of what the files hold, and what is shown before and after it.
 #[derive(Drop)]
 struct Case {
     before: Image,
-    ask: Ask,
+    /// The line of the change.
+    text: String,
     shown_before: Sight,
     shown_after: Sight,
 }
@@ -254,24 +252,24 @@ struct Case {
 fn tried<'a>(
     rt: &(impl Abort + AllocGlobal),
     before: &Image,
-    ask: Ask,
+    line: &Line,
     plan: &'a Plan,
     calls: u64,
 ) -> (bool, TrialConnection<'a>) {
     let conn = connected(rt, before, plan, TIGHT);
-    match ask {
-        Ask::Making => {
+    match line.method {
+        "init" => {
             plan.arm(calls);
             makes(rt, conn)
         }
-        Ask::Upgrade => {
+        "upgrade" => {
             plan.arm(calls);
             upgrades(rt, conn)
         }
-        Ask::Request(method, path, code, body) => {
+        _ => {
             let mut desk = desk_over(rt, conn);
             plan.arm(calls);
-            let reply = asked(rt, &mut desk, (method, path, code, body));
+            let reply = ask(rt.alloc(), &mut desk, line).expect(rt, "memory");
             let is_done = reply.starts_with(b"HTTP/1.1 200");
             assert!(rt; is_done || reply.starts_with(b"HTTP/1.1 503"));
             (is_done, desk.into_keeper().into_connection())
@@ -280,9 +278,9 @@ fn tried<'a>(
 }
 
 /// What the files may hold after the change is done without a fault, with all of it in the log.
-fn done(rt: &(impl Abort + AllocGlobal), before: &Image, ask: Ask) -> Image {
+fn done(rt: &(impl Abort + AllocGlobal), before: &Image, line: &Line) -> Image {
     let plan = Plan::new(Fault::Stop);
-    let (is_done, conn) = tried(rt, before, ask, &plan, u64::MAX);
+    let (is_done, conn) = tried(rt, before, line, &plan, u64::MAX);
     assert!(rt; is_done);
     plan.arm(0);
     left_of(rt, conn).0
@@ -314,7 +312,8 @@ fn survives_crashes(
 /// crash may leave them.
 fn survives(rt: &(impl Abort + AllocGlobal), case: &Case, fault: Fault, calls: u64) -> bool {
     let plan = Plan::new(fault);
-    let (is_done, conn) = tried(rt, &case.before, case.ask, &plan, calls);
+    let line = Line::new(case.text.as_str());
+    let (is_done, conn) = tried(rt, &case.before, &line, &plan, calls);
     let came = plan.came();
     if !came {
         plan.arm(if fault == Fault::Stop { 0 } else { u64::MAX });
@@ -337,46 +336,6 @@ fn faults_of(rt: &(impl Abort + AllocGlobal), case: &Case, fault: Fault) -> u64 
     10_000
 }
 
-/// The portal is made, and the three rolls come.
-pub(crate) const SETUP: &[Ask] = &[
-    Ask::Making,
-    Ask::Request(
-        "POST",
-        "/rolls/lecturers",
-        OFFICE,
-        "id,name,code,capacity\nL1,Lee,lee-code-01,2\nL2,Moe,moe-code-02,1\n",
-    ),
-    Ask::Request(
-        "POST",
-        "/rolls/projects",
-        OFFICE,
-        "id,lecturer,title,capacity\nP1,L1,Tides,1\nP2,L1,Kites,1\nP3,L2,Bells,1\n",
-    ),
-    Ask::Request(
-        "POST",
-        "/rolls/students",
-        OFFICE,
-        "id,name,code\nS1,Ann,ann-code-1\nS2,Bea,bea-code-2\nS3,Cyr,cyr-code-3\n",
-    ),
-];
-
-/// A phase, two lists, and one that is replaced.
-pub(crate) const CHOOSING: &[Ask] = &[
-    Ask::Request("POST", "/phase", OFFICE, r#"{"phase":"choosing"}"#),
-    Ask::Request("PUT", "/choices", ANN, r#"{"projects":["P1","P2"]}"#),
-    Ask::Request("PUT", "/choices", BEA, r#"{"projects":["P1","P3"]}"#),
-    Ask::Request("PUT", "/choices", ANN, r#"{"projects":["P2","P1"]}"#),
-];
-
-/// A phase, a ranking and one that is replaced, what is missing filled, and the publication.
-pub(crate) const RANKING: &[Ask] = &[
-    Ask::Request("POST", "/phase", OFFICE, r#"{"phase":"ranking"}"#),
-    Ask::Request("PUT", "/ranking", LEE, r#"{"students":["S1","S2"]}"#),
-    Ask::Request("PUT", "/ranking", LEE, r#"{"students":["S2","S1"]}"#),
-    Ask::Request("POST", "/ranking/fill", OFFICE, "{}"),
-    Ask::Request("POST", "/phase", OFFICE, r#"{"phase":"published"}"#),
-];
-
 /// Files of an empty database.
 pub(crate) fn blank(rt: &(impl Abort + AllocGlobal)) -> Image {
     let empty = Image {
@@ -388,19 +347,19 @@ pub(crate) fn blank(rt: &(impl Abort + AllocGlobal)) -> Image {
 }
 
 /// The files after these changes.
-fn after(rt: &(impl Abort + AllocGlobal), before: Image, asks: &[Ask]) -> Image {
+fn after(rt: &(impl Abort + AllocGlobal), before: Image, script: &str) -> Image {
     let mut image = before;
-    for ask in asks {
-        image = done(rt, &image, *ask);
+    for line in lines(rt.alloc(), script).expect(rt, "memory") {
+        image = done(rt, &image, &line);
     }
     image
 }
 
 /// The files after these parts of a year.
-pub(crate) fn files_after(rt: &(impl Abort + AllocGlobal), played: &[&[Ask]]) -> Image {
+pub(crate) fn files_after(rt: &(impl Abort + AllocGlobal), played: &[&str]) -> Image {
     let mut image = blank(rt);
-    for part in played {
-        image = after(rt, image, part);
+    for script in played {
+        image = after(rt, image, script);
     }
     image
 }
@@ -410,14 +369,14 @@ fn case_of(
     rt: &(impl Abort + AllocGlobal),
     before: Image,
     shown_before: Sight,
-    ask: Ask,
+    line: &Line,
 ) -> (Case, Image) {
-    let after = done(rt, &before, ask);
+    let after = done(rt, &before, line);
     let shown_after = shown(rt, &after);
     assert!(rt; shown_after != shown_before);
     let case = Case {
         before,
-        ask,
+        text: line.text.to_string(rt.alloc()).expect(rt, "memory"),
         shown_before,
         shown_after,
     };
@@ -425,12 +384,13 @@ fn case_of(
 }
 
 /// Each of these changes meets the fault at each of its calls; how often in all.
-fn meets(rt: &(impl Abort + AllocGlobal), fault: Fault, before: Image, asks: &[Ask]) -> u64 {
+fn meets(rt: &(impl Abort + AllocGlobal), fault: Fault, before: Image, scripts: &[&str]) -> u64 {
     let mut shown_before = shown(rt, &before);
     let mut image = before;
     let mut count = 0u64;
-    for ask in asks {
-        let (case, after) = case_of(rt, image, shown_before, *ask);
+    let script = scripts.concat(rt.alloc()).expect(rt, "memory");
+    for line in lines(rt.alloc(), script.as_str()).expect(rt, "memory") {
+        let (case, after) = case_of(rt, image, shown_before, &line);
         count = count.saturating_add(faults_of(rt, &case, fault));
         shown_before = case.shown_after;
         image = after;
@@ -442,27 +402,28 @@ fn meets(rt: &(impl Abort + AllocGlobal), fault: Fault, before: Image, asks: &[A
 pub(crate) fn comes(
     rt: &(impl Abort + AllocGlobal),
     fault: Fault,
-    played: &[&[Ask]],
-    asks: &[Ask],
+    played: &[&str],
+    scripts: &[&str],
     least: u64,
 ) {
-    let count = meets(rt, fault, files_after(rt, played), asks);
+    let count = meets(rt, fault, files_after(rt, played), scripts);
     assert!(rt; count >= least, "{count} times");
 }
 
 /// So often at least the fault comes in setup.
 fn comes_in_setup(rt: &(impl Abort + AllocGlobal), fault: Fault, least: u64) {
-    comes(rt, fault, &[], SETUP, least);
+    comes(rt, fault, &[], &[INIT, "\n", SETUP], least);
 }
 
 /// So often at least the fault comes in choosing.
 fn comes_in_choosing(rt: &(impl Abort + AllocGlobal), fault: Fault, least: u64) {
-    comes(rt, fault, &[SETUP], CHOOSING, least);
+    comes(rt, fault, &[INIT, SETUP], &[CHOOSING], least);
 }
 
 /// So often at least the fault comes in ranking.
 fn comes_in_ranking(rt: &(impl Abort + AllocGlobal), fault: Fault, least: u64) {
-    comes(rt, fault, &[SETUP, CHOOSING], RANKING, least);
+    let played = [INIT, SETUP, CHOOSING];
+    comes(rt, fault, &played, &[RANKING, PUBLICATION], least);
 }
 
 #[test]
@@ -529,8 +490,7 @@ fn a_read_fails_in_ranking(rt: HostRuntime) {
 fn earlier(rt: &(impl Abort + AllocGlobal)) -> Image {
     let plan = Plan::new(Fault::Stop);
     let mut conn = connected(rt, &blank(rt), &plan, TIGHT);
-    conn.execute_batch(version1::PUBLISHED)
-        .expect(rt, "statements");
+    run_all(&mut conn, IN_PUBLISHED).expect(rt, "statements");
     left_of(rt, conn).0
 }
 
@@ -538,9 +498,9 @@ fn earlier(rt: &(impl Abort + AllocGlobal)) -> Image {
 fn comes_in_an_upgrade(rt: &(impl Abort + AllocGlobal), fault: Fault, least: u64) {
     let before = earlier(rt);
     let found = shown(rt, &before);
-    let after = shown(rt, &done(rt, &before, Ask::Upgrade));
+    let after = shown(rt, &done(rt, &before, &Line::new(UPGRADE)));
     assert!(rt; !found.is_current && after.is_current && found.text == after.text);
-    let count = meets(rt, fault, before, &[Ask::Upgrade]);
+    let count = meets(rt, fault, before, &[UPGRADE]);
     assert!(rt; count >= least, "{count} times");
 }
 
@@ -564,13 +524,14 @@ fn a_read_fails_in_an_upgrade(rt: HostRuntime) {
     comes_in_an_upgrade(&rt, Fault::Read, 15);
 }
 
-/// Why the serving of these bytes stopped early, and what was written.
+/// Why the serving of a line's request stopped early, and what was written.
 pub(crate) fn stopped<K: Keeper>(
     rt: &(impl Abort + AllocGlobal),
     desk: &mut Desk<K>,
-    bytes: &[u8],
+    line: &Line,
 ) -> (Option<Cause>, Vec<u8>) {
-    let mut source = Counted::new(bytes);
+    let request = line.request(rt.alloc()).expect(rt, "memory");
+    let mut source = Counted::new(request.as_bytes());
     let mut sink = Counted::new(Vec::new(rt.alloc()));
     let cause = match desk.serve(rt.alloc(), &mut source, &mut sink) {
         Ok(_) => None,
@@ -579,45 +540,36 @@ pub(crate) fn stopped<K: Keeper>(
     (cause, sink.into_inner())
 }
 
-/// The reply is 503, the serving stops for the store, and the desk says that it has failed.
-fn is_dead<K: Keeper>(rt: &(impl Abort + AllocGlobal), desk: &mut Desk<K>, ask: &str) {
-    let (cause, reply) = stopped(rt, desk, ask.as_bytes());
-    assert_eq!(rt; cause, Some(Cause::Store));
-    assert!(rt; reply.starts_with(b"HTTP/1.1 503"));
-    assert!(rt; desk.failed());
+/// The reply to each line is 503, the serving stops for the store, and the desk says that it has
+/// failed.
+fn is_dead<K: Keeper>(rt: &(impl Abort + AllocGlobal), desk: &mut Desk<K>, script: &str) {
+    for line in lines(rt.alloc(), script).expect(rt, "memory") {
+        let (cause, reply) = stopped(rt, desk, &line);
+        assert_eq!(rt; cause, Some(Cause::Store));
+        assert!(rt; reply.starts_with(b"HTTP/1.1 503"));
+        assert!(rt; desk.failed());
+    }
 }
 
 /// A disk that fails at a change, behind these parts of a year: from then on the desk serves
 /// nobody.
-pub(crate) fn dies(
-    rt: &(impl Abort + AllocGlobal),
-    fault: Fault,
-    played: &[&[Ask]],
-    change: (&str, &str, &str, &str),
-) {
-    let change = request(rt, change);
+pub(crate) fn dies(rt: &(impl Abort + AllocGlobal), fault: Fault, played: &[&str], change: &str) {
     let image = files_after(rt, played);
     let plan = Plan::new(fault);
     let mut desk = desk_over(rt, connected(rt, &image, &plan, TIGHT));
-    let (cause, _) = stopped(
-        rt,
-        &mut desk,
-        request(rt, ("GET", "/status", OFFICE, "")).as_bytes(),
-    );
+    let (cause, _) = stopped(rt, &mut desk, &Line::new("office  GET /status"));
     assert_eq!(rt; cause, None);
     assert!(rt; !desk.failed());
     plan.arm(0);
-    is_dead(rt, &mut desk, &change);
-    for (path, code) in SEEN {
-        is_dead(rt, &mut desk, &request(rt, ("GET", path, code, "")));
-    }
-    is_dead(rt, &mut desk, &change);
+    is_dead(rt, &mut desk, change);
+    is_dead(rt, &mut desk, SEEN);
+    is_dead(rt, &mut desk, change);
     let _left = left_of(rt, desk.into_keeper().into_connection());
 }
 
 #[test]
 fn a_store_that_failed_is_served_no_more(rt: HostRuntime) {
-    let change = ("POST", "/phase", OFFICE, r#"{"phase":"choosing"}"#);
-    dies(&rt, Fault::Stop, &[SETUP], change);
-    dies(&rt, Fault::Refusal, &[SETUP], change);
+    let change = r#"office  POST /phase {"phase":"choosing"}"#;
+    dies(&rt, Fault::Stop, &[INIT, SETUP], change);
+    dies(&rt, Fault::Refusal, &[INIT, SETUP], change);
 }

@@ -1,5 +1,6 @@
 //! Words, readers and writers that fail.
 
+use portal_fixtures::cut;
 use portal_run::run;
 use std::io::{Read, Write};
 use std::test::Fail;
@@ -98,102 +99,58 @@ impl Write for Buffered {
     }
 }
 
-/// What a command hands on for an input, and its status.
-fn handed_on(rt: &HostRuntime, words: &[&str], input: &[u8]) -> (u8, Vec<u8>) {
+/// The command, with a file if it has one, prints this first, and flushes it.
+fn flushes(rt: &HostRuntime, command: &str, input: &[u8], status: u8, said: &str) {
+    let (name, file) = cut(command, " ");
+    let alone = ["portal", name];
+    let with_file = ["portal", name, file];
+    let words = match file {
+        "" => alone.as_slice(),
+        _ => with_file.as_slice(),
+    };
     let mut out = Buffered {
         held: Vec::new(rt.alloc()),
         handed_on: Vec::new(rt.alloc()),
     };
     let mut input = input;
-    let status = run(rt, words, &mut input, &mut out);
-    (status, out.handed_on)
+    assert!(rt; run(rt, words, &mut input, &mut out) == status, "{command}");
+    assert!(rt; out.handed_on.starts_with(said.as_bytes()), "{command}");
 }
 
 #[test]
 fn what_is_printed_is_flushed(rt: HostRuntime) -> Result<(), Fail> {
+    let none = b"".as_slice();
+    let office = b"office-code-0\n".as_slice();
     let asks = b"GET /me HTTP/1.1\r\nHost: h\r\nConnection: close\r\n\r\n".as_slice();
-    for (words, input, want, said) in [
-        (
-            ["portal", "check"].as_slice(),
-            super::HEADER,
-            0,
-            "blocking 0\n",
-        ),
-        (
-            ["portal", "solve"].as_slice(),
-            super::HEADER,
-            0,
-            "assigned 0 unassigned 0\n",
-        ),
-        (
-            ["portal", "check"].as_slice(),
-            b"".as_slice(),
-            2,
-            "refused no_header\n",
-        ),
-        (
-            ["portal", "check", "no-such-file"].as_slice(),
-            b"".as_slice(),
-            3,
-            "fault read\n",
-        ),
-        (
-            ["portal", "upgrade", "no-such-file"].as_slice(),
-            b"".as_slice(),
-            2,
-            "refused not_portal\n",
-        ),
-        (
-            ["portal", "init", "flushed.db"].as_slice(),
-            b"office-code-0\n".as_slice(),
-            0,
-            "made\n",
-        ),
-        (
-            ["portal", "pipe", "flushed.db"].as_slice(),
-            asks,
-            0,
-            "HTTP/1.1 403 Forbidden\r\n",
-        ),
-        (
-            ["portal", "report", "flushed.db"].as_slice(),
-            b"".as_slice(),
-            0,
-            "phase           setup\n",
-        ),
-    ] {
-        let (status, bytes) = handed_on(&rt, words, input);
-        assert!(rt; status == want, "{words:?}");
-        assert!(rt; bytes.starts_with(said.as_bytes()), "{words:?}");
-    }
+    flushes(&rt, "check", super::HEADER, 0, "blocking 0\n");
+    flushes(&rt, "solve", super::HEADER, 0, "assigned 0 unassigned 0\n");
+    flushes(&rt, "check", none, 2, "refused no_header\n");
+    flushes(&rt, "check no-such-file", none, 3, "fault read\n");
+    flushes(&rt, "upgrade no-such-file", none, 2, "refused not_portal\n");
+    flushes(&rt, "init flushed.db", office, 0, "made\n");
+    flushes(&rt, "pipe flushed.db", asks, 0, "HTTP/1.1 403 Forbidden");
+    flushes(&rt, "report flushed.db", none, 0, "phase           setup\n");
     fs::remove_file(&rt, "flushed.db")?;
     Ok(())
 }
 
+/// The command prints this although its first read is interrupted.
+fn asks_again(rt: &HostRuntime, words: &[&str], bytes: &'static [u8], said: &str) {
+    let mut input = Interrupted {
+        bytes,
+        at: 0,
+        is_interrupted: false,
+    };
+    let mut out = Vec::new(rt.alloc());
+    assert!(rt; run(rt, words, &mut input, &mut out) == 0, "{words:?}");
+    assert!(rt; out.as_slice() == said.as_bytes(), "{words:?}");
+}
+
 #[test]
 fn an_interrupted_read_of_input_is_asked_again(rt: HostRuntime) -> Result<(), Fail> {
-    for (words, bytes, said) in [
-        (
-            ["portal", "check"].as_slice(),
-            super::HEADER,
-            b"blocking 0\n".as_slice(),
-        ),
-        (
-            ["portal", "init", "interrupted.db"].as_slice(),
-            b"office-code-0\n".as_slice(),
-            b"made\n".as_slice(),
-        ),
-    ] {
-        let mut input = Interrupted {
-            bytes,
-            at: 0,
-            is_interrupted: false,
-        };
-        let mut out = Vec::new(rt.alloc());
-        let status = run(&rt, words, &mut input, &mut out);
-        assert!(rt; status == 0, "{words:?}");
-        assert!(rt; out.as_slice() == said, "{words:?}");
-    }
+    let office = b"office-code-0\n".as_slice();
+    asks_again(&rt, &["portal", "check"], super::HEADER, "blocking 0\n");
+    asks_again(&rt, &["portal", "init", "interrupted.db"], office, "made\n");
     fs::remove_file(&rt, "interrupted.db")?;
     Ok(())
 }
@@ -225,25 +182,22 @@ fn flush_fails(rt: HostRuntime) {
     assert!(rt; out.taken.as_slice() == b"blocking 0\nfault write\n".as_slice());
 }
 
-#[test]
-fn file_is_missing(rt: HostRuntime) -> Result<(), Fail> {
+/// A file that cannot be read is a fault.
+fn is_unread(rt: &HostRuntime, file: &str) {
     let mut out = Vec::new(rt.alloc());
     let mut input = b"".as_slice();
-    let words = ["portal", "check", "no-such-folder/no-such-file"];
-    let status = run(&rt, &words, &mut input, &mut out);
-    assert!(rt; status == 3);
+    assert!(rt; run(rt, &["portal", "check", file], &mut input, &mut out) == 3);
     assert!(rt; out.as_slice() == b"fault read\n".as_slice());
-    Ok(())
 }
 
 #[test]
-fn file_is_a_folder(rt: HostRuntime) -> Result<(), Fail> {
-    let mut out = Vec::new(rt.alloc());
-    let mut input = b"".as_slice();
-    let status = run(&rt, &["portal", "check", "/"], &mut input, &mut out);
-    assert!(rt; status == 3);
-    assert!(rt; out.as_slice() == b"fault read\n".as_slice());
-    Ok(())
+fn file_is_missing(rt: HostRuntime) {
+    is_unread(&rt, "no-such-folder/no-such-file");
+}
+
+#[test]
+fn file_is_a_folder(rt: HostRuntime) {
+    is_unread(&rt, "/");
 }
 
 #[test]

@@ -1,6 +1,6 @@
 //! Files that are refused, each word once.
 
-use super::{HEADER, told};
+use super::{HEADER, told, wrong};
 use std::test::Fail;
 
 #[test]
@@ -28,90 +28,41 @@ fn unread(rt: HostRuntime) -> Result<(), Fail> {
     Ok(())
 }
 
+const NO_INSTANCE: &str = r#"
+2  refused bad_key row 1\n            L,L 1,1,\n
+2  refused key_twice row 2\n          L,L1,1,\nL,L1,1,\n
+2  refused bad_capacity row 1\n       L,L1,201,S1\nP,P1,1,L1\nP,P2,1,L1\nS,S1,,P1 P2\nM,S1,P2,\n
+2  refused no_such_lecturer row 1\n   P,P1,1,L1\n
+2  refused no_such_project row 1\n    S,S1,,P1\n
+2  refused repeat_in_list row 3\n     L,L1,1,S1\nP,P1,1,L1\nS,S1,,P1 P1\n
+2  refused not_applicant row 1\n      L,L1,1,S1 S9\nP,P1,1,L1\nP,P2,1,L1\nS,S1,,P1 P2\nM,S1,P2,\n
+2  refused applicant_missing row 1\n  L,L1,1,\nP,P1,1,L1\nP,P2,1,L1\nS,S1,,P1 P2\nM,S1,P2,\n
+"#;
+
 #[test]
 fn no_instance(rt: HostRuntime) -> Result<(), Fail> {
-    for (records, out) in [
-        (
-            b"L,L 1,1,\n".as_slice(),
-            b"refused bad_key row 1\n".as_slice(),
-        ),
-        (
-            b"L,L1,1,\nL,L1,1,\n".as_slice(),
-            b"refused key_twice row 2\n".as_slice(),
-        ),
-        (
-            b"L,L1,201,S1\nP,P1,1,L1\nP,P2,1,L1\nS,S1,,P1 P2\nM,S1,P2,\n".as_slice(),
-            b"refused bad_capacity row 1\n".as_slice(),
-        ),
-        (
-            b"P,P1,1,L1\n".as_slice(),
-            b"refused no_such_lecturer row 1\n".as_slice(),
-        ),
-        (
-            b"S,S1,,P1\n".as_slice(),
-            b"refused no_such_project row 1\n".as_slice(),
-        ),
-        (
-            b"L,L1,1,S1\nP,P1,1,L1\nS,S1,,P1 P1\n".as_slice(),
-            b"refused repeat_in_list row 3\n".as_slice(),
-        ),
-        (
-            b"L,L1,1,S1 S9\nP,P1,1,L1\nP,P2,1,L1\nS,S1,,P1 P2\nM,S1,P2,\n".as_slice(),
-            b"refused not_applicant row 1\n".as_slice(),
-        ),
-        (
-            b"L,L1,1,\nP,P1,1,L1\nP,P2,1,L1\nS,S1,,P1 P2\nM,S1,P2,\n".as_slice(),
-            b"refused applicant_missing row 1\n".as_slice(),
-        ),
-    ] {
-        let (status, got) = told(&rt, "check", HEADER, records)?;
-        assert!(rt; status == 2, "{records:?}");
-        assert!(rt; got.as_slice() == out, "{records:?}");
-    }
+    assert_eq!(rt; wrong(&rt, "check", "", NO_INSTANCE)?.as_str(), "");
     Ok(())
 }
 
+/// Pairs that are refused behind a lecturer, a project and three students.
+const NO_MATCHING: &str = r#"
+2  refused pair_no_student row 6\n  M,S9,P1,\n
+2  refused pair_no_project row 6\n  M,S1,P9,\n
+2  refused student_twice row 7\n    M,S1,P1,\nM,S1,P1,\n
+2  refused lecturer_over row 8\n    M,S1,P1,\nM,S2,P1,\nM,S3,P1,\n
+"#;
+
+const NO_PAIR: &str = r#"
+2  refused pair_not_acceptable row 5\n  L,L1,1,S1\nP,P1,1,L1\nP,P2,1,L1\nS,S1,,P1\nM,S1,P2,\n
+2  refused student_twice row 6\n        L,L1,1,S1\nP,P1,1,L1\nP,P2,1,L1\nS,S1,,P1 P2\nM,S1,P2,\nM,S1,P1,\n
+"#;
+
 #[test]
 fn no_matching(rt: HostRuntime) -> Result<(), Fail> {
-    let rows = b"L,L1,2,S3 S1 S2\nP,P1,5,L1\nS,S1,,P1\nS,S2,,P1\nS,S3,,P1\n";
-    for (pairs, out) in [
-        (
-            b"M,S9,P1,\n".as_slice(),
-            b"refused pair_no_student row 6\n".as_slice(),
-        ),
-        (
-            b"M,S1,P9,\n".as_slice(),
-            b"refused pair_no_project row 6\n".as_slice(),
-        ),
-        (
-            b"M,S1,P1,\nM,S1,P1,\n".as_slice(),
-            b"refused student_twice row 7\n".as_slice(),
-        ),
-        (
-            b"M,S1,P1,\nM,S2,P1,\nM,S3,P1,\n".as_slice(),
-            b"refused lecturer_over row 8\n".as_slice(),
-        ),
-    ] {
-        let mut records = Vec::from_slice(rt.alloc(), rows)?;
-        records.extend_from_slice(pairs)?;
-        let (status, got) = told(&rt, "check", HEADER, &records)?;
-        assert!(rt; status == 2, "{pairs:?}");
-        assert!(rt; got.as_slice() == out, "{pairs:?}");
-    }
-    for (records, out) in [
-        (
-            b"L,L1,1,S1\nP,P1,1,L1\nP,P2,1,L1\nS,S1,,P1\nM,S1,P2,\n".as_slice(),
-            b"refused pair_not_acceptable row 5\n".as_slice(),
-        ),
-        (
-            b"L,L1,1,S1\nP,P1,1,L1\nP,P2,1,L1\nS,S1,,P1 P2\nM,S1,P2,\nM,S1,P1,\n".as_slice(),
-            b"refused student_twice row 6\n".as_slice(),
-        ),
-    ] {
-        let (status, got) = told(&rt, "check", HEADER, records)?;
-        assert!(rt; status == 2, "{records:?}");
-        assert!(rt; got.as_slice() == out, "{records:?}");
-    }
+    let rows = "L,L1,2,S3 S1 S2\nP,P1,5,L1\nS,S1,,P1\nS,S2,,P1\nS,S3,,P1\n";
+    assert_eq!(rt; wrong(&rt, "check", rows, NO_MATCHING)?.as_str(), "");
+    assert_eq!(rt; wrong(&rt, "check", "", NO_PAIR)?.as_str(), "");
     Ok(())
 }
 

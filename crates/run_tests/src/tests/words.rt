@@ -1,114 +1,71 @@
 //! What the words ask for.
 
+use portal_fixtures::cut;
 use portal_words::{Asked, Command, command_of};
 use std::process::Abort;
 use std::test::Fail;
 
-#[test]
-fn commands(rt: HostRuntime) -> Result<(), Fail> {
+/// The command that words ask for: its name with its file, or the port and the number of connections.
+fn asked(rt: &(impl Abort + AllocGlobal), words: &[&str]) -> String {
     let alloc = rt.alloc();
-    assert!(rt;
-        matches!(
-            command_of(alloc, &["portal", "check"])?,
-            Asked::Do(Command::Check(None))
-        )
-    );
-    assert!(rt;
-        matches!(
-            command_of(alloc, &["portal", "solve", "a.csv"])?,
-            Asked::Do(Command::Solve(Some("a.csv")))
-        )
-    );
-    assert!(rt;
-        matches!(
-            command_of(alloc, &["portal", "init", "year.db"])?,
-            Asked::Do(Command::Init("year.db"))
-        )
-    );
-    assert!(rt;
-        matches!(
-            command_of(alloc, &["portal", "pipe", "year.db"])?,
-            Asked::Do(Command::Pipe("year.db"))
-        )
-    );
-    assert!(rt;
-        matches!(
-            command_of(alloc, &["portal", "report", "year.db"])?,
-            Asked::Do(Command::Report("year.db"))
-        )
-    );
-    assert!(rt;
-        matches!(
-            command_of(alloc, &["portal", "upgrade", "year.db"])?,
-            Asked::Do(Command::Upgrade("year.db"))
-        )
-    );
-    Ok(())
+    let Ok(Asked::Do(command)) = command_of(alloc, words) else {
+        return format!(in alloc; "none").expect(rt, "memory");
+    };
+    let told = match command {
+        Command::Check(file) => format!(in alloc; "check {}", file.unwrap_or("none")),
+        Command::Solve(file) => format!(in alloc; "solve {}", file.unwrap_or("none")),
+        Command::Init(file) => format!(in alloc; "init {file}"),
+        Command::Pipe(file) => format!(in alloc; "pipe {file}"),
+        Command::Report(file) => format!(in alloc; "report {file}"),
+        Command::Upgrade(file) => format!(in alloc; "upgrade {file}"),
+        Command::Serve {
+            port,
+            connections,
+            ..
+        } => format!(in alloc; "{port} {connections}"),
+    };
+    told.expect(rt, "memory")
 }
 
-/// The port and the number of connections that words ask for.
-fn asked(rt: &(impl Abort + AllocGlobal), words: &[&'static str]) -> Option<(u16, u32)> {
-    match command_of(rt.alloc(), words) {
-        Ok(
-            Asked::Do(
-                Command::Serve {
-                    port,
-                    connections,
-                    ..
-                },
-            ),
-        ) => Some((port, connections)),
-        _ => None,
+/// The words of each row ask for what it says.
+fn are_asked(rt: &(impl Abort + AllocGlobal), rows: &str) {
+    for row in rows.lines().skip(1) {
+        let (words, wanted) = cut(row, "  ");
+        let words = words.split_whitespace().collect(rt.alloc());
+        let words: Vec<&str> = words.expect(rt, "memory");
+        let found = asked(rt, words.as_slice());
+        assert_eq!(rt; found.as_str(), wanted.trim_start(), "{row}");
     }
 }
+
+const COMMANDS: &str = r#"
+portal check            check none
+portal solve a.csv      solve a.csv
+portal init year.db     init year.db
+portal pipe year.db     pipe year.db
+portal report year.db   report year.db
+portal upgrade year.db  upgrade year.db
+"#;
+
+#[test]
+fn commands(rt: HostRuntime) {
+    are_asked(&rt, COMMANDS);
+}
+
+const SERVES: &str = r#"
+portal serve a --port 80                       80 1000
+portal serve --port=65535 a                    65535 1000
+portal serve a --port 1 --connections 1000000  1 1000000
+portal serve a                                 none
+portal serve a --port 0                        none
+portal serve a --port 65536                    none
+portal serve a --port 1 --connections 0        none
+portal serve a --port 1 --connections 1000001  none
+"#;
 
 #[test]
 fn ports(rt: HostRuntime) {
-    for (words, want) in [
-        (
-            ["portal", "serve", "a", "--port", "80"].as_slice(),
-            Some((80, 1000)),
-        ),
-        (
-            ["portal", "serve", "--port=65535", "a"].as_slice(),
-            Some((65535, 1000)),
-        ),
-        (
-            [
-                "portal",
-                "serve",
-                "a",
-                "--port",
-                "1",
-                "--connections",
-                "1000000",
-            ]
-            .as_slice(),
-            Some((1, 1_000_000)),
-        ),
-        (["portal", "serve", "a"].as_slice(), None),
-        (["portal", "serve", "a", "--port", "0"].as_slice(), None),
-        (["portal", "serve", "a", "--port", "65536"].as_slice(), None),
-        (
-            ["portal", "serve", "a", "--port", "1", "--connections", "0"].as_slice(),
-            None,
-        ),
-        (
-            [
-                "portal",
-                "serve",
-                "a",
-                "--port",
-                "1",
-                "--connections",
-                "1000001",
-            ]
-            .as_slice(),
-            None,
-        ),
-    ] {
-        assert_eq!(rt; asked(&rt, words), want);
-    }
+    are_asked(&rt, SERVES);
 }
 
 #[test]

@@ -1,9 +1,9 @@
 //! A lecturer whom many students chose, in either round.
 
-use crate::tests::steps::{
-    LEE, LISTS, MOE, MemDesk, PUBLICATION, ROLLS, SECOND_OPENING, TO_RANKING, fresh, play_parts,
-};
+use crate::tests::steps::{new_desk, plays};
 use portal_core::{LecturerView, View};
+use portal_fixtures::worked::{LISTS, PUBLICATION, ROLLS, SECOND_OPENING, TO_RANKING};
+use portal_fixtures::{LEE, MOE, MemDesk};
 use portal_store::queries::view;
 use sqlite::types::ValueRef;
 use sqlite::{Connection, MemStore};
@@ -80,8 +80,8 @@ fn is_seen(
 
 #[test]
 fn a_crowd_is_seen_by_key(rt: HostRuntime) {
-    let mut desk = fresh(&rt);
-    play_parts(&rt, &mut desk, &[ROLLS]);
+    let mut desk = new_desk(&rt);
+    plays(&rt, &mut desk, &[ROLLS]);
     let statements = (
         "INSERT INTO choice (student, place, project) VALUES (?1, 1, 'P1')",
         "UPDATE portal SET phase = 2 WHERE id = 1",
@@ -91,9 +91,9 @@ fn a_crowd_is_seen_by_key(rt: HostRuntime) {
 
 #[test]
 fn a_crowd_of_the_second_round_is_seen_by_key(rt: HostRuntime) {
-    let mut desk = fresh(&rt);
+    let mut desk = new_desk(&rt);
     let parts = [ROLLS, LISTS, TO_RANKING, PUBLICATION, SECOND_OPENING];
-    play_parts(&rt, &mut desk, &parts);
+    plays(&rt, &mut desk, &parts);
     let statements = (
         "INSERT INTO choice2 (student, place, project) VALUES (?1, 1, 'P3')",
         "UPDATE second SET phase = 2 WHERE id = 1",

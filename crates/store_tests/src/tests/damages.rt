@@ -1,344 +1,169 @@
 //! Databases that were changed by others, and are opened again.
 
-use crate::tests::steps::{
-    ANN, LISTS, MemDesk, PUBLICATION, ROLLS, Step, TO_RANKING, fresh, play_parts,
-};
-use crate::tests::version1;
+use crate::tests::steps::{database, new_desk, plays};
 use portal_core::{Phase, StudentView, View};
+use portal_fixtures::version1::run_all;
+use portal_fixtures::worked::{IN_CHOOSING, IN_PUBLISHED, IN_RANKING, IN_SETUP};
+use portal_fixtures::{ANN, cut, version1};
 use portal_store::queries::view;
 use portal_store::{NotOpened, OpenFault, Store, UpgradeFault};
 use sqlite::{Connection, MemStore};
 use std::process::Abort;
 
-/// The statements run on the database of a desk.
-fn changed(
-    rt: &(impl Abort + AllocGlobal),
-    desk: MemDesk,
-    statements: &str,
-) -> Connection<MemStore> {
-    let mut conn = desk.into_keeper().into_connection();
-    version1::run_all(rt, &mut conn, &[statements]);
-    conn
-}
-
-/// How the database is answered when it is opened again.
-fn opened(rt: &(impl Abort + AllocGlobal), conn: Connection<MemStore>) -> Option<OpenFault> {
-    if !conn.is_autocommit() {
-        rt.abort();
-    }
+/// The word for how the database is answered when it is opened.
+fn opened(rt: &(impl Abort + AllocGlobal), conn: Connection<MemStore>) -> &'static str {
+    assert!(rt; conn.is_autocommit());
     match Store::open(rt.alloc(), conn) {
         Ok(store) => {
             let _conn = store.into_connection();
-            None
+            "good"
         }
         Err(
             NotOpened {
                 fault,
                 connection: _,
             },
-        ) => Some(fault),
+        ) => match fault {
+            OpenFault::NotPortal => "not_portal",
+            OpenFault::OtherVersion => "other_version",
+            OpenFault::Damaged => "damaged",
+            OpenFault::Store => "store",
+            OpenFault::Memory => "memory",
+        },
     }
 }
 
-/// How an upgrade of the database is answered.
-fn upgraded(rt: &(impl Abort + AllocGlobal), conn: Connection<MemStore>) -> Option<UpgradeFault> {
-    if !conn.is_autocommit() {
-        rt.abort();
-    }
+/// The word for how an upgrade of it is answered.
+fn upgraded(rt: &(impl Abort + AllocGlobal), conn: Connection<MemStore>) -> &'static str {
+    assert!(rt; conn.is_autocommit());
     match Store::upgrade(rt.alloc(), conn) {
         Ok(store) => {
             let _conn = store.into_connection();
-            None
+            "good"
         }
         Err(
             NotOpened {
                 fault,
                 connection: _,
             },
-        ) => Some(fault),
+        ) => match fault {
+            UpgradeFault::NotPortal => "not_portal",
+            UpgradeFault::OtherVersion => "other_version",
+            UpgradeFault::Damaged => "damaged",
+            UpgradeFault::Exists => "exists",
+            UpgradeFault::Store => "store",
+            UpgradeFault::Memory => "memory",
+        },
     }
 }
 
-const IN_SETUP: &[&[Step]] = &[ROLLS];
-
-const IN_CHOOSING: &[&[Step]] = &[ROLLS, LISTS];
-
-const IN_RANKING: &[&[Step]] = &[ROLLS, LISTS, TO_RANKING];
-
-const IN_PUBLISHED: &[&[Step]] = &[ROLLS, LISTS, TO_RANKING, PUBLICATION];
-
-const SETUP_TEXTS: &[&str] = &[version1::TABLES, version1::ROLLS];
-
-const CHOOSING_TEXTS: &[&str] = &[version1::TABLES, version1::ROLLS, version1::LISTS];
-
-const RANKING_TEXTS: &[&str] = &[
-    version1::TABLES,
-    version1::ROLLS,
-    version1::LISTS,
-    version1::TO_RANKING,
-];
-
-/// How far a year has gone.
-#[derive(Clone, Copy)]
-enum Year {
-    Setup,
-    Choosing,
-    Ranking,
-    Published,
-}
-
-impl Year {
-    /// What is played until then.
-    fn played(self) -> &'static [&'static [Step]] {
-        match self {
-            Year::Setup => IN_SETUP,
-            Year::Choosing => IN_CHOOSING,
-            Year::Ranking => IN_RANKING,
-            Year::Published => IN_PUBLISHED,
-        }
-    }
-
-    /// The same as version 1 has it.
-    fn texts(self) -> &'static [&'static str] {
-        match self {
-            Year::Setup => SETUP_TEXTS,
-            Year::Choosing => CHOOSING_TEXTS,
-            Year::Ranking => RANKING_TEXTS,
-            Year::Published => version1::PUBLISHED,
-        }
-    }
-}
-
-/// A part of the year, the statements that change the tables, and the fault that the opener then
-/// tells, if any.
-type Damage = (Year, &'static str, Option<OpenFault>);
-
-/// Those that are told of tables of either version.
-const DAMAGES: &[Damage] = &[
-    (Year::Setup, "UPDATE portal SET id = 1", None),
-    (Year::Published, "UPDATE portal SET id = 1", None),
-    (
-        Year::Choosing,
-        "UPDATE choice SET place = 3 WHERE student = 'S1' AND place = 2",
-        Some(OpenFault::Damaged),
-    ),
-    (
-        Year::Published,
-        "UPDATE choice SET place = 3 WHERE student = 'S1' AND place = 2",
-        Some(OpenFault::Damaged),
-    ),
-    (
-        Year::Published,
-        "UPDATE student SET code = 'lee-code-01' WHERE key = 'S1'",
-        Some(OpenFault::Damaged),
-    ),
-    (
-        Year::Choosing,
-        "UPDATE portal SET phase = 0 WHERE id = 1",
-        Some(OpenFault::Damaged),
-    ),
-    (
-        Year::Choosing,
-        "UPDATE portal SET phase = 7 WHERE id = 1",
-        Some(OpenFault::Damaged),
-    ),
-    (
-        Year::Published,
-        "DELETE FROM ranking WHERE lecturer = 'L1' AND place = 2",
-        Some(OpenFault::Damaged),
-    ),
-    (
-        Year::Ranking,
-        "UPDATE lecturer SET ranked = 1 WHERE key = 'L1'; INSERT INTO ranking (lecturer, place, student) VALUES ('L1', 1, 'S1')",
-        Some(OpenFault::Damaged),
-    ),
-    (
-        Year::Published,
-        "UPDATE lecturer SET ranked = 0 WHERE key = 'L1'",
-        Some(OpenFault::Damaged),
-    ),
-    (
-        Year::Ranking,
-        "UPDATE student SET assigned = 'P1' WHERE key = 'S1'",
-        Some(OpenFault::Damaged),
-    ),
-    (
-        Year::Published,
-        "UPDATE student SET assigned = 'P3' WHERE key = 'S1'",
-        Some(OpenFault::Damaged),
-    ),
-    (
-        Year::Published,
-        "UPDATE student SET assigned = 'P1' WHERE key = 'S1'; UPDATE student SET assigned = 'P3' WHERE key = 'S2'",
-        Some(OpenFault::Damaged),
-    ),
-    (
-        Year::Setup,
-        "UPDATE student SET key = 'S 3' WHERE key = 'S3'",
-        Some(OpenFault::Damaged),
-    ),
-    (
-        Year::Published,
-        "DELETE FROM portal",
-        Some(OpenFault::NotPortal),
-    ),
-    (
-        Year::Published,
-        "UPDATE portal SET version = 3 WHERE id = 1",
-        Some(OpenFault::OtherVersion),
-    ),
-    (
-        Year::Choosing,
-        "UPDATE portal SET version = 0, phase = 0 WHERE id = 1",
-        Some(OpenFault::OtherVersion),
-    ),
-    (
-        Year::Setup,
-        "DROP TABLE ranking",
-        Some(OpenFault::NotPortal),
-    ),
-    (
-        Year::Setup,
-        "DROP TABLE ranking; UPDATE portal SET version = 7",
-        Some(OpenFault::NotPortal),
-    ),
-];
+/// How far the year has gone, how the tables are answered, and the statements that change them:
+/// those that are told of tables of either version.
+const DAMAGES: &str = r#"
+setup      good           UPDATE portal SET id = 1
+published  good           UPDATE portal SET id = 1
+choosing   damaged        UPDATE choice SET place = 3 WHERE student = 'S1' AND place = 2
+published  damaged        UPDATE choice SET place = 3 WHERE student = 'S1' AND place = 2
+published  damaged        UPDATE student SET code = 'lee-code-01' WHERE key = 'S1'
+choosing   damaged        UPDATE portal SET phase = 0 WHERE id = 1
+choosing   damaged        UPDATE portal SET phase = 7 WHERE id = 1
+published  damaged        DELETE FROM ranking WHERE lecturer = 'L1' AND place = 2
+ranking    damaged        UPDATE lecturer SET ranked = 1 WHERE key = 'L1'; INSERT INTO ranking (lecturer, place, student) VALUES ('L1', 1, 'S1')
+published  damaged        UPDATE lecturer SET ranked = 0 WHERE key = 'L1'
+ranking    damaged        UPDATE student SET assigned = 'P1' WHERE key = 'S1'
+published  damaged        UPDATE student SET assigned = 'P3' WHERE key = 'S1'
+published  damaged        UPDATE student SET assigned = 'P1' WHERE key = 'S1'; UPDATE student SET assigned = 'P3' WHERE key = 'S2'
+setup      damaged        UPDATE student SET key = 'S 3' WHERE key = 'S3'
+published  not_portal     DELETE FROM portal
+published  other_version  UPDATE portal SET version = 3 WHERE id = 1
+choosing   other_version  UPDATE portal SET version = 0, phase = 0 WHERE id = 1
+setup      not_portal     DROP TABLE ranking
+setup      not_portal     DROP TABLE ranking; UPDATE portal SET version = 7
+"#;
 
 /// Those that are told of tables of version 2.
-const LATER_DAMAGES: &[Damage] = &[
-    (
-        Year::Published,
-        "UPDATE portal SET version = 1 WHERE id = 1",
-        Some(OpenFault::OtherVersion),
-    ),
-    (
-        Year::Published,
-        "DROP TABLE choice2; UPDATE portal SET version = 1",
-        Some(OpenFault::OtherVersion),
-    ),
-    (
-        Year::Published,
-        "DROP TABLE second",
-        Some(OpenFault::NotPortal),
-    ),
-    (
-        Year::Setup,
-        "DROP TABLE choice2",
-        Some(OpenFault::NotPortal),
-    ),
-    (
-        Year::Ranking,
-        "DROP TABLE ranked2",
-        Some(OpenFault::NotPortal),
-    ),
-    (
-        Year::Ranking,
-        "DROP TABLE ranking2",
-        Some(OpenFault::NotPortal),
-    ),
-    (
-        Year::Published,
-        "DROP TABLE assigned2",
-        Some(OpenFault::NotPortal),
-    ),
-    (
-        Year::Choosing,
-        "DROP TABLE assigned2; UPDATE portal SET phase = 0",
-        Some(OpenFault::NotPortal),
-    ),
-    (
-        Year::Published,
-        "DELETE FROM second",
-        Some(OpenFault::Damaged),
-    ),
-    (Year::Setup, "DELETE FROM second", Some(OpenFault::Damaged)),
-    (
-        Year::Setup,
-        "UPDATE second SET phase = 1",
-        Some(OpenFault::Damaged),
-    ),
-    (
-        Year::Choosing,
-        "UPDATE second SET phase = 2",
-        Some(OpenFault::Damaged),
-    ),
-    (
-        Year::Ranking,
-        "UPDATE second SET phase = 3",
-        Some(OpenFault::Damaged),
-    ),
-    (
-        Year::Published,
-        "INSERT INTO choice2 (student, place, project) VALUES ('S3', 1, 'P3')",
-        Some(OpenFault::Damaged),
-    ),
-    (
-        Year::Published,
-        "INSERT INTO ranked2 (lecturer) VALUES ('L2')",
-        Some(OpenFault::Damaged),
-    ),
-    (
-        Year::Published,
-        "INSERT INTO ranking2 (lecturer, place, student) VALUES ('L2', 1, 'S3')",
-        Some(OpenFault::Damaged),
-    ),
-    (
-        Year::Published,
-        "INSERT INTO assigned2 (student, project) VALUES ('S3', 'P3')",
-        Some(OpenFault::Damaged),
-    ),
-];
+const LATER_DAMAGES: &str = r#"
+published  other_version  UPDATE portal SET version = 1 WHERE id = 1
+published  other_version  DROP TABLE choice2; UPDATE portal SET version = 1
+published  not_portal     DROP TABLE second
+setup      not_portal     DROP TABLE choice2
+ranking    not_portal     DROP TABLE ranked2
+ranking    not_portal     DROP TABLE ranking2
+published  not_portal     DROP TABLE assigned2
+choosing   not_portal     DROP TABLE assigned2; UPDATE portal SET phase = 0
+published  damaged        DELETE FROM second
+setup      damaged        DELETE FROM second
+setup      damaged        UPDATE second SET phase = 1
+choosing   damaged        UPDATE second SET phase = 2
+ranking    damaged        UPDATE second SET phase = 3
+published  damaged        INSERT INTO choice2 (student, place, project) VALUES ('S3', 1, 'P3')
+published  damaged        INSERT INTO ranked2 (lecturer) VALUES ('L2')
+published  damaged        INSERT INTO ranking2 (lecturer, place, student) VALUES ('L2', 1, 'S3')
+published  damaged        INSERT INTO assigned2 (student, project) VALUES ('S3', 'P3')
+"#;
 
-/// The tables of version 2, as they are played and then changed, are answered so when they are
-/// opened.
-fn is_answered(rt: &(impl Abort + AllocGlobal), damage: &Damage) {
-    let (year, statements, fault) = *damage;
-    let mut desk = fresh(rt);
-    play_parts(rt, &mut desk, year.played());
-    let conn = changed(rt, desk, statements);
-    let found = opened(rt, conn);
-    assert_eq!(rt; found, fault);
+/// The tables of version 2 in this part of a year.
+fn played(rt: &(impl Abort + AllocGlobal), year: &str) -> Connection<MemStore> {
+    let mut desk = new_desk(rt);
+    let scripts = match year {
+        "setup" => IN_SETUP,
+        "choosing" => IN_CHOOSING,
+        "ranking" => IN_RANKING,
+        _ => IN_PUBLISHED,
+    };
+    plays(rt, &mut desk, scripts);
+    desk.into_keeper().into_connection()
 }
 
-/// What an upgrade tells where an opening tells this.
-fn as_upgrade(fault: OpenFault) -> UpgradeFault {
-    match fault {
-        OpenFault::NotPortal => UpgradeFault::NotPortal,
-        OpenFault::OtherVersion => UpgradeFault::OtherVersion,
-        OpenFault::Damaged => UpgradeFault::Damaged,
-        OpenFault::Store => UpgradeFault::Store,
-        OpenFault::Memory => UpgradeFault::Memory,
+/// The tables of version 1.
+fn made(rt: &(impl Abort + AllocGlobal), year: &str) -> Connection<MemStore> {
+    let texts = match year {
+        "setup" => version1::IN_SETUP,
+        "choosing" => version1::IN_CHOOSING,
+        "ranking" => version1::IN_RANKING,
+        _ => version1::IN_PUBLISHED,
+    };
+    database(rt, texts)
+}
+
+/// The tables, changed as the row says, are answered as it says.
+fn is_answered(rt: &(impl Abort + AllocGlobal), row: &str, is_first: bool) {
+    let (year, rest) = cut(row, "  ");
+    let (wanted, statements) = cut(rest.trim_start(), "  ");
+    let mut conn = if is_first {
+        made(rt, year)
+    } else {
+        played(rt, year)
+    };
+    run_all(&mut conn, &[statements.trim_start()]).expect(rt, "statements");
+    let found = if is_first {
+        upgraded(rt, conn)
+    } else {
+        opened(rt, conn)
+    };
+    assert_eq!(rt; found, wanted, "{row}");
+}
+
+/// All rows are, of either version.
+fn are_answered(rt: &(impl Abort + AllocGlobal), rows: &str, is_first: bool) {
+    for row in rows.lines().skip(1) {
+        is_answered(rt, row, is_first);
     }
-}
-
-/// The tables of version 1, made and then changed by SQL, are answered so when they are upgraded.
-fn is_told(rt: &(impl Abort + AllocGlobal), damage: &Damage) {
-    let (year, statements, fault) = *damage;
-    let mut conn = version1::database(rt, year.texts());
-    version1::run_all(rt, &mut conn, &[statements]);
-    let found = upgraded(rt, conn);
-    assert_eq!(rt; found, fault.map(as_upgrade));
 }
 
 #[test]
 fn each_damage_is_told(rt: HostRuntime) {
-    for damage in DAMAGES {
-        is_answered(&rt, damage);
-    }
+    are_answered(&rt, DAMAGES, false);
 }
 
 #[test]
 fn each_damage_of_version_2_is_told(rt: HostRuntime) {
-    for damage in LATER_DAMAGES {
-        is_answered(&rt, damage);
-    }
+    are_answered(&rt, LATER_DAMAGES, false);
 }
 
 #[test]
 fn each_damage_is_told_by_an_upgrade(rt: HostRuntime) {
-    for damage in DAMAGES {
-        is_told(&rt, damage);
-    }
+    are_answered(&rt, DAMAGES, true);
 }
 
 /// The view is that of the first student in choosing, with a list of two.
@@ -367,9 +192,8 @@ const OF_OTHERS: &[&str] = &[
 #[test]
 fn a_view_reads_no_other_row(rt: HostRuntime) {
     for statements in OF_OTHERS {
-        let mut desk = fresh(&rt);
-        play_parts(&rt, &mut desk, Year::Choosing.played());
-        let mut conn = changed(&rt, desk, statements);
+        let mut conn = played(&rt, "choosing");
+        run_all(&mut conn, &[statements]).expect(&rt, "statements");
         assert!(rt; conn.is_autocommit());
         match view(rt.alloc(), &mut conn, ANN.as_bytes()).expect(&rt, "a view") {
             View::Student(student) => is_of_ann(&rt, &student),

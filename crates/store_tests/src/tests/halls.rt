@@ -1,6 +1,8 @@
 //! A connection of a socket on this machine, served over a database in memory.
 
-use crate::tests::steps::{MemDesk, ROLLS, fresh, play};
+use crate::tests::steps::{new_desk, plays};
+use portal_fixtures::MemDesk;
+use portal_fixtures::worked::ROLLS;
 use portal_serve::{Ended, Hall, serve_on};
 use std::io;
 use std::io::{Read, Write};
@@ -34,8 +36,8 @@ fn serve_one(rt: &HostRuntime, desk: &mut MemDesk) -> io::Result<(Hall, Vec<u8>)
 
 #[test]
 fn a_connection_of_a_socket(rt: HostRuntime) {
-    let mut desk = fresh(&rt);
-    play(&rt, &mut desk, ROLLS);
+    let mut desk = new_desk(&rt);
+    plays(&rt, &mut desk, &[ROLLS]);
     let (hall, text) = serve_one(&rt, &mut desk).expect(&rt, "a socket");
     assert_eq!(rt; text.as_slice(), FOUR_REPLIES.as_bytes());
     let wanted = Hall {

@@ -1,10 +1,9 @@
 //! A database that is closed and opened again, and one that is there already.
 
-use crate::tests::steps::{
-    ANN, LISTS, MemDesk, OFFICE, PUBLICATION, ROLLS, SECOND_LISTS, SECOND_OPENING,
-    SECOND_PUBLICATION, SECOND_TO_RANKING, Step, TO_RANKING, fresh, office_code, play,
-};
+use crate::tests::steps::{new_desk, new_office_code, plays};
 use portal_desk::Desk;
+use portal_fixtures::worked::TWO_ROUNDS;
+use portal_fixtures::{MemDesk, OFFICE};
 use portal_store::{CreateFault, NotOpened, Store};
 use sqlite::Connection;
 use std::process::Abort;
@@ -23,31 +22,13 @@ fn again(rt: &(impl Abort + AllocGlobal), desk: MemDesk) -> MemDesk {
     }
 }
 
-const RESULT: &[Step] = &[("GET", "/result", ANN, "", "200 OK", r#"{"project":"P2"}"#)];
-
-/// A year in two rounds, the first result of which is shown from then on.
-const YEAR: &[&[Step]] = &[
-    ROLLS,
-    LISTS,
-    TO_RANKING,
-    PUBLICATION,
-    RESULT,
-    SECOND_OPENING,
-    SECOND_LISTS,
-    RESULT,
-    SECOND_TO_RANKING,
-    RESULT,
-    SECOND_PUBLICATION,
-];
-
 #[test]
 fn a_year_over_connections_of_their_own(rt: HostRuntime) {
-    let mut desk = fresh(&rt);
-    for part in YEAR {
-        play(&rt, &mut desk, part);
+    let mut desk = new_desk(&rt);
+    for part in TWO_ROUNDS {
+        plays(&rt, &mut desk, &[part]);
         desk = again(&rt, desk);
     }
-    play(&rt, &mut desk, RESULT);
 }
 
 /// Why no store is made over a database that has this table.
@@ -57,7 +38,7 @@ fn refused(rt: &(impl Abort + AllocGlobal), statement: &str) -> Option<CreateFau
     if !conn.is_autocommit() {
         rt.abort();
     }
-    match Store::create(rt.alloc(), conn, office_code(rt)) {
+    match Store::create(rt.alloc(), conn, new_office_code(rt)) {
         Ok(store) => {
             let _conn = store.into_connection();
             None
@@ -81,7 +62,7 @@ fn a_table_of_the_name_is_there(rt: HostRuntime) {
 
 #[test]
 fn the_office_has_its_code(rt: HostRuntime) {
-    let mut store = Store::create_memory(rt.alloc(), office_code(&rt)).expect(&rt, "a store");
+    let mut store = Store::create_memory(rt.alloc(), new_office_code(&rt)).expect(&rt, "a store");
     let code = store.office_code(rt.alloc()).expect(&rt, "a code");
     assert_eq!(rt; code.as_bytes(), OFFICE.as_bytes());
     let _conn = store.into_connection();

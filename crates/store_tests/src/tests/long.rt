@@ -1,8 +1,9 @@
 //! Twenty of each, in one round or two, and a student who asks a thousand times.
 
-use crate::tests::steps::{OFFICE, asks, fresh, fresh_lists, reply, request, written};
+use crate::tests::steps::{new_desk, new_lists, plays};
 use portal_core::Keeper;
 use portal_desk::Desk;
+use portal_fixtures::{Line, written};
 use std::process::Abort;
 
 /// The numbers of the students, the projects and the lecturers.
@@ -10,6 +11,68 @@ const NUMBERS: [&str; 20] = [
     "01", "02", "03", "04", "05", "06", "07", "08", "09", "10", "11", "12", "13", "14", "15", "16",
     "17", "18", "19", "20",
 ];
+
+/// The first ten, and the others.
+const FIRST_TEN: [&str; 10] = ["01", "02", "03", "04", "05", "06", "07", "08", "09", "10"];
+
+const OTHER_TEN: [&str; 10] = ["11", "12", "13", "14", "15", "16", "17", "18", "19", "20"];
+
+/// The template once for each of the numbers, which stands where it has a `#`.
+fn each(rt: &(impl Abort + AllocGlobal), template: &str, numbers: &[&str]) -> String {
+    let mut text = String::new(rt.alloc());
+    for number in numbers {
+        let one = template
+            .replace(rt.alloc(), "#", number)
+            .expect(rt, "memory");
+        text.push_str(one.as_str()).expect(rt, "memory");
+    }
+    text
+}
+
+/// A line that loads a roll of twenty.
+fn loads(rt: &(impl Abort + AllocGlobal), request: &str, row: &str) -> String {
+    let rows = each(rt, row, &NUMBERS);
+    let line = format!(in rt.alloc(); "office  POST /rolls/{request}\\n{rows}  200 {ADDED}\n");
+    line.expect(rt, "memory")
+}
+
+const ADDED: &str = r#"{"added":20,"same":0}"#;
+
+/// The three rolls: each lecturer offers one project alone.
+fn loads_all<K: Keeper>(rt: &(impl Abort + AllocGlobal), desk: &mut Desk<K>) {
+    let lecturers = loads(
+        rt,
+        "lecturers id,name,code,capacity",
+        r"L#,L#,lect-code-#,1\n",
+    );
+    let projects = loads(rt, "projects id,lecturer,title,capacity", r"P#,L#,P#,1\n");
+    let students = loads(rt, "students id,name,code", r"S#,S#,stud-code-#\n");
+    let scripts = [lecturers.as_str(), projects.as_str(), students.as_str()];
+    plays(rt, desk, &scripts);
+}
+
+/// The office moves to this phase.
+fn moves<K: Keeper>(rt: &(impl Abort + AllocGlobal), desk: &mut Desk<K>, phase: &str) {
+    let line = format!(in rt.alloc(); "office  POST /phase {phase}  200 {phase}");
+    plays(rt, desk, &[line.expect(rt, "memory").as_str()]);
+}
+
+/// Each of these puts the same list.
+fn puts_all<K: Keeper>(
+    rt: &(impl Abort + AllocGlobal),
+    desk: &mut Desk<K>,
+    request: &str,
+    numbers: &[&str],
+    list: &str,
+) {
+    let line = format!(in rt.alloc(); "{request} {list}  200 {list}\n").expect(rt, "memory");
+    plays(rt, desk, &[each(rt, line.as_str(), numbers).as_str()]);
+}
+
+/// A student puts a list, and a lecturer a ranking.
+const CHOOSES: &str = "stud-code-#  PUT /choices";
+
+const RANKS: &str = "lect-code-#  PUT /ranking";
 
 /// Each list, and the reply to it.
 const LIST: &str =
@@ -19,114 +82,37 @@ const LIST: &str =
 const RANKING: &str =
     r#"{"students":["S01","S02","S03","S04","S05","S06","S07","S08","S09","S10","S11","S12","S13","S14","S15","S16","S17","S18","S19","S20"]}"#;
 
-/// A roll with this header, in whose rows each number stands in the gaps between the pieces.
-fn roll(rt: &(impl Abort + AllocGlobal), header: &str, pieces: [&str; 4]) -> String {
-    let mut text = String::new(rt.alloc());
-    text.push_str(header).expect(rt, "memory");
-    let [first, second, third, end] = pieces;
-    for number in NUMBERS {
-        let row = format!(in rt.alloc(); "{first}{number}{second}{number}{third}{number}{end}");
-        text.push_str(&row.expect(rt, "memory"))
-            .expect(rt, "memory");
-    }
-    text
-}
-
-/// The office loads a roll of twenty.
-fn loads<K: Keeper>(rt: &(impl Abort + AllocGlobal), desk: &mut Desk<K>, path: &str, text: &str) {
-    asks(
-        rt,
-        desk,
-        ("POST", path, OFFICE, text),
-        "200 OK",
-        r#"{"added":20,"same":0}"#,
-    );
-}
-
-/// The three rolls: each lecturer offers one project alone.
-fn loads_all<K: Keeper>(rt: &(impl Abort + AllocGlobal), desk: &mut Desk<K>) {
-    let lecturers = roll(
-        rt,
-        "id,name,code,capacity\n",
-        ["L", ",L", ",lect-code-", ",1\n"],
-    );
-    loads(rt, desk, "/rolls/lecturers", &lecturers);
-    let projects = roll(
-        rt,
-        "id,lecturer,title,capacity\n",
-        ["P", ",L", ",P", ",1\n"],
-    );
-    loads(rt, desk, "/rolls/projects", &projects);
-    let students = roll(rt, "id,name,code\n", ["S", ",S", ",stud-code-", "\n"]);
-    loads(rt, desk, "/rolls/students", &students);
-}
-
-/// The office moves to this phase.
-fn moves<K: Keeper>(rt: &(impl Abort + AllocGlobal), desk: &mut Desk<K>, phase: &str) {
-    asks(rt, desk, ("POST", "/phase", OFFICE, phase), "200 OK", phase);
-}
-
-/// Each of these puts the same list.
-fn puts_all<K: Keeper>(
-    rt: &(impl Abort + AllocGlobal),
-    desk: &mut Desk<K>,
-    path: &str,
-    code: &str,
-    numbers: &[&str],
-    list: &str,
-) {
-    for number in numbers {
-        let code = format!(in rt.alloc(); "{code}{number}").expect(rt, "memory");
-        asks(rt, desk, ("PUT", path, &code, list), "200 OK", list);
+/// The first student asks for the result 250 times on each of four connections.
+fn asks_on<K: Keeper>(rt: &(impl Abort + AllocGlobal), desk: &mut Desk<K>) {
+    let alloc = rt.alloc();
+    let line = Line::new(r#"stud-code-01  GET /result  200 {"project":"P01"}"#);
+    let asked = line.request(alloc).expect(rt, "memory");
+    let asked = asked.repeat(alloc, 250).expect(rt, "memory");
+    let wanted = line.reply(alloc).expect(rt, "memory");
+    let wanted = wanted.repeat(alloc, 250).expect(rt, "memory");
+    for _ in 0..4 {
+        let text = written(alloc, desk, asked.as_bytes());
+        assert!(rt; text.as_slice() == wanted.as_bytes());
     }
 }
 
 /// Each student has the project of the same number.
 fn have_all<K: Keeper>(rt: &(impl Abort + AllocGlobal), desk: &mut Desk<K>) {
-    for number in NUMBERS {
-        let code = format!(in rt.alloc(); "stud-code-{number}").expect(rt, "memory");
-        let answer = format!(in rt.alloc(); "{{\"project\":\"P{number}\"}}").expect(rt, "memory");
-        asks(rt, desk, ("GET", "/result", &code, ""), "200 OK", &answer);
-    }
-}
-
-/// A text so many times.
-fn repeated(rt: &(impl Abort + AllocGlobal), text: &str, times: u32) -> String {
-    let mut many = String::new(rt.alloc());
-    for _ in 0..times {
-        many.push_str(text).expect(rt, "memory");
-    }
-    many
-}
-
-/// The first student asks for the result 250 times on each of four connections.
-fn asks_on<K: Keeper>(rt: &(impl Abort + AllocGlobal), desk: &mut Desk<K>) {
-    let ask = request(rt, ("GET", "/result", "stud-code-01", ""));
-    let answer = reply(rt, "200 OK", r#"{"project":"P01"}"#);
-    let asked = repeated(rt, &ask, 250);
-    let wanted = repeated(rt, &answer, 250);
-    for _ in 0..4 {
-        let text = written(rt, desk, asked.as_bytes());
-        assert!(rt; text.as_slice() == wanted.as_bytes());
-    }
+    let line = "stud-code-#  GET /result  200 {\"project\":\"P#\"}\n";
+    plays(rt, desk, &[each(rt, line, &NUMBERS).as_str()]);
 }
 
 /// The whole run.
 fn runs<K: Keeper>(rt: &(impl Abort + AllocGlobal), desk: &mut Desk<K>) {
     loads_all(rt, desk);
     moves(rt, desk, r#"{"phase":"choosing"}"#);
-    puts_all(rt, desk, "/choices", "stud-code-", &NUMBERS, LIST);
+    puts_all(rt, desk, CHOOSES, &NUMBERS, LIST);
     moves(rt, desk, r#"{"phase":"ranking"}"#);
-    puts_all(rt, desk, "/ranking", "lect-code-", &NUMBERS, RANKING);
+    puts_all(rt, desk, RANKS, &NUMBERS, RANKING);
     moves(rt, desk, r#"{"phase":"published"}"#);
     asks_on(rt, desk);
     have_all(rt, desk);
 }
-
-/// The first ten, and the others.
-const FIRST_TEN: [&str; 10] = ["01", "02", "03", "04", "05", "06", "07", "08", "09", "10"];
-
-const OTHER_TEN: [&str; 10] = ["11", "12", "13", "14", "15", "16", "17", "18", "19", "20"];
 
 /// Each ranking of the first round, where ten alone choose.
 const FIRST_RANKING: &str =
@@ -144,21 +130,14 @@ const SECOND_RANKING: &str =
 fn runs_twice<K: Keeper>(rt: &(impl Abort + AllocGlobal), desk: &mut Desk<K>) {
     loads_all(rt, desk);
     moves(rt, desk, r#"{"phase":"choosing"}"#);
-    puts_all(rt, desk, "/choices", "stud-code-", &FIRST_TEN, LIST);
+    puts_all(rt, desk, CHOOSES, &FIRST_TEN, LIST);
     moves(rt, desk, r#"{"phase":"ranking"}"#);
-    puts_all(rt, desk, "/ranking", "lect-code-", &NUMBERS, FIRST_RANKING);
+    puts_all(rt, desk, RANKS, &NUMBERS, FIRST_RANKING);
     moves(rt, desk, r#"{"phase":"published"}"#);
     moves(rt, desk, r#"{"phase":"choosing","round":2}"#);
-    puts_all(rt, desk, "/choices", "stud-code-", &OTHER_TEN, SECOND_LIST);
+    puts_all(rt, desk, CHOOSES, &OTHER_TEN, SECOND_LIST);
     moves(rt, desk, r#"{"phase":"ranking","round":2}"#);
-    puts_all(
-        rt,
-        desk,
-        "/ranking",
-        "lect-code-",
-        &OTHER_TEN,
-        SECOND_RANKING,
-    );
+    puts_all(rt, desk, RANKS, &OTHER_TEN, SECOND_RANKING);
     moves(rt, desk, r#"{"phase":"published","round":2}"#);
     asks_on(rt, desk);
     have_all(rt, desk);
@@ -166,16 +145,12 @@ fn runs_twice<K: Keeper>(rt: &(impl Abort + AllocGlobal), desk: &mut Desk<K>) {
 
 #[test]
 fn a_long_run_of_two_rounds(rt: HostRuntime) {
-    let mut desk = fresh(&rt);
-    runs_twice(&rt, &mut desk);
-    let mut lists = fresh_lists(&rt);
-    runs_twice(&rt, &mut lists);
+    runs_twice(&rt, &mut new_desk(&rt));
+    runs_twice(&rt, &mut new_lists(&rt));
 }
 
 #[test]
 fn a_long_run(rt: HostRuntime) {
-    let mut desk = fresh(&rt);
-    runs(&rt, &mut desk);
-    let mut lists = fresh_lists(&rt);
-    runs(&rt, &mut lists);
+    runs(&rt, &mut new_desk(&rt));
+    runs(&rt, &mut new_lists(&rt));
 }

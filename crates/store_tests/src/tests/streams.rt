@@ -1,11 +1,12 @@
 //! Streams of requests to a desk, over a database in memory and over lists.
 
-use crate::tests::steps::{
-    LISTS, PUBLICATION, ROLLS, SECOND_PUBLICATION, SECOND_TO_RANKING, Step, TO_RANKING, fresh,
-    fresh_lists, play_parts, written,
-};
+use crate::tests::steps::{new_desk, new_lists, plays};
 use portal_core::Keeper;
 use portal_desk::{Counted, Desk};
+use portal_fixtures::worked::{
+    IN_CHOOSING, IN_PUBLISHED, IN_SETUP, SECOND_PUBLICATION, SECOND_TO_RANKING,
+};
+use portal_fixtures::written;
 use std::io;
 use std::io::Read;
 use std::process::Abort;
@@ -29,16 +30,12 @@ const SHEET_REPLIES: &str =
     "HTTP/1.1 200 OK\r\ncontent-type: text/csv; charset=utf-8\r\ncontent-length: 91\r\n\r\nstudent,name,project,title,lecturer\nS1,Ann,P2,Kites,L1\nS2,\"Roe, Bea\",P1,Tides,L1\nS3,Cyr,,,\nHTTP/1.1 200 OK\r\ncontent-type: text/plain; charset=utf-8\r\ncontent-length: 208\r\n\r\nS1                P2                L1\nS2                P1                L1\nS3                (none)\n\nP1                 1 of    1\nP2                 1 of    1\nP3                 0 of    1\n\nassigned 2 of 3\n";
 
 /// What is played, what a connection then brings, and what is written.
-type Served = (&'static [&'static [Step]], &'static str, &'static str);
+type Served = (&'static [&'static str], &'static str, &'static str);
 
 const SERVED: &[Served] = &[
-    (&[ROLLS], FOUR, FOUR_REPLIES),
+    (IN_SETUP, FOUR, FOUR_REPLIES),
     (&[], HEAD, HEAD_REPLIES),
-    (
-        &[ROLLS, LISTS, TO_RANKING, PUBLICATION],
-        SHEETS,
-        SHEET_REPLIES,
-    ),
+    (IN_PUBLISHED, SHEETS, SHEET_REPLIES),
     (
         &[],
         "GET /me HTTP/1.1\r\nHost: h\r\n",
@@ -94,8 +91,8 @@ fn dripped<K: Keeper>(
 /// A stream gets its output, in one piece and byte by byte.
 fn gives<K: Keeper>(rt: &(impl Abort + AllocGlobal), desk: &mut Desk<K>, served: &Served) {
     let (parts, bytes, output) = *served;
-    play_parts(rt, desk, parts);
-    let text = written(rt, desk, bytes.as_bytes());
+    plays(rt, desk, parts);
+    let text = written(rt.alloc(), desk, bytes.as_bytes());
     assert_eq!(rt; text.as_slice(), output.as_bytes());
     let text = dripped(rt, desk, bytes.as_bytes());
     assert_eq!(rt; text.as_slice(), output.as_bytes());
@@ -104,9 +101,9 @@ fn gives<K: Keeper>(rt: &(impl Abort + AllocGlobal), desk: &mut Desk<K>, served:
 #[test]
 fn streams_are_served(rt: HostRuntime) {
     for served in SERVED {
-        let mut desk = fresh(&rt);
+        let mut desk = new_desk(&rt);
         gives(&rt, &mut desk, served);
-        let mut lists = fresh_lists(&rt);
+        let mut lists = new_lists(&rt);
         gives(&rt, &mut lists, served);
     }
 }
@@ -138,11 +135,7 @@ const RESULT_REPLIES: &str =
 
 /// The connections of a second round, one after the other. What they ask may be asked twice.
 const SECOND_SERVED: &[Served] = &[
-    (
-        &[ROLLS, LISTS, TO_RANKING, PUBLICATION],
-        LISTS_ASKED,
-        LISTS_REPLIES,
-    ),
+    (IN_PUBLISHED, LISTS_ASKED, LISTS_REPLIES),
     (&[], SHEETS, SHEET_REPLIES),
     (&[SECOND_TO_RANKING], RANKING_ASKED, RANKING_REPLIES),
     (&[], SHEETS, SHEET_REPLIES),
@@ -152,8 +145,8 @@ const SECOND_SERVED: &[Served] = &[
 
 #[test]
 fn the_second_round_is_served(rt: HostRuntime) {
-    let mut desk = fresh(&rt);
-    let mut lists = fresh_lists(&rt);
+    let mut desk = new_desk(&rt);
+    let mut lists = new_lists(&rt);
     for served in SECOND_SERVED {
         gives(&rt, &mut desk, served);
         gives(&rt, &mut lists, served);
@@ -162,7 +155,7 @@ fn the_second_round_is_served(rt: HostRuntime) {
 
 /// A list of no project and so many blanks is taken.
 fn takes_the_longest<K: Keeper>(rt: &(impl Abort + AllocGlobal), desk: &mut Desk<K>) {
-    play_parts(rt, desk, &[ROLLS, LISTS]);
+    plays(rt, desk, IN_CHOOSING);
     let mut bytes = Vec::new(rt.alloc());
     let head =
         b"PUT /choices HTTP/1.1\r\nHost: h\r\nPortal-Code: ann-code-1\r\nContent-Length: 1048576\r\n\r\n{\"projects\":[]}";
@@ -170,7 +163,7 @@ fn takes_the_longest<K: Keeper>(rt: &(impl Abort + AllocGlobal), desk: &mut Desk
     bytes
         .resize(bytes.len() + 1_048_561, b' ')
         .expect(rt, "memory");
-    let text = written(rt, desk, &bytes);
+    let text = written(rt.alloc(), desk, &bytes);
     let wanted =
         "HTTP/1.1 200 OK\r\ncontent-type: application/json\r\ncontent-length: 15\r\n\r\n{\"projects\":[]}";
     assert_eq!(rt; text.as_slice(), wanted.as_bytes());
@@ -178,8 +171,8 @@ fn takes_the_longest<K: Keeper>(rt: &(impl Abort + AllocGlobal), desk: &mut Desk
 
 #[test]
 fn the_longest_body_is_taken(rt: HostRuntime) {
-    let mut desk = fresh(&rt);
+    let mut desk = new_desk(&rt);
     takes_the_longest(&rt, &mut desk);
-    let mut lists = fresh_lists(&rt);
+    let mut lists = new_lists(&rt);
     takes_the_longest(&rt, &mut lists);
 }

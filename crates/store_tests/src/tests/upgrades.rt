@@ -1,11 +1,12 @@
 //! Databases of version 1 that become those of version 2, with the world that they had.
 
-use crate::tests::steps::{
-    ANN, LISTS, MemDesk, PUBLICATION, ROLLS, SECOND_LISTS, SECOND_OPENING, SECOND_PUBLICATION,
-    SECOND_TO_RANKING, Step, TO_RANKING, fresh, play_parts, seen,
-};
-use crate::tests::version1;
+use crate::tests::steps::{database, new_desk, plays};
 use portal_desk::Desk;
+use portal_fixtures::worked::{
+    IN_CHOOSING, IN_PUBLISHED, IN_RANKING, IN_SETUP, LISTS, PUBLICATION, RESULT, SECOND_LISTS,
+    SECOND_OPENING, SECOND_PUBLICATION, SECOND_TO_RANKING, TO_RANKING,
+};
+use portal_fixtures::{MemDesk, seen, version1};
 use portal_store::{NotOpened, OpenFault, Store, UpgradeFault};
 use sqlite::{Connection, MemStore};
 use std::process::Abort;
@@ -81,102 +82,73 @@ fn again(rt: &(impl Abort + AllocGlobal), desk: MemDesk) -> MemDesk {
     }
 }
 
-const RESULT: &[Step] = &[("GET", "/result", ANN, "", "200 OK", r#"{"project":"P2"}"#)];
-
 /// What is shown of the world is what one that was played shows.
-fn shows(rt: &(impl Abort + AllocGlobal), desk: &mut MemDesk, played: &[&[Step]]) {
-    let mut other = fresh(rt);
-    play_parts(rt, &mut other, played);
-    let wanted = seen(rt, &mut other);
-    let found = seen(rt, desk);
+fn shows(rt: &(impl Abort + AllocGlobal), desk: &mut MemDesk, played: &[&str]) {
+    let mut other = new_desk(rt);
+    plays(rt, &mut other, played);
+    let wanted = seen(rt.alloc(), &mut other).expect(rt, "memory");
+    let found = seen(rt.alloc(), desk).expect(rt, "memory");
     assert_eq!(rt; found.as_slice(), wanted.as_slice());
 }
 
 /// Tables of version 1 with these texts, upgraded, have the world that was played, and go on by
 /// these parts; so do they opened again.
-fn goes_on(rt: &(impl Abort + AllocGlobal), texts: &[&str], played: &[&[Step]], parts: &[&[Step]]) {
-    let mut desk = upgraded(rt, version1::database(rt, texts));
+fn goes_on(rt: &(impl Abort + AllocGlobal), texts: &[&str], played: &[&str], parts: &[&str]) {
+    let mut desk = upgraded(rt, database(rt, texts));
     shows(rt, &mut desk, played);
-    play_parts(rt, &mut desk, parts);
-    let mut desk = again(rt, upgraded(rt, version1::database(rt, texts)));
+    plays(rt, &mut desk, parts);
+    let mut desk = again(rt, upgraded(rt, database(rt, texts)));
     shows(rt, &mut desk, played);
-    play_parts(rt, &mut desk, parts);
+    plays(rt, &mut desk, parts);
 }
+
+/// What comes after setup, and after a publication.
+const AFTER_SETUP: &[&str] = &[
+    LISTS,
+    TO_RANKING,
+    PUBLICATION,
+    RESULT,
+    SECOND_OPENING,
+    SECOND_LISTS,
+    SECOND_TO_RANKING,
+    SECOND_PUBLICATION,
+];
+
+const AFTER_PUBLISHED: &[&str] = &[
+    RESULT,
+    SECOND_OPENING,
+    SECOND_LISTS,
+    RESULT,
+    SECOND_TO_RANKING,
+    SECOND_PUBLICATION,
+];
 
 #[test]
 fn setup_is_upgraded(rt: HostRuntime) {
-    goes_on(
-        &rt,
-        &[version1::TABLES, version1::ROLLS],
-        &[ROLLS],
-        &[
-            LISTS,
-            TO_RANKING,
-            PUBLICATION,
-            RESULT,
-            SECOND_OPENING,
-            SECOND_LISTS,
-            SECOND_TO_RANKING,
-            SECOND_PUBLICATION,
-        ],
-    );
+    goes_on(&rt, version1::IN_SETUP, IN_SETUP, AFTER_SETUP);
 }
 
 #[test]
 fn choosing_is_upgraded(rt: HostRuntime) {
-    goes_on(
-        &rt,
-        &[version1::TABLES, version1::ROLLS, version1::LISTS],
-        &[ROLLS, LISTS],
-        &[TO_RANKING, PUBLICATION, RESULT],
-    );
+    let rest = [TO_RANKING, PUBLICATION, RESULT];
+    goes_on(&rt, version1::IN_CHOOSING, IN_CHOOSING, &rest);
 }
 
 #[test]
 fn ranking_is_upgraded(rt: HostRuntime) {
-    goes_on(
-        &rt,
-        &[
-            version1::TABLES,
-            version1::ROLLS,
-            version1::LISTS,
-            version1::TO_RANKING,
-        ],
-        &[ROLLS, LISTS, TO_RANKING],
-        &[PUBLICATION, RESULT],
-    );
+    let rest = [PUBLICATION, RESULT];
+    goes_on(&rt, version1::IN_RANKING, IN_RANKING, &rest);
 }
 
 #[test]
 fn published_is_upgraded(rt: HostRuntime) {
-    goes_on(
-        &rt,
-        version1::PUBLISHED,
-        &[ROLLS, LISTS, TO_RANKING, PUBLICATION],
-        &[
-            RESULT,
-            SECOND_OPENING,
-            SECOND_LISTS,
-            RESULT,
-            SECOND_TO_RANKING,
-            SECOND_PUBLICATION,
-        ],
-    );
+    goes_on(&rt, version1::IN_PUBLISHED, IN_PUBLISHED, AFTER_PUBLISHED);
 }
 
 #[test]
 fn rules_in_another_order_are_upgraded(rt: HostRuntime) {
-    goes_on(
-        &rt,
-        &[
-            version1::TABLES_OTHERWISE,
-            version1::ROLLS,
-            version1::LISTS,
-            version1::TO_RANKING,
-        ],
-        &[ROLLS, LISTS, TO_RANKING],
-        &[PUBLICATION, RESULT],
-    );
+    let rest = [PUBLICATION, RESULT];
+    goes_on(&rt, version1::OTHERWISE, IN_RANKING, &rest);
 }
 
 /// Tables and views of one of the five names.
@@ -197,16 +169,8 @@ const NAMES: &[&str] = &[
 
 /// A world in ranking, and what else is done to the tables.
 fn with(rt: &(impl Abort + AllocGlobal), texts: &[&str]) -> Connection<MemStore> {
-    let mut conn = version1::database(
-        rt,
-        &[
-            version1::TABLES,
-            version1::ROLLS,
-            version1::LISTS,
-            version1::TO_RANKING,
-        ],
-    );
-    version1::run_all(rt, &mut conn, texts);
+    let mut conn = database(rt, version1::IN_RANKING);
+    version1::run_all(&mut conn, texts).expect(rt, "statements");
     conn
 }
 
@@ -232,6 +196,11 @@ fn what_else_is_there_stays(rt: HostRuntime) {
     }
 }
 
+/// Where these texts are run too, no upgrade is made for this reason.
+fn are_told(rt: &(impl Abort + AllocGlobal), texts: &[&str], wanted: UpgradeFault) {
+    let _conn = not_upgraded(rt, with(rt, texts), wanted);
+}
+
 #[test]
 fn the_first_fault_is_told(rt: HostRuntime) {
     let name = "CREATE TABLE ranked2 (a INTEGER)";
@@ -239,20 +208,9 @@ fn the_first_fault_is_told(rt: HostRuntime) {
     let version = "UPDATE portal SET version = 2";
     let table = "DROP TABLE ranking";
     let row = "DELETE FROM portal";
-    let _conn = not_upgraded(&rt, with(&rt, &[name, damage]), UpgradeFault::Damaged);
-    let _conn = not_upgraded(
-        &rt,
-        with(&rt, &[name, damage, version]),
-        UpgradeFault::OtherVersion,
-    );
-    let _conn = not_upgraded(
-        &rt,
-        with(&rt, &[name, damage, version, table]),
-        UpgradeFault::NotPortal,
-    );
-    let _conn = not_upgraded(
-        &rt,
-        with(&rt, &[name, damage, row]),
-        UpgradeFault::NotPortal,
-    );
+    are_told(&rt, &[name, damage], UpgradeFault::Damaged);
+    are_told(&rt, &[name, damage, version], UpgradeFault::OtherVersion);
+    let all = [name, damage, version, table];
+    are_told(&rt, &all, UpgradeFault::NotPortal);
+    are_told(&rt, &[name, damage, row], UpgradeFault::NotPortal);
 }

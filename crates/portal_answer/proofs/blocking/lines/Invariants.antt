@@ -1,5 +1,4 @@
-use Rattle.std.proofs.Common.{◌≡◌, take}
-use Rattle.std.specs.List.{flat_map}
+use Rattle.portal_answer.proofs.Base.{◌≡◌, take, flat_map}
 use Rattle.portal_answer.specs.Blocking.{block_line}
 use Rattle.portal_answer.proofs.blocking.lines.Given as goal
 

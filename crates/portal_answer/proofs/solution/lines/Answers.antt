@@ -1,8 +1,4 @@
-use Rattle.std.proofs.Common.{◌≡◌, ◌∙◌, ◌<◌, ◌++◌, ap, sym, arith, rules, length, List, Option, is_some, is_none, ℕ, refl, codes, append_assoc}
-use Rattle.std.specs.Fmt.{decimal}
-use Rattle.std.specs.List.{count_by, flat_map, zip}
-use Rattle.portal_answer.specs.Told.{Text, Told}
-use Rattle.std.specs.String.{string_bytes}
+use Rattle.portal_answer.proofs.Base.{◌≡◌, ◌∙◌, ◌<◌, ◌++◌, ap, sym, arith, rules, length, List, Option, is_some, is_none, ℕ, refl, codes, append_assoc, decimal, count_by, flat_map, zip, Text, Told, string_bytes}
 use Rattle.spa_model.specs.Spa.{IsLawful}
 use Rattle.portal_answer.proofs.Assigned.{line, line_more, one_assigned, one_unassigned, whole}
 use Rattle.portal_answer.proofs.solution.lines.Goals as goal

@@ -1,6 +1,4 @@
-use Rattle.std.proofs.Common.{◌≡◌, ◌+◌, take, is_some, is_none}
-use Rattle.std.specs.List.{flat_map, zip, count_by}
-use Rattle.portal_answer.specs.Solution.{assign_line}
+use Rattle.portal_answer.proofs.Base.{◌≡◌, ◌+◌, take, is_some, is_none, flat_map, zip, count_by, assign_line}
 use Rattle.portal_answer.proofs.solution.lines.Given as goal
 
 -- the lines of the students so far, and their counts

@@ -1,6 +1,4 @@
-use Rattle.std.proofs.Common.{◌≡◌, ◌∙◌, ◌++◌, ap, rules, codes, append_assoc}
-use Rattle.std.specs.Fmt.{decimal}
-use Rattle.std.specs.String.{string_bytes}
+use Rattle.portal_answer.proofs.Base.{◌≡◌, ◌∙◌, ◌++◌, ap, rules, codes, append_assoc, decimal, string_bytes}
 use Rattle.portal_answer.specs.Told.{refusal}
 use Rattle.portal_answer.proofs.told.bad_field.Goals as goal
 

@@ -1,5 +1,4 @@
-use Rattle.std.proofs.Common.{◌≡◌, length}
-use Rattle.std.specs.Io.KnownBytes.{Keeps}
+use Rattle.portal_desk.proofs.Base.{◌≡◌, length, Keeps}
 use Rattle.portal_desk.proofs.again.read_again.Given as goal
 
 -- no byte was taken

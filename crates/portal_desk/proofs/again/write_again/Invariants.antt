@@ -1,4 +1,4 @@
-use Rattle.std.specs.Io.KnownBytes.{Keeps}
+use Rattle.portal_desk.proofs.Base.{Keeps}
 use Rattle.portal_desk.proofs.again.write_again.Given as goal
 
 -- no byte was written

@@ -1,4 +1,4 @@
-use Rattle.std.proofs.Common.{rules, ◌∙◌}
+use Rattle.portal_desk.proofs.Base.{rules, ◌∙◌}
 use Rattle.portal_desk.proofs.Known.{Appends-more}
 use Rattle.portal_desk.proofs.devices.write_whole.Goals as goal
 

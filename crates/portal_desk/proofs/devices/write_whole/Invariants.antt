@@ -1,5 +1,4 @@
-use Rattle.std.proofs.Common.{◌≡◌, ◌-◌, ◌≤◌, length, take}
-use Rattle.std.specs.Io.KnownBytes.{Appends}
+use Rattle.portal_desk.proofs.Base.{◌≡◌, ◌-◌, ◌≤◌, length, take, Appends}
 use Rattle.portal_desk.proofs.devices.write_whole.Given as goal
 
 abbrev pub decreases-loop-at : goal.decreases-loop-at

@@ -1,6 +1,4 @@
-use Rattle.std.proofs.Common.{map, take}
-use Rattle.portal_desk.specs.Headline.{ServesEach}
-use Rattle.portal_desk.specs.Keeping.{state_of}
+use Rattle.portal_desk.proofs.Base.{map, take, ServesEach, state_of}
 use Rattle.portal_desk.proofs.each.serve_each.Given as goal
 
 abbrev pub invariant-loop-stream : goal.invariant-loop-stream

@@ -1,4 +1,4 @@
-use Rattle.portal_desk.specs.Keeping.{state_of}
+use Rattle.portal_desk.proofs.Base.{state_of}
 use Rattle.portal_desk.proofs.Heeding as heeding
 use Rattle.portal_desk.proofs.laws.equal_byte_for_byte.Goals as goal
 

@@ -1,4 +1,4 @@
-use Rattle.portal_desk.specs.Keeping.{state_of}
+use Rattle.portal_desk.proofs.Base.{state_of}
 use Rattle.portal_desk.proofs.Promised as promised
 use Rattle.portal_desk.proofs.laws.headline.Goals as goal
 

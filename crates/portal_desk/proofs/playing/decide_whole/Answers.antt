@@ -1,5 +1,4 @@
-use Rattle.std.proofs.Common.{refl}
-use Rattle.portal_core.specs.Meaning.{call_model, decision_model, reply_model}
+use Rattle.portal_desk.proofs.Base.{refl, call_model, decision_model, reply_model}
 use Rattle.portal_desk.proofs.Sheet.{whole_decision}
 use Rattle.portal_desk.proofs.playing.decide_whole.Goals as goal
 

@@ -1,4 +1,4 @@
-use Rattle.std.proofs.Common.{◌∙◌, arith, sym}
+use Rattle.portal_desk.proofs.Base.{◌∙◌, arith, sym}
 use Rattle.portal_desk.proofs.Pairs.{none_more, one_more}
 use Rattle.portal_desk.proofs.playing.pairs_of.Goals as goal
 use Rattle.portal_desk.proofs.playing.pairs_of.Goals.{in-Some+in_ok-student+in_ok-project+in_ok-push, in_default}

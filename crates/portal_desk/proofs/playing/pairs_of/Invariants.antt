@@ -1,5 +1,4 @@
-use Rattle.std.proofs.Common.{◌≡◌, ◌++◌, drop}
-use Rattle.portal_core.specs.Instance.{pairs_by}
+use Rattle.portal_desk.proofs.Base.{◌≡◌, ◌++◌, drop, pairs_by}
 use Rattle.portal_desk.proofs.playing.pairs_of.Given as goal
 
 abbrev pub invariant-loop-s : goal.invariant-loop-s

@@ -1,4 +1,4 @@
-use Rattle.portal_core.specs.Meaning.{call_model, decision_model}
+use Rattle.portal_desk.proofs.Base.{call_model, decision_model}
 use Rattle.portal_desk.proofs.Played.{can_do, good_after}
 use Rattle.portal_desk.proofs.playing.play.Goals as goal
 

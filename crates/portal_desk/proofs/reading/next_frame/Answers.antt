@@ -1,7 +1,5 @@
-use Rattle.std.proofs.Common.{rules, arith, ◌≡◌, ℕ, ◌+◌, ◌-◌, ◌<◌, ◌≤◌, Bool, true, false, subst, sym}
-use Rattle.std.specs.Prelude.{if◌then◌else◌}
+use Rattle.portal_desk.proofs.Base.{rules, arith, ◌≡◌, ℕ, ◌+◌, ◌-◌, ◌<◌, ◌≤◌, Bool, true, false, subst, sym, if◌then◌else◌, NoneWhole}
 use Rattle.portal_desk.proofs.Framing.{follows, within, none_whole, holds_err}
-use Rattle.portal_desk.specs.inner.Reading.{NoneWhole}
 use Rattle.portal_desk.proofs.reading.next_frame.Goals as goal
 
 pub returns-in_default-clause-follows : goal.returns-in_default-clause-follows

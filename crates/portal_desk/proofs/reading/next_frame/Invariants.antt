@@ -1,6 +1,4 @@
-use Rattle.std.proofs.Common.{◌≡◌, ◌-◌, ◌+◌, ◌≤◌, length}
-use Rattle.std.specs.Prelude.{if◌then◌else◌}
-use Rattle.portal_desk.specs.inner.Reading.{ReadsMore}
+use Rattle.portal_desk.proofs.Base.{◌≡◌, ◌-◌, ◌+◌, ◌≤◌, length, if◌then◌else◌, ReadsMore}
 use Rattle.portal_desk.proofs.reading.next_frame.Given as goal
 
 abbrev pub decreases-loop-found : goal.decreases-loop-found

@@ -1,7 +1,4 @@
-use Rattle.std.proofs.Common.{◌≡◌, drop}
-use Rattle.std.specs.Prelude.{map, codes}
-use Rattle.httparse.specs.Spans.{header_bytes}
-use Rattle.portal_frame.specs.Heads.{values_of}
+use Rattle.portal_frame.proofs.Base.{◌≡◌, drop, map, codes, header_bytes, values_of}
 use Rattle.portal_frame.specs.Connection.{asks_close}
 use Rattle.portal_frame.proofs.closing.asks_to_close.Given as goal
 

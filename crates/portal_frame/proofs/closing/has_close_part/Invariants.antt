@@ -1,4 +1,4 @@
-use Rattle.std.proofs.Common.{◌≡◌, length}
+use Rattle.portal_frame.proofs.Base.{◌≡◌, length}
 use Rattle.portal_frame.specs.Connection.{later_close}
 use Rattle.portal_frame.proofs.closing.has_close_part.Given as goal
 

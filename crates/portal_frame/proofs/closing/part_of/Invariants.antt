@@ -1,4 +1,4 @@
-use Rattle.std.proofs.Common.{◌≡◌, ◌-◌, ◌≤◌, ◌++◌, length, take, drop}
+use Rattle.portal_frame.proofs.Base.{◌≡◌, ◌-◌, ◌≤◌, ◌++◌, length, take, drop}
 use Rattle.portal_frame.specs.Connection.{before_comma}
 use Rattle.portal_frame.proofs.closing.part_of.Given as goal
 

@@ -1,5 +1,4 @@
-use Rattle.std.proofs.Common.{ap, ◌∙◌}
-use Rattle.std.specs.Prelude.{nat_le}
+use Rattle.portal_frame.proofs.Base.{ap, ◌∙◌, nat_le}
 use Rattle.portal_frame.proofs.HeadLines.{counted_is}
 use Rattle.portal_frame.proofs.counting.is_overlong_head.Goals as goal
 

@@ -1,6 +1,4 @@
-use Rattle.std.proofs.Common.{◌≡◌, ◌+◌, ◌≤◌, drop}
-use Rattle.portal_frame.specs.declared.counting.At.TheVariants.{Leading}
-use Rattle.portal_frame.specs.inner.Counting.{lines_from}
+use Rattle.portal_frame.proofs.Base.{◌≡◌, ◌+◌, ◌≤◌, drop, Leading, lines_from}
 use Rattle.portal_frame.proofs.counting.lines_in.Given as goal
 
 abbrev pub invariant-loop-byte : goal.invariant-loop-byte

@@ -1,8 +1,4 @@
-use Rattle.std.proofs.Common.{rules, take, drop, inl, inr, refl, subst}
-use Rattle.std.proofs.lemmas.List.{take-append-drop}
-use Rattle.httparse.specs.Grammar.{HasNoRequest}
-use Rattle.httparse.specs.Spans.{RequestOverflows}
-use Rattle.portal_frame.specs.Stream.{item_of, headless}
+use Rattle.portal_frame.proofs.Base.{rules, take, drop, inl, inr, refl, subst, take-append-drop, HasNoRequest, RequestOverflows, item_of, headless}
 use Rattle.portal_frame.proofs.Heads.{head_of, front_is, length_front, none_so_far, none_now, overflows_all}
 use Rattle.portal_frame.proofs.laws.opens_some.Goals as goal
 

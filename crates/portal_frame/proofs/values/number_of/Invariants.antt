@@ -1,7 +1,5 @@
-use Rattle.std.proofs.Common.{◌≡◌, ◌<◌, ◌^◌, take, true}
-use Rattle.std.specs.Str.Parse.{digits_value}
+use Rattle.portal_frame.proofs.Base.{◌≡◌, ◌<◌, ◌^◌, take, true, digits_value, is_ascii_digit}
 use Rattle.std.specs.List.{list_all}
-use Rattle.std.specs.Char.{is_ascii_digit}
 use Rattle.portal_frame.proofs.values.number_of.Given as goal
 
 abbrev pub invariant-loop-digit : goal.invariant-loop-digit

@@ -1,5 +1,4 @@
-use Rattle.std.proofs.Common.{◌≡◌, ◌++◌, drop}
-use Rattle.portal_frame.specs.Heads.{path_of}
+use Rattle.portal_frame.proofs.Base.{◌≡◌, ◌++◌, drop, path_of}
 use Rattle.portal_frame.proofs.values.path_in.Given as goal
 
 abbrev pub invariant-loop-byte : goal.invariant-loop-byte

@@ -1,6 +1,4 @@
-use Rattle.sqlite.specs.Held.{state}
-use Rattle.portal_core.specs.Meaning.{change_model}
-use Rattle.portal_store.specs.Kept.{IsTransition}
+use Rattle.portal_store.proofs.Base.{state, change_model, IsTransition}
 use Rattle.portal_store.proofs.Ended.{ends_err}
 use Rattle.portal_store.proofs.change.make.Goals as goal
 

@@ -1,16 +1,5 @@
-use Rattle.std.proofs.Common.{rules, List, map, arith, sym, ap, subst, ◌∙◌}
-use Rattle.sqlite.specs.State.{HasCleanDisk}
-use Rattle.sqlite.specs.Held.{state}
-use Rattle.portal_core.specs.Words.{Key}
-use Rattle.portal_core.specs.Change.{Fill}
-use Rattle.portal_core.specs.Good.{Sound}
-use Rattle.portal_list.specs.inner.Fill.{fill_missing}
-use Rattle.portal_tables.specs.Schema.{IsCurrentSchema}
-use Rattle.portal_store.specs.World.{world_in, world_of}
-use Rattle.portal_store.specs.Kept.{IsConsistentIn}
-use Rattle.portal_store.specs.inner.Kept.{IsTransitionIn}
-use Rattle.portal_store.specs.inner.Putting.{TurnsAll}
-use Rattle.portal_store.proofs.Asked.{asks_err, asks_more}
+use Rattle.portal_store.proofs.Base.{List, map, arith, sym, ap, subst, ◌∙◌, HasCleanDisk, state, Key, Fill, Sound, fill_missing, IsCurrentSchema, world_in, world_of, IsConsistentIn, IsTransitionIn, TurnsAll}
+use Rattle.portal_store.proofs.Readings.{asks_of}
 use Rattle.portal_store.proofs.Ended.{ends_asked, ends_refused}
 use Rattle.portal_store.proofs.Rounds.{world_told}
 use Rattle.portal_store.proofs.FillTurns.{fill_turns}
@@ -18,19 +7,11 @@ use Rattle.portal_store.proofs.fill.fill_rankings.Goals as goal
 
 pub returns-in_err-read-clause-ends : goal.returns-in_err-read-clause-ends
 returns-in_err-read-clause-ends g c =
-    let r = c.from_residual.result in
-    let old = state g.S.Store c.args.conn.now in
-    let new = state g.S.Store c.load_entries.new.conn in
-    ends_refused (IsTransitionIn c.args.round Fill) r old new c.from_residual.ensures.0 c.requires.idle (λ on. c.is_autocommit-idle.ensures.settled (search rules) on)
-    (asks_err _ r old new c.from_residual.ensures.0 c.in_err-read.ensures.asks)
+    ends_refused (IsTransitionIn c.args.round Fill) _ c.from_residual.result _ _ c.from_residual.ensures.0 c.settled.ensures.settled (asks_of _ _ _ c.in_err-read.ensures)
 
 pub returns-in_err-rankings-clause-ends : goal.returns-in_err-rankings-clause-ends
 returns-in_err-rankings-clause-ends g c =
-    let r = c.from_residual-in_err-rankings.result in
-    let old = state g.S.Store c.args.conn.now in
-    let new = state g.S.Store c.load_entries.new.conn in
-    ends_refused (IsTransitionIn c.args.round Fill) r old new c.from_residual-in_err-rankings.ensures.0 c.requires.idle (λ on. c.is_autocommit-idle.ensures.settled (search rules) on)
-    (asks_more c.in_ok-read.read r old new c.in_ok-read.ensures.asks)
+    ends_refused (IsTransitionIn c.args.round Fill) _ c.from_residual-in_err-rankings.result _ _ c.from_residual-in_err-rankings.ensures.0 c.settled.ensures.settled (asks_of _ _ _ c.in_ok-read.ensures)
 
 pub returns-clause-ends : goal.returns-clause-ends
 returns-clause-ends g c =
@@ -41,11 +22,11 @@ returns-clause-ends g c =
     let are =
     λ (own : IsCurrentSchema old.now.schema) (clean : HasCleanDisk mid) (holds : IsConsistentIn c.args.round old.now) (sound : Sound (world_in c.args.round old.now.trees)).
     let told = world_told c.args.round old.now.trees holds.second in
-    ap (map {B = Key × List Key} (λ f. (f.0, f.1.items))) c.deref.ensures.value ∙ c.in_ok-rankings.ensures (world_of old.now.trees) (c.in_ok-read.ensures.entries own holds.sound clean (subst Sound (sym told) sound)) ∙ ap fill_missing told in
-    ends_asked (TurnsAll c.args.round fs) (IsTransitionIn c.args.round Fill) c.commit.result old mid new c.commit.ensures.ok c.commit.ensures.err c.commit.ensures.durable c.commit.ensures.crash
-    c.in_ok-read.read c.in_ok-read.ensures.asks (λ own clean after. fill_turns c.args.round fs old.now after (are own clean))
+    ap (map {B = Key × List Key} (λ f. (f.0, f.1.items))) c.deref.ensures.value ∙ c.in_ok-rankings.ensures (world_of old.now.trees) (c.in_ok-read.ensures.told own holds.sound clean (subst Sound (sym told) sound)) ∙ ap fill_missing told in
+    ends_asked (TurnsAll c.args.round fs) (IsTransitionIn c.args.round Fill) c.commit.result old mid new c.commit.ensures.idle c.commit.ensures.ok c.commit.ensures.err c.commit.ensures.durable c.commit.ensures.crash
+    c.in_ok-read.read (asks_of _ _ _ c.in_ok-read.ensures) (λ own clean after. fill_turns c.args.round fs old.now after (are own clean))
 
 pub returns-clause-entries : goal.returns-clause-entries
 returns-clause-entries g c own holds good clean was =
     let early : HasCleanDisk (state g.S.Store c.load_entries.new.conn) = omega (arith, clean, c.commit.ensures.crash.clean) in
-    c.in_ok-read.ensures.entries own holds.1.sound early good.sound
+    c.in_ok-read.ensures.told own holds.1.sound early good.sound

@@ -1,5 +1,4 @@
-use Rattle.std.proofs.Common.{◌≡◌, map, take}
-use Rattle.portal_store.specs.inner.Placing.{assigned_of}
+use Rattle.portal_store.proofs.Base.{◌≡◌, map, take, assigned_of}
 use Rattle.portal_store.proofs.placing.assignments.Given as goal
 
 abbrev pub invariant-loop-row : goal.invariant-loop-row

@@ -1,6 +1,4 @@
-use Rattle.std.proofs.Common.{◌≡◌, take}
-use Rattle.std.specs.List.{filter_map}
-use Rattle.portal_store.specs.inner.Placing.{pair_left}
+use Rattle.portal_store.proofs.Base.{◌≡◌, take, filter_map, pair_left}
 use Rattle.portal_store.proofs.placing.pairs_left.Given as goal
 
 abbrev pub invariant-loop-row : goal.invariant-loop-row

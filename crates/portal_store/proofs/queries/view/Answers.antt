@@ -1,6 +1,8 @@
-use Rattle.std.proofs.lemmas.Result.{IfOk-weaker}
+use Rattle.portal_store.proofs.Readings.{reads_as, reads_of}
 use Rattle.portal_store.proofs.queries.view.Goals as goal
 
 -- nothing is remembered
-pub returns-clause-shows : goal.returns-clause-shows
-returns-clause-shows g c holds good clean = IfOk-weaker c.view_with.result _ _ (λ view shows. shows holds good (c.nothing-cache.ensures _)) (c.view_with.ensures.shows holds.1.current clean)
+pub returns : goal.returns
+returns g c =
+    let r = c.counted_view.result in
+    reads_as r r _ _ (reads_of _ _ _ (λ own. own) (λ own holds. (holds, c.nothing-cache.ensures _)) c.counted_view.ensures.reads) (λ no. no) (λ own holds told. told.1)

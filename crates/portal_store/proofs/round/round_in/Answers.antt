@@ -1,9 +1,20 @@
-use Rattle.sqlite.specs.Held.{state}
-use Rattle.portal_store.proofs.Loaded.{same_error}
-use Rattle.portal_store.proofs.Rounds.{tells_phase}
+use Rattle.portal_store.proofs.Base.{sym, ◌∙◌, state}
+use Rattle.portal_store.proofs.Readings.{reads_handed, reads_more, second_told}
+use Rattle.portal_store.proofs.Rounds.{first_by, second_by, tells_phase}
 use Rattle.portal_store.proofs.round.round_in.Goals as goal
 
-pub returns-in_err-second_in-clause-damaged : goal.returns-in_err-second_in-clause-damaged
-returns-in_err-second_in-clause-damaged g c own sound clean damaged round second =
-    let told = tells_phase round (state g.S.Store c.args.conn.now).now.trees second in
-    c.in_err-second_in.ensures.damaged own clean (same_error c.from_residual.result c.in_err-second_in.field-0.0 _ c.from_residual.ensures.1 damaged) told.0 told.1
+pub returns-in_err-second_in : goal.returns-in_err-second_in
+returns-in_err-second_in g c =
+    let f = c.in_err-second_in in
+    reads_handed f.field-0.0 c.from_residual.result _ _ c.from_residual.ensures.1 (second_told _ _ _ f.ensures.row f.ensures.damaged f.ensures.asks)
+    (λ own sound told round damaged second. let it = tells_phase round _ second in told it.0 damaged it.1)
+
+pub returns-then-is_setup : goal.returns-then-is_setup
+returns-then-is_setup g c =
+    let f = c.in_ok-second_in in
+    reads_more f.field-0 _ _ _ (second_told _ _ _ f.ensures.row f.ensures.damaged f.ensures.asks) (λ own sound row. first_by (state g.S.Store c.args.conn.now).now.trees f.field-0 row (sym c.is_setup.ensures ∙ c.if-is_setup.true))
+
+pub returns-else-is_setup : goal.returns-else-is_setup
+returns-else-is_setup g c =
+    let f = c.in_ok-second_in in
+    reads_more f.field-0 _ _ _ (second_told _ _ _ f.ensures.row f.ensures.damaged f.ensures.asks) (λ own sound row. second_by (state g.S.Store c.args.conn.now).now.trees f.field-0 row (sym c.is_setup.ensures ∙ c.if-is_setup.false))

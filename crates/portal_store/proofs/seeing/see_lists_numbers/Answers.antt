@@ -1,8 +1,9 @@
-use Rattle.std.proofs.Common.{true}
-use Rattle.portal_store.proofs.Asked.{asks_after, asks_so}
+use Rattle.portal_store.proofs.Base.{IfOk-weaker}
+use Rattle.portal_store.proofs.Readings.{reads_as, reads_then}
 use Rattle.portal_store.proofs.seeing.see_lists_numbers.Goals as goal
 
-pub returns-clause-asks : goal.returns-clause-asks
-returns-clause-asks g c =
-    let r = c.judge_numbers-2.result in
-    asks_after c.row_numbers_differ.result true r _ _ _ c.in_ok-judge_numbers.ensures.ok c.row_numbers_differ.ensures.asks (asks_so c.row_numbers_differ-2.result true r _ _ c.judge_numbers-2.ensures.ok c.row_numbers_differ-2.ensures.asks)
+pub returns-clause-reads : goal.returns-clause-reads
+returns-clause-reads g c =
+    let r = c.see_row_numbers-2.result in
+    reads_as r r _ _ (reads_then c.in_ok-see_row_numbers.field-0 r _ _ _ (λ s on. tt) (λ own on any told. tt) c.in_ok-see_row_numbers.ensures.reads c.see_row_numbers-2.ensures.reads) (λ no. no)
+    (λ own any told. IfOk-weaker r _ _ (λ _ last. (told.0, (last, tt))) told.1)

@@ -1,5 +1,4 @@
-use Rattle.portal_tables.proofs.Base.{Ok, subst, take_all, state, Does, GoesOn, Assigns}
-use Rattle.std.proofs.Common.{arith}
+use Rattle.portal_tables.proofs.Base.{Ok, subst, take_all, state, Does, GoesOn, Assigns, arith}
 use Rattle.portal_tables.proofs.Runs.{does_none, does_then, goes_nowhere, goes_then}
 use Rattle.portal_tables.proofs.Assigning.{assigns_none, assigns_next}
 use Rattle.portal_tables.proofs.assign.assign_all.Goals as goal

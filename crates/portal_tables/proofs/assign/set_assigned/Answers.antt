@@ -1,5 +1,4 @@
-use Rattle.std.specs.Prelude.{◌∷◌}
-use Rattle.portal_tables.proofs.Base.{option_map, [], ap, subst, ◌∙◌, Text, bound_value, Does, Made, Ran, Assigns}
+use Rattle.portal_tables.proofs.Base.{◌∷◌, option_map, [], ap, subst, ◌∙◌, Text, bound_value, Does, Made, Ran, Assigns}
 use Rattle.portal_tables.proofs.Runs.{does_more}
 use Rattle.portal_tables.proofs.Assigning.{one_assigned, update_one, assigned_bound}
 use Rattle.portal_tables.proofs.assign.set_assigned.Goals as goal

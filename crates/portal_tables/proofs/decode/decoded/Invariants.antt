@@ -1,5 +1,4 @@
-use Rattle.std.specs.Prelude.{◌≡◌}
-use Rattle.portal_tables.proofs.Base.{map, take}
+use Rattle.portal_tables.proofs.Base.{◌≡◌, map, take}
 use Rattle.portal_tables.proofs.decode.decoded.Given as goal
 
 abbrev pub invariant-loop-row : goal.invariant-loop-row

@@ -1,5 +1,4 @@
-use Rattle.portal_tables.proofs.Base.{always_returns_same, is_before, adjacent_rise, first_cell}
-use Rattle.std.proofs.Common.{rules}
+use Rattle.portal_tables.proofs.Base.{always_returns_same, is_before, adjacent_rise, first_cell, rules}
 use Rattle.portal_tables.proofs.decode.do_rise.Goals as goal
 
 pub returns : goal.returns

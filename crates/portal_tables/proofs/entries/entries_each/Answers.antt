@@ -1,7 +1,4 @@
-use Rattle.std.specs.Prelude.{◌≡◌, ◌+◌, ◌++◌, ◌∷◌}
-use Rattle.portal_tables.proofs.Base.{[], map, take, option_map, sym, ap, ap₂, subst, ◌∙◌, AllByRecursion, filter_map, cons_option, take_more, filter_map-append, Database, HasCleanDisk, IsDatabase, state, all_append, HasRound, round_of, entry, with_list, IsRead}
-use Rattle.std.proofs.Common.{arith}
-use Rattle.std.proofs.lemmas.Grind.{common_steps}
+use Rattle.portal_tables.proofs.Base.{◌≡◌, ◌+◌, ◌++◌, ◌∷◌, arith, common_steps, [], map, take, option_map, sym, ap, ap₂, subst, ◌∙◌, AllByRecursion, filter_map, cons_option, take_more, filter_map-append, Database, HasCleanDisk, IsDatabase, state, all_append, HasRound, round_of, entry, with_list, IsRead}
 use Rattle.portal_tables.proofs.InTurn.{reads_then, reads_more, reads_handed, clean_before}
 use Rattle.portal_tables.proofs.entries.entries_each.Goals.{in-Some+in_ok-push, in_default}
 use Rattle.portal_tables.proofs.entries.entries_each.Goals as goal

@@ -1,5 +1,4 @@
-use Rattle.std.specs.Prelude.{◌≡◌}
-use Rattle.portal_tables.proofs.Base.{Ok, map, take, AllByRecursion, filter_map, HasCleanDisk, IsDatabase, state, HasRound, round_of, entry, with_list, IsRead, RunsQueriesIn, TableFault}
+use Rattle.portal_tables.proofs.Base.{◌≡◌, Ok, map, take, AllByRecursion, filter_map, HasCleanDisk, IsDatabase, state, HasRound, round_of, entry, with_list, IsRead, RunsQueriesIn, TableFault}
 use Rattle.portal_tables.proofs.entries.entries_each.Given as goal
 
 abbrev pub invariant-loop-owner : goal.invariant-loop-owner

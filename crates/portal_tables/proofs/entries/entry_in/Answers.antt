@@ -1,5 +1,4 @@
-use Rattle.std.specs.Prelude.{◌≡◌}
-use Rattle.portal_tables.proofs.Base.{sym, ap, subst, ◌∙◌, IfOk-weaker, on_ok_weaker, if◌then◌else◌, Some, None, state, HasCleanDisk, Database, IsDatabase, HasRound, round_of, tree_of, of_key, IsWhole, chosen, list_in_order, first_cell, has_list}
+use Rattle.portal_tables.proofs.Base.{◌≡◌, sym, ap, subst, ◌∙◌, IfOk-weaker, on_ok_weaker, if◌then◌else◌, Some, None, state, HasCleanDisk, Database, IsDatabase, HasRound, round_of, tree_of, of_key, IsWhole, chosen, list_in_order, first_cell, has_list}
 use Rattle.portal_tables.proofs.Listed.{none_chosen}
 use Rattle.portal_tables.proofs.InTurn.{reads_then, reads_more, reads_handed, clean_before}
 use Rattle.portal_tables.proofs.entries.entry_in.Goals as goal

@@ -1,5 +1,4 @@
-use Rattle.std.specs.Prelude.{◌≡◌}
-use Rattle.portal_tables.proofs.Base.{◌∙◌, sym, ap, subst, state, HasRound, round_of, ranked2_tree, row_key, has, has_list, map}
+use Rattle.portal_tables.proofs.Base.{◌≡◌, ◌∙◌, sym, ap, subst, state, HasRound, round_of, ranked2_tree, row_key, has, has_list, map}
 use Rattle.portal_tables.proofs.SecondRows.{ranked_found}
 use Rattle.portal_tables.proofs.entries.has_list_in.Goals as goal
 

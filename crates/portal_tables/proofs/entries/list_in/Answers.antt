@@ -1,5 +1,4 @@
-use Rattle.std.specs.Prelude.{◌≡◌, ◌∷◌}
-use Rattle.portal_tables.proofs.Base.{true, [], sym, subst, subst₂, AllByRecursion, state, is_key, ListsBy, has_text, columns, tree_of, shown_name, all_unmap}
+use Rattle.portal_tables.proofs.Base.{◌≡◌, ◌∷◌, true, [], sym, subst, subst₂, AllByRecursion, state, is_key, ListsBy, has_text, columns, tree_of, shown_name, all_unmap}
 use Rattle.portal_tables.proofs.Listed.{list_whole, list_names, list_counts}
 use Rattle.portal_tables.proofs.InTurn.{named, wholly}
 use Rattle.portal_tables.proofs.entries.list_in.Goals as goal

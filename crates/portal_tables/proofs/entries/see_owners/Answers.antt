@@ -1,5 +1,4 @@
-use Rattle.std.specs.Prelude.{◌≡◌, ◌∷◌}
-use Rattle.portal_tables.proofs.Base.{true, false, [], map, filter, sym, subst, AllByRecursion, state, Cells, all-filter, Key, has, all_map, columns, every, tree_of, row_key, first_cell}
+use Rattle.portal_tables.proofs.Base.{◌≡◌, ◌∷◌, true, false, [], map, filter, sym, subst, AllByRecursion, state, Cells, all-filter, Key, has, all_map, columns, every, tree_of, row_key, first_cell}
 use Rattle.portal_tables.proofs.Listed.{permuted}
 use Rattle.portal_tables.proofs.Sorted.{all_permuted}
 use Rattle.portal_tables.proofs.entries.see_owners.Goals as goal

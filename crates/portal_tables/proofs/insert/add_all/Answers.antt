@@ -1,6 +1,4 @@
-use Rattle.std.specs.Prelude.{◌≡◌, ◌++◌}
-use Rattle.portal_tables.proofs.Base.{[], Ok, map, refl, sym, ap, ap₂, subst, ◌∙◌, append-nil, append_assoc, nil_from_length, take-append-drop, Does, GoesOn, Adds}
-use Rattle.std.proofs.Common.{rules}
+use Rattle.portal_tables.proofs.Base.{◌≡◌, ◌++◌, rules, [], Ok, map, refl, sym, ap, ap₂, subst, ◌∙◌, append-nil, append_assoc, nil_from_length, take-append-drop, Does, GoesOn, Adds}
 use Rattle.portal_tables.proofs.Runs.{does_none, goes_nowhere}
 use Rattle.portal_tables.proofs.Keeping.{adds_none, rows_run}
 use Rattle.portal_tables.proofs.insert.add_all.Goals as goal

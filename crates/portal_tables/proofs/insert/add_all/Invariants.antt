@@ -1,5 +1,4 @@
-use Rattle.std.specs.Prelude.{◌≡◌, ◌++◌}
-use Rattle.portal_tables.proofs.Base.{List, length, map, Ok, Does, GoesOn, Adds}
+use Rattle.portal_tables.proofs.Base.{◌≡◌, ◌++◌, List, length, map, Ok, Does, GoesOn, Adds}
 use Rattle.portal_tables.proofs.insert.add_all.Given as goal
 
 abbrev pub invariant-runs : goal.invariant-runs

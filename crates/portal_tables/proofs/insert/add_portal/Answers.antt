@@ -1,5 +1,4 @@
-use Rattle.std.specs.Prelude.{◌∷◌}
-use Rattle.portal_tables.proofs.Base.{[], refl, version}
+use Rattle.portal_tables.proofs.Base.{◌∷◌, [], refl, version}
 use Rattle.portal_tables.proofs.Runs.{does_more}
 use Rattle.portal_tables.proofs.Statements.{portal_added}
 use Rattle.portal_tables.proofs.insert.add_portal.Goals as goal

@@ -1,5 +1,4 @@
-use Rattle.std.specs.Prelude.{◌∷◌}
-use Rattle.portal_tables.proofs.Base.{[], refl}
+use Rattle.portal_tables.proofs.Base.{◌∷◌, [], refl}
 use Rattle.portal_tables.proofs.Runs.{does_more}
 use Rattle.portal_tables.proofs.Statements.{second_added}
 use Rattle.portal_tables.proofs.insert.add_second.Goals as goal

@@ -1,5 +1,4 @@
-use Rattle.portal_tables.proofs.Base.{subst, ap, ◌∙◌, flat_map, take_all, bound, Does, Ran}
-use Rattle.std.proofs.Common.{arith}
+use Rattle.portal_tables.proofs.Base.{subst, ap, ◌∙◌, flat_map, take_all, bound, Does, Ran, arith}
 use Rattle.portal_tables.proofs.insert.write_rows.Goals as goal
 
 pub returns : goal.returns

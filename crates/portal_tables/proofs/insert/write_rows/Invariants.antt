@@ -1,5 +1,4 @@
-use Rattle.std.specs.Prelude.{◌≡◌}
-use Rattle.portal_tables.proofs.Base.{take, flat_map, bound}
+use Rattle.portal_tables.proofs.Base.{◌≡◌, take, flat_map, bound}
 use Rattle.portal_tables.proofs.insert.write_rows.Given as goal
 
 abbrev pub invariant-loop-row : goal.invariant-loop-row

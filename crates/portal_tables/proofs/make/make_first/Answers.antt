@@ -1,5 +1,4 @@
-use Rattle.std.specs.Prelude.{◌∷◌}
-use Rattle.portal_tables.proofs.Base.{[]}
+use Rattle.portal_tables.proofs.Base.{◌∷◌, []}
 use Rattle.portal_tables.proofs.Making.{grown, grown_then, first_made, portal_made, lecturer_made, project_made, student_made, choice_made, ranking_made}
 use Rattle.portal_tables.proofs.make.make_first.Goals as goal
 

@@ -1,5 +1,4 @@
-use Rattle.portal_tables.proofs.Base.{nat_cmp, slice_cmp, nat_list_cmp_total, always_returns_same, searchable_from_sorted, exact_bytes, first_cell, rows_sorted}
-use Rattle.std.proofs.Common.{rules, arith}
+use Rattle.portal_tables.proofs.Base.{nat_cmp, slice_cmp, nat_list_cmp_total, always_returns_same, searchable_from_sorted, exact_bytes, first_cell, rows_sorted, rules, arith}
 use Rattle.portal_tables.proofs.NamedRows.{known_at, known_nowhere}
 use Rattle.portal_tables.proofs.named.place_named.Goals as goal
 

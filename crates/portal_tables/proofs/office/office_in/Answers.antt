@@ -1,5 +1,4 @@
-use Rattle.std.specs.Prelude.{◌∷◌}
-use Rattle.portal_tables.proofs.Base.{[], sym, subst, state, portal_tree, ListsBy, every, columns, IfOk-weaker}
+use Rattle.portal_tables.proofs.Base.{◌∷◌, [], sym, subst, state, portal_tree, ListsBy, every, columns, IfOk-weaker}
 use Rattle.portal_tables.proofs.OfficeRow.{office_found, office_there}
 use Rattle.portal_tables.proofs.office.office_in.Goals as goal
 

@@ -1,7 +1,4 @@
-use Rattle.std.specs.Prelude.{◌≡◌, ◌+◌, ◌++◌, ◌∷◌}
-use Rattle.portal_tables.proofs.Base.{[], take, sym, ap, ap₂, subst, ◌∙◌, filter_map, cons_option, take_more, filter_map-append, Database, IsDatabase, HasCleanDisk, state, HasRound, pair_shown}
-use Rattle.std.proofs.Common.{arith}
-use Rattle.std.proofs.lemmas.Grind.{common_steps}
+use Rattle.portal_tables.proofs.Base.{◌≡◌, ◌+◌, ◌++◌, ◌∷◌, arith, common_steps, [], take, sym, ap, ap₂, subst, ◌∙◌, filter_map, cons_option, take_more, filter_map-append, Database, IsDatabase, HasCleanDisk, state, HasRound, pair_shown}
 use Rattle.portal_tables.proofs.InTurn.{reads_then, reads_more, reads_handed, clean_before}
 use Rattle.portal_tables.proofs.placements.pairs_in.Goals.{in-Some+in_ok-push, in_default}
 use Rattle.portal_tables.proofs.placements.pairs_in.Goals as goal

@@ -1,5 +1,4 @@
-use Rattle.std.specs.Prelude.{◌≡◌}
-use Rattle.portal_tables.proofs.Base.{Ok, take, filter_map, HasCleanDisk, IsDatabase, state, HasRound, pair_shown, RunsQueriesIn, TableFault}
+use Rattle.portal_tables.proofs.Base.{◌≡◌, Ok, take, filter_map, HasCleanDisk, IsDatabase, state, HasRound, pair_shown, RunsQueriesIn, TableFault}
 use Rattle.portal_tables.proofs.placements.pairs_in.Given as goal
 
 abbrev pub invariant-loop-row : goal.invariant-loop-row

@@ -1,5 +1,4 @@
-use Rattle.std.specs.Prelude.{◌∷◌}
-use Rattle.portal_tables.proofs.Base.{[], sym, subst, IfOk-weaker, state, assigned2_tree, ListsBy, has_text, columns, HasCleanDisk, IsCurrentSchema}
+use Rattle.portal_tables.proofs.Base.{◌∷◌, [], sym, subst, IfOk-weaker, state, assigned2_tree, ListsBy, has_text, columns, HasCleanDisk, IsCurrentSchema}
 use Rattle.portal_tables.proofs.InTurn.{reads_more, reads_handed}
 use Rattle.portal_tables.proofs.SecondRows.{place_found, place_fine}
 use Rattle.portal_tables.proofs.placements.second_placement_in.Goals as goal

@@ -1,9 +1,8 @@
-use Rattle.std.specs.Prelude.{◌≡◌}
-use Rattle.portal_tables.proofs.Base.{map, take, place_new, list_cells}
+use Rattle.portal_tables.proofs.Base.{◌≡◌, map, take, place_new, list_cells}
 use Rattle.portal_tables.proofs.put.places_of.Given as goal
 
-abbrev pub invariant-rows : goal.invariant-rows
-invariant-rows l = record {
+abbrev pub invariant-loop-item : goal.invariant-loop-item
+invariant-loop-item l = record {
   at : l.place ≡ l.item-index;
   is : map place_new l.rows.items ≡ list_cells l.owner (take l.item-index l.items);
 }

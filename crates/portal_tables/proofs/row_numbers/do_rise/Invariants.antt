@@ -1,5 +1,4 @@
-use Rattle.std.specs.Prelude.{◌≡◌}
-use Rattle.portal_tables.proofs.Base.{drop, true, None, rises}
+use Rattle.portal_tables.proofs.Base.{◌≡◌, drop, true, None, rises}
 use Rattle.portal_tables.proofs.row_numbers.do_rise.Given as goal
 
 abbrev pub invariant-loop-row : goal.invariant-loop-row

@@ -1,5 +1,4 @@
-use Rattle.std.specs.Prelude.{◌≡◌}
-use Rattle.portal_tables.proofs.Base.{None, true, subst, state, table_tree, rises}
+use Rattle.portal_tables.proofs.Base.{◌≡◌, None, true, subst, state, table_tree, rises}
 use Rattle.portal_tables.proofs.Rises.{apart_of}
 use Rattle.portal_tables.proofs.row_numbers.row_numbers_differ.Goals as goal
 

@@ -1,6 +1,4 @@
-use Rattle.std.specs.Prelude.{◌∷◌}
-use Rattle.portal_tables.proofs.Base.{◌∙◌, [], subst, sym, IfErr, Cells, HasCleanDisk, Begins, Shown, Survives, FailsToQuery, state, understood, bound, survives_weaker, survives_then, never_commits, begun_plain, given_begin, IsUnchangedOrUndone}
-use Rattle.sqlite.specs.Given.{IsPlain}
+use Rattle.portal_tables.proofs.Base.{◌∷◌, IsPlain, ◌∙◌, [], subst, sym, IfErr, Cells, HasCleanDisk, Begins, Shown, Survives, FailsToQuery, state, understood, bound, survives_weaker, survives_then, never_commits, begun_plain, given_begin, IsUnchangedOrUndone}
 use Rattle.portal_tables.proofs.Decoded.{at_err, at_end, at_row, shown_before}
 use Rattle.portal_tables.proofs.InTurn.{clean_before}
 use Rattle.portal_tables.proofs.Queries.{failed_leaves, on_err}

@@ -1,6 +1,4 @@
-use Rattle.std.specs.Prelude.{◌≡◌}
-use Rattle.portal_tables.proofs.Base.{◌∙◌, subst, sym, IfErr, HasCleanDisk, Shown, FailsToQuery, ShowsAs, state, bound, survives_weaker, survives_then, never_commits, IsUnchangedOrUndone}
-use Rattle.std.proofs.Common.{rules}
+use Rattle.portal_tables.proofs.Base.{◌≡◌, rules, Refuses, Damaged, ◌∙◌, subst, sym, ap, Err, IfErr, HasCleanDisk, Shown, FailsToQuery, ShowsAs, state, bound, given_begin, survives_weaker, survives_then, never_commits, IsUnchangedOrUndone}
 use Rattle.portal_tables.proofs.Decoded.{at_err, at_ok, at_end, at_row, ended, one_more}
 use Rattle.portal_tables.proofs.InTurn.{unchanged_then, clean_before}
 use Rattle.portal_tables.proofs.Queries.{failed_leaves, on_err}
@@ -31,6 +29,26 @@ returns-in_default-clause-rows g c plain clean =
     subst (λ h. ShowsAs g.T.FromCells.shown (Shown c.args.sql.now (bound c.args.params.now) (state g.S.Store c.args.conn.now) (state g.S.Store h)) c.rows.all.items) (sym last)
     (ended g.S.Store g.T.FromCells.shown c.args.sql.now (bound c.args.params.now) c.args.conn.now c.rows.rows.conn.now c.next.follows.lender-at-none.conn.now c.rows.all.items (inv.given plain before) plain (inv.same plain before)
     (at_end g.S.Store _ _ c.next.result c.in_ok-row.field-0 c.in_ok-row.was (moved.ok clean_moved) c.in_default.is))
+
+pub returns-in_err-from_cells-clause-refused : goal.returns-in_err-from_cells-clause-refused
+returns-in_err-from_cells-clause-refused g c plain clean damaged =
+    let a = state g.S.Store c.args.conn.now in
+    let inv = c.rows.invariant in
+    let moved = c.next.follows.holds-at-none in
+    let last : c.conn-in_err-from_cells-1.given.0 ≡ c.next.follows.lender-at-none.conn.now =
+    c.conn-in_err-from_cells-1.given.1 (sym (moved.same_reference ∙ inv.same_reference ∙ c.in_ok-rows.ensures.same_reference)) ∙ c.drop-rows-in_err-from_cells.ensures in
+    let clean_moved = subst (λ h. HasCleanDisk (state g.S.Store h)) last clean in
+    let before = clean_before _ _ _ moved.survives clean_moved in
+    let given = inv.given plain before in
+    let on = at_row g.S.Store _ _ c.next.result c.in_ok-row.field-0 c.in_ok-row.was (moved.ok clean_moved) c.in-Some.row c.in-Some.is in
+    let fault : c.in_err-from_cells.field-0.0 ≡ Damaged = search rules in
+    subst (λ h. Refuses g.T.FromCells.is_fine c.args.sql.now (bound c.args.params.now) a (state g.S.Store h)) (sym last) (record {
+      before = given.rows;
+      row = c.in-Some.row.now;
+      begins = given_begin g.S.Store c.args.sql.now (bound c.args.params.now) c.next.follows.lender-at-none.conn.now _ (on c.args.sql.now (bound c.args.params.now) given.rows given.shown);
+      same = unchanged_then _ _ _ (inv.same plain before) (at_ok c.next.result c.in_ok-row.field-0 _ c.in_ok-row.was (moved.same clean_moved));
+      refused = c.in_err-from_cells.ensures.damaged (ap Err fault);
+    })
 
 pub rows-preserved : goal.rows-preserved
 rows-preserved g c =

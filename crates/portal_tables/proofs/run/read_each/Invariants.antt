@@ -1,6 +1,4 @@
-use Rattle.std.specs.Prelude.{◌≡◌}
-use Rattle.portal_tables.proofs.Base.{false, HasCleanDisk, IsUnchanged, Survives, state, HasGiven, understood, bound, ShowsAs}
-use Rattle.sqlite.specs.Given.{IsPlain}
+use Rattle.portal_tables.proofs.Base.{◌≡◌, IsPlain, false, HasCleanDisk, IsUnchanged, Survives, state, HasGiven, understood, bound, ShowsAs}
 use Rattle.portal_tables.proofs.run.read_each.Given as goal
 
 abbrev pub invariant-rows : goal.invariant-rows

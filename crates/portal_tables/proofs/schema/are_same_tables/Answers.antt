@@ -1,5 +1,4 @@
-use Rattle.portal_tables.proofs.Base.{subst₂, SameTable}
-use Rattle.std.proofs.Common.{arith}
+use Rattle.portal_tables.proofs.Base.{subst₂, SameTable, arith}
 use Rattle.portal_tables.proofs.Zip.{zip_more}
 use Rattle.portal_tables.proofs.schema.are_same_tables.Goals as goal
 

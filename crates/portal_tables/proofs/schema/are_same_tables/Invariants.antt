@@ -1,5 +1,4 @@
-use Rattle.std.specs.Prelude.{◌≡◌}
-use Rattle.portal_tables.proofs.Base.{take, length, AllZip, SameTable}
+use Rattle.portal_tables.proofs.Base.{◌≡◌, take, length, AllZip, SameTable}
 use Rattle.portal_tables.proofs.schema.are_same_tables.Given as goal
 
 abbrev pub invariant-loop-i : goal.invariant-loop-i

@@ -1,6 +1,4 @@
-use Rattle.std.specs.Prelude.{◌≡◌}
-use Rattle.portal_tables.proofs.Base.{◌∙◌, ap, subst, Database, Held, memory_is_clean, portal_schema}
-use Rattle.std.proofs.Common.{rules}
+use Rattle.portal_tables.proofs.Base.{◌≡◌, rules, ◌∙◌, ap, subst, Database, Held, memory_is_clean, portal_schema}
 use Rattle.portal_tables.proofs.schema.make_scratch.Goals as goal
 
 pub returns : goal.returns

@@ -1,5 +1,4 @@
-use Rattle.std.specs.Prelude.{◌∷◌}
-use Rattle.portal_tables.proofs.Base.{[], refl}
+use Rattle.portal_tables.proofs.Base.{◌∷◌, [], refl}
 use Rattle.portal_tables.proofs.Runs.{does_then, made_then}
 use Rattle.portal_tables.proofs.SecondRound.{rank_put}
 use Rattle.portal_tables.proofs.Statements.{rank_cleared, rank_added}

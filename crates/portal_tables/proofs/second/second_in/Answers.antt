@@ -1,5 +1,4 @@
-use Rattle.std.specs.Prelude.{◌∷◌}
-use Rattle.portal_tables.proofs.Base.{[], sym, subst, IfOk-weaker, state, second_tree, ListsBy, every, columns}
+use Rattle.portal_tables.proofs.Base.{◌∷◌, [], sym, subst, IfOk-weaker, state, second_tree, ListsBy, every, columns}
 use Rattle.portal_tables.proofs.OfficeRow.{second_found, second_there}
 use Rattle.portal_tables.proofs.second.second_in.Goals as goal
 

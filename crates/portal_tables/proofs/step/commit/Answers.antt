@@ -1,6 +1,4 @@
-use Rattle.std.specs.Prelude.{◌≡◌}
-use Rattle.portal_tables.proofs.Base.{not, IsTrue, ap, subst, ◌∙◌, HasCleanDisk, Survives, Held, state, Commits, IsAfter, Stays}
-use Rattle.std.proofs.Common.{rules, arith}
+use Rattle.portal_tables.proofs.Base.{◌≡◌, rules, arith, not, IsTrue, ap, subst, ◌∙◌, HasCleanDisk, Survives, Held, state, Commits, IsAfter, Stays}
 use Rattle.portal_tables.proofs.Queries.{on_err}
 use Rattle.portal_tables.proofs.Runs.{ended_well, ended_crash, ended_badly}
 use Rattle.portal_tables.proofs.step.commit.Goals as goal

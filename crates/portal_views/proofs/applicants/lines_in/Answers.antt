@@ -1,6 +1,4 @@
-use Rattle.std.specs.Prelude.{◌≡◌, if◌then◌else◌}
-use Rattle.portal_views.proofs.Base.{◌∙◌, true, [], sym, ap, IfOk-weaker, state, is_from_ranking, applicant_lines}
-use Rattle.std.proofs.Common.{rules}
+use Rattle.portal_views.proofs.Base.{◌≡◌, if◌then◌else◌, rules, ◌∙◌, true, [], sym, ap, IfOk-weaker, state, is_from_ranking, applicant_lines}
 use Rattle.portal_views.proofs.applicants.lines_in.Goals as goal
 
 pub returns-then-is_from_ranking-clause-told : goal.returns-then-is_from_ranking-clause-told

@@ -1,5 +1,4 @@
-use Rattle.std.specs.Prelude.{◌≡◌}
-use Rattle.portal_views.proofs.Base.{map, take, filter, is_at}
+use Rattle.portal_views.proofs.Base.{◌≡◌, map, take, filter, is_at}
 use Rattle.portal_views.proofs.applicants.placed_at.Given as goal
 
 abbrev pub invariant-loop-line : goal.invariant-loop-line

@@ -1,6 +1,4 @@
-use Rattle.portal_views.proofs.Base.{◌∙◌, person_key}
-use Rattle.portal_core.specs.Words.{put_all}
-use Rattle.portal_tables.proofs.InTurn.{reads_more}
+use Rattle.portal_views.proofs.Base.{◌∙◌, person_key, put_all, reads_more}
 use Rattle.portal_views.proofs.applicants.placed_with.Goals as goal
 
 pub returns-clause-told : goal.returns-clause-told

@@ -1,7 +1,5 @@
-use Rattle.std.specs.Prelude.{◌≡◌, ◌+◌, ◌∷◌, ◌++◌}
-use Rattle.portal_views.proofs.Base.{[], sym, ap, subst, ◌∙◌, map, map-append, take, take_more, List, Database, HasCleanDisk, state, HasTables, ApplicantLine, lines_shown, placed_at_shown, applicants_told, placed_told}
-use Rattle.portal_tables.proofs.InTurn.{reads_then, reads_more, reads_handed, clean_before}
-use Rattle.portal_tables.proofs.Owned.{has_round}
+use Rattle.portal_views.proofs.Base.{◌≡◌, ◌∷◌, ◌++◌, rules, Damaged, HasStudents, reads_then, reads_more, reads_handed, clean_before, has_round, [], Err, sym, ap, subst, ◌∙◌, map, map-append, take, take_more, List, Database, HasCleanDisk, state, HasTables, ApplicantLine, lines_shown, placed_at_shown, applicants_told, placed_told}
+use Rattle.std.specs.Prelude.{◌+◌}
 use Rattle.portal_views.proofs.applicants.project_students.Goals as goal
 
 pub returns-in_err-lines-clause-reads : goal.returns-in_err-lines-clause-reads
@@ -49,3 +47,24 @@ loop-project-preserved g c =
           ∙ sym (ap (placed_told round a.now.trees phase) next ∙ map-append (λ k. (k, placed_at_shown round a.now.trees phase k (lines_shown round a.now.trees phase k))) (take at keys) (key ∷ []));
       reads = reads_more c.in_ok-placed.placed _ a e (reads_then c.in_ok-lines.lines _ a d e both c.in_ok-placed.ensures.reads);
     }
+
+pub returns-in_err-lines-clause-damaged : goal.returns-in_err-lines-clause-damaged
+returns-in_err-lines-clause-damaged g c students clean damaged =
+    let b = state g.S.Store c.loop-project.conn in
+    let d = state g.S.Store c.lines_in.new.conn in
+    let round = c.args.round in
+    let fault : c.in_err-lines.field-0.0 ≡ Damaged = search rules in
+    let same = sym (c.loop-project.invariant.reads.now (has_round round _ students.tables.current) (clean_before b d _ c.in_err-lines.ensures.reads.crash clean)) in
+    c.in_err-lines.ensures.damaged (subst (HasStudents round) same students) clean (ap Err fault)
+
+pub returns-in_err-placed-clause-damaged : goal.returns-in_err-placed-clause-damaged
+returns-in_err-placed-clause-damaged g c students clean damaged =
+    let a = state g.S.Store c.args.conn.now in
+    let b = state g.S.Store c.loop-project.conn in
+    let d = state g.S.Store c.lines_in.new.conn in
+    let e = state g.S.Store c.placed_with.new.conn in
+    let round = c.args.round in
+    let fault : c.in_err-placed.field-0.0 ≡ Damaged = search rules in
+    let both = reads_then c.loop-project.told _ a b d c.loop-project.invariant.reads c.in_ok-lines.ensures.reads in
+    let same = sym (both.now (has_round round _ students.tables.current) (clean_before d e _ c.in_err-placed.ensures.reads.crash clean)) in
+    c.in_err-placed.ensures.damaged (subst (HasStudents round) same students) clean (ap Err fault)

@@ -1,5 +1,4 @@
-use Rattle.std.specs.Prelude.{◌≡◌}
-use Rattle.portal_views.proofs.Base.{Ok, map, take, HasCleanDisk, state, with_persons, applicants_told, placed_told, HasTables, RunsQueriesIn, TableFault}
+use Rattle.portal_views.proofs.Base.{◌≡◌, Ok, map, take, HasCleanDisk, state, with_persons, applicants_told, placed_told, HasTables, RunsQueriesIn, TableFault}
 use Rattle.portal_views.proofs.applicants.project_students.Given as goal
 
 abbrev pub invariant-loop-project : goal.invariant-loop-project

@@ -1,10 +1,5 @@
-use Rattle.std.specs.Prelude.{◌≡◌}
-use Rattle.std.proofs.Common.{rules}
-use Rattle.portal_views.proofs.Base.{◌∙◌, Ok, Err, ap, ap₂, sym, subst, Vec, Global, Listing, Database, IsDatabase, HasCleanDisk, state, HasFirstSchema}
-use Rattle.portal_tables.specs.declared.fault.TableFault.TheVariants.{Damaged}
-use Rattle.portal_tables.specs.inner.Placements.{first_pairs}
-use Rattle.portal_tables.proofs.InTurn.{reads_then, reads_more, reads_handed, clean_before}
-use Rattle.portal_views.specs.inner.Catalogue.{offered_in, HasPairs}
+use Rattle.portal_views.proofs.Base.{◌≡◌, rules, Damaged, first_pairs, reads_then, reads_more, reads_handed, clean_before, offered_in, ◌∙◌, Ok, Err, ap, ap₂, sym, subst, Vec, Global, Listing, Database, IsDatabase, HasCleanDisk, state, HasFirstSchema}
+use Rattle.portal_views.specs.inner.Catalogue.{HasPairs}
 use Rattle.portal_views.proofs.catalogue.catalogue_in.Goals as goal
 
 pub returns-in_err-listings-clause-reads : goal.returns-in_err-listings-clause-reads

@@ -1,7 +1,4 @@
-use Rattle.std.specs.Prelude.{◌∷◌, ◌++◌}
-use Rattle.portal_views.proofs.Base.{[], sym, ap, ◌∙◌}
-use Rattle.portal_core.specs.inner.Room.{lecturer_left}
-use Rattle.portal_list.proofs.Steps.{some_more, none_more}
+use Rattle.portal_views.proofs.Base.{◌∷◌, ◌++◌, lecturer_left, some_more, none_more, [], sym, ap, ◌∙◌}
 use Rattle.portal_views.proofs.catalogue.lecturers_left.Goals as goal
 use Rattle.portal_views.proofs.catalogue.lecturers_left.Goals.{in-Some+in_ok-push, in_default}
 

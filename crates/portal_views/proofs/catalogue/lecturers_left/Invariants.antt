@@ -1,6 +1,4 @@
-use Rattle.std.specs.Prelude.{◌≡◌}
-use Rattle.portal_views.proofs.Base.{take, filter_map}
-use Rattle.portal_core.specs.inner.Room.{lecturer_left}
+use Rattle.portal_views.proofs.Base.{◌≡◌, lecturer_left, take, filter_map}
 use Rattle.portal_views.proofs.catalogue.lecturers_left.Given as goal
 
 abbrev pub invariant-loop-lecturer : goal.invariant-loop-lecturer

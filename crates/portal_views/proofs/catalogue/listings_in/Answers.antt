@@ -1,7 +1,4 @@
-use Rattle.portal_views.proofs.Base.{◌∙◌, sym, ap, subst, map-id, offered, state, First, Second}
-use Rattle.portal_tables.specs.inner.Placements.{first_pairs}
-use Rattle.portal_tables.proofs.InTurn.{reads_more, reads_handed}
-use Rattle.portal_views.specs.inner.Catalogue.{offered_in, HasPairs}
+use Rattle.portal_views.proofs.Base.{◌∙◌, sym, ap, map-id, offered, state, Second, first_pairs, reads_more, offered_in}
 use Rattle.portal_views.proofs.catalogue.listings_in.Goals as goal
 
 pub returns-in_ok-listings_of-in-First-clause-shows : goal.returns-in_ok-listings_of-in-First-clause-shows

@@ -1,6 +1,4 @@
-use Rattle.std.specs.Prelude.{◌≡◌}
-use Rattle.portal_views.proofs.Base.{take, filter_map}
-use Rattle.portal_core.specs.inner.Room.{project_left}
+use Rattle.portal_views.proofs.Base.{◌≡◌, project_left, take, filter_map}
 use Rattle.portal_views.proofs.catalogue.projects_left.Given as goal
 
 abbrev pub invariant-loop-project : goal.invariant-loop-project

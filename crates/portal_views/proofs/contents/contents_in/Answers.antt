@@ -1,11 +1,7 @@
-use Rattle.std.specs.Prelude.{◌≡◌}
-use Rattle.portal_views.proofs.Base.{Err, IfOk, OnOk, List, ap, sym, subst, subst₂, Database, IsDatabase, HasCleanDisk, state, Cells, HasRound, choice_table, ranking_table, AreOwned, AreFine, lecturers_shown, projects_shown, students_shown}
-use Rattle.portal_views.specs.inner.Contents.{rows_held, rows_from, AreRead}
-use Rattle.portal_tables.specs.declared.fault.TableFault.TheVariants.{Damaged}
-use Rattle.std.proofs.Common.{rules}
+use Rattle.portal_views.proofs.Base.{◌≡◌, rows_from, Damaged, rules, reads_then, reads_in, reads_handed, clean_before, Err, IfOk, OnOk, List, ap, sym, subst, subst₂, Database, IsDatabase, HasCleanDisk, state, Cells, HasRound, choice_table, ranking_table, AreOwned, AreFine, lecturers_shown, projects_shown, students_shown}
+use Rattle.portal_views.specs.inner.Contents.{rows_held, AreRead}
 use Rattle.portal_tables.proofs.Owned.{round_own}
 use Rattle.portal_views.proofs.Owners.{choices_owned, rankings_owned}
-use Rattle.portal_tables.proofs.InTurn.{reads_then, reads_in, reads_handed, clean_before}
 use Rattle.portal_views.proofs.contents.contents_in.Goals as goal
 
 -- the rolls that were read are those of the tables, and the tables are as they were

@@ -1,11 +1,5 @@
-use Rattle.std.specs.Prelude.{◌≡◌}
-use Rattle.portal_views.proofs.Base.{Ok, Err, None, IfOk-weaker, refl, sym, ap, subst, subst₂, ◌∙◌, map, AllByRecursion, Database, IsDatabase, HasCleanDisk, state, HasRound, entry, filter_map, with_list, AreOwned, IsRead, IsFine, HasPlacement, pair_shown, RunsQueriesIn, TableFault}
-use Rattle.portal_views.specs.inner.Base.{IsStudent}
-use Rattle.portal_views.specs.inner.Contents.{rows_from}
-use Rattle.portal_tables.specs.inner.Shown.{shown_student}
-use Rattle.portal_tables.specs.declared.fault.TableFault.TheVariants.{Damaged}
-use Rattle.std.proofs.Common.{rules}
-use Rattle.portal_tables.proofs.InTurn.{reads_then, reads_more, reads_handed, reads_shifted, shifted, on_ok, clean_before}
+use Rattle.portal_views.proofs.Base.{◌≡◌, IsStudent, rows_from, shown_student, Damaged, rules, reads_then, reads_more, reads_handed, reads_shifted, shifted, clean_before, Ok, Err, None, IfOk-weaker, refl, sym, ap, subst, subst₂, ◌∙◌, map, AllByRecursion, Database, IsDatabase, HasCleanDisk, state, HasRound, entry, filter_map, with_list, AreOwned, IsRead, IsFine, HasPlacement, pair_shown, RunsQueriesIn, TableFault}
+use Rattle.portal_tables.proofs.InTurn.{on_ok}
 use Rattle.portal_views.proofs.contents.rows_in.Goals as goal
 
 pub returns-in_err-choices-clause-reads : goal.returns-in_err-choices-clause-reads
@@ -26,7 +20,7 @@ returns-in_err-pairs-clause-reads g c =
 
 pub returns-clause-reads : goal.returns-clause-reads
 returns-clause-reads g c =
-    reads_more c.in_ok-pairs.pairs c.contents_of.result _ _
+    reads_more c.in_ok-pairs.pairs c.contents_from.result _ _
     (reads_then c.in_ok-rankings.rankings _ _ _ _
     (reads_then c.in_ok-choices.choices _ _ _ _ (reads_shifted _ _ _ c.choices_of.ensures.round c.in_ok-choices.ensures.reads) (reads_shifted _ _ _ c.rankings_of.ensures.round c.in_ok-rankings.ensures.reads))
     c.in_ok-pairs.ensures.reads)
@@ -68,7 +62,7 @@ returns-in_err-pairs-clause-damaged g c own sound clean damaged choices rankings
     reads_then c.in_ok-choices.choices _ _ _ _ (reads_shifted _ _ _ c.choices_of.ensures.round c.in_ok-choices.ensures.reads) (reads_shifted _ _ _ c.rankings_of.ensures.round c.in_ok-rankings.ensures.reads) in
     let same = sym (both.now own (clean_before d e _ c.in_err-pairs.ensures.reads.crash clean)) in
     let rows = sym c.deref-3.ensures.value in
-    c.in_err-pairs.ensures.damaged (subst (λ (x : Database). HasRound c.args.round x.schema) same own) (subst IsDatabase same sound) clean (ap Err fault) refl
+    c.in_err-pairs.ensures.damaged (subst (λ (x : Database). HasRound c.args.round x.schema) same own) (subst IsDatabase same sound) clean (ap Err fault)
     (subst (AllByRecursion (λ r. IsStudent (shown_student r))) rows fine.student_forms)
     (subst₂ (λ (x : Database) rs. AllByRecursion (HasPlacement c.args.round x.trees) rs) same rows fine.places)
 
@@ -91,7 +85,7 @@ returns-clause-rows g c own sound clean =
     let pairs = subst₂ (λ (x : Database) rows. HasRound c.args.round x.schema → IsDatabase x → HasCleanDisk e → c.in_ok-pairs.pairs.items ≡ filter_map (pair_shown c.args.round None x.trees) rows)
     (both.now own clean_d) c.deref-3.ensures.value c.in_ok-pairs.ensures.ok own sound clean in
     let from = rows_from c.args.round a.now.trees c.args.rolls.lecturers.items c.args.rolls.projects.items c.args.rolls.students.items in
-    IfOk-weaker c.contents_of.result _ _ (λ v is. is ∙ (λ i. record from { choices = choices i; rankings = rankings i; pairs = pairs i })) c.contents_of.ensures.rows
+    IfOk-weaker c.contents_from.result _ _ (λ v is. is ∙ (λ i. record from { choices = choices i; rankings = rankings i; pairs = pairs i })) c.contents_from.ensures.rows
 
 pub returns-clause-read : goal.returns-clause-read
 returns-clause-read g c own sound clean =
@@ -102,7 +96,7 @@ returns-clause-read g c own sound clean =
     let clean_d = clean_before d (state g.S.Store c.pairs_in.new.conn) _ c.in_ok-pairs.ensures.reads.crash clean in
     let clean_b = clean_before b d _ c.in_ok-rankings.ensures.reads.crash clean_d in
     let same : a.now ≡ a.now = refl in
-    on_ok c.contents_of.result (record {
+    on_ok c.contents_from.result (record {
       choices = shifted (λ r l x rows. HasRound r x.schema → IsDatabase x → HasCleanDisk b → AllByRecursion (IsRead l x.trees) rows)
           c.choices_of.ensures.round c.choices_of.ensures.is same c.deref.ensures.value c.in_ok-choices.ensures.read own sound clean_b;
       rankings = shifted (λ r l x rows. HasRound r x.schema → IsDatabase x → HasCleanDisk d → AllByRecursion (IsRead l x.trees) rows)

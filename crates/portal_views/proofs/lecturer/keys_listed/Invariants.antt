@@ -1,5 +1,4 @@
-use Rattle.std.specs.Prelude.{◌≡◌}
-use Rattle.portal_views.proofs.Base.{take, own_listed}
+use Rattle.portal_views.proofs.Base.{◌≡◌, take, own_listed}
 use Rattle.portal_views.proofs.lecturer.keys_listed.Given as goal
 
 abbrev pub invariant-loop-project : goal.invariant-loop-project

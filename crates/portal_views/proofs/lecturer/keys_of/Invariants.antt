@@ -1,5 +1,4 @@
-use Rattle.std.specs.Prelude.{◌≡◌}
-use Rattle.portal_views.proofs.Base.{map, take, first_cell}
+use Rattle.portal_views.proofs.Base.{◌≡◌, map, take, first_cell}
 use Rattle.portal_views.proofs.lecturer.keys_of.Given as goal
 
 abbrev pub invariant-loop-row : goal.invariant-loop-row

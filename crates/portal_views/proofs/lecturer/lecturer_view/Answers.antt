@@ -1,7 +1,5 @@
-use Rattle.std.specs.Prelude.{◌≡◌}
-use Rattle.portal_views.proofs.Base.{◌∙◌, Vec, Global, Listing, ap, map, option_map, subst, Database, IsDatabase, state, HasCleanDisk, IfOk-weaker, with_persons, applicants_told, placed_told, ranking_shown, own_keys_shown, lecturer_shown, HasRound, HasTables, IsCatalogue, first_cell}
-use Rattle.portal_tables.proofs.InTurn.{reads_then, reads_more, reads_handed, clean_before}
-use Rattle.portal_tables.proofs.Owned.{has_round}
+use Rattle.portal_views.proofs.Base.{◌≡◌, rules, Damaged, HasStudents, reads_then, reads_more, reads_handed, clean_before, has_round, ◌∙◌, Err, sym, IsFine, ranking_table, Vec, Global, Listing, ap, map, option_map, subst, Database, IsDatabase, state, HasCleanDisk, IfOk-weaker, with_persons, applicants_told, placed_told, ranking_shown, own_keys_shown, lecturer_shown, HasRound, HasTables, IsCatalogue, first_cell}
+use Rattle.portal_views.specs.inner.Callers.{HasOwnKeys}
 use Rattle.portal_views.proofs.lecturer.lecturer_view.Goals as goal
 
 pub returns-in_err-own-clause-reads : goal.returns-in_err-own-clause-reads
@@ -20,7 +18,7 @@ returns-in_err-told-clause-reads g c =
 pub returns-clause-reads : goal.returns-clause-reads
 returns-clause-reads g c =
     reads_then c.in_ok-own.own _ _ _ _ c.in_ok-own.ensures.reads
-    (reads_then c.in_ok-ranking.ranking _ _ _ _ c.in_ok-ranking.ensures.reads (reads_more c.in_ok-told.told c.lecturer_view_of.result _ _ c.in_ok-told.ensures.reads))
+    (reads_then c.in_ok-ranking.ranking _ _ _ _ c.in_ok-ranking.ensures.reads (reads_more c.in_ok-told.told c.lecturer_view_from.result _ _ c.in_ok-told.ensures.reads))
 
 pub returns-clause-shows : goal.returns-clause-shows
 returns-clause-shows g c tables clean =
@@ -46,6 +44,38 @@ returns-clause-shows g c tables clean =
     let applicants = subst (λ (x : Database). HasTables x → HasCleanDisk e → map with_persons told.applicants.items ≡ applicants_told round x.trees phase keys) same_d c.in_ok-told.ensures.applicants tables clean in
     let placed = subst (λ (x : Database). HasTables x → HasCleanDisk e → map with_persons told.placed.items ≡ placed_told round x.trees phase keys) same_d c.in_ok-told.ensures.placed tables clean in
     let from = lecturer_shown round db phase row c.args.catalogue.value.items in
-    IfOk-weaker c.lecturer_view_of.result _ _ (λ v is offered.
+    IfOk-weaker c.lecturer_view_from.result _ _ (λ v is offered.
     let of = own offered in
-    is ∙ (λ i. record from { applicants = (applicants ∙ ap (applicants_told round db phase) of) i; ranking = ranking i; placed = (placed ∙ ap (placed_told round db phase) of) i })) c.lecturer_view_of.ensures
+    is ∙ (λ i. record from { applicants = (applicants ∙ ap (applicants_told round db phase) of) i; ranking = ranking i; placed = (placed ∙ ap (placed_told round db phase) of) i })) c.lecturer_view_from.ensures.ok
+
+pub returns-in_err-own-clause-damaged : goal.returns-in_err-own-clause-damaged
+returns-in_err-own-clause-damaged g c fine clean damaged =
+    let fault : c.in_err-own.field-0.0 ≡ Damaged = search rules in
+    c.in_err-own.ensures.damaged (subst (λ k. HasOwnKeys k (state g.S.Store c.args.conn.now).now) (sym c.bytes_at.ensures) fine.projects) clean (ap Err fault)
+
+pub returns-in_err-ranking-clause-damaged : goal.returns-in_err-ranking-clause-damaged
+returns-in_err-ranking-clause-damaged g c fine clean damaged =
+    let b = state g.S.Store c.own_projects.new.conn in
+    let d = state g.S.Store c.ranking_in.new.conn in
+    let round = c.args.round in
+    let tables = fine.students.tables in
+    let own = has_round round _ tables.current in
+    let fault : c.in_err-ranking.field-0.0 ≡ Damaged = search rules in
+    let same = sym (c.in_ok-own.ensures.reads.now own (clean_before b d _ c.in_err-ranking.ensures.reads.crash clean)) in
+    c.in_err-ranking.ensures.damaged (subst (λ (x : Database). HasRound round x.schema) same own) (subst IsDatabase same tables.sound) clean (ap Err fault)
+    (subst (λ (x : Database). IsFine (ranking_table round) x.trees c.args.row.now) same fine.ranking)
+
+pub returns-in_err-told-clause-damaged : goal.returns-in_err-told-clause-damaged
+returns-in_err-told-clause-damaged g c fine clean damaged =
+    let a = state g.S.Store c.args.conn.now in
+    let b = state g.S.Store c.own_projects.new.conn in
+    let d = state g.S.Store c.ranking_in.new.conn in
+    let e = state g.S.Store c.project_students.new.conn in
+    let round = c.args.round in
+    let fault : c.in_err-told.field-0.0 ≡ Damaged = search rules in
+    let both = reads_then c.in_ok-own.own _ a b d c.in_ok-own.ensures.reads c.in_ok-ranking.ensures.reads in
+    let same = sym (both.now (has_round round _ fine.students.tables.current) (clean_before d e _ c.in_err-told.ensures.reads.crash clean)) in
+    c.in_err-told.ensures.damaged (subst (HasStudents round) same fine.students) clean (ap Err fault)
+
+pub returns-clause-damaged : goal.returns-clause-damaged
+returns-clause-damaged g c fine clean damaged = c.lecturer_view_from.ensures.damaged damaged fine.person fine.low fine.high

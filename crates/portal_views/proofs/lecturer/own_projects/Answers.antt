@@ -1,5 +1,4 @@
-use Rattle.portal_views.proofs.Base.{◌∙◌, List, Listing, ap, state, own_listed, IfOk-weaker}
-use Rattle.portal_tables.proofs.InTurn.{reads_in}
+use Rattle.portal_views.proofs.Base.{◌∙◌, List, Listing, ap, state, own_listed, IfOk-weaker, reads_in}
 use Rattle.portal_views.proofs.OwnProjects.{listed_are}
 use Rattle.portal_views.proofs.lecturer.own_projects.Goals as goal
 

@@ -1,6 +1,4 @@
-use Rattle.std.specs.Prelude.{◌≡◌}
-use Rattle.portal_views.proofs.Base.{Bool, true, false, cond, Key, List, Option, Some, None, has_list, ranking_table, ◌∙◌, refl, ap, option_map, IsDatabase, HasCleanDisk, state, HasRound, entry, with_list}
-use Rattle.portal_tables.proofs.InTurn.{reads_more, reads_handed, reads_shifted, shifted}
+use Rattle.portal_views.proofs.Base.{◌≡◌, rules, Damaged, reads_more, reads_handed, reads_shifted, shifted, Err, IsFine, sym, Bool, true, false, cond, Key, List, Option, Some, None, has_list, ranking_table, ◌∙◌, refl, ap, option_map, IsDatabase, HasCleanDisk, state, HasRound, entry, with_list}
 use Rattle.portal_views.proofs.lecturer.ranking_in.Goals as goal
 
 second_of : (b : Bool) (key : Key) (list : List Key) → option_map (λ (e : Key × List Key). e.1) (cond {A = Option (Key × List Key)} b (Some (key, list)) None) ≡ cond b (Some list) None
@@ -22,3 +20,14 @@ returns-clause-reads g c = reads_more c.in_ok-entry.entry _ _ _ (reads_shifted _
 
 pub returns-in_err-entry-clause-reads : goal.returns-in_err-entry-clause-reads
 returns-in_err-entry-clause-reads g c = reads_handed c.in_err-entry.field-0.0 c.from_residual.result _ _ c.from_residual.ensures.0 (reads_shifted _ _ _ c.rankings_of.ensures.round c.in_err-entry.ensures.reads)
+
+pub returns-in_err-entry-clause-damaged : goal.returns-in_err-entry-clause-damaged
+returns-in_err-entry-clause-damaged g c own sound clean damaged fine =
+    let a = state g.S.Store c.args.conn.now in
+    let fault : c.in_err-entry.field-0.0 ≡ Damaged = search rules in
+    let same : a.now ≡ a.now = refl in
+    let round = sym c.rankings_of.ensures.round in
+    let lists = sym c.rankings_of.ensures.is in
+    let row = c.args.row.now in
+    c.in_err-entry.ensures.damaged (shifted {rows = row} {owners = row} (λ r l x k. HasRound r x.schema) round lists same refl own) sound clean (ap Err fault)
+    (shifted {rows = row} {owners = row} (λ r l x k. IsFine l x.trees k) round lists same refl fine)

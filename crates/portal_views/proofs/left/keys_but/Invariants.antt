@@ -1,5 +1,4 @@
-use Rattle.std.specs.Prelude.{◌≡◌, ◌&&◌, is_none}
-use Rattle.portal_views.proofs.Base.{map, take, filter, not, has, first_cell, placement_before}
+use Rattle.portal_views.proofs.Base.{◌≡◌, ◌&&◌, is_none, map, take, filter, not, has, first_cell, placement_before}
 use Rattle.portal_views.proofs.left.keys_but.Given as goal
 
 abbrev pub invariant-loop-row : goal.invariant-loop-row

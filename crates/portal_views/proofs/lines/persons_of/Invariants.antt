@@ -1,5 +1,4 @@
-use Rattle.std.specs.Prelude.{◌≡◌}
-use Rattle.portal_views.proofs.Base.{map, take}
+use Rattle.portal_views.proofs.Base.{◌≡◌, map, take}
 use Rattle.portal_views.proofs.lines.persons_of.Given as goal
 
 abbrev pub invariant-loop-line : goal.invariant-loop-line

@@ -1,11 +1,5 @@
-use Rattle.std.proofs.Common.{◌≡◌, Ok, map, arith}
-use Rattle.std.proofs.lemmas.List.Elements.{filter_map-append}
-use Rattle.std.proofs.lemmas.Grind.{common_steps}
-use Rattle.sqlite.specs.Effect.{Database}
-use Rattle.sqlite.specs.Held.{state}
+use Rattle.portal_views.proofs.Base.{◌≡◌, Ok, map, arith, filter_map-append, common_steps, Database, state, shown_project, reads_then, reads_more, reads_handed, clean_before}
 use Rattle.portal_views.specs.inner.Office.{waiting_key}
-use Rattle.portal_tables.specs.inner.Shown.{shown_project}
-use Rattle.portal_tables.proofs.InTurn.{reads_then, reads_more, reads_handed, clean_before}
 use Rattle.portal_views.proofs.OfficeLists.{at_start, round_held}
 use Rattle.portal_views.proofs.office.all_waiting.Goals.{in-Some+in_ok-push, in_default}
 use Rattle.portal_views.proofs.office.all_waiting.Goals as goal

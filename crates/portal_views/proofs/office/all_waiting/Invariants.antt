@@ -1,10 +1,4 @@
-use Rattle.std.proofs.Common.{◌≡◌, Ok, map, take}
-use Rattle.sqlite.specs.State.{HasCleanDisk}
-use Rattle.sqlite.specs.Held.{state}
-use Rattle.portal_views.specs.inner.Office.{HasWholeLists, waiting_keys}
-use Rattle.portal_tables.specs.inner.Shown.{shown_project}
-use Rattle.portal_tables.specs.inner.Reading.{RunsQueriesIn}
-use Rattle.portal_tables.specs.declared.fault.TableFault.{TableFault}
+use Rattle.portal_views.proofs.Base.{◌≡◌, Ok, map, take, HasCleanDisk, state, HasWholeLists, waiting_keys, shown_project, RunsQueriesIn, TableFault}
 use Rattle.portal_views.proofs.office.all_waiting.Given as goal
 
 abbrev pub invariant-loop-lecturer : goal.invariant-loop-lecturer

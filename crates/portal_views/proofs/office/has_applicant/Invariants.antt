@@ -1,10 +1,4 @@
-use Rattle.std.proofs.Common.{◌≡◌, Ok, map, drop, false}
-use Rattle.sqlite.specs.State.{HasCleanDisk}
-use Rattle.sqlite.specs.Held.{state}
-use Rattle.portal_views.specs.inner.Office.{HasWholeLists, is_wanted_shown}
-use Rattle.portal_tables.specs.inner.Shown.{first_cell, shown_project}
-use Rattle.portal_tables.specs.inner.Reading.{RunsQueriesIn}
-use Rattle.portal_tables.specs.declared.fault.TableFault.{TableFault}
+use Rattle.portal_views.proofs.Base.{◌≡◌, Ok, map, drop, false, HasCleanDisk, state, HasWholeLists, is_wanted_shown, first_cell, shown_project, RunsQueriesIn, TableFault}
 use Rattle.portal_views.proofs.office.has_applicant.Given as goal
 
 abbrev pub invariant-loop-project : goal.invariant-loop-project

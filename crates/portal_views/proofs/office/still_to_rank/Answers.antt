@@ -1,5 +1,4 @@
-use Rattle.sqlite.specs.Held.{state}
-use Rattle.portal_tables.proofs.InTurn.{reads_self}
+use Rattle.portal_views.proofs.Base.{state, reads_self}
 use Rattle.portal_views.proofs.office.still_to_rank.Goals as goal
 
 pub returns-clause-reads : goal.returns-clause-reads

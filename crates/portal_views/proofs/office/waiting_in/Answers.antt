@@ -1,16 +1,4 @@
-use Rattle.std.proofs.Common.{◌≡◌, Ok, IfOk, Some, None, map, refl, sym, ap, ◌∙◌}
-use Rattle.std.specs.Prelude.{if◌then◌else◌}
-use Rattle.std.proofs.lemmas.Result.{IfOk-weaker}
-use Rattle.sqlite.specs.Effect.{Database, IsDatabase}
-use Rattle.sqlite.specs.Held.{state}
-use Rattle.sqlite.specs.State.{HasCleanDisk}
-use Rattle.portal_tables.specs.Schema.{HasRound}
-use Rattle.portal_tables.specs.inner.Owners.{has_list}
-use Rattle.portal_views.specs.inner.Office.{is_wanted_shown}
-use Rattle.portal_tables.specs.inner.Reading.{RunsQueriesIn}
-use Rattle.portal_tables.specs.inner.Shown.{first_cell, shown_project}
-use Rattle.portal_tables.specs.declared.fault.TableFault.{TableFault}
-use Rattle.portal_tables.proofs.InTurn.{reads_then, reads_more, reads_handed, reads_shifted, shifted, clean_before}
+use Rattle.portal_views.proofs.Base.{◌≡◌, Ok, IfOk, Some, None, map, refl, sym, ap, ◌∙◌, if◌then◌else◌, IfOk-weaker, Database, IsDatabase, state, HasCleanDisk, HasRound, has_list, is_wanted_shown, RunsQueriesIn, first_cell, shown_project, TableFault, reads_then, reads_more, reads_handed, reads_shifted, shifted, clean_before}
 use Rattle.portal_views.proofs.OfficeLists.{at_start, round_held}
 use Rattle.portal_views.proofs.office.waiting_in.Goals as goal
 

@@ -1,4 +1,4 @@
-use Rattle.portal_tables.proofs.InTurn.{reads_more}
+use Rattle.portal_views.proofs.Base.{reads_more}
 use Rattle.portal_views.proofs.office.wanted_in.Goals as goal
 
 pub returns-then-not-branch-clause-reads : goal.returns-then-not-branch-clause-reads

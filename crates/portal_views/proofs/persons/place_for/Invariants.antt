@@ -1,7 +1,5 @@
-use Rattle.std.specs.Prelude.{◌≡◌, ◌++◌}
-use Rattle.portal_views.proofs.Base.{take, drop, put}
+use Rattle.portal_views.proofs.Base.{◌≡◌, ◌++◌, person_key, take, drop, put}
 use Rattle.portal_views.specs.inner.Base.{Person}
-use Rattle.portal_views.specs.inner.Callers.{person_key}
 use Rattle.portal_views.proofs.persons.place_for.Given as goal
 
 abbrev pub invariant-loop-i : goal.invariant-loop-i

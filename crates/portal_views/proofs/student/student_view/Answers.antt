@@ -1,12 +1,6 @@
-use Rattle.std.specs.Prelude.{◌≡◌}
-use Rattle.std.proofs.Common.{rules}
-use Rattle.portal_views.proofs.Base.{◌∙◌, true, Ok, Err, AllByRecursion, sym, ap, IfOk-weaker, refl, subst, Database, IsDatabase, HasCleanDisk, state, HasRound, tree_of, chosen, RunsQueriesIn, TableFault}
-use Rattle.spa_rows.specs.Form.{is_key}
-use Rattle.portal_tables.specs.Lists.{of_key, IsWhole}
-use Rattle.portal_tables.specs.declared.fault.TableFault.TheVariants.{Damaged}
+use Rattle.portal_views.proofs.Base.{◌≡◌, rules, is_key, of_key, IsWhole, Damaged, HasPlacement, reads_then, reads_more, reads_handed, reads_shifted, shifted, clean_before, ◌∙◌, true, Ok, Err, AllByRecursion, sym, ap, IfOk-weaker, refl, subst, Database, IsDatabase, HasCleanDisk, state, HasRound, tree_of, chosen, RunsQueriesIn, TableFault}
 use Rattle.portal_views.specs.inner.Callers.{student_shown}
-use Rattle.portal_tables.specs.inner.Placements.{result_shown, HasPlacement}
-use Rattle.portal_tables.proofs.InTurn.{reads_then, reads_more, reads_handed, reads_shifted, shifted, clean_before}
+use Rattle.portal_tables.specs.inner.Placements.{result_shown}
 use Rattle.portal_views.proofs.student.student_view.Goals as goal
 
 pub returns-in_err-choices-clause-reads : goal.returns-in_err-choices-clause-reads
@@ -20,7 +14,7 @@ returns-in_err-place-clause-reads g c =
 
 pub returns-clause-reads : goal.returns-clause-reads
 returns-clause-reads g c =
-    reads_more c.in_ok-place.place c.student_view_of.result _ _
+    reads_more c.in_ok-place.place c.student_view_from.result _ _
     (reads_then c.in_ok-choices.choices _ _ _ _ (reads_shifted _ _ _ c.choices_of.ensures.round c.in_ok-choices.ensures.reads) c.in_ok-place.ensures.reads)
 
 pub returns-clause-shows : goal.returns-clause-shows
@@ -38,7 +32,7 @@ returns-clause-shows g c own sound clean =
     c.choices_of.ensures.round c.choices_of.ensures.is same c.in_ok-student.ensures.ok c.in_ok-choices.ensures.names own before in
     let place = subst (λ (x : Database). HasRound round x.schema → IsDatabase x → HasCleanDisk d → c.in_ok-place.place ≡ result_shown round x.trees phase row) (first.now own before) c.in_ok-place.ensures.ok own sound clean in
     let from = student_shown round a.now.trees phase row c.args.catalogue.value.items in
-    IfOk-weaker c.student_view_of.result _ _ (λ v is. is ∙ (λ i. record from { choices = choices i; result = place i })) c.student_view_of.ensures.ok
+    IfOk-weaker c.student_view_from.result _ _ (λ v is. is ∙ (λ i. record from { choices = choices i; result = place i })) c.student_view_from.ensures.ok
 
 pub returns-in_err-choices-clause-damaged : goal.returns-in_err-choices-clause-damaged
 returns-in_err-choices-clause-damaged g c own sound clean damaged fine =

@@ -1,9 +1,5 @@
-use Rattle.std.proofs.Common.{◌≡◌, ℕ, List, refl, ◌∙◌, ap, true, false, Bool}
-use Rattle.std.specs.Prelude.{Some, None, if◌then◌else◌, IsUtf8}
-use Rattle.std.specs.Str.{is_utf8}
-use Rattle.std.proofs.lemmas.Str.{IsUtf8-from_is_utf8, is_utf8-from_IsUtf8}
+use Rattle.portal_wire.proofs.Base.{◌≡◌, ℕ, List, refl, ◌∙◌, ap, true, false, Bool, Some, None, if◌then◌else◌, IsUtf8, is_utf8, IsUtf8-from_is_utf8, is_utf8-from_IsUtf8, view}
 use Rattle.serde_json.specs.Read.{read as read_text}
-use Rattle.serde_json.specs.View.{view}
 use Rattle.portal_wire.specs.Bodies.{json_in}
 use Rattle.portal_wire.proofs.bodies.json_of.Goals as goal
 

@@ -1,12 +1,9 @@
-use Rattle.std.proofs.Common.{rules, ◌≡◌, ℕ, List, [], ◌∷◌, length, map, refl, ◌∙◌, ap, arith, sym}
-use Rattle.std.specs.Prelude.{String, None, if◌then◌else◌}
-use Rattle.std.proofs.lemmas.Bool.{ne_eqb, eq-eqb}
+use Rattle.portal_wire.proofs.Base.{rules, ◌≡◌, ℕ, List, [], ◌∷◌, length, map, refl, ◌∙◌, ap, arith, sym, String, None, if◌then◌else◌, ne_eqb, Global, object, view, members_view, Value, the_lemmas}
+use Rattle.std.proofs.lemmas.Bool.{eq-eqb}
 use Rattle.std.proofs.lemmas.List.{length-map}
-use Rattle.std.specs.declared.alloc.Global.{Global}
-use Rattle.serde_json.specs.Data.{Data, object, Members}
+use Rattle.serde_json.specs.Data.{Data, Members}
 use Rattle.serde_json.specs.Find.{get_member, get}
-use Rattle.serde_json.specs.View.{view, members_of, members_view}
-use Rattle.serde_json.specs.declared.value.Value.{Value, the_lemmas}
+use Rattle.serde_json.specs.View.{members_of}
 use Rattle.portal_wire.specs.Bodies.{members_len, member_among}
 use Rattle.portal_wire.proofs.bodies.member_among.Goals as goal
 

@@ -1,9 +1,4 @@
-use Rattle.std.proofs.Common.{rules, ◌≡◌, ℕ, List, [], ◌∷◌, length, refl, ◌∙◌, ap}
-use Rattle.std.specs.Prelude.{String, None}
-use Rattle.std.specs.declared.alloc.Global.{Global}
-use Rattle.serde_json.specs.Data.{object}
-use Rattle.serde_json.specs.View.{view, members_view}
-use Rattle.serde_json.specs.declared.value.Value.{Value, the_lemmas}
+use Rattle.portal_wire.proofs.Base.{rules, ◌≡◌, ℕ, List, [], ◌∷◌, length, refl, ◌∙◌, ap, String, None, Global, object, view, members_view, Value, the_lemmas}
 use Rattle.portal_wire.specs.Bodies.{empty_object}
 use Rattle.portal_wire.proofs.bodies.no_member.Goals as goal
 

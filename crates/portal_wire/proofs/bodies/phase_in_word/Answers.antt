@@ -1,7 +1,5 @@
-use Rattle.std.proofs.Common.{◌≡◌, ℕ, Bool, true, false, List, refl, sym, ap, ◌∙◌}
-use Rattle.std.specs.Prelude.{codes, Option, Some, None, IfSome, IfNone}
-use Rattle.std.specs.Str.{bytes_eq}
-use lib.Pointwise.{bytes_decides}
+use Rattle.portal_wire.proofs.Base.{◌≡◌, ℕ, Bool, true, false, List, refl, sym, ap, ◌∙◌, codes, Option, Some, None, bytes_eq, bytes_decides}
+use Rattle.std.specs.Prelude.{IfSome, IfNone}
 use Rattle.portal_core.specs.World.{phase_word}
 use Rattle.portal_core.specs.declared.phase.Phase.{Phase}
 use Rattle.portal_core.specs.declared.phase.Phase.TheVariants.{Setup, Choosing, Ranking, Published}

@@ -1,5 +1,4 @@
-use Rattle.std.proofs.Common.{◌≡◌, map, drop, ◌++◌}
-use Rattle.std.specs.Prelude.{option_map}
+use Rattle.portal_wire.proofs.Base.{◌≡◌, map, drop, ◌++◌, option_map}
 use Rattle.serde_json.specs.View.{items_view}
 use Rattle.portal_wire.specs.Bodies.{item_texts}
 use Rattle.portal_wire.proofs.bodies.texts_of.Given as goal

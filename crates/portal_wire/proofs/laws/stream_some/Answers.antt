@@ -1,5 +1,5 @@
-use Rattle.std.proofs.Common.{List, ℕ, below_more, subst}
-use Rattle.portal_frame.specs.Stream.{Item, Opens}
+use Rattle.portal_wire.proofs.Base.{List, ℕ, subst, Item, Opens}
+use Rattle.std.proofs.Common.{below_more}
 use Rattle.portal_wire.proofs.Exist.{ended, fronts_of}
 use Rattle.portal_wire.proofs.laws.stream_some.Goals as goal
 

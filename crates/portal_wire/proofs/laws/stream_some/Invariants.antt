@@ -1,5 +1,4 @@
-use Rattle.std.proofs.Common.{ℕ, ◌<◌, drop}
-use Rattle.portal_frame.specs.Stream.{Item, Opens}
+use Rattle.portal_wire.proofs.Base.{ℕ, ◌<◌, drop, Item, Opens}
 use Rattle.portal_wire.proofs.laws.stream_some.Given as goal
 
 abbrev pub invariant-loop-start : goal.invariant-loop-start

@@ -1,4 +1,4 @@
-use Rattle.std.proofs.Common.{rules}
+use Rattle.portal_wire.proofs.Base.{rules}
 use Rattle.portal_wire.proofs.Words.{none_named}
 use Rattle.portal_wire.proofs.methods.method_in.Goals as goal
 

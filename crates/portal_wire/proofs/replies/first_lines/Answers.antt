@@ -1,4 +1,4 @@
-use Rattle.std.proofs.Common.{refl}
+use Rattle.portal_wire.proofs.Base.{refl}
 use Rattle.portal_core.proofs.Pieces.{said}
 use Rattle.portal_wire.specs.Text.{common_lines}
 use Rattle.portal_wire.proofs.replies.first_lines.Goals as goal

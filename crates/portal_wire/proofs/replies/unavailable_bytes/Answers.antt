@@ -1,4 +1,4 @@
-use Rattle.std.proofs.Common.{rules}
+use Rattle.portal_wire.proofs.Base.{rules}
 use Rattle.portal_wire.specs.Text.{unavailable_body}
 use Rattle.portal_wire.proofs.replies.unavailable_bytes.Goals as goal
 

@@ -1,7 +1,4 @@
-use Rattle.std.proofs.Common.{refl}
-use Rattle.matchit.proofs.OnLiterals.{matchit_on_literals}
-use Rattle.portal_wire.specs.Routes.{the_paths}
-use Rattle.portal_wire.specs.inner.Routes.{the_rows, own_rows, roll_route_rows}
+use Rattle.portal_wire.proofs.Base.{refl, matchit_on_literals, the_paths, the_rows, own_rows, roll_route_rows}
 use Rattle.portal_wire.proofs.routes.roll_routes.Goals as goal
 
 pub returns : goal.returns

@@ -1,11 +1,6 @@
-use Rattle.std.proofs.Common.{◌≡◌, ℕ, List, sym, ap, ◌∙◌}
-use Rattle.std.specs.Prelude.{Option, option_map}
-use Rattle.matchit.specs.Rows.{RowsOf}
+use Rattle.portal_wire.proofs.Base.{◌≡◌, ℕ, List, sym, ap, ◌∙◌, Option, option_map, RowsOf, Route, route_at, the_rows}
 use Rattle.matchit.specs.Router.{RouteOf}
 use Rattle.matchit.specs.Seek.{first}
-use Rattle.portal_wire.specs.declared.routes.Route.{Route}
-use Rattle.portal_wire.specs.Routes.{route_at}
-use Rattle.portal_wire.specs.inner.Routes.{the_rows}
 use Rattle.portal_wire.proofs.Literal.{first_is, none_at}
 use Rattle.portal_wire.proofs.routes.route_in.Goals as goal
 

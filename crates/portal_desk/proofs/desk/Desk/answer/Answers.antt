@@ -1,5 +1,4 @@
-use Rattle.std.proofs.Common.{◌≡◌, ◌∙◌, ◌||◌, sym}
-use Rattle.portal_core.specs.Meaning.{reply_model}
+use Rattle.portal_desk.proofs.Base.{◌≡◌, ◌∙◌, ◌||◌, sym, reply_model}
 use Rattle.portal_desk.proofs.Sent.{broke, still}
 use Rattle.portal_desk.proofs.desk.Desk.answer.Goals as goal
 use Rattle.portal_desk.proofs.desk.Desk.answer.Goals.{then-closes, else-closes}

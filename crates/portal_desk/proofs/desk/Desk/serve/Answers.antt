@@ -1,5 +1,4 @@
-use Rattle.std.proofs.Common.{◌∙◌, sym}
-use Rattle.portal_frame.specs.Stream.{seen}
+use Rattle.portal_desk.proofs.Base.{◌∙◌, sym, seen}
 use Rattle.portal_desk.proofs.Failing.{fails_then, calm_before}
 use Rattle.portal_desk.proofs.Taking.{follows_taken, ended_taken, cut_taken, cut_held}
 use Rattle.portal_desk.proofs.Telling.{end_known, bad_known, cut_known, closes_known, more_known, broke_known, goes_on, still_failed}

@@ -1,6 +1,4 @@
-use Rattle.std.proofs.Common.{◌≡◌, true, ◌-◌, ◌<◌, ◌≤◌, length}
-use Rattle.portal_desk.specs.Keeping.{state_of}
-use Rattle.portal_desk.specs.Outcome.{FailsByCount}
+use Rattle.portal_desk.proofs.Base.{◌≡◌, true, ◌-◌, ◌<◌, ◌≤◌, length, state_of, FailsByCount}
 use Rattle.portal_desk.proofs.Taking.{TakenBy}
 use Rattle.portal_desk.proofs.Telling.{SoFar}
 use Rattle.portal_desk.proofs.desk.Desk.serve.Given as goal

@@ -1,8 +1,5 @@
-use Rattle.std.proofs.Common.{List, map, take, Ok}
-use Rattle.portal_core.specs.Words.{Key}
-use Rattle.portal_tables.specs.inner.Steps.{Does, GoesOn}
-use Rattle.portal_store.specs.inner.Putting.{TurnsAll}
+use Rattle.portal_store.proofs.Base.{List, map, take, Ok, Key, Does, GoesOn, TurnsAll}
 use Rattle.portal_store.proofs.fill.PutRankingsStep.take.Given as goal
 
-abbrev pub invariant-rows : goal.invariant-rows
-invariant-rows g l = Does g.S.Store (GoesOn (TurnsAll l.round (map {B = Key × List Key} (λ f. (f.0, f.1.items)) (take l.ranking-index l.rankings)))) (Ok (tt {0})) l.fn.tx l.tx
+abbrev pub invariant-loop-ranking : goal.invariant-loop-ranking
+invariant-loop-ranking g l = Does g.S.Store (GoesOn (TurnsAll l.round (map {B = Key × List Key} (λ f. (f.0, f.1.items)) (take l.ranking-index l.rankings)))) (Ok (tt {0})) l.fn.tx l.tx

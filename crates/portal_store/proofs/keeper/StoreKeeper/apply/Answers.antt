@@ -1,13 +1,5 @@
-use Rattle.std.proofs.Common.{IsTrue, sym, subst}
-use Rattle.sqlite.specs.State.{HasCleanDisk, Survives}
-use Rattle.sqlite.specs.Held.{Held, state}
-use Rattle.sqlite.proofs.StateLemmas.{survives_weaker}
-use Rattle.portal_core.specs.Meaning.{change_model}
-use Rattle.portal_tables.proofs.Runs.{clean_if_open}
+use Rattle.portal_store.proofs.Base.{IsTrue, sym, subst, HasCleanDisk, Survives, Held, state, survives_weaker, change_model, clean_if_open, IsCurrentSchema, Seen, IsTransition, IsAfter}
 use Rattle.portal_store.proofs.Keeps.{open_by, change_keeps, change_lasts, change_shown, change_told, change_left, change_clean, change_made, change_same}
-use Rattle.portal_tables.specs.Schema.{IsCurrentSchema}
-use Rattle.portal_store.specs.Kept.{Seen, IsTransition}
-use Rattle.portal_tables.specs.Steps.{IsAfter}
 use Rattle.portal_store.proofs.keeper.StoreKeeper.apply.Given.{Over}
 use Rattle.portal_store.proofs.keeper.StoreKeeper.apply.Goals as goal
 
@@ -16,32 +8,26 @@ law g h = clean_if_open (state g.S.Store h).is_clean (state g.S.Store h).is_open
 
 pub invariant_of-self-2 : goal.invariant_of-self-2
 invariant_of-self-2 g c = record {
-  kept = change_keeps g.S.Store (change_model c.args.change.now) c.self.inside.conn c.make-made.new.conn c.self.inside.own c.self.inside.faults c.args.self.now c.self.view_is c.self.invariant.kept c.make-made.ensures.idle c.in_default.ensures (law g c.make-made.new.conn) c.requires.good c.requires.leaves_good
-      c.make-made.result c.make-made.ensures.ends;
-  shown = change_shown g.S.Store (change_model c.args.change.now) c.self.inside.conn c.make-made.new.conn c.self.inside.own c.self.inside.faults c.args.self.now c.self.view_is c.self.invariant.kept c.make-made.ensures.idle c.in_default.ensures (law g c.make-made.new.conn) c.requires.good c.requires.leaves_good
-      c.make-made.result c.make-made.ensures.ends c.self.inside.cache c.follow.new.self c.self.invariant.shown c.follow.ensures.made c.follow.ensures.not_made;
-  entered = change_told g.S.Store (change_model c.args.change.now) c.self.inside.conn c.make-made.new.conn c.self.inside.own c.self.inside.faults c.args.self.now c.self.view_is c.self.invariant.kept c.make-made.ensures.idle c.in_default.ensures (law g c.make-made.new.conn) c.requires.good c.requires.leaves_good
-      c.make-made.result c.make-made.ensures.ends c.self.inside.entries c.make-made.new.entries c.follow-2.new.entries c.self.invariant.entered c.make-made.ensures.entries c.follow-2.ensures.made c.follow-2.ensures.not_made;
+  kept = change_keeps (change_model c.args.change.now) c.make-made.new.conn c.self.view_is c.self.invariant.kept c.in_default.ensures (law g c.make-made.new.conn) c.requires.good c.requires.leaves_good c.make-made.ensures.ends;
+  shown = change_shown (change_model c.args.change.now) c.make-made.new.conn c.self.view_is c.self.invariant.kept c.in_default.ensures (law g c.make-made.new.conn) c.requires.good c.requires.leaves_good c.make-made.ensures.ends c.self.inside.cache c.follow.new.self c.self.invariant.shown c.follow.ensures.made c.follow.ensures.not_made;
+  entered = change_told (change_model c.args.change.now) c.make-made.new.conn c.self.view_is c.self.invariant.kept c.in_default.ensures (law g c.make-made.new.conn) c.requires.good c.requires.leaves_good c.make-made.ensures.ends c.self.inside.entries c.make-made.new.entries c.follow-2.new.entries c.self.invariant.entered c.make-made.ensures.entries c.follow-2.ensures.made c.follow-2.ensures.not_made;
 }
 
 pub returns-clause-clean : goal.returns-clause-clean
 returns-clause-clean g c =
-    change_clean g.S.Store (change_model c.args.change.now) c.self.inside.conn c.make-made.new.conn c.self.inside.own c.self.inside.faults c.args.self.now c.self.view_is c.self.invariant.kept c.make-made.ensures.idle c.in_default.ensures (law g c.make-made.new.conn) c.requires.good c.requires.leaves_good
-    c.make-made.result c.make-made.ensures.ends
+    change_clean (change_model c.args.change.now) c.make-made.new.conn c.self.view_is c.self.invariant.kept c.in_default.ensures (law g c.make-made.new.conn) c.requires.good c.requires.leaves_good c.make-made.ensures.ends
 
 pub returns-clause-made : goal.returns-clause-made
 returns-clause-made g c =
-    change_made g.S.Store (change_model c.args.change.now) c.self.inside.conn c.make-made.new.conn c.self.inside.own c.self.inside.faults c.args.self.now c.self.view_is c.self.invariant.kept c.make-made.ensures.idle c.in_default.ensures (law g c.make-made.new.conn) c.requires.good c.requires.leaves_good
-    c.make-made.result c.make-made.ensures.ends
+    change_made (change_model c.args.change.now) c.make-made.new.conn c.self.view_is c.self.invariant.kept c.in_default.ensures (law g c.make-made.new.conn) c.requires.good c.requires.leaves_good c.make-made.ensures.ends
 
 pub returns-clause-same : goal.returns-clause-same
 returns-clause-same g c =
-    change_same g.S.Store (change_model c.args.change.now) c.self.inside.conn c.make-made.new.conn c.self.inside.own c.self.inside.faults c.args.self.now c.self.view_is c.self.invariant.kept c.make-made.ensures.idle c.in_default.ensures (law g c.make-made.new.conn) c.requires.good c.requires.leaves_good
-    c.make-made.result c.make-made.ensures.ends
+    change_same (change_model c.args.change.now) c.make-made.new.conn c.self.view_is c.self.invariant.kept c.in_default.ensures (law g c.make-made.new.conn) c.requires.good c.requires.leaves_good c.make-made.ensures.ends
 
 pub returns-clause-left : goal.returns-clause-left
 returns-clause-left g c =
-    change_left g.S.Store (change_model c.args.change.now) c.self.inside.conn c.make-made.new.conn c.self.inside.own c.self.inside.faults c.args.self.now c.self.view_is c.self.invariant.kept c.make-made.ensures.idle c.in_default.ensures (law g c.make-made.new.conn) c.requires.good c.requires.leaves_good
+    change_left (change_model c.args.change.now) c.make-made.new.conn c.self.view_is c.self.invariant.kept c.in_default.ensures (law g c.make-made.new.conn) c.requires.good c.requires.leaves_good
     (g.met.S.Store.settled c.self.inside.conn.store) c.make-made.ensures.ends.crash
 
 pub returns-clause-stays_open : goal.returns-clause-stays_open
@@ -59,5 +45,4 @@ returns-clause-crash g c own =
 
 pub returns-clause-lasts : goal.returns-clause-lasts
 returns-clause-lasts g c =
-    change_lasts g.S.Store (change_model c.args.change.now) c.self.inside.conn c.make-made.new.conn c.self.inside.own c.self.inside.faults c.args.self.now c.self.view_is c.self.invariant.kept c.make-made.ensures.idle c.in_default.ensures (law g c.make-made.new.conn) c.requires.good c.requires.leaves_good
-    c.make-made.result c.make-made.ensures.ends
+    change_lasts (change_model c.args.change.now) c.make-made.new.conn c.self.view_is c.self.invariant.kept c.in_default.ensures (law g c.make-made.new.conn) c.requires.good c.requires.leaves_good c.make-made.ensures.ends

@@ -1,13 +1,6 @@
-use Rattle.std.proofs.Common.{IsTrue, ap, sym, subst, ◌∙◌}
-use Rattle.sqlite.specs.State.{HasCleanDisk}
-use Rattle.sqlite.specs.Held.{Held, state}
-use Rattle.portal_tables.proofs.Runs.{clean_if_open}
-use Rattle.portal_core.specs.Good.{Good}
+use Rattle.portal_store.proofs.Base.{IsTrue, ap, sym, subst, ◌∙◌, HasCleanDisk, Held, state, clean_if_open, Good, IsCacheOf, IfOk-weaker, IsCleanStore, kept_world, AreEntries}
 use Rattle.portal_core.specs.Instance.{instance}
-use Rattle.std.proofs.lemmas.Result.{IfOk-weaker}
-use Rattle.portal_store.specs.Kept.{IsCleanStore, kept_world}
-use Rattle.portal_store.specs.inner.Kept.{AreEntries}
-use Rattle.portal_store.proofs.Keeps.{open_by, read_keeps, read_lasts, read_shown, read_still, read_clean, read_same, read_holds, when_ok}
+use Rattle.portal_store.proofs.Keeps.{open_by, read_clean, read_keeps, read_lasts, read_same, read_still, read_told, when_ok}
 use Rattle.portal_store.proofs.keeper.StoreKeeper.instance.Given.{Over}
 use Rattle.portal_store.proofs.keeper.StoreKeeper.instance.Goals as goal
 
@@ -16,31 +9,23 @@ law g h = clean_if_open (state g.S.Store h).is_clean (state g.S.Store h).is_open
 
 pub invariant_of-self-in-None : goal.invariant_of-self-in-None
 invariant_of-self-in-None g c = record {
-  kept = read_keeps g.S.Store c.self.inside.conn c.instance_in.new.conn c.self.inside.own c.self.inside.faults c.args.self.now c.self.view_is c.self.invariant.kept c.instance_in.ensures.idle c.in_default.ensures (law g c.instance_in.new.conn)
-      c.instance_in.result c.instance_in.ensures.asks;
-  shown = read_shown g.S.Store c.self.inside.conn c.instance_in.new.conn c.self.inside.own c.self.inside.faults c.args.self.now c.self.view_is c.self.invariant.kept c.instance_in.ensures.idle c.in_default.ensures (law g c.instance_in.new.conn)
-      c.instance_in.result c.instance_in.ensures.asks c.self.inside.cache c.self.inside.cache c.self.invariant.shown (λ _ _ _ told. told);
-  entered = read_still g.S.Store c.self.inside.conn c.instance_in.new.conn c.self.inside.own c.self.inside.faults c.args.self.now c.self.view_is c.self.invariant.kept c.instance_in.ensures.idle c.in_default.ensures (law g c.instance_in.new.conn)
-      c.instance_in.result c.instance_in.ensures.asks c.self.inside.entries c.self.invariant.entered;
+  kept = read_keeps c.instance_in.new.conn c.self.view_is c.self.invariant.kept c.in_default.ensures (law g c.instance_in.new.conn) c.instance_in.ensures.reads;
+  shown = read_still c.instance_in.new.conn c.self.view_is c.self.invariant.kept c.in_default.ensures (law g c.instance_in.new.conn) c.instance_in.ensures.reads (IsCacheOf c.self.inside.cache) c.self.invariant.shown;
+  entered = read_still c.instance_in.new.conn c.self.view_is c.self.invariant.kept c.in_default.ensures (law g c.instance_in.new.conn) c.instance_in.ensures.reads (AreEntries c.self.inside.entries) c.self.invariant.entered;
 }
 
 pub returns-in-None-clause-clean : goal.returns-in-None-clause-clean
 returns-in-None-clause-clean g c =
-    read_clean g.S.Store c.self.inside.conn c.instance_in.new.conn c.self.inside.own c.self.inside.faults c.args.self.now c.self.view_is c.self.invariant.kept c.instance_in.ensures.idle c.in_default.ensures (law g c.instance_in.new.conn)
-    c.instance_in.result c.instance_in.ensures.asks
+    read_clean c.instance_in.new.conn c.self.view_is c.self.invariant.kept c.in_default.ensures (law g c.instance_in.new.conn) c.instance_in.ensures.reads
 
 pub returns-in-None-clause-same : goal.returns-in-None-clause-same
 returns-in-None-clause-same g c =
-    read_same g.S.Store c.self.inside.conn c.instance_in.new.conn c.self.inside.own c.self.inside.faults c.args.self.now c.self.view_is c.self.invariant.kept c.instance_in.ensures.idle c.in_default.ensures (law g c.instance_in.new.conn)
-    c.instance_in.result c.instance_in.ensures.asks
+    read_same c.instance_in.new.conn c.self.view_is c.self.invariant.kept c.in_default.ensures (law g c.instance_in.new.conn) c.instance_in.ensures.reads
 
 pub returns-in-None-clause-instance : goal.returns-in-None-clause-instance
 returns-in-None-clause-instance g c =
-    when_ok _ _ _ c.instance_in.result
-    (λ on. read_holds g.S.Store c.self.inside.conn c.instance_in.new.conn c.self.inside.own c.self.inside.faults c.args.self.now c.self.view_is c.self.invariant.kept c.instance_in.ensures.idle c.in_default.ensures (law g c.instance_in.new.conn)
-    c.instance_in.result c.instance_in.ensures.asks _ (λ own clean holds. c.instance_in.ensures.instance own holds.1.sound clean) on)
-    (λ i meant on. meant on (subst (λ s. Good (kept_world g.S.Store s)) (sym c.self.view_is) (c.requires.good (read_clean g.S.Store c.self.inside.conn c.instance_in.new.conn c.self.inside.own c.self.inside.faults c.args.self.now c.self.view_is c.self.invariant.kept c.instance_in.ensures.idle c.in_default.ensures (law g c.instance_in.new.conn)
-    c.instance_in.result c.instance_in.ensures.asks on))).sound
+    when_ok _ _ _ c.instance_in.result (read_told c.instance_in.new.conn c.self.view_is c.self.invariant.kept c.in_default.ensures (law g c.instance_in.new.conn) c.instance_in.ensures.reads (λ holds was. holds.1.sound))
+    (λ i meant on. meant on (subst (λ s. Good (kept_world g.S.Store s)) (sym c.self.view_is) (c.requires.good (read_clean c.instance_in.new.conn c.self.view_is c.self.invariant.kept c.in_default.ensures (law g c.instance_in.new.conn) c.instance_in.ensures.reads on))).sound
     ∙ ap (λ s. instance (kept_world g.S.Store s)) c.self.view_is)
 
 -- of the entries that are remembered
@@ -57,9 +42,8 @@ returns-in-Some-clause-instance g c =
 pub returns-in-None-clause-stays_open : goal.returns-in-None-clause-stays_open
 returns-in-None-clause-stays_open g c =
     open_by g.S.Store c.self.inside.conn c.instance_in.new.conn c.self.inside.own c.self.inside.faults c.instance_in.new.faults c.args.self.now _ c.self.view_is
-    (λ mine. c.instance_in.ensures.asks.crash)
+    (λ mine. c.instance_in.ensures.reads.crash)
 
 pub returns-in-None-clause-lasts : goal.returns-in-None-clause-lasts
 returns-in-None-clause-lasts g c =
-    read_lasts g.S.Store c.self.inside.conn c.instance_in.new.conn c.self.inside.own c.self.inside.faults c.args.self.now c.self.view_is c.self.invariant.kept c.instance_in.ensures.idle c.in_default.ensures (law g c.instance_in.new.conn)
-    c.instance_in.result c.instance_in.ensures.asks
+    read_lasts c.instance_in.new.conn c.self.view_is c.self.invariant.kept c.in_default.ensures (law g c.instance_in.new.conn) c.instance_in.ensures.reads

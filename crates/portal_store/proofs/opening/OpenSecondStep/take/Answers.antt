@@ -1,5 +1,4 @@
-use Rattle.sqlite.specs.Held.{state}
-use Rattle.portal_tables.proofs.Runs.{does_more, made_more, made_goes}
+use Rattle.portal_store.proofs.Base.{state, does_more, made_more, made_goes}
 use Rattle.portal_store.proofs.Opened.{second_opens}
 use Rattle.portal_store.proofs.opening.OpenSecondStep.take.Goals as goal
 

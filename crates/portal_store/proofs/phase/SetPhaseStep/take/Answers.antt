@@ -1,12 +1,4 @@
-use Rattle.std.proofs.Common.{sym, subst}
-use Rattle.sqlite.specs.Held.{state}
-use Rattle.portal_core.specs.declared.phase.Round.{Round}
-use Rattle.portal_core.specs.declared.phase.Round.TheVariants.{First, Second}
-use Rattle.portal_core.specs.Change.{To}
-use Rattle.portal_tables.specs.inner.Rows.{MovesTo, MovesSecond}
-use Rattle.portal_tables.specs.inner.Steps.{Does, GoesOn}
-use Rattle.portal_tables.proofs.Runs.{does_more, made_more, made_goes}
-use Rattle.portal_store.specs.inner.Kept.{IsTransitionIn}
+use Rattle.portal_store.proofs.Base.{sym, subst, state, Round, First, Second, To, MovesTo, MovesSecond, Does, GoesOn, does_more, made_more, made_goes, IsTransitionIn}
 use Rattle.portal_store.proofs.Holding.{phase_turns, second_turns}
 use Rattle.portal_store.proofs.phase.SetPhaseStep.take.Goals as goal
 

@@ -1,8 +1,4 @@
-use Rattle.std.proofs.Common.{Ok, map, ap, subst, ◌∙◌}
-use Rattle.portal_tables.specs.inner.Rows.{Assigns}
-use Rattle.portal_tables.specs.inner.Steps.{Does, GoesOn}
-use Rattle.portal_tables.proofs.Runs.{does_then}
-use Rattle.portal_store.specs.inner.Placing.{assigned_of}
+use Rattle.portal_store.proofs.Base.{Ok, map, ap, subst, ◌∙◌, Assigns, Does, GoesOn, does_then, assigned_of}
 use Rattle.portal_store.proofs.Placements.{result_made}
 use Rattle.portal_store.proofs.placing.PutResultStep.take.Goals as goal
 

@@ -1,4 +1,4 @@
-use Rattle.portal_tables.proofs.Runs.{does_then}
+use Rattle.portal_store.proofs.Base.{does_then}
 use Rattle.portal_store.proofs.SecondPlacements.{left_made}
 use Rattle.portal_store.proofs.placing.PutSecondStep.take.Goals as goal
 

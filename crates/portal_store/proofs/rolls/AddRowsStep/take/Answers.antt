@@ -1,11 +1,4 @@
-use Rattle.std.proofs.Common.{sym, subst, subst₂}
-use Rattle.sqlite.specs.Held.{state}
-use Rattle.portal_core.specs.declared.phase.Round.{Round}
-use Rattle.portal_tables.specs.inner.Steps.{Does, GoesOn}
-use Rattle.portal_tables.proofs.Runs.{does_none, does_more, goes_nowhere, goes_more}
-use Rattle.portal_store.specs.inner.Adding.{with_rows_added}
-use Rattle.portal_store.specs.inner.Kept.{IsTransitionIn}
-use Rattle.portal_store.specs.declared.rolls.NewRows.{NewRows}
+use Rattle.portal_store.proofs.Base.{sym, subst, subst₂, state, Round, Does, GoesOn, does_none, does_more, goes_nowhere, goes_more, with_rows_added, IsTransitionIn, NewRows}
 use Rattle.portal_store.proofs.Adding.{lecturers_turn, projects_turn, students_turn, no_rows}
 use Rattle.portal_store.proofs.rolls.AddRowsStep.take.Goals as goal
 

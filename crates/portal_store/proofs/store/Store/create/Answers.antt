@@ -1,8 +1,4 @@
-use Rattle.std.proofs.Common.{IsTrue, sym, subst, ◌∙◌}
-use Rattle.sqlite.specs.State.{HasCleanDisk}
-use Rattle.sqlite.specs.Held.{Held, state}
-use Rattle.portal_tables.specs.Making.{IsFresh}
-use Rattle.portal_tables.proofs.Runs.{clean_if_open}
+use Rattle.portal_store.proofs.Base.{IsTrue, sym, subst, ◌∙◌, HasCleanDisk, Held, state, IsFresh, clean_if_open}
 use Rattle.portal_store.proofs.First.{first_is, first_is_good, first_kept}
 use Rattle.portal_store.proofs.store.Store.create.Given.{Over}
 use Rattle.portal_store.proofs.store.Store.create.Goals as goal

@@ -1,6 +1,4 @@
-use Rattle.std.proofs.Common.{sym, subst}
-use Rattle.sqlite.specs.Held.{state}
-use Rattle.portal_store.specs.Kept.{IsCleanStore, IsConsistent}
+use Rattle.portal_store.proofs.Base.{sym, subst, IsCleanStore}
 use Rattle.portal_store.proofs.store.Store.into_connection.Goals as goal
 
 pub returns-clause-kept : goal.returns-clause-kept

@@ -1,11 +1,4 @@
-use Rattle.std.proofs.Common.{not, IsTrue, sym, ap, subst, ◌∙◌}
-use Rattle.sqlite.specs.Effect.{Database}
-use Rattle.sqlite.specs.State.{HasCleanDisk}
-use Rattle.sqlite.specs.Held.{Held, state}
-use Rattle.portal_core.specs.Good.{Good}
-use Rattle.portal_list.specs.Entries.{HasEntries}
-use Rattle.portal_tables.proofs.Runs.{clean_if_open}
-use Rattle.portal_store.specs.World.{world_of}
+use Rattle.portal_store.proofs.Base.{IsTrue, sym, subst, Database, HasCleanDisk, Held, state, Good, HasEntries, clean_if_open, world_of}
 use Rattle.portal_store.proofs.Asked.{opened_kept}
 use Rattle.portal_store.proofs.Rounds.{world_told}
 use Rattle.portal_store.proofs.store.Store.open.Given.{Over}
@@ -18,19 +11,19 @@ pub invariant_of-result : goal.invariant_of-result
 invariant_of-result g c =
     let new = c.examine.new.conn in
     record {
-      kept = opened_kept g.S.Store c.fits-own.result c.args.conn new c.examine.ensures.idle c.fits-own.ensures.current.0 (c.is_autocommit-idle.ensures.settled (c.is_autocommit-idle.ensures.value ∙ ap not c.requires.idle)) c.schema-live.ensures.live
-          (λ mine on. ((c.in-Ok-examine.ensures.asks mine).same (c.fits-own.ensures.current.0 mine) (law g new on), c.in-Ok-examine.ensures.admits mine (c.fits-own.ensures.current.0 mine) c.schema-live.ensures.live (law g new on)));
+      kept = opened_kept g.S.Store c.fits-own.result c.args.conn new (c.examine.ensures.idle c.requires.idle) c.fits-own.ensures.current.0 c.settled.ensures.settled c.settled.ensures.live
+          (λ mine on. ((c.in-Ok-examine.ensures.reads mine).same (c.fits-own.ensures.current.0 mine) (law g new on) tt, ((c.in-Ok-examine.ensures.reads mine).told (c.fits-own.ensures.current.0 mine) (λ on. (c.settled.ensures.live on).0) (law g new on)).0));
       shown = λ on. c.nothing.ensures _;
       entered = λ on.
           let own = c.fits-own.ensures.current.0 on.0 in
-          let same = (c.in-Ok-examine.ensures.asks on.0).same own (law g new on.1) in
-          subst (λ (d : Database). HasEntries c.in-Ok-examine.entries (world_of d.trees)) (sym same.0.now_is) (c.in-Ok-examine.ensures.entries on.0 own c.schema-live.ensures.live (law g new on.1));
+          let same = (c.in-Ok-examine.ensures.reads on.0).same own (law g new on.1) tt in
+          subst (λ (d : Database). HasEntries c.in-Ok-examine.entries (world_of d.trees)) (sym same.0.now_is) ((c.in-Ok-examine.ensures.reads on.0).told own (λ on. (c.settled.ensures.live on).0) (law g new on.1)).1;
     }
 
 pub returns-clause-good : goal.returns-clause-good
 returns-clause-good g c on =
     let new = c.examine.new.conn in
     let own = c.fits-own.ensures.current.0 on.0 in
-    let same = (c.in-Ok-examine.ensures.asks on.0).same own (law g new on.1) in
-    let stands = (c.in-Ok-examine.ensures.admits on.0 own c.schema-live.ensures.live (law g new on.1)).stands in
+    let same = (c.in-Ok-examine.ensures.reads on.0).same own (law g new on.1) tt in
+    let stands = ((c.in-Ok-examine.ensures.reads on.0).told own (λ on. (c.settled.ensures.live on).0) (law g new on.1)).0.stands in
     subst (λ (d : Database). Good (world_of d.trees)) (sym same.0.now_is) (subst Good (sym (world_told stands.0 _ stands.1.second)) stands.1.good)

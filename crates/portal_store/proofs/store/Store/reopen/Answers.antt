@@ -1,4 +1,4 @@
-use Rattle.portal_tables.proofs.InTurn.{both}
+use Rattle.portal_store.proofs.Base.{both}
 use Rattle.portal_store.proofs.Keeps.{opened_again}
 use Rattle.portal_store.proofs.store.Store.reopen.Goals as goal
 

@@ -1,10 +1,4 @@
-use Rattle.std.proofs.Common.{◌≡◌, inl, inr, false, Err, IsTrue, sym, ap, subst, ◌∙◌}
-use Rattle.sqlite.specs.State.{HasCleanDisk}
-use Rattle.sqlite.specs.Held.{Held, state}
-use Rattle.portal_list.specs.Entries.{HasEntries}
-use Rattle.portal_tables.specs.Names.{has_names}
-use Rattle.portal_tables.specs.declared.names.Names.TheVariants.{OfSecond}
-use Rattle.portal_tables.proofs.Runs.{clean_if_open}
+use Rattle.portal_store.proofs.Base.{◌≡◌, inl, inr, false, Err, IsTrue, sym, ap, subst, ◌∙◌, HasCleanDisk, Held, state, HasEntries, has_names, OfSecond, clean_if_open}
 use Rattle.portal_store.proofs.Upgraded.{first_untaken, not_taken, upgraded_kept, same_world, still_good}
 use Rattle.portal_store.proofs.store.Store.upgrade.Given.{Over}
 use Rattle.portal_store.proofs.store.Store.upgrade.Goals as goal
@@ -19,13 +13,13 @@ invariant_of-result g c =
     let up = c.in-Ok-upgraded.ensures in
     record {
       kept = upgraded_kept g.S.Store own.result c.args.conn new own.ensures.first.0
-          (λ mine on. (up.made mine (own.ensures.own mine) (law g new on), up.admits mine (own.ensures.own mine) c.schema-live.ensures.live (law g new on))) c.upgraded.ensures.idle;
+          (λ mine on. (up.made mine (own.ensures.own mine) (law g new on), (up.stands mine (own.ensures.own mine) c.settled.ensures.live (law g new on)).0)) c.upgraded.ensures.idle;
       shown = λ on. c.nothing.ensures _;
       entered = λ on.
           subst (HasEntries c.in-Ok-upgraded.entries)
           (sym (same_world g.S.Store own.result c.args.conn new own.ensures.first.0
-          (λ mine on. (up.made mine (own.ensures.own mine) (law g new on), up.admits mine (own.ensures.own mine) c.schema-live.ensures.live (law g new on))) on.0 on.1))
-          (up.entries on.0 (own.ensures.own on.0) c.schema-live.ensures.live (law g new on.1));
+          (λ mine on. (up.made mine (own.ensures.own mine) (law g new on), (up.stands mine (own.ensures.own mine) c.settled.ensures.live (law g new on)).0)) on.0 on.1))
+          (up.stands on.0 (own.ensures.own on.0) c.settled.ensures.live (law g new on.1)).1;
     }
 
 pub returns-clause-world : goal.returns-clause-world
@@ -34,7 +28,7 @@ returns-clause-world g c on =
     let own = c.fits_first-own in
     let up = c.in-Ok-upgraded.ensures in
     same_world g.S.Store own.result c.args.conn new own.ensures.first.0
-    (λ mine on. (up.made mine (own.ensures.own mine) (law g new on), up.admits mine (own.ensures.own mine) c.schema-live.ensures.live (law g new on))) on.0 on.1
+    (λ mine on. (up.made mine (own.ensures.own mine) (law g new on), (up.stands mine (own.ensures.own mine) c.settled.ensures.live (law g new on)).0)) on.0 on.1
 
 pub returns-clause-good : goal.returns-clause-good
 returns-clause-good g c on =
@@ -42,14 +36,14 @@ returns-clause-good g c on =
     let own = c.fits_first-own in
     let up = c.in-Ok-upgraded.ensures in
     still_good g.S.Store own.result c.args.conn new own.ensures.first.0
-    (λ mine on. (up.made mine (own.ensures.own mine) (law g new on), up.admits mine (own.ensures.own mine) c.schema-live.ensures.live (law g new on))) on.0 on.1
+    (λ mine on. (up.made mine (own.ensures.own mine) (law g new on), (up.stands mine (own.ensures.own mine) c.settled.ensures.live (law g new on)).0)) on.0 on.1
 
 -- that a name is taken is not told of tables of version 1 alone
 pub returns-in-Err-upgraded-clause-refused : goal.returns-in-Err-upgraded-clause-refused
 returns-in-Err-upgraded-clause-refused g c first clean =
     let mine = c.fits_first-own.ensures.first.1 first in
     let free : c.is_there-is_taken.result ≡ false = c.is_there-is_taken.ensures ∙ ap (has_names OfSecond) c.schema.ensures.value ∙ first_untaken c.args.conn.schema first in
-    elim (c.in-Err-upgraded.ensures.refused mine (c.fits_first-own.ensures.own mine) c.schema-live.ensures.live clean) [
+    elim (c.in-Err-upgraded.ensures.refused mine (c.fits_first-own.ensures.own mine) c.settled.ensures.live clean) [
       | inl is ↦ absurd (not_taken c.is_there-is_taken.result free (c.in-Err-upgraded.ensures.exists (ap Err is)))
       | inr bars ↦ bars
     ]

@@ -1,0 +1,71 @@
+//! Desks over the empty world in setup, in a database and in lists.
+
+use crate::callers::OFFICE;
+use crate::script::lines;
+use portal_core::{Code, Keeper};
+use portal_desk::{Counted, Desk};
+use portal_list::ListKeeper;
+use portal_store::Store;
+use sqlite::MemStore;
+use std::alloc::{AllocError, Global};
+
+/// A desk over a database in memory.
+pub type MemDesk = Desk<Store<MemStore>>;
+
+/// The office's code.
+pub fn office_code(alloc: Global) -> Result<Code, AllocError> {
+    let Ok(code) = Code::parse(alloc, OFFICE.as_bytes()) else {
+        return Err(AllocError);
+    };
+    Ok(code)
+}
+
+/// A desk over the empty world in setup, in a database.
+pub fn fresh(alloc: Global) -> Result<MemDesk, AllocError> {
+    let office = office_code(alloc)?;
+    let Ok(store) = Store::create_memory(alloc, office) else {
+        return Err(AllocError);
+    };
+    Ok(Desk::new(store))
+}
+
+/// A desk over the empty world in setup, in lists.
+pub fn fresh_lists(alloc: Global) -> Result<Desk<ListKeeper>, AllocError> {
+    let office = office_code(alloc)?;
+    Ok(Desk::new(ListKeeper::new(alloc, office)))
+}
+
+/// What is written for one connection's bytes, however it ends.
+pub fn written<K: Keeper>(alloc: Global, desk: &mut Desk<K>, bytes: &[u8]) -> Vec<u8> {
+    let mut source = Counted::new(bytes);
+    let mut sink = Counted::new(Vec::new(alloc));
+    let _served = desk.serve(alloc, &mut source, &mut sink);
+    sink.into_inner()
+}
+
+/// What is asked to see a world: it tells the rolls, the phase, each list, each ranking and the
+/// result.
+pub const SEEN: &str = r#"
+office       GET /status
+office       GET /catalogue
+office       GET /report
+lee          GET /ranking
+lee          GET /applicants
+moe          GET /ranking
+ann          GET /choices
+bea          GET /choices
+cyr          GET /me
+stud-code-4  GET /choices
+stud-code-5  GET /choices
+"#;
+
+/// What a desk shows of its world.
+pub fn seen<K: Keeper>(alloc: Global, desk: &mut Desk<K>) -> Result<Vec<u8>, AllocError> {
+    let mut text = String::new(alloc);
+    let asked = lines(alloc, SEEN)?;
+    for line in &asked {
+        let request = line.request(alloc)?;
+        text.push_str(request.as_str())?;
+    }
+    Ok(written(alloc, desk, text.as_bytes()))
+}

@@ -1,0 +1,20 @@
+//! What the test crates share: years as texts, who asks in them, and desks to play them on.
+#![tactic(auto)]
+
+mod callers;
+pub mod changes;
+mod desks;
+pub mod fills;
+pub mod rolls;
+pub mod runs;
+mod script;
+pub mod second;
+pub mod version1;
+pub mod watched;
+pub mod wide;
+pub mod worked;
+pub mod years;
+
+pub use callers::{ANN, CYR, LEE, MOE, OFFICE};
+pub use desks::{MemDesk, SEEN, fresh, fresh_lists, office_code, seen, written};
+pub use script::{Line, ask, cut, lines, play, unescaped};

@@ -1,0 +1,19 @@
+//! What holds of a connection in no transaction.
+
+ghost use Rattle.std.specs.Prelude.{◌≡◌, false, IsTrue};
+ghost use Rattle.sqlite.specs.Held.{state};
+ghost use Rattle.sqlite.specs.State.{IsLive};
+
+use sqlite::{Alter, Connection};
+
+/// Does nothing. Its clauses tell the proofs that a connection in no transaction shows what is
+/// committed, and that an open one has a sound database.
+pub(crate) fn settled<S: Alter>(conn: &Connection<S>)
+    requires idle { conn.now.in_transaction ≡ false }
+    ensures settled { IsTrue (state S.Store conn.now).is_open
+        → (state S.Store conn.now).now ≡ (state S.Store conn.now).committed }
+    ensures live { IsLive (state S.Store conn.now) }
+{
+    let _idle = conn.is_autocommit();
+    let _live = conn.schema();
+}

@@ -1,0 +1,76 @@
+-- What the reading of a student's line never refuses: the one row of a student on the roll, whose cells have their forms.
+use Rattle.portal_views.proofs.Base.{◌≡◌, ◌≤◌, ◌||◌, ◌∷◌, arith, HasFirstPlace, HasPlacement, permuted, any_alike, IsStudentRow, student_test, student_rows_formed, all_permuted, all_two, permutes, HasStudents, IsStudentKey, Bool, true, false, cond, ℕ, Option, Some, None, option_map, List, [], map, filter, length, all-filter, refl, sym, ap, ◌∙◌, AllByRecursion, find, list_any, list_any-IsPermutation, Row, Database, First, Round, Students, Key, equals, has, is_sym, any_map, all_map, all_unmap, all_weaker, subst, row_key, by_key, roll_columns, students_shown, student_tree, ListsBy, columns, has_text, of_key, ShowsAs, first_cell, HasTables, shown_line, told_line, ApplicantLine}
+use Rattle.std.specs.Prelude.{◌<◌}
+use Rattle.std.proofs.Common.{get_or, zero, suc}
+use Rattle.std.proofs.lemmas.List.{length-map}
+use Rattle.std.proofs.lemmas.List.Sorted.{length_permutation, IsPermutation-sym}
+use Rattle.portal_views.specs.inner.Lines.{IsNamed, IsTold}
+use Rattle.portal_views.proofs.LineRows.{first_told}
+use Rattle.portal_views.proofs.OneKey.{one_row}
+use Rattle.portal_views.proofs.Owners.{keys_shown}
+
+-- what the reading of the first round's lines asks is part of it
+pub of_first : (round : Round) (db : Database) → HasStudents round db → HasStudents First db
+of_first round db students = record { tables = students.tables; persons = students.persons; first = students.first; places = students.first }
+
+-- what holds of all holds of one
+pub at_item : {X : Type 0} (P : X → Type 0) (xs : List X) (i : ℕ) (x : X) → i < length xs → x ≡ get_or xs i x → AllByRecursion P xs → P x
+at_item P [] i x less is all = absurd (omega (arith, less))
+at_item P (y ∷ xs) zero x less is all = subst P (sym is) all.0
+at_item P (y ∷ xs) (suc i) x less is all = at_item P xs i x (omega (arith, less)) is all.1
+
+-- and of what is found
+found_in : (P : Row → Type 0) (t : Row → Bool) (rows : List Row) (c : Row) → AllByRecursion P rows → find t rows ≡ Some c → P c
+found_in P t [] c all is = absurd (cc)
+found_in P t (r ∷ rows) c all is =
+    (elim (t r) as (λ b. cond b (Some r) (find t rows) ≡ Some c → P c) [ true ↦ λ e. let same : r ≡ c = cc in subst P same all.0 | false ↦ λ e. found_in P t rows c all.1 e ]) is
+
+some_kept : (p : Row → Bool) (rows : List Row) → list_any p rows ≡ true → 1 ≤ length (filter p rows)
+some_kept p [] h = absurd (cc)
+some_kept p (r ∷ rows) h =
+    (elim (p r) as (λ b. (b || list_any p rows) ≡ true → 1 ≤ length (cond b (r ∷ filter p rows) (filter p rows))) [ true ↦ λ e. omega arith | false ↦ λ e. some_kept p rows e ]) h
+
+module _ (db : Database) (key : Key) where
+  abbrev table : List Row
+  table = db.trees student_tree
+
+  abbrev Shown : List Row → Type 0
+  Shown = ListsBy (1 ∷ []) (has_text 1 key) (columns (1 ∷ 2 ∷ 4 ∷ [])) table
+
+  -- each cell that is shown of a student has its form
+  pub told_fine : (round : Round) → HasStudents round db → (shown : List Row) → Shown shown → AllByRecursion IsTold shown
+  told_fine round students shown lists =
+      let IsGood : Row → Type 0 = λ c. IsNamed c × HasFirstPlace c in
+      let roll : AllByRecursion IsGood (students_shown db.trees) = all_two IsNamed HasFirstPlace IsGood (λ c n p. (n, p)) (students_shown db.trees) students.persons students.first in
+      let rows : AllByRecursion (λ r. IsGood (roll_columns r)) table = all_permuted (λ r. IsGood (roll_columns r)) (by_key table) table (IsPermutation-sym _ _ (permutes row_key table)) (all_unmap IsGood roll_columns (by_key table) roll) in
+      all_permuted IsTold _ shown (permuted _ _ _ table shown lists)
+      (all_map IsTold (columns (1 ∷ 2 ∷ 4 ∷ [])) (filter (has_text 1 key) table) (all-filter (λ r. IsGood (roll_columns r)) (has_text 1 key) table rows))
+
+  -- of a student on the roll there is one row
+  pub lines_once : HasTables db → IsStudentKey db.trees key → (lines : List ApplicantLine) → ShowsAs told_line Shown lines → length lines ≡ 1
+  lines_once tables on lines shows =
+      let roll = by_key table in
+      let mine : List Row = of_key key table in
+      let known : list_any (λ r. equals key (row_key r)) table ≡ true =
+      list_any-IsPermutation (λ r. equals key (row_key r)) table roll (permutes row_key table) ∙ sym (any_map (equals key) row_key roll) ∙ sym (ap (λ ks. has ks key) (keys_shown (2 ∷ 3 ∷ 4 ∷ []) table)) ∙ on in
+      let there : list_any (has_text 1 key) table ≡ true =
+      any_alike (has_text 1 key) (λ r. equals key (row_key r)) table
+      (all_weaker IsStudentRow _ (λ r x. student_test key r x ∙ is_sym (row_key r) key) table (student_rows_formed db tables.own tables.sound tables.apart.1.1.1.0)) ∙ known in
+      let low = some_kept (has_text 1 key) table there in
+      let high = one_row db Students tables.current tables.sound tables.apart.1.1.1.0 key in
+      let shown : length shows.rows ≡ length mine =
+      length_permutation (map (columns (1 ∷ 2 ∷ 4 ∷ [])) mine) shows.rows (permuted _ _ _ table shows.rows shows.shown) ∙ length-map mine (columns (1 ∷ 2 ∷ 4 ∷ [])) in
+      let told : length lines ≡ length shows.rows = ap length shows.decoded ∙ length-map shows.rows told_line in
+      omega (arith, low, high, shown, told)
+
+  -- which is that of the line
+  pub line_row : (round : Round) → HasStudents round db → (lines : List ApplicantLine) → ShowsAs told_line Shown lines → (l : ApplicantLine) → lines ≡ l ∷ []
+      → (c : Row) × (first_cell c ≡ l.person.key) × HasPlacement round db.trees c
+  line_row round students lines shows l only =
+      go (find (λ c. equals (first_cell c) key) (students_shown db.trees)) refl (first_told db students.tables key lines shows l only)
+    where
+      go : (o : Option Row) → find (λ c. equals (first_cell c) key) (students_shown db.trees) ≡ o → Some l ≡ option_map (shown_line First db.trees) o → (c : Row) × (first_cell c ≡ l.person.key) × HasPlacement round db.trees c
+      go None is e = absurd (cc)
+      go (Some c) is e =
+          let same : shown_line First db.trees c ≡ l = cc in
+          (c, ap (λ (x : ApplicantLine). x.person.key) same, found_in (HasPlacement round db.trees) (λ c. equals (first_cell c) key) (students_shown db.trees) c students.places is)
