@@ -1,7 +1,7 @@
 //! Words, readers and writers that fail.
 
-use portal_fixtures::cut;
 use portal_run::run;
+use std::alloc::AllocError;
 use std::io::{Read, Write};
 use std::test::Fail;
 use std::{fs, io};
@@ -99,58 +99,56 @@ impl Write for Buffered {
     }
 }
 
-/// The command, with a file if it has one, prints this first, and flushes it.
-fn flushes(rt: &HostRuntime, command: &str, input: &[u8], status: u8, said: &str) {
-    let (name, file) = cut(command, " ");
-    let alone = ["portal", name];
-    let with_file = ["portal", name, file];
-    let words = match file {
-        "" => alone.as_slice(),
-        _ => with_file.as_slice(),
+/// Whether the words print this first, and flush it.
+fn flushes(rt: &HostRuntime, words: &str, input: &[u8], status: u8, said: &str) -> bool {
+    let words: Result<Vec<&str>, AllocError> = words.split_whitespace().collect(rt.alloc());
+    let Ok(words) = words else {
+        return false;
     };
     let mut out = Buffered {
         held: Vec::new(rt.alloc()),
         handed_on: Vec::new(rt.alloc()),
     };
     let mut input = input;
-    assert!(rt; run(rt, words, &mut input, &mut out) == status, "{command}");
-    assert!(rt; out.handed_on.starts_with(said.as_bytes()), "{command}");
+    let is_status = run(rt, words.as_slice(), &mut input, &mut out) == status;
+    is_status && out.handed_on.starts_with(said.as_bytes())
 }
 
 #[test]
 fn what_is_printed_is_flushed(rt: HostRuntime) -> Result<(), Fail> {
     let none = b"".as_slice();
+    let header = super::HEADER;
     let office = b"office-code-0\n".as_slice();
     let asks = b"GET /me HTTP/1.1\r\nHost: h\r\nConnection: close\r\n\r\n".as_slice();
-    flushes(&rt, "check", super::HEADER, 0, "blocking 0\n");
-    flushes(&rt, "solve", super::HEADER, 0, "assigned 0 unassigned 0\n");
-    flushes(&rt, "check", none, 2, "refused no_header\n");
-    flushes(&rt, "check no-such-file", none, 3, "fault read\n");
-    flushes(&rt, "upgrade no-such-file", none, 2, "refused not_portal\n");
-    flushes(&rt, "init flushed.db", office, 0, "made\n");
-    flushes(&rt, "pipe flushed.db", asks, 0, "HTTP/1.1 403 Forbidden");
-    flushes(&rt, "report flushed.db", none, 0, "phase           setup\n");
+    assert!(rt; flushes(&rt, "p check", header, 0, "blocking 0\n"));
+    assert!(rt; flushes(&rt, "p solve", header, 0, "assigned 0 unassigned 0\n"));
+    assert!(rt; flushes(&rt, "p check", none, 2, "refused no_header\n"));
+    assert!(rt; flushes(&rt, "p check no-file", none, 3, "fault read\n"));
+    assert!(rt; flushes(&rt, "p upgrade no-file", none, 2, "refused not_portal\n"));
+    assert!(rt; flushes(&rt, "p init flushed.db", office, 0, "made\n"));
+    assert!(rt; flushes(&rt, "p pipe flushed.db", asks, 0, "HTTP/1.1 403 Forbidden"));
+    assert!(rt; flushes(&rt, "p report flushed.db", none, 0, "phase           setup"));
     fs::remove_file(&rt, "flushed.db")?;
     Ok(())
 }
 
-/// The command prints this although its first read is interrupted.
-fn asks_again(rt: &HostRuntime, words: &[&str], bytes: &'static [u8], said: &str) {
+/// Whether the command prints this although every other read is interrupted.
+fn asks_again(rt: &HostRuntime, words: &[&str], bytes: &'static [u8], said: &str) -> bool {
     let mut input = Interrupted {
         bytes,
         at: 0,
         is_interrupted: false,
     };
     let mut out = Vec::new(rt.alloc());
-    assert!(rt; run(rt, words, &mut input, &mut out) == 0, "{words:?}");
-    assert!(rt; out.as_slice() == said.as_bytes(), "{words:?}");
+    let is_done = run(rt, words, &mut input, &mut out) == 0;
+    is_done && out.as_slice() == said.as_bytes()
 }
 
 #[test]
 fn an_interrupted_read_of_input_is_asked_again(rt: HostRuntime) -> Result<(), Fail> {
     let office = b"office-code-0\n".as_slice();
-    asks_again(&rt, &["portal", "check"], super::HEADER, "blocking 0\n");
-    asks_again(&rt, &["portal", "init", "interrupted.db"], office, "made\n");
+    assert!(rt; asks_again(&rt, &["portal", "check"], super::HEADER, "blocking 0\n"));
+    assert!(rt; asks_again(&rt, &["portal", "init", "interrupted.db"], office, "made\n"));
     fs::remove_file(&rt, "interrupted.db")?;
     Ok(())
 }
@@ -182,22 +180,22 @@ fn flush_fails(rt: HostRuntime) {
     assert!(rt; out.taken.as_slice() == b"blocking 0\nfault write\n".as_slice());
 }
 
-/// A file that cannot be read is a fault.
-fn is_unread(rt: &HostRuntime, file: &str) {
+/// Whether it is a fault that the file cannot be read.
+fn is_unread(rt: &HostRuntime, file: &str) -> bool {
     let mut out = Vec::new(rt.alloc());
     let mut input = b"".as_slice();
-    assert!(rt; run(rt, &["portal", "check", file], &mut input, &mut out) == 3);
-    assert!(rt; out.as_slice() == b"fault read\n".as_slice());
+    let is_fault = run(rt, &["portal", "check", file], &mut input, &mut out) == 3;
+    is_fault && out.as_slice() == b"fault read\n".as_slice()
 }
 
 #[test]
 fn file_is_missing(rt: HostRuntime) {
-    is_unread(&rt, "no-such-folder/no-such-file");
+    assert!(rt; is_unread(&rt, "no-such-folder/no-such-file"));
 }
 
 #[test]
 fn file_is_a_folder(rt: HostRuntime) {
-    is_unread(&rt, "/");
+    assert!(rt; is_unread(&rt, "/"));
 }
 
 #[test]
