@@ -1,8 +1,8 @@
 -- What is told of connections, one after another.
-use Rattle.std.proofs.Common.{◌≡◌, ◌∙◌, ◌⊎◌, ◌+◌, ◌≤◌, Bool, true, false, if◌then◌else◌, ℕ, List, [], ◌∷◌, ◌++◌, length, length-append, Option, Some, None, Result, Ok, Err, refl, sym, ap, subst, inl, inr, arith}
+use Rattle.std.proofs.Common.{◌≡◌, ◌∙◌, ◌⊎◌, ◌+◌, ◌≤◌, Bool, true, false, if◌then◌else◌, ℕ, List, [], ◌∷◌, ◌++◌, length, length-append, Option, Some, None, Result, Ok, Err, refl, sym, ap, subst, arith}
 use Rattle.std.specs.Prelude.{All, count_by}
-use Rattle.std.proofs.lemmas.List.{append_assoc, append-nil}
-use Rattle.std.proofs.lemmas.List.Elements.{All-nil, All-push}
+use Rattle.std.proofs.lemmas.List.{append_assoc}
+use Rattle.std.proofs.lemmas.List.Elements.{All-push}
 use Rattle.std.proofs.lemmas.List.Sums.{sum_by_push, count_by-le-length}
 use Rattle.portal_desk.specs.declared.served.Cause.{Cause}
 use Rattle.portal_desk.specs.declared.served.Cause.TheVariants.{Read, Write, Memory, Store}
@@ -11,7 +11,7 @@ use Rattle.portal_desk.specs.declared.served.ServeFault.{ServeFault}
 use Rattle.portal_serve.specs.Ends.{is_own_fault, is_store, is_store_fault}
 use Rattle.portal_serve.specs.declared.hall.Hall.{Hall}
 use Rattle.portal_serve.specs.declared.hall.Ended.{Ended}
-use Rattle.portal_serve.specs.declared.hall.Ended.TheVariants.{Full, StoreFault, ListenFault}
+use Rattle.portal_serve.specs.declared.hall.Ended.TheVariants.{StoreFault}
 use Rattle.portal_serve.specs.declared.hall.Outcome.{Outcome}
 use Rattle.portal_serve.specs.Hall.{Adds, Settles, SettlesBy, EndsBy, Stands, Tells, is_faulty}
 
@@ -23,18 +23,11 @@ pub record Passed (old new : Option (List Outcome)) (accepted faults : ℕ) : Ty
   pub counted : faults ≡ count_by is_faulty es
   pub stand : All Stands es
 
-pub adds_none : (a : Option (List Outcome)) → Adds a a []
-adds_none None = tt
-adds_none (Some es) = ap Some (sym (append-nil es))
-
 pub adds_more : (a b c : Option (List Outcome)) (xs ys : List Outcome) → Adds a b xs → Adds b c ys → Adds a c (xs ++ ys)
 adds_more None b c xs ys p q = tt
 adds_more (Some es) b c xs ys p q =
     let q' : Adds (Some (es ++ xs)) c ys = subst (λ o. Adds o c ys) p q in
     q' ∙ ap Some (append_assoc es xs ys)
-
-pub passed_none : (a : Option (List Outcome)) → Passed a a 0 0
-passed_none a = record { es = []; adds = adds_none a; long = refl; counted = refl; stand = All-nil Stands }
 
 pub passed_few : (a b : Option (List Outcome)) (accepted faults : ℕ) → Passed a b accepted faults → faults ≤ accepted
 passed_few a b accepted faults p = omega (arith, p.long, p.counted, count_by-le-length is_faulty p.es)
@@ -82,20 +75,3 @@ told_failed a b c o accepted faults p more failed hall e f g =
       adds_more a b c p.es (o ∷ []) p.adds more,
       record { accepted = e ∙ n.0; faults = f ∙ n.1; ends = subst (λ (x : Ended). EndsBy x (p.es ++ o ∷ [])) (sym g) (p.es, o, refl, p.stand, failed) },
     )
-
--- no more connection, and the desk stands
-pub told_standing : (a b : Option (List Outcome)) (accepted faults : ℕ) → Passed a b accepted faults
-    → (hall : Hall) → hall.accepted ≡ accepted → hall.faults ≡ faults → (hall.ended ≡ Full) ⊎ (hall.ended ≡ ListenFault)
-    → (es : List Outcome) × Adds a b es × Tells hall es
-told_standing a b accepted faults p hall e f g = (
-  p.es,
-  p.adds,
-  record {
-    accepted = e ∙ p.long;
-    faults = f ∙ p.counted;
-    ends = elim g [
-      | inl x ↦ subst (λ (y : Ended). EndsBy y p.es) (sym x) p.stand
-      | inr x ↦ subst (λ (y : Ended). EndsBy y p.es) (sym x) p.stand
-    ];
-  },
-)
